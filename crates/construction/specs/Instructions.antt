@@ -1,0 +1,161 @@
+-- The twelve instructions (document 01, 'The card text'): what one does, decoding and encoding.
+use Prim.Native.Nat.{ℕ, suc, _+_, _-_, _%_, min}
+use mathlib.Core.Bool.{Bool, cond, _&&_}
+use lib.Dec.{eqb, leb, ltb}
+use lib.ListN.{getD, replicate}
+use Rattle.construction.specs.declared.Words.{Words}
+use Rattle.construction.specs.declared.Instruction.{Instruction}
+use Rattle.construction.specs.declared.Line.{Line}
+use Rattle.construction.specs.declared.Program.{Program}
+use Rattle.construction.specs.declared.Effect.{Effect}
+use Rattle.construction.specs.declared.Simulation.{Simulation}
+use Rattle.construction.specs.declared.Decoded.{Decoded}
+use Rattle.construction.specs.declared.Encoded.{Encoded}
+use Rattle.construction.specs.declared.Refusal.the-variants.{BadInstruction}
+use Rattle.construction.specs.Cells.{zeros}
+
+-- word k of four
+unfoldable pub word : Words → ℕ → ℕ
+word f k = cond (eqb k 0) (f .w0) (cond (eqb k 1) (f .w1) (cond (eqb k 2) (f .w2) (f .w3)))
+
+-- four words with x at place k
+unfoldable pub withWord : Words → ℕ → ℕ → Words
+withWord f k x =
+    cond (eqb k 0)
+    (record { w0 = x; w1 = f .w1; w2 = f .w2; w3 = f .w3 })
+    (cond (eqb k 1)
+    (record { w0 = f .w0; w1 = x; w2 = f .w2; w3 = f .w3 })
+    (cond (eqb k 2)
+    (record { w0 = f .w0; w1 = f .w1; w2 = x; w3 = f .w3 })
+    (record { w0 = f .w0; w1 = f .w1; w2 = f .w2; w3 = x })))
+
+-- codes 7 and 8: 'plus (minus), modulo 4,294,967,296'
+unfoldable pub sum : ℕ → ℕ → ℕ
+sum x y = (x + y) % 4294967296
+
+unfoldable pub difference : ℕ → ℕ → ℕ
+difference x y = (x + 4294967296 - y) % 4294967296
+
+-- a variable is touched only if it is there: 'a number of n or more touches nothing; code 5 then gives 0'
+unfoldable pub load : ℕ → ℕ → ℕ → Effect
+load n a v = cond (ltb v n) (Effect.Load a v) (Effect.Set a 0)
+
+unfoldable pub store : ℕ → ℕ → ℕ → Effect
+store n v x = cond (ltb v n) (Effect.Store v x) (Effect.Skip 0)
+
+-- the table of codes: what an instruction does on a card of n variables. The sequential run and the helper both go by it.
+unfoldable pub effectOf : ℕ → Words → Words → Instruction → Effect
+effectOf n inputs r Instruction.Stop = Effect.Stop
+effectOf n inputs r (Instruction.Input a b) = Effect.Set a (word inputs b)
+effectOf n inputs r (Instruction.Constant a b) = Effect.Set a b
+effectOf n inputs r (Instruction.Load a v) = load n a v
+effectOf n inputs r (Instruction.Store v b) = store n v (word r b)
+effectOf n inputs r (Instruction.LoadAt a b) = load n a (word r b)
+effectOf n inputs r (Instruction.StoreAt a b) = store n (word r a) (word r b)
+effectOf n inputs r (Instruction.Add a b) = Effect.Set a (sum (word r a) (word r b))
+effectOf n inputs r (Instruction.Subtract a b) = Effect.Set a (difference (word r a) (word r b))
+effectOf n inputs r (Instruction.SkipEqual a b c) = Effect.Skip (cond (eqb (word r a) (word r b)) c 0)
+effectOf n inputs r (Instruction.SkipLess a b c) = Effect.Skip (cond (ltb (word r a) (word r b)) c 0)
+effectOf n inputs r (Instruction.Output a b) = Effect.Output a (word r b)
+
+-- by cases on an effect
+abbrev pub onEffect {ℓ} :
+    {A : Type ℓ} → Effect → A → (ℕ → ℕ → A) → (ℕ → ℕ → A) → (ℕ → ℕ → A) → (ℕ → ℕ → A) → (ℕ → A) → A
+onEffect Effect.Stop stop set load store output skip = stop
+onEffect (Effect.Set a x) stop set load store output skip = set a x
+onEffect (Effect.Load a v) stop set load store output skip = load a v
+onEffect (Effect.Store v x) stop set load store output skip = store v x
+onEffect (Effect.Output a x) stop set load store output skip = output a x
+onEffect (Effect.Skip c) stop set load store output skip = skip c
+
+-- the place after the next one and c more; past the end it stands at the end
+unfoldable pub forward : ℕ → ℕ → ℕ
+forward k c = min 32 (suc (k + c))
+
+-- 'Registers and outputs start at 0'
+abbrev pub started : Simulation
+started = record { counter = 0; registers = zeros; outputs = zeros }
+
+-- the state after r[a] took x, after output a took x, and after c instructions were skipped
+unfoldable pub withRegister : Simulation → ℕ → ℕ → Simulation
+withRegister s a x =
+    record { counter = forward (s .counter) 0; registers = withWord (s .registers) a x; outputs = s .outputs }
+
+unfoldable pub withOutput : Simulation → ℕ → ℕ → Simulation
+withOutput s a x =
+    record { counter = forward (s .counter) 0; registers = s .registers; outputs = withWord (s .outputs) a x }
+
+unfoldable pub skipped : Simulation → ℕ → Simulation
+skipped s c = record { counter = forward (s .counter) c; registers = s .registers; outputs = s .outputs }
+
+-- a program of no lines
+abbrev pub noLine : Line
+noLine = record { instruction = Instruction.Stop }
+
+abbrev pub noProgram : Program
+noProgram = record { length = 0; lines = replicate 32 noLine }
+
+-- the instruction at a place; 'a sheet also stops past its end'
+unfoldable pub fetch : Program → ℕ → Instruction
+fetch program k = cond (ltb k (program .length)) (getD (program .lines) k noLine .instruction) Instruction.Stop
+
+-- what the instruction at the counter does
+abbrev pub nextEffect : ℕ → Program → Words → Simulation → Effect
+nextEffect n program inputs s = effectOf n inputs (s .registers) (fetch program (s .counter))
+
+-- 'Registers, inputs and outputs are numbered 0 to 3, variables 0 to n - 1', unused operands are 0, skips 1 to 31
+abbrev pub small : ℕ → Bool
+small x = ltb x 4
+
+abbrev pub inRange : ℕ → ℕ → ℕ → Bool
+inRange low high x = leb low x && leb x high
+
+abbrev pub valid : Bool → Instruction → Decoded
+valid b i = cond b (Decoded.Valid i) (Decoded.Refused BadInstruction)
+
+-- `code,a,b,c` on a card of n variables to an instruction, or refusal 4
+unfoldable pub decode : ℕ → Encoded → Decoded
+decode n x =
+    cond (eqb (x .code) 1)
+    (valid (small (x .a) && (small (x .b) && eqb (x .c) 0)) (Instruction.Input (x .a) (x .b)))
+    (cond (eqb (x .code) 2)
+    (valid (small (x .a) && (ltb (x .b) 4294967296 && eqb (x .c) 0)) (Instruction.Constant (x .a) (x .b)))
+    (cond (eqb (x .code) 3)
+    (valid (small (x .a) && (ltb (x .b) n && eqb (x .c) 0)) (Instruction.Load (x .a) (x .b)))
+    (cond (eqb (x .code) 4)
+    (valid (ltb (x .a) n && (small (x .b) && eqb (x .c) 0)) (Instruction.Store (x .a) (x .b)))
+    (cond (eqb (x .code) 5)
+    (valid (small (x .a) && (small (x .b) && eqb (x .c) 0)) (Instruction.LoadAt (x .a) (x .b)))
+    (cond (eqb (x .code) 6)
+    (valid (small (x .a) && (small (x .b) && eqb (x .c) 0)) (Instruction.StoreAt (x .a) (x .b)))
+    (cond (eqb (x .code) 7)
+    (valid (small (x .a) && (small (x .b) && eqb (x .c) 0)) (Instruction.Add (x .a) (x .b)))
+    (cond (eqb (x .code) 8)
+    (valid (small (x .a) && (small (x .b) && eqb (x .c) 0)) (Instruction.Subtract (x .a) (x .b)))
+    (cond (eqb (x .code) 9)
+    (valid (small (x .a) && (small (x .b) && inRange 1 31 (x .c))) (Instruction.SkipEqual (x .a) (x .b) (x .c)))
+    (cond (eqb (x .code) 10)
+    (valid (small (x .a) && (small (x .b) && inRange 1 31 (x .c))) (Instruction.SkipLess (x .a) (x .b) (x .c)))
+    (cond (eqb (x .code) 11)
+    (valid (small (x .a) && (small (x .b) && eqb (x .c) 0)) (Instruction.Output (x .a) (x .b)))
+    (cond (eqb (x .code) 12)
+    (valid (eqb (x .a) 0 && (eqb (x .b) 0 && eqb (x .c) 0)) Instruction.Stop)
+    (Decoded.Refused BadInstruction))))))))))))
+
+abbrev pub encoded : ℕ → ℕ → ℕ → ℕ → Encoded
+encoded code a b c = record { code = code; a = a; b = b; c = c }
+
+-- an instruction back to `code,a,b,c`
+unfoldable pub encode : Instruction → Encoded
+encode Instruction.Stop = encoded 12 0 0 0
+encode (Instruction.Input a b) = encoded 1 a b 0
+encode (Instruction.Constant a b) = encoded 2 a b 0
+encode (Instruction.Load a v) = encoded 3 a v 0
+encode (Instruction.Store v b) = encoded 4 v b 0
+encode (Instruction.LoadAt a b) = encoded 5 a b 0
+encode (Instruction.StoreAt a b) = encoded 6 a b 0
+encode (Instruction.Add a b) = encoded 7 a b 0
+encode (Instruction.Subtract a b) = encoded 8 a b 0
+encode (Instruction.SkipEqual a b c) = encoded 9 a b c
+encode (Instruction.SkipLess a b c) = encoded 10 a b c
+encode (Instruction.Output a b) = encoded 11 a b 0

@@ -1,0 +1,11 @@
+pub mod Cells
+pub mod Instructions
+pub mod Sequential
+pub mod Dictionary
+pub mod Helping
+pub mod Parts
+pub mod Machine
+pub mod Requests
+pub mod Lines
+pub mod Opening
+pub mod Writing

@@ -1,0 +1,200 @@
+-- What a card text opens to (document 01, 'The card text' and 'Turned back'): judged by its length, then line by line.
+use Prim.Native.Nat.{ℕ, zero, suc}
+use mathlib.Core.Bool.{false, cond}
+use mathlib.Core.List.{List, map}
+use lib.ListN.{length, set, replicate}
+use lib.Dec.{eqb, ltb}
+use Rattle.construction.specs.declared.CardLine.{CardLine}
+use Rattle.construction.specs.declared.VarLine.{VarLine}
+use Rattle.construction.specs.declared.SheetLine.{SheetLine}
+use Rattle.construction.specs.declared.InsLine.{InsLine}
+use Rattle.construction.specs.declared.Program.{Program}
+use Rattle.construction.specs.declared.Contents.{Contents}
+use Rattle.construction.specs.declared.Verdict.{Verdict}
+use Rattle.construction.specs.declared.ProgramReading.{ProgramReading}
+use Rattle.construction.specs.declared.Reading.{Reading}
+use Rattle.construction.specs.declared.Card.{Card}
+use Rattle.construction.specs.declared.Opened.{Opened}
+use Rattle.construction.specs.declared.Instruction.{Instruction}
+use Rattle.construction.specs.declared.Refusal.{Refusal}
+use Rattle.construction.specs.declared.Refusal.the-variants.{TooLong, Malformed}
+use Rattle.construction.specs.Cells.{openGate, openAnnouncement, openRecord}
+use Rattle.construction.specs.Instructions.{noLine, noProgram, started}
+use Rattle.construction.specs.Dictionary.{empty}
+use Rattle.construction.specs.Parts.{idleTask, noOperation, noGate}
+use Rattle.construction.specs.Lines.{cardLine, varLine, sheetLine, insLine}
+
+-- 'the card with no processes, variables or sheets, its limit 0'
+abbrev pub noContents : Contents
+noContents =
+    record {
+      processes = 0;
+      variables = 0;
+      programs = 0;
+      limit = 0;
+      starts = replicate 64 0;
+      code = replicate 8 noProgram;
+    }
+
+-- the card as its text opens it: all cells and processes as at opening
+unfoldable pub fresh : Contents → Card
+fresh x =
+    record {
+      processes = x .processes;
+      variables = x .variables;
+      programs = x .programs;
+      limit = x .limit;
+      starts = x .starts;
+      code = x .code;
+      gate = openGate;
+      announcements = replicate 8 openAnnouncement;
+      records = map openRecord (x .starts);
+      steps = 0;
+      tasks = replicate 8 idleTask;
+      operations = replicate 8 noOperation;
+      exits = replicate 8 false;
+      counts = replicate 8 0;
+      gates = replicate 8 noGate;
+      copies = replicate 8 openAnnouncement;
+      simulations = replicate 8 started;
+      dictionaries = replicate 8 empty;
+    }
+
+-- 'A refused text gives its line, counted from 1 (0 for refusal 1)'
+abbrev pub refusedAt : Refusal → ℕ → Reading
+refusedAt why line = record { verdict = Verdict.Refused why line; contents = noContents; at = 0; line = line }
+
+abbrev pub programRefusedAt : Refusal → ℕ → ProgramReading
+programRefusedAt why line = record { verdict = Verdict.Refused why line; program = noProgram; at = 0; line = line }
+
+-- the next m `ins` lines, the first for place k of the program
+abbrev pub withLine : ProgramReading → ℕ → Instruction → ℕ → ProgramReading
+withLine r k x i =
+    record {
+      verdict = Verdict.Accepted;
+      program = record { length = r .program .length; lines = set (r .program .lines) k (record { instruction = x }) };
+      at = i;
+      line = suc (r .line);
+    }
+
+abbrev pub nextIns : InsLine → ProgramReading → ℕ → (ProgramReading → ProgramReading) → ProgramReading
+nextIns (InsLine.Ins x i) r k go = go (withLine r k x i)
+nextIns (InsLine.Refused why) r k go = programRefusedAt why (r .line)
+
+unfoldable pub insFrom : ℕ → List ℕ → ℕ → ℕ → ProgramReading → ProgramReading
+insFrom n t zero k r = r
+insFrom n t (suc m) k r = nextIns (insLine n t (r .at)) r k (λ x. insFrom n t m (suc k) x)
+
+-- one program: `sheet,length` and its lines
+abbrev pub programAfter : ℕ → List ℕ → SheetLine → ℕ → ProgramReading
+programAfter n t (SheetLine.Length m i) line =
+    insFrom n t m 0
+    (record {
+      verdict = Verdict.Accepted;
+      program = record { length = m; lines = replicate 32 noLine };
+      at = i;
+      line = suc line;
+    })
+programAfter n t (SheetLine.Refused why) line = programRefusedAt why line
+
+unfoldable pub readProgram : ℕ → List ℕ → ℕ → ℕ → ProgramReading
+readProgram n t at line = programAfter n t (sheetLine t at) line
+
+-- the next m programs, the first with number k
+abbrev pub withProgram : Reading → ℕ → ProgramReading → Reading
+withProgram r k x =
+    record {
+      verdict = Verdict.Accepted;
+      contents =
+          record {
+            processes = r .contents .processes;
+            variables = r .contents .variables;
+            programs = r .contents .programs;
+            limit = r .contents .limit;
+            starts = r .contents .starts;
+            code = set (r .contents .code) k (x .program);
+          };
+      at = x .at;
+      line = x .line;
+    }
+
+abbrev pub nextProgram : Verdict → ProgramReading → Reading → ℕ → (Reading → Reading) → Reading
+nextProgram Verdict.Accepted x r k go = go (withProgram r k x)
+nextProgram (Verdict.Refused why line) x r k go = refusedAt why line
+
+unfoldable pub programsFrom : List ℕ → ℕ → ℕ → Reading → Reading
+programsFrom t zero k r = r
+programsFrom t (suc m) k r =
+    let x = readProgram (r .contents .variables) t (r .at) (r .line) in
+    nextProgram (x .verdict) x r k (λ y. programsFrom t m (suc k) y)
+
+-- the next m `var` lines, the first for variable k
+abbrev pub withStart : Reading → ℕ → ℕ → ℕ → Reading
+withStart r k v i =
+    record {
+      verdict = Verdict.Accepted;
+      contents =
+          record {
+            processes = r .contents .processes;
+            variables = r .contents .variables;
+            programs = r .contents .programs;
+            limit = r .contents .limit;
+            starts = set (r .contents .starts) k v;
+            code = r .contents .code;
+          };
+      at = i;
+      line = suc (r .line);
+    }
+
+abbrev pub nextVar : VarLine → Reading → ℕ → (Reading → Reading) → Reading
+nextVar (VarLine.Start v i) r k go = go (withStart r k v i)
+nextVar (VarLine.Refused why) r k go = refusedAt why (r .line)
+
+unfoldable pub varsFrom : List ℕ → ℕ → ℕ → Reading → Reading
+varsFrom t zero k r = r
+varsFrom t (suc m) k r = nextVar (varLine t (r .at)) r k (λ x. varsFrom t m (suc k) x)
+
+-- a refusal ends the reading
+abbrev pub ifAccepted : Verdict → Reading → (Reading → Reading) → Reading
+ifAccepted Verdict.Accepted r go = go r
+ifAccepted (Verdict.Refused why line) r go = r
+
+-- 'Nothing follows': a line left over is refusal 2
+abbrev pub atEnd : List ℕ → Reading → Reading
+atEnd t r = cond (eqb (r .at) (length t)) r (refusedAt Malformed (r .line))
+
+abbrev pub thenEnd : List ℕ → Reading → Reading
+thenEnd t r = ifAccepted (r .verdict) r (λ x. atEnd t x)
+
+abbrev pub thenPrograms : List ℕ → ℕ → Reading → Reading
+thenPrograms t s r = ifAccepted (r .verdict) r (λ x. programsFrom t s 0 x)
+
+-- the lines after the first: n `var` lines, then s programs
+abbrev pub afterCard : List ℕ → CardLine → Reading
+afterCard t (CardLine.Fields p n s l i) =
+    thenEnd t
+    (thenPrograms t s
+    (varsFrom t n 0
+    (record {
+      verdict = Verdict.Accepted;
+      contents =
+          record {
+            processes = p;
+            variables = n;
+            programs = s;
+            limit = l;
+            starts = replicate 64 0;
+            code = replicate 8 noProgram;
+          };
+      at = i;
+      line = 2;
+    })))
+afterCard t (CardLine.Refused why) = refusedAt why 1
+
+-- refusal 1: 'card text over the byte limit'
+unfoldable pub readCard : List ℕ → Reading
+readCard t = cond (ltb 16384 (length t)) (refusedAt TooLong 0) (afterCard t (cardLine t 0))
+
+-- the card that a text opens to, the empty card of a refused text too
+unfoldable pub opened : List ℕ → Opened
+opened t = record { card = fresh (readCard t .contents); verdict = readCard t .verdict }

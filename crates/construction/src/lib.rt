@@ -1,0 +1,350 @@
+// The universal construction of Chuong, Ellen and Ramachandran (2010) as document 01 condenses it: types here, definitions in specs/,
+// laws and theorems in proofs/. It has no function, so that editing code never checks the theorems again. It rests on the crate grammar.
+
+// Who holds the gate.
+pub enum Holder {
+    Nobody,
+    Process(u8),
+}
+
+// The gate: the operation that all processes help, and its number.
+pub struct Gate {
+    pub holder: Holder,
+    pub seq: u64,
+}
+
+// The state of an announced operation.
+pub enum Flag {
+    Done,
+    Active,
+    Exit,
+}
+
+// Four words: inputs, outputs or registers.
+pub struct Words {
+    pub w0: u32,
+    pub w1: u32,
+    pub w2: u32,
+    pub w3: u32,
+}
+
+// The announcement of a process.
+pub struct Announcement {
+    pub program: u8,
+    pub flag: Flag,
+    pub seq: u64,
+    pub words: Words,
+}
+
+// The record of a variable. The toggle is true for 1.
+pub struct Record {
+    pub val0: u32,
+    pub val1: u32,
+    pub toggle: bool,
+    pub seq: u64,
+}
+
+// One of the twelve kinds of instruction, with only its own operands.
+pub enum Instruction {
+    Stop,
+    Input { register: u8, input: u8 },
+    Constant { register: u8, constant: u32 },
+    Load { register: u8, variable: u8 },
+    Store { variable: u8, register: u8 },
+    LoadAt { register: u8, address: u8 },
+    StoreAt { address: u8, register: u8 },
+    Add { register: u8, operand: u8 },
+    Subtract { register: u8, operand: u8 },
+    SkipEqual { left: u8, right: u8, skip: u8 },
+    SkipLess { left: u8, right: u8, skip: u8 },
+    Output { output: u8, register: u8 },
+}
+
+// An instruction that was decoded, or why there is none.
+pub enum Decoded {
+    Valid(Instruction),
+    Refused(Refusal),
+}
+
+// The four numbers of an instruction's line.
+pub struct Encoded {
+    pub code: u64,
+    pub a: u64,
+    pub b: u64,
+    pub c: u64,
+}
+
+// A line of a program.
+pub struct Line {
+    pub instruction: Instruction,
+}
+
+// A program (document 01: sheet).
+pub struct Program {
+    pub length: u8,
+    pub lines: [Line; 32],
+}
+
+// What one instruction does: a register set, a variable loaded or stored, an output set, instructions skipped, or the end.
+pub enum Effect {
+    Stop,
+    Set { register: u8, value: u32 },
+    Load { register: u8, variable: u8 },
+    Store { variable: u8, value: u32 },
+    Output { output: u8, value: u32 },
+    Skip { count: u8 },
+}
+
+// An item of a dictionary (document 01: noted record): a variable, its record as read, and its value in the simulation.
+pub struct Item {
+    pub variable: u8,
+    pub value: u32,
+    pub cell: Record,
+}
+
+// The dictionary D of the paper (document 01: book): the first `length` items, in order of first touch.
+pub struct Dictionary {
+    pub length: u8,
+    pub items: [Item; 32],
+}
+
+// The state of a running program.
+pub struct Simulation {
+    pub counter: u8,
+    pub registers: Words,
+    pub outputs: Words,
+}
+
+// Why a simulation stands still: its program ended, or its dictionary lacks a variable.
+pub enum Pause {
+    Ended,
+    Lacks(u8),
+}
+
+// A simulation that was taken as far as its dictionary lets it.
+pub struct Simulated {
+    pub pause: Pause,
+    pub simulation: Simulation,
+    pub dictionary: Dictionary,
+}
+
+// Where a process stands: the access that its next step makes. P5 is the top of the loop, whose access is P6 or P10.
+pub enum Place {
+    Idle,
+    P1,
+    P3,
+    P5,
+    P7,
+    P10,
+    C2,
+    C4,
+    P13,
+    P14,
+    P16,
+    H21,
+    H36,
+    P19,
+    P20,
+    P21,
+    P22,
+    F1,
+    F3,
+}
+
+// An access of the gate: a read with the places that follow if the gate is held or free, the last read (F1),
+// a swap that gives the gate to the nominee (P13), or one that releases it (P21, F3).
+pub enum GateAccess {
+    Read { held: Place, free: Place },
+    ReadLast,
+    Nominate,
+    Release { next: Place },
+}
+
+// An access of an announcement: the announcing write (P3), the exit request (P6), a read of one's own with the places that follow
+// its flag (P7, C4, P22), the read of the one whose turn it is (C2), the read that helping begins with (P16), or a swap to done (P19, P20).
+pub enum AnnouncementAccess {
+    Announce,
+    Withdraw,
+    ReadOwn { done: Place, active: Place, exit: Place },
+    ReadFirst,
+    Help,
+    Finish { flag: Flag, next: Place },
+}
+
+// An access of a record: H21 or H36.
+pub enum RecordAccess {
+    Read,
+    Swap,
+}
+
+// The shared access of a step.
+pub enum Access {
+    None,
+    Gate(GateAccess),
+    Announcement(AnnouncementAccess),
+    Record(RecordAccess),
+}
+
+// The place of a process. The target is the nominee at P13, the variable at H21, the item of the dictionary at H36.
+pub struct Task {
+    pub place: Place,
+    pub target: u8,
+}
+
+// What a call asked for.
+pub struct Operation {
+    pub program: u8,
+    pub inputs: Words,
+}
+
+// The card: its text, the shared cells, and the local state of each process.
+pub struct Card {
+    pub processes: u8,
+    pub variables: u8,
+    pub programs: u8,
+    pub limit: u64,
+    pub starts: [u32; 64],
+    pub code: [Program; 8],
+    pub gate: Gate,
+    pub announcements: [Announcement; 8],
+    pub records: [Record; 64],
+    pub steps: u64,
+    pub tasks: [Task; 8],
+    pub operations: [Operation; 8],
+    pub exits: [bool; 8],
+    pub counts: [u64; 8],
+    pub gates: [Gate; 8],
+    pub copies: [Announcement; 8],
+    pub simulations: [Simulation; 8],
+    pub dictionaries: [Dictionary; 8],
+}
+
+// Why something is turned back: rows 1 to 11 of document 01's table.
+pub enum Refusal {
+    TooLong,
+    Malformed,
+    OutOfRange,
+    BadInstruction,
+    NoProcess,
+    NoProgram,
+    Busy,
+    NotBusy,
+    NoPlace,
+    LimitReached,
+    ShortBuffer,
+}
+
+// The answer to a call, an exit request, a step or a read.
+pub enum Answer {
+    Taken,
+    Run,
+    Done { outputs: Words, steps: u64 },
+    Exited { steps: u64 },
+    Value(u32),
+    Refused(Refusal),
+}
+
+// The card after an entry, with the answer.
+pub struct Answered {
+    pub card: Card,
+    pub answer: Answer,
+}
+
+// A gate after a swap, and whether the swap won.
+pub struct SwappedGate {
+    pub cell: Gate,
+    pub won: bool,
+}
+
+// An announcement after a swap, and whether the swap won.
+pub struct SwappedAnnouncement {
+    pub cell: Announcement,
+    pub won: bool,
+}
+
+// A record after a swap, and whether the swap won.
+pub struct SwappedRecord {
+    pub cell: Record,
+    pub won: bool,
+}
+
+// The answer to a swap on a lent row.
+pub enum RowSwap {
+    Won,
+    Lost,
+    Refused(Refusal),
+}
+
+// What the first line of a card text yields: its fields and the place past it, or why it is refused.
+pub enum CardLine {
+    Fields {
+        processes: u8,
+        variables: u8,
+        programs: u8,
+        limit: u64,
+        next: usize,
+    },
+    Refused(Refusal),
+}
+
+// The same of a `var` line.
+pub enum VarLine {
+    Start { value: u32, next: usize },
+    Refused(Refusal),
+}
+
+// The same of a `sheet` line.
+pub enum SheetLine {
+    Length { length: u8, next: usize },
+    Refused(Refusal),
+}
+
+// The same of an `ins` line.
+pub enum InsLine {
+    Ins { instruction: Instruction, next: usize },
+    Refused(Refusal),
+}
+
+// What a card text says.
+pub struct Contents {
+    pub processes: u8,
+    pub variables: u8,
+    pub programs: u8,
+    pub limit: u64,
+    pub starts: [u32; 64],
+    pub code: [Program; 8],
+}
+
+// Whether a text is accepted; if not, why and at which line.
+pub enum Verdict {
+    Accepted,
+    Refused { refusal: Refusal, line: u64 },
+}
+
+// A program read so far, the place of the next line and its number.
+pub struct ProgramReading {
+    pub verdict: Verdict,
+    pub program: Program,
+    pub at: usize,
+    pub line: u64,
+}
+
+// A card text read so far, the place of the next line and its number.
+pub struct Reading {
+    pub verdict: Verdict,
+    pub contents: Contents,
+    pub at: usize,
+    pub line: u64,
+}
+
+// The card of a text, empty where the text is refused.
+pub struct Opened {
+    pub card: Card,
+    pub verdict: Verdict,
+}
+
+// The answer of the writer: how many bytes it wrote.
+pub enum Written {
+    Bytes(usize),
+    Refused(Refusal),
+}

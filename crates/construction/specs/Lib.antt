@@ -9,3 +9,5 @@ pub mod Requests
 pub mod Lines
 pub mod Opening
 pub mod Writing
+pub mod History
+pub mod Examples

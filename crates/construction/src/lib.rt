@@ -165,10 +165,17 @@ pub enum GateAccess {
 pub enum AnnouncementAccess {
     Announce,
     Withdraw,
-    ReadOwn { done: Place, active: Place, exit: Place },
+    ReadOwn {
+        done: Place,
+        active: Place,
+        exit: Place,
+    },
     ReadFirst,
     Help,
-    Finish { flag: Flag, next: Place },
+    Finish {
+        flag: Flag,
+        next: Place,
+    },
 }
 
 // An access of a record: H21 or H36.
@@ -301,7 +308,10 @@ pub enum SheetLine {
 
 // The same of an `ins` line.
 pub enum InsLine {
-    Ins { instruction: Instruction, next: usize },
+    Ins {
+        instruction: Instruction,
+        next: usize,
+    },
     Refused(Refusal),
 }
 

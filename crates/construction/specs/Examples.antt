@@ -1,15 +1,22 @@
--- The worked pieces of document 01 ('Proving pieces', marked *, and card K's listing) as a table: a card text, entries, and what is to be seen.
+-- The worked pieces of document 01 ('Proving pieces', those marked *, and card K's listing), and the schedules of 'Faults we have met in drafts',
+-- as a table: a card text, entries, and what is to be seen. The theorem over the table is proofs/Examples.
 use Prim.Native.Nat.{ℕ, zero, suc}
 use Prim.Native.Char.{code}
 use Prim.Native.String.{String}
 use mathlib.Core.Path.{_≡_}
 use mathlib.Core.Bool.{true, false}
 use mathlib.Core.List.{List, [], _∷_, _++_}
-use lib.ListN.{take, getD}
+use lib.ListN.{take, getD, replicate}
 use Rattle.construction.specs.declared.Words.{Words}
+use Rattle.construction.specs.declared.Gate.{Gate}
+use Rattle.construction.specs.declared.Announcement.{Announcement}
 use Rattle.construction.specs.declared.Record.{Record}
 use Rattle.construction.specs.declared.Card.{Card}
 use Rattle.construction.specs.declared.Answer.{Answer}
+use Rattle.construction.specs.declared.Flag.{Flag}
+use Rattle.construction.specs.declared.Flag.the-variants.{Done, Active, Exit}
+use Rattle.construction.specs.declared.Holder.the-variants.{Nobody, Process}
+use Rattle.construction.specs.declared.Refusal.{Refusal}
 use Rattle.construction.specs.declared.Refusal.the-variants.{NotBusy, LimitReached}
 use Rattle.construction.specs.Cells.{openRecord}
 use Rattle.construction.specs.Opening.{opened}
@@ -29,80 +36,119 @@ abbrev pub answersTo : Card → List Entry → List Answer
 answersTo c [] = []
 answersTo c (e ∷ es) = act c e .answer ∷ answersTo (act c e .card) es
 
--- n of the same
-abbrev pub repeat {ℓ} : {A : Type ℓ} → ℕ → A → List A
-repeat zero x = []
-repeat (suc n) x = x ∷ repeat n x
-
--- a row: the answers, one for each entry, and the record of a variable at the end
+-- a row: the answers, one for each entry, and at the end the gate, the announcements and the record of a variable
 pub record Row : Type 0 where
   pub text : List ℕ
   pub entries : List Entry
   pub answers : List Answer
+  pub gate : Gate
+  pub announcements : List Announcement
   pub variable : ℕ
   pub cell : Record
+
+abbrev pub Shows : Row → Card → Type 0
+Shows r c =
+    (c .gate ≡ r .gate)
+    × (take (c .processes) (c .announcements) ≡ r .announcements)
+    × (getD (c .records) (r .variable) (openRecord 0) ≡ r .cell)
 
 abbrev pub Holds : Row → Type 0
 Holds r =
     (answersTo (opened (r .text) .card) (r .entries) ≡ r .answers)
-    × (getD (cardAfter (opened (r .text) .card) (r .entries) .records) (r .variable) (openRecord 0) ≡ r .cell)
+    × Shows r (cardAfter (opened (r .text) .card) (r .entries))
 
 abbrev pub AllHold : List Row → Type 0
 AllHold [] = Unit
 AllHold (r ∷ rs) = Holds r × AllHold rs
 
+-- short names for entries and answers
 abbrev pub one : ℕ → Words
 one x = record { w0 = x; w1 = 0; w2 = 0; w3 = 0 }
 
--- card K with p processes and a limit: store the input, output the old value
-abbrev pub programK : List ℕ
-programK = bytes "var,7\nsheet,4\nins,1,0,0,0\nins,3,1,0,0\nins,4,0,0,0\nins,11,0,1,0\n"
+abbrev pub call : ℕ → Words → List Entry
+call i inputs = Entry.Call i 0 inputs ∷ []
 
-abbrev pub cardK : List ℕ
-cardK = bytes "card,1,1,1,100\n" ++ programK
+abbrev pub exit : ℕ → List Entry
+exit i = Entry.Exit i ∷ []
 
-abbrev pub steps : ℕ → List Entry
-steps n = repeat n (Entry.Step 0)
+abbrev pub steps : ℕ → ℕ → List Entry
+steps i n = replicate n (Entry.Step i)
+
+abbrev pub look : List Entry
+look = Entry.Read 0 ∷ []
+
+abbrev pub taken : List Answer
+taken = Answer.Taken ∷ []
 
 abbrev pub runs : ℕ → List Answer
-runs n = repeat n Answer.Run
+runs n = replicate n Answer.Run
 
-abbrev pub written : Record
-written = record { val0 = 7; val1 = 9; toggle = true; seq = 1 }
+abbrev pub done : Words → ℕ → List Answer
+done outputs own = Answer.Done outputs own ∷ []
+
+abbrev pub exited : ℕ → List Answer
+exited own = Answer.Exited own ∷ []
+
+abbrev pub shown : ℕ → List Answer
+shown x = Answer.Value x ∷ []
+
+abbrev pub refused : Refusal → List Answer
+refused r = Answer.Refused r ∷ []
+
+abbrev pub announced : Flag → ℕ → ℕ → Announcement
+announced flag seq x = record { program = 0; flag = flag; seq = seq; words = one x }
+
+-- the text of card K after its first line: store the input, output the old value
+abbrev pub bodyK : List ℕ
+bodyK = bytes "var,7\nsheet,4\nins,1,0,0,0\nins,3,1,0,0\nins,4,0,0,0\nins,11,0,1,0\n"
+
+abbrev pub cardK : List ℕ
+cardK = bytes "card,1,1,1,100\n" ++ bodyK
+
+abbrev pub cardK2 : List ℕ
+cardK2 = bytes "card,2,1,1,100\n" ++ bodyK
+
+-- card K's record once 9 is written over 7
+abbrev pub nine : Record
+nine = record { val0 = 7; val1 = 9; toggle = true; seq = 1 }
 
 -- card K's listing: 'fourteen times step', done with 7 after 14 steps
 abbrev pub listing : Row
 listing =
     record {
       text = cardK;
-      entries =
-          Entry.Read 0 ∷ Entry.Call 0 0 (one 9) ∷ (steps 14 ++ (Entry.Read 0 ∷ Entry.Step 0 ∷ []));
-      answers =
-          Answer.Value 7 ∷ Answer.Taken
-          ∷ (runs 13 ++ (Answer.Done (one 7) 14 ∷ Answer.Value 9 ∷ Answer.Refused NotBusy ∷ []));
+      entries = look ++ (call 0 (one 9) ++ (steps 0 14 ++ (look ++ steps 0 1)));
+      answers = shown 7 ++ (taken ++ (runs 13 ++ (done (one 7) 14 ++ (shown 9 ++ refused NotBusy))));
+      gate = record { holder = Nobody; seq = 2 };
+      announcements = announced Done 1 7 ∷ [];
       variable = 0;
-      cell = written;
+      cell = nine;
     }
 
--- 'K after step 9: look shows 7, the record is (7, 9, 1, 1). After step 10: 9.'
+-- 'K after step 9: look shows 7, the record is (7, 9, 1, 1)'
 abbrev pub afterNine : Row
 afterNine =
     record {
       text = cardK;
-      entries = Entry.Call 0 0 (one 9) ∷ (steps 9 ++ (Entry.Read 0 ∷ []));
-      answers = Answer.Taken ∷ (runs 9 ++ (Answer.Value 7 ∷ []));
+      entries = call 0 (one 9) ++ (steps 0 9 ++ look);
+      answers = taken ++ (runs 9 ++ shown 7);
+      gate = record { holder = Process 0; seq = 1 };
+      announcements = announced Active 1 9 ∷ [];
       variable = 0;
-      cell = written;
+      cell = nine;
     }
 
+-- 'After step 10: 9'
 abbrev pub afterTen : Row
 afterTen =
     record {
       text = cardK;
-      entries = Entry.Call 0 0 (one 9) ∷ (steps 10 ++ (Entry.Read 0 ∷ []));
-      answers = Answer.Taken ∷ (runs 10 ++ (Answer.Value 9 ∷ []));
+      entries = call 0 (one 9) ++ (steps 0 10 ++ look);
+      answers = taken ++ (runs 10 ++ shown 9);
+      gate = record { holder = Process 0; seq = 1 };
+      announcements = announced Done 1 7 ∷ [];
       variable = 0;
-      cell = written;
+      cell = nine;
     }
 
 -- 'K with input 7: no H36, 13 steps, record (7, 0, 0, 0)'
@@ -110,8 +156,10 @@ abbrev pub sameInput : Row
 sameInput =
     record {
       text = cardK;
-      entries = Entry.Call 0 0 (one 7) ∷ steps 13;
-      answers = Answer.Taken ∷ (runs 12 ++ (Answer.Done (one 7) 13 ∷ []));
+      entries = call 0 (one 7) ++ steps 0 13;
+      answers = taken ++ (runs 12 ++ done (one 7) 13);
+      gate = record { holder = Nobody; seq = 2 };
+      announcements = announced Done 1 7 ∷ [];
       variable = 0;
       cell = openRecord 7;
     }
@@ -121,52 +169,62 @@ abbrev pub exitRequested : Row
 exitRequested =
     record {
       text = cardK;
-      entries = Entry.Call 0 0 (one 9) ∷ Entry.Exit 0 ∷ steps 17;
-      answers = Answer.Taken ∷ Answer.Taken ∷ (runs 16 ++ (Answer.Done (one 7) 17 ∷ []));
+      entries = call 0 (one 9) ++ (exit 0 ++ steps 0 17);
+      answers = taken ++ (taken ++ (runs 16 ++ done (one 7) 17));
+      gate = record { holder = Nobody; seq = 2 };
+      announcements = announced Done 1 7 ∷ [];
       variable = 0;
-      cell = written;
+      cell = nine;
     }
 
--- 'K with two processes, both called, process 0 with 5, 1 with 9 ..: 0 is exited at its own step 12; 1 is done with 7 at its own step 8; look shows 9'
+-- 'K with two processes ..: 0 is exited at its own step 12; 1 is done with 7 at its own step 8; look shows 9'
 abbrev pub twoProcesses : Row
 twoProcesses =
     record {
-      text = bytes "card,2,1,1,100\n" ++ programK;
-      entries =
-          Entry.Call 0 0 (one 5) ∷ Entry.Call 1 0 (one 9)
-          ∷ (steps 2 ++ (repeat 5 (Entry.Step 1) ++ (Entry.Exit 0 ∷ (steps 10 ++ (repeat 3 (Entry.Step 1) ++ (Entry.Read 0 ∷ []))))));
-      answers =
-          Answer.Taken ∷ Answer.Taken
-          ∷ (runs 7 ++ (Answer.Taken ∷ (runs 9 ++ (Answer.Exited 12 ∷ (runs 2 ++ (Answer.Done (one 7) 8 ∷ Answer.Value 9 ∷ []))))));
+      text = cardK2;
+      entries = call 0 (one 5) ++ (call 1 (one 9) ++ (steps 0 2 ++ (steps 1 5 ++ (exit 0 ++ (steps 0 10 ++ (steps 1 3 ++ look))))));
+      answers = taken ++ (taken ++ (runs 7 ++ (taken ++ (runs 9 ++ (exited 12 ++ (runs 2 ++ (done (one 7) 8 ++ shown 9)))))));
+      gate = record { holder = Nobody; seq = 2 };
+      announcements = announced Exit 1 5 ∷ announced Done 1 7 ∷ [];
       variable = 0;
-      cell = written;
+      cell = nine;
     }
 
 -- 'K with limit 13: thirteen accepted, then 10; look shows 9'
 abbrev pub limited : Row
 limited =
     record {
-      text = bytes "card,1,1,1,13\n" ++ programK;
-      entries = Entry.Call 0 0 (one 9) ∷ (steps 14 ++ (Entry.Read 0 ∷ []));
-      answers = Answer.Taken ∷ (runs 13 ++ (Answer.Refused LimitReached ∷ Answer.Value 9 ∷ []));
+      text = bytes "card,1,1,1,13\n" ++ bodyK;
+      entries = call 0 (one 9) ++ (steps 0 14 ++ look);
+      answers = taken ++ (runs 13 ++ (refused LimitReached ++ shown 9));
+      gate = record { holder = Nobody; seq = 2 };
+      announcements = announced Done 1 7 ∷ [];
       variable = 0;
-      cell = written;
+      cell = nine;
     }
 
--- '4,294,967,295 plus 1 gives 0; 0 minus 1 gives 4,294,967,295': outputs 0 and 1
+-- the text of a card whose program adds its second input to its first, and subtracts it from 0
+abbrev pub cardSums : List ℕ
+cardSums =
+    bytes "card,1,1,1,100\nvar,7\nsheet,7\nins,1,0,0,0\nins,1,1,1,0\nins,7,0,1,0\nins,11,0,0,0\nins,2,2,0,0\nins,8,2,1,0\nins,11,1,2,0\n"
+
+abbrev pub two : ℕ → ℕ → Words
+two x y = record { w0 = x; w1 = y; w2 = 0; w3 = 0 }
+
+-- '4,294,967,295 plus 1 gives 0; 0 minus 1 gives 4,294,967,295'
 abbrev pub wrapped : Row
 wrapped =
     record {
-      text =
-          bytes "card,1,1,1,100\nvar,7\nsheet,7\nins,1,0,0,0\nins,1,1,1,0\nins,7,0,1,0\nins,11,0,0,0\nins,2,2,0,0\nins,8,2,1,0\nins,11,1,2,0\n";
-      entries = Entry.Call 0 0 (record { w0 = 4294967295; w1 = 1; w2 = 0; w3 = 0 }) ∷ steps 12;
-      answers =
-          Answer.Taken ∷ (runs 11 ++ (Answer.Done (record { w0 = 0; w1 = 4294967295; w2 = 0; w3 = 0 }) 12 ∷ []));
+      text = cardSums;
+      entries = call 0 (two 4294967295 1) ++ steps 0 12;
+      answers = taken ++ (runs 11 ++ done (two 0 4294967295) 12);
+      gate = record { holder = Nobody; seq = 2 };
+      announcements = record { program = 0; flag = Done; seq = 1; words = two 0 4294967295 } ∷ [];
       variable = 0;
       cell = openRecord 7;
     }
 
--- 64 variables, the last of them 8
+-- 64 variables, the last of them 8; the program reads the variable that its input names
 abbrev pub zeroLines : ℕ → List ℕ
 zeroLines zero = []
 zeroLines (suc n) = bytes "var,0\n" ++ zeroLines n
@@ -176,23 +234,28 @@ card64 =
     bytes "card,1,64,1,100\n"
     ++ (zeroLines 63 ++ bytes "var,8\nsheet,3\nins,1,0,0,0\nins,5,1,0,0\nins,11,0,1,0\n")
 
--- 'Code 5 with 63 of 64 variables reads it; with 64 gives 0, no access': one step less
+-- 'Code 5 with 63 of 64 variables reads it'
 abbrev pub indirect : Row
 indirect =
     record {
       text = card64;
-      entries = Entry.Call 0 0 (one 63) ∷ steps 13;
-      answers = Answer.Taken ∷ (runs 12 ++ (Answer.Done (one 8) 13 ∷ []));
+      entries = call 0 (one 63) ++ steps 0 13;
+      answers = taken ++ (runs 12 ++ done (one 8) 13);
+      gate = record { holder = Nobody; seq = 2 };
+      announcements = announced Done 1 8 ∷ [];
       variable = 63;
       cell = openRecord 8;
     }
 
+-- 'with 64 gives 0, no access': one step less
 abbrev pub indirectPast : Row
 indirectPast =
     record {
       text = card64;
-      entries = Entry.Call 0 0 (one 64) ∷ steps 12;
-      answers = Answer.Taken ∷ (runs 11 ++ (Answer.Done (one 0) 12 ∷ []));
+      entries = call 0 (one 64) ++ steps 0 12;
+      answers = taken ++ (runs 11 ++ done (one 0) 12);
+      gate = record { holder = Nobody; seq = 2 };
+      announcements = announced Done 1 0 ∷ [];
       variable = 63;
       cell = openRecord 8;
     }
@@ -202,13 +265,86 @@ abbrev pub skipPast : Row
 skipPast =
     record {
       text = bytes "card,1,1,1,100\nvar,7\nsheet,3\nins,2,0,5,0\nins,9,1,1,31\nins,11,0,0,0\n";
-      entries = Entry.Call 0 0 (one 0) ∷ steps 12;
-      answers = Answer.Taken ∷ (runs 11 ++ (Answer.Done (one 0) 12 ∷ []));
+      entries = call 0 (one 0) ++ steps 0 12;
+      answers = taken ++ (runs 11 ++ done (one 0) 12);
+      gate = record { holder = Nobody; seq = 2 };
+      announcements = announced Done 1 0 ∷ [];
       variable = 0;
       cell = openRecord 7;
     }
 
+-- 'Process i takes part in choosing with i, not seq mod p, first': number 1 is process 1's turn, so 0 helps 1 before itself
+abbrev pub turnOfOther : Row
+turnOfOther =
+    record {
+      text = cardK2;
+      entries = call 1 (one 9) ++ (call 0 (one 5) ++ (steps 1 2 ++ (steps 0 25 ++ look)));
+      answers = taken ++ (taken ++ (runs 26 ++ (done (one 9) 25 ++ shown 5)));
+      gate = record { holder = Nobody; seq = 3 };
+      announcements = announced Done 1 9 ∷ announced Done 1 7 ∷ [];
+      variable = 0;
+      cell = record { val0 = 5; val1 = 9; toggle = false; seq = 2 };
+    }
+
+-- 'A helper reads val[toggle] of a record already written under its number': the old value is 7, not 9
+abbrev pub equalSeq : Row
+equalSeq =
+    record {
+      text = cardK2;
+      entries = call 0 (one 5) ++ (call 1 (one 9) ++ (steps 0 2 ++ (steps 1 9 ++ (steps 0 4 ++ steps 1 5))));
+      answers = taken ++ (taken ++ (runs 19 ++ done (one 7) 14));
+      gate = record { holder = Nobody; seq = 2 };
+      announcements = announced Active 1 5 ∷ announced Done 1 7 ∷ [];
+      variable = 0;
+      cell = nine;
+    }
+
+-- two processes, one variable 0, and the program v0 := 1 - v0
+abbrev pub cardFlip : List ℕ
+cardFlip = bytes "card,2,1,1,100\nvar,0\nsheet,4\nins,2,0,1,0\nins,3,1,0,0\nins,8,0,1,0\nins,4,0,0,0\n"
+
+abbrev pub flipped : ℕ → Record
+flipped seq = record { val0 = 0; val1 = 1; toggle = true; seq = seq }
+
+-- 'Exited is answered straight after P6: a helper may yet finish the operation': after P7 process 1 runs on, and 0 finishes its operation
+abbrev pub earlyExit : Row
+earlyExit =
+    record {
+      text = cardFlip;
+      entries = call 0 (one 0) ++ (steps 0 3 ++ (call 1 (one 0) ++ (steps 1 2 ++ (steps 0 6 ++ (exit 1 ++ (steps 1 1 ++ (steps 0 1 ++ (steps 1 1 ++ (steps 0 1 ++ look)))))))));
+      answers = taken ++ (runs 3 ++ (taken ++ (runs 8 ++ (taken ++ (runs 4 ++ shown 1)))));
+      gate = record { holder = Process 1; seq = 1 };
+      announcements = announced Active 1 0 ∷ announced Done 1 0 ∷ [];
+      variable = 0;
+      cell = flipped 1;
+    }
+
+-- 'P17 without the seq test: a late helper marks the next announcement done': it stays active
+abbrev pub lateMark : Row
+lateMark =
+    record {
+      text = cardFlip;
+      entries = call 0 (one 0) ++ (steps 0 3 ++ (call 1 (one 0) ++ (steps 1 2 ++ (steps 0 3 ++ (steps 1 9 ++ (call 1 (one 0) ++ (steps 1 2 ++ steps 0 3)))))));
+      answers = taken ++ (runs 3 ++ (taken ++ (runs 13 ++ (done (one 0) 11 ++ (taken ++ runs 5)))));
+      gate = record { holder = Nobody; seq = 2 };
+      announcements = announced Active 1 0 ∷ announced Active 2 0 ∷ [];
+      variable = 0;
+      cell = flipped 1;
+    }
+
+-- 'A swap that compares values and not seq lets a late write through': the late H36 of process 0 is lost
+abbrev pub lateSwap : Row
+lateSwap =
+    record {
+      text = cardFlip;
+      entries = call 0 (one 0) ++ (steps 0 3 ++ (call 1 (one 0) ++ (steps 1 2 ++ (steps 0 16 ++ (steps 1 9 ++ (call 1 (one 0) ++ (steps 1 9 ++ (steps 0 1 ++ (steps 1 1 ++ look)))))))));
+      answers = taken ++ (runs 3 ++ (taken ++ (runs 26 ++ (done (one 0) 11 ++ (taken ++ (runs 11 ++ shown 1))))));
+      gate = record { holder = Process 1; seq = 3 };
+      announcements = announced Done 1 0 ∷ announced Done 3 0 ∷ [];
+      variable = 0;
+      cell = flipped 3;
+    }
+
 abbrev pub rows : List Row
 rows =
-    listing ∷ afterNine ∷ afterTen ∷ sameInput ∷ exitRequested ∷ twoProcesses ∷ limited ∷ wrapped ∷ indirect
-    ∷ indirectPast ∷ skipPast ∷ []
+    listing ∷ afterNine ∷ afterTen ∷ sameInput ∷ exitRequested ∷ twoProcesses ∷ limited ∷ wrapped ∷ indirect ∷ indirectPast ∷ skipPast ∷ turnOfOther ∷ equalSeq ∷ earlyExit ∷ lateMark ∷ lateSwap ∷ []

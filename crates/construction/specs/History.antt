@@ -53,6 +53,11 @@ pub record Notes : Type 0 where
   pub returns : List Response
   pub words : List ℕ
 
+-- a process has a taken call
+unfoldable pub hasCalled : List Invocation → ℕ → Bool
+hasCalled [] i = false
+hasCalled (x ∷ xs) i = cond (eqb (x .process) i) true (hasCalled xs i)
+
 -- the number of a process's latest taken call, and that call
 unfoldable pub latest : List Invocation → ℕ → ℕ
 latest [] i = 0
@@ -195,10 +200,9 @@ abbrev pub AllAgree : List Finish → List Response → Type 0
 AllAgree order [] = Unit
 AllAgree order (r ∷ rs) = Agrees order (r .operation) (r .answer) × AllAgree order rs
 
--- an operation of process i is under way: its latest taken call has not returned
+-- an operation of process i is under way: it has a taken call, and the latest has not returned
 pub record UnderWay (s : Notes) (i : ℕ) : Type 0 where
-  pub called : latestCall (s .operations) i .process ≡ i
-  pub number : latest (s .operations) i < length (s .operations)
+  pub called : hasCalled (s .operations) i ≡ true
   pub unreturned : hasReturned (latest (s .operations) i) (s .returns) ≡ false
 
 -- an entry finishes nothing, or is a step and finishes one operation that is under way

@@ -1,1 +1,3 @@
+pub mod Basics
 pub mod Examples
+pub mod RequestLaws

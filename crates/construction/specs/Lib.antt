@@ -5,6 +5,7 @@ pub mod Dictionary
 pub mod Helping
 pub mod Parts
 pub mod Machine
+pub mod Answers
 pub mod Requests
 pub mod Lines
 pub mod Opening

@@ -1,7 +1,6 @@
 -- Call, exit request (document 01: wish), step and read (document 01: look), with refusals 5 to 10 (document 01, 'Turned back').
 use Prim.Native.Nat.{ℕ}
 use mathlib.Core.Bool.{Bool, true, false, cond, not, _&&_}
-use mathlib.Core.List.{List, [], _∷_}
 use lib.Dec.{eqb, ltb}
 use Rattle.construction.specs.declared.Words.{Words}
 use Rattle.construction.specs.declared.Announcement.{Announcement}
@@ -15,33 +14,10 @@ use Rattle.construction.specs.declared.Place.{Place}
 use Rattle.construction.specs.declared.Place.the-variants.{Idle, P1, P3, P5, P7, P10, C2, C4, P13, P14, P16, H21, H36, P19, P20, P21, P22, F1, F3}
 use Rattle.construction.specs.declared.Answer.{Answer}
 use Rattle.construction.specs.declared.Refusal.{Refusal}
-use Rattle.construction.specs.declared.Refusal.the-variants.{TooLong, Malformed, OutOfRange, BadInstruction, NoProcess, NoProgram, Busy, NotBusy, NoPlace, LimitReached, ShortBuffer}
+use Rattle.construction.specs.declared.Refusal.the-variants.{NoProcess, NoProgram, Busy, NotBusy, NoPlace, LimitReached}
 use Rattle.construction.specs.Cells.{isDone, current, previous}
 use Rattle.construction.specs.Parts.{announcementAt, recordAt, taskAt, countAt, copyAt, withTask, withOperation, withExit, withCount}
 use Rattle.construction.specs.Machine.{advance}
-
--- the number of a refusal
-unfoldable pub numberOf : Refusal → ℕ
-numberOf TooLong = 1
-numberOf Malformed = 2
-numberOf OutOfRange = 3
-numberOf BadInstruction = 4
-numberOf NoProcess = 5
-numberOf NoProgram = 6
-numberOf Busy = 7
-numberOf NotBusy = 8
-numberOf NoPlace = 9
-numberOf LimitReached = 10
-numberOf ShortBuffer = 11
-
--- the numbers that an answer carries, in the order in which document 01 prints them
-unfoldable pub valuesOf : Answer → List ℕ
-valuesOf Answer.Taken = []
-valuesOf Answer.Run = []
-valuesOf (Answer.Done o steps) = o .w0 ∷ o .w1 ∷ o .w2 ∷ o .w3 ∷ steps ∷ []
-valuesOf (Answer.Exited steps) = steps ∷ []
-valuesOf (Answer.Value x) = x ∷ []
-valuesOf (Answer.Refused r) = numberOf r ∷ []
 
 -- a card has room for 8 processes, 8 programs and 64 variables
 abbrev pub isProcess : Card → ℕ → Bool

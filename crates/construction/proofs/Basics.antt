@@ -1,0 +1,201 @@
+-- Case splits on a test and on a place of a list; what the whole-cell tests say; flags and holders told apart.
+use Prim.Native.Nat.{ℕ, _<_}
+use mathlib.Core.Path.{_≡_, refl, sym, ap}
+use mathlib.Core.Bool.{Bool, true, false, cond, _&&_}
+use mathlib.Core.Logic.{_≢_, _⊎_, inl, inr}
+use mathlib.Core.List.{List}
+use native.Mathlib.Omega.{arith}
+use native.Mathlib.Decide.{ℕ-discrete}
+use lib.ListN.{length, getD, set}
+use lib.Seq.{getD-set-same, getD-set-other}
+use lib.Dec.{eqb}
+use borrow.Author.Tests.{eqb-true, eq-eqb}
+use Rattle.construction.specs.declared.Holder.{Holder}
+use Rattle.construction.specs.declared.Holder.the-variants.{Nobody, Process}
+use Rattle.construction.specs.declared.Flag.{Flag}
+use Rattle.construction.specs.declared.Flag.the-variants.{Done, Active, Exit}
+use Rattle.construction.specs.declared.Words.{Words}
+use Rattle.construction.specs.declared.Gate.{Gate}
+use Rattle.construction.specs.declared.Announcement.{Announcement}
+use Rattle.construction.specs.declared.Record.{Record}
+use Rattle.construction.specs.Cells.{sameHolder, sameFlag, sameBool, sameWords, sameGate, sameAnnouncement, sameRecord}
+
+-- by cases on a test, its outcome in hand
+pub on-test {ℓ κ} :
+    {A : Type ℓ} (P : A → Type κ) (b : Bool) {x y : A} → (b ≡ true → P x) → (b ≡ false → P y) → P (cond b x y)
+on-test P true f g = f refl
+on-test P false f g = g refl
+
+pub true-or-false : (b : Bool) → (b ≡ true) ⊎ (b ≡ false)
+true-or-false true = inl refl
+true-or-false false = inr refl
+
+pub true-false : (b : Bool) → b ≡ true → b ≡ false → ⊥
+true-false b p q = let z : _≡_ {A = ℕ} 0 1 = cc in omega arith
+
+-- a test whose outcome is known
+pub cond-true {ℓ} : {A : Type ℓ} (b : Bool) (x y : A) → b ≡ true → cond b x y ≡ x
+cond-true b x y e = rw e
+
+pub cond-false {ℓ} : {A : Type ℓ} (b : Bool) (x y : A) → b ≡ false → cond b x y ≡ y
+cond-false b x y e = rw e
+
+pub and-true : (a b : Bool) → a && b ≡ true → (a ≡ true) × (b ≡ true)
+and-true true b e = (refl, e)
+and-true false b e = (e, cc)
+
+-- by cases on the place that was set
+pub on-set {ℓ κ} :
+    {A : Type ℓ} (P : A → Type κ) (l : List A) (i j : ℕ) (a d : A) →
+    i < length l → (j ≡ i → P a) → (j ≢ i → P (getD l j d)) → P (getD (set l i a) j d)
+on-set P l i j a d h same other = go (ℕ-discrete j i)
+  where
+    go : Dec (j ≡ i) → P (getD (set l i a) j d)
+    go (yes e) = rw e (rw getD-set-same (same e))
+    go (no n) = rw getD-set-other (other n)
+
+-- equality of the parts of a cell
+pub sameHolder-true : (a b : Holder) → sameHolder a b ≡ true → a ≡ b
+sameHolder-true Nobody Nobody e = refl
+sameHolder-true Nobody (Process n) e = cc
+sameHolder-true (Process m) Nobody e = cc
+sameHolder-true (Process m) (Process n) e = ap Process (eqb-true m n e)
+
+pub sameHolder-refl : (a : Holder) → sameHolder a a ≡ true
+sameHolder-refl Nobody = refl
+sameHolder-refl (Process m) = eq-eqb m m refl
+
+sameFlag-true : (a b : Flag) → sameFlag a b ≡ true → a ≡ b
+sameFlag-true Done Done e = refl
+sameFlag-true Done Active e = cc
+sameFlag-true Done Exit e = cc
+sameFlag-true Active Done e = cc
+sameFlag-true Active Active e = refl
+sameFlag-true Active Exit e = cc
+sameFlag-true Exit Done e = cc
+sameFlag-true Exit Active e = cc
+sameFlag-true Exit Exit e = refl
+
+sameFlag-refl : (a : Flag) → sameFlag a a ≡ true
+sameFlag-refl Done = refl
+sameFlag-refl Active = refl
+sameFlag-refl Exit = refl
+
+sameBool-true : (a b : Bool) → sameBool a b ≡ true → a ≡ b
+sameBool-true true b e = sym e
+sameBool-true false true e = cc
+sameBool-true false false e = refl
+
+sameBool-refl : (a : Bool) → sameBool a a ≡ true
+sameBool-refl true = refl
+sameBool-refl false = refl
+
+eqb-refl : (n : ℕ) → eqb n n ≡ true
+eqb-refl n = eq-eqb n n refl
+
+sameWords-true : (a b : Words) → sameWords a b ≡ true → a ≡ b
+unfolding sameWords
+sameWords-true a b e =
+    let h = and-true (eqb (a .w0) (b .w0)) _ e in
+    let k = and-true (eqb (a .w1) (b .w1)) _ (h .1) in
+    let l = and-true (eqb (a .w2) (b .w2)) _ (k .1) in
+    λ i. record {
+      w0 = eqb-true (a .w0) (b .w0) (h .0) i;
+      w1 = eqb-true (a .w1) (b .w1) (k .0) i;
+      w2 = eqb-true (a .w2) (b .w2) (l .0) i;
+      w3 = eqb-true (a .w3) (b .w3) (l .1) i;
+    }
+
+sameWords-refl : (a : Words) → sameWords a a ≡ true
+unfolding sameWords
+sameWords-refl a = rw (eqb-refl (a .w0), eqb-refl (a .w1), eqb-refl (a .w2)) (eqb-refl (a .w3))
+
+-- equality of whole cells
+pub sameGate-true : (a b : Gate) → sameGate a b ≡ true → a ≡ b
+unfolding sameGate
+sameGate-true a b e =
+    let h = and-true (sameHolder (a .holder) (b .holder)) _ e in
+    λ i. record {
+      holder = sameHolder-true (a .holder) (b .holder) (h .0) i;
+      seq = eqb-true (a .seq) (b .seq) (h .1) i;
+    }
+
+pub sameGate-refl : (a : Gate) → sameGate a a ≡ true
+unfolding sameGate
+sameGate-refl a = rw sameHolder-refl (eqb-refl (a .seq))
+
+pub sameGate-false : (a b : Gate) → sameGate a b ≡ false → a ≢ b
+sameGate-false a b e q = true-false (sameGate a b) (rw (← q) (sameGate-refl a)) e
+
+pub sameAnnouncement-true : (a b : Announcement) → sameAnnouncement a b ≡ true → a ≡ b
+unfolding sameAnnouncement
+sameAnnouncement-true a b e =
+    let h = and-true (eqb (a .program) (b .program)) _ e in
+    let k = and-true (eqb (a .seq) (b .seq)) _ (h .1) in
+    let l = and-true (sameFlag (a .flag) (b .flag)) _ (k .1) in
+    λ i. record {
+      program = eqb-true (a .program) (b .program) (h .0) i;
+      flag = sameFlag-true (a .flag) (b .flag) (l .0) i;
+      seq = eqb-true (a .seq) (b .seq) (k .0) i;
+      words = sameWords-true (a .words) (b .words) (l .1) i;
+    }
+
+pub sameAnnouncement-refl : (a : Announcement) → sameAnnouncement a a ≡ true
+unfolding sameAnnouncement
+sameAnnouncement-refl a = rw (eqb-refl (a .program), eqb-refl (a .seq), sameFlag-refl) (sameWords-refl (a .words))
+
+pub sameAnnouncement-false : (a b : Announcement) → sameAnnouncement a b ≡ false → a ≢ b
+sameAnnouncement-false a b e q = true-false (sameAnnouncement a b) (rw (← q) (sameAnnouncement-refl a)) e
+
+pub sameRecord-true : (a b : Record) → sameRecord a b ≡ true → a ≡ b
+unfolding sameRecord
+sameRecord-true a b e =
+    let h = and-true (eqb (a .val0) (b .val0)) _ e in
+    let k = and-true (eqb (a .val1) (b .val1)) _ (h .1) in
+    let l = and-true (sameBool (a .toggle) (b .toggle)) _ (k .1) in
+    λ i. record {
+      val0 = eqb-true (a .val0) (b .val0) (h .0) i;
+      val1 = eqb-true (a .val1) (b .val1) (k .0) i;
+      toggle = sameBool-true (a .toggle) (b .toggle) (l .0) i;
+      seq = eqb-true (a .seq) (b .seq) (l .1) i;
+    }
+
+pub sameRecord-refl : (a : Record) → sameRecord a a ≡ true
+unfolding sameRecord
+sameRecord-refl a = rw (eqb-refl (a .val0), eqb-refl (a .val1), sameBool-refl) (eqb-refl (a .seq))
+
+pub sameRecord-false : (a b : Record) → sameRecord a b ≡ false → a ≢ b
+sameRecord-false a b e q = true-false (sameRecord a b) (rw (← q) (sameRecord-refl a)) e
+
+-- holders told apart
+pub nobody-process : (h : Holder) (m : ℕ) → h ≡ Nobody → h ≡ Process m → ⊥
+nobody-process h m a b = let z : _≡_ {A = ℕ} 0 1 = cc in omega arith
+
+pub never : {m : ℕ} → _≡_ {A = Holder} Nobody (Process m) → ⊥
+never {m} e = nobody-process Nobody m refl e
+
+pub never′ : {m : ℕ} → _≡_ {A = Holder} (Process m) Nobody → ⊥
+never′ {m} e = nobody-process (Process m) m e refl
+
+pub process-same : {m n : ℕ} → _≡_ {A = Holder} (Process m) (Process n) → m ≡ n
+process-same e = cc
+
+-- flags told apart
+pub active-not-done : (f : Flag) → f ≡ Active → f ≡ Done → ⊥
+active-not-done f p q = let z : _≡_ {A = ℕ} 0 1 = cc in omega arith
+
+pub active-not-exit : (f : Flag) → f ≡ Active → f ≡ Exit → ⊥
+active-not-exit f p q = let z : _≡_ {A = ℕ} 0 1 = cc in omega arith
+
+pub exit-not-done : (f : Flag) → f ≡ Exit → f ≡ Done → ⊥
+exit-not-done f p q = let z : _≡_ {A = ℕ} 0 1 = cc in omega arith
+
+pub done? : (f : Flag) → (f ≡ Done) ⊎ (f ≢ Done)
+done? Done = inl refl
+done? Active = inr (active-not-done Active refl)
+done? Exit = inr (exit-not-done Exit refl)
+
+pub third : (f : Flag) → f ≢ Done → f ≢ Active → f ≡ Exit
+third Done a b = absurd (a refl)
+third Active a b = absurd (b refl)
+third Exit a b = refl

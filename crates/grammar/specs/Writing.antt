@@ -7,7 +7,7 @@ use lib.ListN.{length}
 use lib.Dec.{ltb}
 use lib.Seq.{sets}
 
--- The digits of n; f bounds how many there are.
+-- The last f digits of n, or all of them where there are fewer ("The card text": decimal).
 unfoldable pub decimals : ℕ → ℕ → List ℕ
 decimals zero n = []
 decimals (suc f) n =
@@ -18,7 +18,7 @@ decimals (suc f) n =
 unfoldable pub decimal : ℕ → List ℕ
 decimal n = decimals (suc n) n
 
--- A field with its separator s ("The card text").
+-- A field with its separator s ("The card text": fields parted by commas, each line ended by byte 10).
 abbrev pub fieldText : ℕ → ℕ → List ℕ
 fieldText s n = decimal n ++ (s ∷ [])
 
@@ -26,11 +26,12 @@ fieldText s n = decimal n ++ (s ∷ [])
 abbrev pub fourText : ℕ → ℕ → ℕ → ℕ → List ℕ
 fourText a b c d = fieldText 44 a ++ (fieldText 44 b ++ (fieldText 44 c ++ fieldText 10 d))
 
--- The largest place that a usize holds; no buffer has it.
+-- The largest place that the code can name: it has 64 bits. No buffer has that place.
 abbrev pub largest : ℕ
 largest = 18446744073709551615
 
--- The place n bytes after another, at most the largest.
+-- The place n bytes after another, at most the largest: where a text of n bytes ends ("Turned back": the writer
+-- tells the length).
 abbrev pub placeAfter : ℕ → ℕ → ℕ
 placeAfter at n = min largest (at + n)
 

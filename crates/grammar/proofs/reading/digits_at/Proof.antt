@@ -1,0 +1,58 @@
+use borrow.Author.Needs.{needs}
+use native.Mathlib.Omega.{arith}
+use mathlib.Core.Path.{_≡_, refl, sym, _∙_}
+use Prim.Native.Nat.{_-_, _≤_}
+use lib.ListN.{length, drop}
+use Rattle.grammar.specs.Reading.{digits, most}
+use Rattle.grammar.proofs.Digits as laws
+use Rattle.grammar.proofs.reading.digits_at.Statement.{statement}
+use Rattle.grammar.proofs.reading.digits_at.Tie as tie
+
+abbrev Inv-loop : tie.InvT-loop
+Inv-loop text at value₀ i₀ value i = (digits at 0 (drop at text) ≡ digits i value (drop i text)) × (value ≤ most)
+
+abbrev μ-loop : tie.MeasureT-loop
+μ-loop text at value₀ i₀ value i = length text - i
+
+loop-holds : tie.Need-loop-holds Inv-loop μ-loop
+loop-holds c = (refl, omega arith)
+
+shared-slice-read-byte : tie.Need-shared-slice-read-byte Inv-loop μ-loop
+shared-slice-read-byte c = omega arith
+
+is-digit-requires : tie.Need-is-digit-requires Inv-loop μ-loop
+is-digit-requires c κs = search needs
+
+grown-requires : tie.Need-grown-requires Inv-loop μ-loop
+grown-requires c κs = ((c .before .before .before .before .loop .inv .1), sym (c .before .is-digit .ensures) ∙ (c .if1 .taken))
+
+add-i : tie.Need-add-i Inv-loop μ-loop
+add-i c = omega arith
+
+loop-less : tie.Need-loop-less Inv-loop μ-loop
+loop-less c = omega arith
+
+loop-again : tie.Need-loop-again Inv-loop μ-loop
+loop-again c = ((c .before .before .before .before .before .loop .inv .0) ∙ laws.digits-more _ _ _ (c .before .before .before .before .loop-test .taken) (c .before .before .is-digit .ensures) (c .before .if1 .taken) (c .grown .ensures), omega arith)
+
+returns : tie.Need-returns Inv-loop μ-loop
+returns c = sym ((c .before .before .before .before .loop .inv .0) ∙ laws.digits-stop _ _ _ (c .before .before .before .loop-test .taken) (c .before .is-digit .ensures) (c .if1 .left))
+
+returns-2 : tie.Need-returns-2 Inv-loop μ-loop
+returns-2 c = sym ((c .before .loop .inv .0) ∙ laws.digits-end _ _ _ (c .loop-test .left))
+
+pub digits-at-spec : {M : Type 1} → statement M
+digits-at-spec =
+    tie.close
+    (tie.spec
+    Inv-loop
+    μ-loop
+    loop-holds
+    shared-slice-read-byte
+    is-digit-requires
+    grown-requires
+    add-i
+    loop-less
+    loop-again
+    returns
+    returns-2)

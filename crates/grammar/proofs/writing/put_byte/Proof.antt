@@ -1,0 +1,24 @@
+use native.Mathlib.Omega.{arith}
+use Rattle.grammar.proofs.Puts as puts
+use borrow.Author.Needs.{needs}
+use Rattle.grammar.proofs.writing.put_byte.Statement.{statement}
+use Rattle.grammar.proofs.writing.put_byte.Tie as tie
+
+following-requires : tie.Need-following-requires
+following-requires c κs = search needs
+
+slice-write-buffer : tie.Need-slice-write-buffer
+slice-write-buffer c = omega arith
+
+same-length : tie.Need-same-length
+same-length c = search needs
+
+returns : tie.Need-returns
+returns c = puts.put-in _ _ _ (c .before .following .ensures)
+
+returns-2 : tie.Need-returns-2
+returns-2 c = puts.put-out _ _ _ (c .if1 .left) (c .before .following .ensures)
+
+pub put-byte-spec : {M : Type 1} → statement M
+put-byte-spec =
+    tie.close (tie.spec following-requires slice-write-buffer same-length returns returns-2)

@@ -1,0 +1,294 @@
+-- The steps whose access is of an announcement, but for P16: P3, P6, P7, C2, C4, P19, P20, P22.
+use Prim.Native.Nat.{ℕ, _<_}
+use mathlib.Core.Path.{_≡_, refl, sym, ap, _∙_}
+use mathlib.Core.Bool.{true}
+use mathlib.Core.Logic.{_≢_, inl, inr, ⊎-elim}
+use mathlib.Core.List.{List}
+use native.Mathlib.Omega.{arith}
+use native.Mathlib.Nat.{mod-lt}
+use lib.ListN.{getD, set}
+use lib.Seq.{getD-set-same, set-getD}
+use borrow.Author.Tests.{lt-ltb}
+use Rattle.construction.specs.declared.Announcement.{Announcement}
+use Rattle.construction.specs.declared.Operation.{Operation}
+use Rattle.construction.specs.declared.Card.{Card}
+use Rattle.construction.specs.declared.Holder.the-variants.{Process}
+use Rattle.construction.specs.declared.Flag.{Flag}
+use Rattle.construction.specs.declared.Flag.the-variants.{Done, Active, Exit}
+use Rattle.construction.specs.declared.Place.{Place}
+use Rattle.construction.specs.declared.Place.the-variants.{Idle, P3, P5, P7, P10, C2, C4, P13, P19, P20, P21, P22, F1}
+use Rattle.construction.specs.declared.AnnouncementAccess.{AnnouncementAccess}
+use Rattle.construction.specs.Cells.{openAnnouncement, sameAnnouncement, swapAnnouncement}
+use Rattle.construction.specs.Parts.{announcementAt, recordAt, taskAt, operationAt, heldAt, copyAt, simulationAt, withAnnouncement, withTask}
+use Rattle.construction.specs.Machine.{goTo, byFlag, holderOf, firstChoice, announced, flagged, withdrawn, finished, accessAnnouncement}
+use Rattle.construction.proofs.Basics.{on-test, sameAnnouncement-true, sameAnnouncement-false, active-not-done, active-not-exit, exit-not-done}
+use Rattle.construction.proofs.World.{Fixed, endingIn, World, announcementIn, roundIn, wordAt, operationOf, doneWith, announcing, leaving, ending, Move}
+use Rattle.construction.proofs.World.Move.{announce, leave, end}
+use Rattle.construction.proofs.Claims.{Nominated, Returning, owned-end, limit-end}
+use Rattle.construction.proofs.Locals.{Local, localAt, atTask, atCopy, fixedOf, Updated, announcement-updated, copy-updated, task-updated}
+use Rattle.construction.proofs.Places.{Mine, Helping, Plan, Ready, LocAt, Loc, helping-stays, plan-stays, ready-stays}
+use Rattle.construction.proofs.Acting.{worldOf, Before, Acted, place-fits, untouched, keeps, reads-announcement}
+
+announcement-path :
+    {a b : Announcement} → a .program ≡ b .program → a .flag ≡ b .flag → a .seq ≡ b .seq → a .words ≡ b .words → a ≡ b
+announcement-path e f g h = λ i. record { program = e i; flag = f i; seq = g i; words = h i }
+
+-- what is neither active nor exit is done
+flag-done : (f : Flag) → f ≢ Active → f ≢ Exit → f ≡ Done
+flag-done Done a b = refl
+flag-done Active a b = absurd (a refl)
+flag-done Exit a b = absurd (b refl)
+
+-- line C1 names a process
+first-inside : (s p i : ℕ) → i < p → firstChoice s p < p
+unfolding firstChoice
+first-inside s p i lt = rw (lt-ltb 0 p (omega arith)) (mod-lt s (omega arith))
+
+module _ {c : Card} {w : World} {i : ℕ} (B : Before c w i) where
+  abbrev W : World
+  W = worldOf c w
+
+  abbrev F : Fixed
+  F = fixedOf c
+
+  abbrev L : Place → Type 0
+  L l = LocAt l F W i (localAt c i)
+
+  -- the announcement of m after it was set
+  set-is : (m : ℕ) (a : Announcement) → m < c .processes → getD (set (c .announcements) m a) m openAnnouncement ≡ a
+  set-is m a lt = getD-set-same (c .announcements) m a openAnnouncement (omega (arith, B .good .few, B .good .size-announcements))
+
+  pub at-P3 : L P3 → Acted c W i (accessAnnouncement AnnouncementAccess.Announce c i)
+  unfolding accessAnnouncement
+  at-P3 q =
+      let a : Announcement = announced c i in
+      let z : getD (set (c .announcements) i (announced c i)) i openAnnouncement ≡ announced c i = set-is i (announced c i) (B .inside) in
+      record {
+        after = announcing W i a;
+        move = announce a (B .inside) (q .0) refl (q .1) (q .2) (q .3);
+        gate-is = refl;
+        announcements-is = refl;
+        records-is = refl;
+        calls-is = refl;
+        local = _;
+        updated = task-updated (copy-updated (announcement-updated (untouched B) i (announced c i)) (place-fits B) (announced c i)) (place-fits B) (goTo (taskAt c i) P5);
+        tidy = B .tidy;
+        loc = (
+          record {
+            own = record { out = λ d. absurd (active-not-done _ (ap (λ (r : Announcement). r .flag) z) d); op = λ _. ap operationOf z ∙ q .1 };
+            called = q .1;
+          },
+          record { same = λ _. z },
+          refl,
+          refl,
+        );
+      }
+
+  answered : announcementAt c i .flag ≡ Done → Mine W i (operationAt c i) → Returning W i (announcementAt c i)
+  answered e q = record { done = e; same = refl; out = q .own .out e }
+
+  -- process i with its own announcement read, and at a place
+  abbrev read : Place → Local
+  read l = atTask (atCopy (localAt c i) (announcementAt c i)) (record { place = l; target = i })
+
+  read-P7 : (f : Flag) → announcementAt c i .flag ≡ f → L P7 → Loc F W i (read (byFlag f F1 P10 P10))
+  read-P7 Done e q = answered e q
+  read-P7 Active e q = q
+  read-P7 Exit e q = q
+
+  pub at-P7 : L P7 → Acted c W i (accessAnnouncement (AnnouncementAccess.ReadOwn F1 P10 P10) c i)
+  unfolding accessAnnouncement
+  at-P7 q = reads-announcement B (announcementAt c i) _ (read-P7 (announcementAt c i .flag) refl q)
+
+  self : announcementAt c i .flag ≢ Done → L C4 → Nominated W i i (heldAt c i .seq)
+  self nd q = record { below = q .2; alive = λ _ _. nd; op = λ _ _. q .0 .own .op nd; right = λ _ _. inl refl }
+
+  read-C4 : (f : Flag) → announcementAt c i .flag ≡ f → L C4 → Loc F W i (read (byFlag f F1 P13 P13))
+  read-C4 Done e q = answered e (q .0)
+  read-C4 Active e q = (q .0, q .1, B .inside, self (λ d. active-not-done _ e d) q, q .3)
+  read-C4 Exit e q = (q .0, q .1, B .inside, self (λ d. exit-not-done _ e d) q, q .3)
+
+  pub at-C4 : L C4 → Acted c W i (accessAnnouncement (AnnouncementAccess.ReadOwn F1 P13 P13) c i)
+  unfolding accessAnnouncement
+  at-C4 q = reads-announcement B (announcementAt c i) _ (read-C4 (announcementAt c i .flag) refl q)
+
+  read-P22 : (f : Flag) → announcementAt c i .flag ≡ f → L P22 → Loc F W i (read (byFlag f F1 P5 Idle))
+  read-P22 Done e q = answered e (q .0)
+  read-P22 Active e q = (
+    q .0,
+    record { same = λ _. refl },
+    e,
+    ap (λ (r : Operation). r .inputs) (q .0 .own .op (λ d. active-not-done _ e d) ∙ sym (q .0 .called)),
+  )
+  read-P22 Exit e q = (
+    record { not-active = λ a. active-not-exit _ a e; free-of = q .1 .free-of e; late = q .1 .late },
+    record { same = refl; out = q .0 .own .out },
+  )
+
+  pub at-P22 : L P22 → Acted c W i (accessAnnouncement (AnnouncementAccess.ReadOwn F1 P5 Idle) c i)
+  unfolding accessAnnouncement
+  at-P22 q = reads-announcement B (announcementAt c i) _ (read-P22 (announcementAt c i .flag) refl q)
+
+  read-C2 :
+      (m : ℕ) → m < c .processes → (f : Flag) → announcementAt c m .flag ≡ f → L C2 →
+      Loc F W i (atTask (atCopy (localAt c i) (announcementAt c m)) (record { place = byFlag f C4 P13 C4; target = m }))
+  read-C2 m ml Done e q = q
+  read-C2 m ml Active e q = (
+    q .0,
+    q .1,
+    ml,
+    record {
+      below = q .2;
+      alive = λ _ _ d. active-not-done _ e d;
+      op = λ _ _. B .good .active-operation m e;
+      right = λ _ _. inr (λ l. absurd (active-not-exit _ e l));
+    },
+    q .3,
+  )
+  read-C2 m ml Exit e q = q
+
+  pub at-C2 : L C2 → Acted c W i (accessAnnouncement AnnouncementAccess.ReadFirst c i)
+  unfolding accessAnnouncement
+  at-C2 q =
+      let m : ℕ = firstChoice (heldAt c i .seq) (c .processes) in
+      reads-announcement B (announcementAt c m) _
+      (read-C2 m (first-inside (heldAt c i .seq) (c .processes) i (B .inside)) (announcementAt c m .flag) refl q)
+
+  -- the card after a swap of announcement m, with process i at a place
+  abbrev swapped : ℕ → Announcement → Place → Card
+  swapped m a l = withTask (withAnnouncement c m a) i (goTo (taskAt c i) l)
+
+  swapped-updated : (m : ℕ) (a : Announcement) (l : Place) → Updated c i (swapped m a l) (atTask (localAt c i) (goTo (taskAt c i) l))
+  swapped-updated m a l = task-updated (announcement-updated (untouched B) m a) (place-fits B) (goTo (taskAt c i) l)
+
+  -- a swap that was lost
+  lost : (m : ℕ) (l : Place) → Loc F W i (atTask (localAt c i) (goTo (taskAt c i) l)) → Acted c W i (swapped m (announcementAt c m) l)
+  lost m l q =
+      keeps B (swapped-updated m (announcementAt c m) l) refl (set-getD (c .announcements) m openAnnouncement) refl (B .tidy) q
+
+  pub at-P6 : L P5 → Acted c W i (accessAnnouncement AnnouncementAccess.Withdraw c i)
+  unfolding accessAnnouncement swapAnnouncement
+  at-P6 q = on-test (λ a. Acted c W i (swapped i a P7)) (sameAnnouncement (announcementAt c i) (copyAt c i)) won (λ _. lost i P7 (q .0))
+    where
+      won : sameAnnouncement (announcementAt c i) (copyAt c i) ≡ true → Acted c W i (swapped i (withdrawn c i) P7)
+      won e =
+          let z = sameAnnouncement-true (announcementAt c i) (copyAt c i) e in
+          let fa : announcementAt c i .flag ≡ Active = ap (λ (r : Announcement). r .flag) z ∙ q .2 in
+          let zw : operationAt c i .inputs ≡ announcementAt c i .words = sym (ap (λ (r : Announcement). r .words) z ∙ q .3) in
+          let y = set-is i (flagged (announcementAt c i) Exit) (B .inside) in
+          record {
+            after = leaving W i;
+            move = leave (B .inside) fa;
+            gate-is = refl;
+            announcements-is = ap {B = List Announcement} (set (c .announcements) i)
+                (announcement-path (ap (λ (r : Announcement). r .program) (sym z)) refl (ap (λ (r : Announcement). r .seq) (sym z)) zw);
+            records-is = refl;
+            calls-is = refl;
+            local = _;
+            updated = swapped-updated i (withdrawn c i) P7;
+            tidy = B .tidy;
+            loc = record {
+              own = record {
+                out = λ d. absurd (exit-not-done _ (ap (λ (r : Announcement). r .flag) y) d);
+                op = λ _. ap operationOf y ∙ q .0 .own .op (λ d. active-not-done _ fa d);
+              };
+              called = q .0 .called;
+            };
+          }
+
+  -- the process that is helped
+  abbrev helped : ℕ
+  helped = holderOf (heldAt c i .holder)
+
+  -- the flag is turned to done, from the flag f that the swap expects
+  module _ (l : Place) (f : Flag) (nf : f ≢ Done) (hp : Helping F W (heldAt c i)) (plan : Plan F W (heldAt c i) (copyAt c i))
+      (rd : Ready F W (heldAt c i .seq) (simulationAt c i .outputs)) where
+    ends :
+        announcementAt c helped ≡ flagged (copyAt c i) f →
+        (Move F i W (ending F W helped) → Loc F (ending F W helped) i (atTask (localAt c i) (goTo (taskAt c i) l))) →
+        Acted c W i (swapped helped (finished c i) l)
+    ends z loc =
+        let nd : announcementAt c helped .flag ≢ Done = λ d. nf (sym (ap (λ (r : Announcement). r .flag) z) ∙ d) in
+        let zq : announcementAt c helped .seq ≡ copyAt c i .seq = ap (λ (r : Announcement). r .seq) z in
+        let still = hp .seen .still (omega (arith, B .good .fresh helped nd, plan .early)) in
+        let zs : c .gate .seq ≡ heldAt c i .seq = still .1 in
+        let all : (v : ℕ) → v < c .variables → recordAt c v .seq < c .gate .seq →
+        wordAt (endingIn F W (c .gate .seq) .words) v ≡ wordAt (roundIn W (c .gate .seq) .words) v =
+        ⊎-elim (λ b. absurd (omega arith)) (λ g. rw zs g) (rd .all) in
+        let outs : simulationAt c i .outputs ≡ endingIn F W (c .gate .seq) .outputs =
+        ⊎-elim (λ b. absurd (omega arith)) (λ g. rw zs g) (rd .outs) in
+        let M : Move F i W (ending F W helped) = end helped (hp .inside) (still .0) nd all in
+        record {
+          after = ending F W helped;
+          move = M;
+          gate-is = refl;
+          announcements-is = ap {B = List Announcement} (set (c .announcements) helped)
+              (announcement-path (sym (ap (λ (r : Announcement). r .program) z)) refl (sym zq) outs);
+          records-is = refl;
+          calls-is = refl;
+          local = _;
+          updated = swapped-updated helped (finished c i) l;
+          tidy = B .tidy;
+          loc = loc M;
+        }
+
+  -- afterwards the flag of m is done
+  is-done : (m : ℕ) → m < c .processes → announcementIn (ending F W m) m .flag ≡ Done
+  is-done m ml = ap (λ (r : Announcement). r .flag) (set-is m (doneWith (announcementAt c m) (endingIn F W (c .gate .seq) .outputs)) ml)
+
+  mine-end : (m : ℕ) → m < c .processes → Mine W i (operationAt c i) → Mine (ending F W m) i (operationAt c i)
+  mine-end m ml q = record { own = owned-end (B .good) m i ml (q .own); called = q .called }
+
+  -- the announcement is as the swap expects, where its flag is f
+  as-expected :
+      (f : Flag) → Plan F W (heldAt c i) (copyAt c i) → f ≢ Done → c .gate .holder ≡ Process helped → c .gate .seq ≡ heldAt c i .seq →
+      announcementAt c helped .flag ≡ f → announcementAt c helped ≡ flagged (copyAt c i) f
+  as-expected f plan nf h e a =
+      let nd : announcementAt c helped .flag ≢ Done = λ d. nf (sym a ∙ d) in
+      announcement-path (plan .working .program h e nd) a (plan .working .seq h e nd) (plan .working .words h e nd)
+
+  pub at-P19 : L P19 → Acted c W i (accessAnnouncement (AnnouncementAccess.Finish Active P20) c i)
+  unfolding accessAnnouncement swapAnnouncement
+  at-P19 q =
+      on-test (λ a. Acted c W i (swapped helped a P20)) (sameAnnouncement (announcementAt c helped) (flagged (copyAt c i) Active))
+      (λ e. ends P20 Active na (q .1) (q .3) (q .4) (sameAnnouncement-true _ _ e) (λ M. (
+        mine-end helped (q .1 .inside) (q .0),
+        helping-stays (B .good) M (heldAt c i) (q .1),
+        limit-end (B .good) helped i (heldAt c i .seq) (q .1 .inside) (q .2),
+        plan-stays (B .good) M (heldAt c i) (copyAt c i) (q .1) (q .3),
+        ready-stays (B .good) M (heldAt c i .seq) (q .3 .number) (q .3 .below) (simulationAt c i .outputs) (q .4),
+        record { isnt = λ _ _ a. active-not-done _ a (is-done helped (q .1 .inside)) },
+        q .5,
+      )))
+      (λ e. lost helped P20 (
+        q .0,
+        q .1,
+        q .2,
+        q .3,
+        q .4,
+        record { isnt = λ h z a. sameAnnouncement-false _ _ e (as-expected Active (q .3) na h z a) },
+        q .5,
+      ))
+    where
+      na : Active ≢ Done
+      na d = active-not-done Active refl d
+
+  pub at-P20 : L P20 → Acted c W i (accessAnnouncement (AnnouncementAccess.Finish Exit P21) c i)
+  unfolding accessAnnouncement swapAnnouncement
+  at-P20 q =
+      on-test (λ a. Acted c W i (swapped helped a P21)) (sameAnnouncement (announcementAt c helped) (flagged (copyAt c i) Exit))
+      (λ e. ends P21 Exit ne (q .1) (q .3) (q .4) (sameAnnouncement-true _ _ e) (λ M. (
+        mine-end helped (q .1 .inside) (q .0),
+        helping-stays (B .good) M (heldAt c i) (q .1),
+        limit-end (B .good) helped i (heldAt c i .seq) (q .1 .inside) (q .2),
+        record { over = λ _ _. is-done helped (q .1 .inside) },
+      )))
+      (λ e. lost helped P21 (
+        q .0,
+        q .1,
+        q .2,
+        record { over = λ h z. flag-done _ (q .5 .isnt h z) (λ a. sameAnnouncement-false _ _ e (as-expected Exit (q .3) ne h z a)) },
+      ))
+    where
+      ne : Exit ≢ Done
+      ne d = exit-not-done Exit refl d

@@ -1,0 +1,146 @@
+-- What the invariant says of reads, of answers and of the places of processes.
+use Prim.Native.Nat.{ℕ, _<_}
+use mathlib.Core.Path.{_≡_, refl, sym, subst, ap, _∙_}
+use mathlib.Core.Bool.{Bool, true, false, cond, not, _&&_}
+use mathlib.Core.Logic.{_≢_, _⊎_, inl, inr, ⊎-elim}
+use native.Mathlib.Omega.{arith}
+use lib.Dec.{eqb}
+use borrow.Author.Tests.{eqb-true, eqb-false}
+use Rattle.construction.specs.declared.Announcement.{Announcement}
+use Rattle.construction.specs.declared.Words.{Words}
+use Rattle.construction.specs.declared.Card.{Card}
+use Rattle.construction.specs.declared.Holder.{Holder}
+use Rattle.construction.specs.declared.Holder.the-variants.{Nobody, Process}
+use Rattle.construction.specs.declared.Flag.{Flag}
+use Rattle.construction.specs.declared.Flag.the-variants.{Done, Active, Exit}
+use Rattle.construction.specs.declared.Place.{Place}
+use Rattle.construction.specs.declared.Place.the-variants.{Idle, P1, P3, P5, P7, P10, C2, C4, P13, P14, P16, H21, H36, P19, P20, P21, P22, F1, F3}
+use Rattle.construction.specs.declared.Answer.{Answer}
+use Rattle.construction.specs.Cells.{isDone, current, previous}
+use Rattle.construction.specs.Parts.{announcementAt, recordAt, taskAt, countAt, copyAt}
+use Rattle.construction.specs.Requests.{isBusy, isPending, valueOf, returned, answerOf}
+use Rattle.construction.proofs.Basics.{on-test, true-false, true-or-false, active-not-done, exit-not-done}
+use Rattle.construction.proofs.World.{Fixed, Round, World, announcementIn, outputsIn, roundIn, wordAt, Phase, Good, Quiet}
+use Rattle.construction.proofs.Locals.{Local, localAt, fixedOf}
+use Rattle.construction.proofs.Places.{LocAt}
+use Rattle.construction.proofs.Acting.{worldOf}
+use Rattle.construction.proofs.Invariant.{Inv, at-rest}
+
+-- a read shows the word of the sequential run
+module _ (c : Card) (w : World) (I : Inv c w) (v : ℕ) (vl : v < c .variables) where
+  abbrev W : World
+  W = worldOf c w
+
+  good : Good (fixedOf c) W
+  good = subst (Good (fixedOf c)) (sym (I .cells)) (I .good)
+
+  -- what is read where the test of the gate's holder says b
+  abbrev shown : Bool → ℕ
+  shown b = cond (b && eqb (recordAt c v .seq) (c .gate .seq)) (previous (recordAt c v)) (current (recordAt c v))
+
+  under-way : (m : ℕ) → Phase (Process m) W → announcementAt c m .flag ≢ Done → shown true ≡ wordAt (w .words) v
+  under-way m ph nd =
+      let now : wordAt (roundIn W (c .gate .seq) .words) v ≡ wordAt (w .words) v = ap (λ (r : Round). wordAt (r .words) v) (ph .2 nd .now) in
+      on-test (λ y. y ≡ wordAt (w .words) v) (eqb (recordAt c v .seq) (c .gate .seq))
+      (λ e. let z : recordAt c v .seq ≡ c .gate .seq = eqb-true _ _ e in
+      subst (λ (k : ℕ). previous (recordAt c v) ≡ wordAt (roundIn W k .words) v) z
+      (good .recorded .same v vl (omega (arith, good .left-below m)) .0) ∙ now)
+      (λ e. let z : recordAt c v .seq ≢ c .gate .seq = eqb-false _ _ e in
+      good .recorded .old (c .gate .seq) v (omega (arith, ph .0)) vl (omega (arith, good .recorded .below v, ph .0)) ∙ now)
+
+  by-flag : (m : ℕ) → Phase (Process m) W → (f : Flag) → announcementAt c m .flag ≡ f → shown (not (isDone f)) ≡ wordAt (w .words) v
+  by-flag m ph Done e = good .recorded .words-are v vl (omega (arith, ph .1 e, ph .0))
+  by-flag m ph Active e = under-way m ph (λ d. active-not-done _ e d)
+  by-flag m ph Exit e = under-way m ph (λ d. exit-not-done _ e d)
+
+  by-holder : (h : Holder) → Phase h W → shown (isPending c h) ≡ wordAt (w .words) v
+  by-holder Nobody ph = good .recorded .words-are v vl (omega (arith, ph .0, ph .1))
+  by-holder (Process m) ph = by-flag m ph (announcementAt c m .flag) refl
+
+  pub read-is : valueOf c v ≡ wordAt (w .words) v
+  unfolding valueOf
+  read-is = by-holder (c .gate .holder) (good .phase)
+
+-- the answer of an operation that has returned: done with the outputs of the sequential run, or exited
+module _ {c : Card} {w : World} (I : Inv c w) (i : ℕ) (lt : i < c .processes) (b : isBusy c i ≡ false) where
+  pub answer-is :
+      ((announcementIn w i .flag ≡ Done) × (answerOf c i ≡ Answer.Done (outputsIn w i) (countAt c i)))
+      ⊎ ((announcementIn w i .flag ≡ Exit) × (answerOf c i ≡ Answer.Exited (countAt c i)))
+  answer-is = go (copyAt c i .flag) (same-flag)
+    where
+      q : LocAt Idle (fixedOf c) w i (localAt c i)
+      q = at-rest I i lt b
+
+      same-flag : announcementIn w i .flag ≡ copyAt c i .flag
+      same-flag = ap (λ (a : Announcement). a .flag) (q .1 .same)
+
+      go : (f : Flag) → announcementIn w i .flag ≡ f →
+          ((announcementIn w i .flag ≡ Done) × (cond (isBusy c i) Answer.Run (returned (copyAt c i) f (countAt c i)) ≡ Answer.Done (outputsIn w i) (countAt c i)))
+          ⊎ ((announcementIn w i .flag ≡ Exit) × (cond (isBusy c i) Answer.Run (returned (copyAt c i) f (countAt c i)) ≡ Answer.Exited (countAt c i)))
+      go Done e = inl (e, rw b (ap (λ (o : Words). Answer.Done o (countAt c i)) (sym (ap (λ (a : Announcement). a .words) (q .1 .same)) ∙ q .1 .out e)))
+      go Active e = absurd (q .0 .not-active e)
+      go Exit e = inr (e, rw b)
+
+  pub done-is : {o : Words} {k : ℕ} → answerOf c i ≡ Answer.Done o k → (announcementIn w i .flag ≡ Done) × (o ≡ outputsIn w i)
+  done-is e = ⊎-elim (λ z. (z .0, cc (z .1))) (λ z. (cc (z .1), cc (z .1))) answer-is
+
+  pub exited-is : {k : ℕ} → answerOf c i ≡ Answer.Exited k → announcementIn w i .flag ≡ Exit
+  exited-is e = ⊎-elim (λ z. cc (z .1)) (λ z. z .0) answer-is
+
+-- the places of an announced operation: from P3 on until it returns
+abbrev pub isAnnounced : Place → Bool
+isAnnounced Idle = false
+isAnnounced P1 = false
+isAnnounced P3 = false
+isAnnounced P5 = true
+isAnnounced P7 = true
+isAnnounced P10 = true
+isAnnounced C2 = true
+isAnnounced C4 = true
+isAnnounced P13 = true
+isAnnounced P14 = true
+isAnnounced P16 = true
+isAnnounced H21 = true
+isAnnounced H36 = true
+isAnnounced P19 = true
+isAnnounced P20 = true
+isAnnounced P21 = true
+isAnnounced P22 = true
+isAnnounced F1 = true
+isAnnounced F3 = true
+
+module _ (F : Fixed) (w : World) (i : ℕ) (t : Local) where
+  quiet-at : (l : Place) → isAnnounced l ≡ false → LocAt l F w i t → Quiet w i
+  quiet-at Idle e q = q .0
+  quiet-at P1 e q = q .0
+  quiet-at P3 e q = q .0
+  quiet-at P5 e q = absurd (true-false true refl e)
+  quiet-at P7 e q = absurd (true-false true refl e)
+  quiet-at P10 e q = absurd (true-false true refl e)
+  quiet-at C2 e q = absurd (true-false true refl e)
+  quiet-at C4 e q = absurd (true-false true refl e)
+  quiet-at P13 e q = absurd (true-false true refl e)
+  quiet-at P14 e q = absurd (true-false true refl e)
+  quiet-at P16 e q = absurd (true-false true refl e)
+  quiet-at H21 e q = absurd (true-false true refl e)
+  quiet-at H36 e q = absurd (true-false true refl e)
+  quiet-at P19 e q = absurd (true-false true refl e)
+  quiet-at P20 e q = absurd (true-false true refl e)
+  quiet-at P21 e q = absurd (true-false true refl e)
+  quiet-at P22 e q = absurd (true-false true refl e)
+  quiet-at F1 e q = absurd (true-false true refl e)
+  quiet-at F3 e q = absurd (true-false true refl e)
+
+module _ {c : Card} {w : World} (I : Inv c w) (i : ℕ) (lt : i < c .processes) where
+  -- an operation that is not announced is not active and does not hold the gate
+  pub quiet-is : isAnnounced (taskAt c i .place) ≡ false → Quiet w i
+  quiet-is e = quiet-at (fixedOf c) w i (localAt c i) (taskAt c i .place) e (I .locs i lt)
+
+  -- the holder of the gate is announced
+  pub holder-announced : w .gate .holder ≡ Process i → isAnnounced (taskAt c i .place) ≡ true
+  holder-announced h = ⊎-elim (λ z. z) (λ z. absurd (quiet-is z .free-of h)) (true-or-false (isAnnounced (taskAt c i .place)))
+
+  -- at F1 and F3 the flag is done
+  pub last-done : (taskAt c i .place ≡ F1) ⊎ (taskAt c i .place ≡ F3) → announcementIn w i .flag ≡ Done
+  last-done (inl e) = (subst (λ (l : Place). LocAt l (fixedOf c) w i (localAt c i)) e (I .locs i lt)) .done
+  last-done (inr e) = (subst (λ (l : Place). LocAt l (fixedOf c) w i (localAt c i)) e (I .locs i lt)) .0 .done

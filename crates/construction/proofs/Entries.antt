@@ -1,0 +1,57 @@
+-- Calls, exit requests, steps and reads by cases: turned back with the card as it was, or taken.
+use Prim.Native.Nat.{ℕ, _<_}
+use mathlib.Core.Path.{_≡_, refl}
+use mathlib.Core.Bool.{Bool, true, false, cond, not}
+use lib.Dec.{ltb}
+use borrow.Author.Tests.{ltb-true}
+use Rattle.construction.specs.declared.Words.{Words}
+use Rattle.construction.specs.declared.Card.{Card}
+use Rattle.construction.specs.declared.Answer.{Answer}
+use Rattle.construction.specs.declared.Answered.{Answered}
+use Rattle.construction.specs.declared.Refusal.{Refusal}
+use Rattle.construction.specs.declared.Refusal.the-variants.{NoProcess, NoProgram, Busy, NotBusy, NoPlace, LimitReached}
+use Rattle.construction.specs.Parts.{withExit}
+use Rattle.construction.specs.Machine.{advance}
+use Rattle.construction.specs.Requests.{isProcess, isProgram, isVariable, isBusy, refused, begun, call, requestExit, answerOf, step, valueOf, read}
+use Rattle.construction.proofs.Basics.{on-test}
+
+-- by cases on a test that is denied
+on-not {ℓ κ} : {A : Type ℓ} (P : A → Type κ) (b : Bool) {x y : A} → P x → (b ≡ true → P y) → P (cond (not b) x y)
+on-not P true f g = g refl
+on-not P false f g = f
+
+module _ {κ} (P : Answered → Type κ) (c : Card) (turned-back : (r : Refusal) → P (refused c r)) where
+  pub on-call :
+      (i k : ℕ) (inputs : Words) →
+      (isProcess c i ≡ true → isProgram c k ≡ true → isBusy c i ≡ false →
+      P (record { card = begun c i k inputs; answer = Answer.Taken })) →
+      P (call c i k inputs)
+  unfolding call
+  on-call i k inputs taken =
+      on-not P (isProcess c i) (turned-back NoProcess)
+      (λ p. on-not P (isProgram c k) (turned-back NoProgram)
+      (λ q. on-test P (isBusy c i) (λ _. turned-back Busy) (λ b. taken p q b)))
+
+  pub on-exit :
+      (i : ℕ) →
+      (isProcess c i ≡ true → isBusy c i ≡ true → P (record { card = withExit c i true; answer = Answer.Taken })) →
+      P (requestExit c i)
+  unfolding requestExit
+  on-exit i taken =
+      on-not P (isProcess c i) (turned-back NoProcess) (λ p. on-not P (isBusy c i) (turned-back NotBusy) (λ b. taken p b))
+
+  pub on-step :
+      (i : ℕ) →
+      (isProcess c i ≡ true → isBusy c i ≡ true → c .steps < c .limit →
+      P (record { card = advance c i; answer = answerOf (advance c i) i })) →
+      P (step c i)
+  unfolding step
+  on-step i taken =
+      on-not P (isProcess c i) (turned-back NoProcess)
+      (λ p. on-not P (isBusy c i) (turned-back NotBusy)
+      (λ b. on-not P (ltb (c .steps) (c .limit)) (turned-back LimitReached) (λ l. taken p b (ltb-true _ _ l))))
+
+  pub on-read :
+      (v : ℕ) → (isVariable c v ≡ true → P (record { card = c; answer = Answer.Value (valueOf c v) })) → P (read c v)
+  unfolding read
+  on-read v taken = on-not P (isVariable c v) (turned-back NoPlace) taken

@@ -1,0 +1,202 @@
+-- The steps whose access is of the gate: P1, P10, P13, P14, P21, F1, F3.
+use Prim.Native.Nat.{ℕ, _≤_, _<_}
+use mathlib.Core.Path.{_≡_, refl, sym, ap, _∙_}
+use mathlib.Core.Bool.{true, false}
+use mathlib.Core.Logic.{_≢_, inl, inr, ⊎-elim}
+use native.Mathlib.Omega.{arith}
+use native.Mathlib.Decide.{decLt}
+use Rattle.construction.specs.declared.Gate.{Gate}
+use Rattle.construction.specs.declared.Card.{Card}
+use Rattle.construction.specs.declared.Flag.the-variants.{Done}
+use Rattle.construction.specs.declared.Holder.{Holder}
+use Rattle.construction.specs.declared.Holder.the-variants.{Nobody, Process}
+use Rattle.construction.specs.declared.Place.{Place}
+use Rattle.construction.specs.declared.Place.the-variants.{Idle, P1, P3, C2, P13, P14, P16, P21, P22, F1, F3}
+use Rattle.construction.specs.declared.GateAccess.{GateAccess}
+use Rattle.construction.specs.Cells.{sameHolder, sameGate, swapGate, released}
+use Rattle.construction.specs.Parts.{announcementAt, taskAt, operationAt, heldAt, withGate, withTask}
+use Rattle.construction.specs.Machine.{goTo, byHolder, holderOf, readGate, accessGate}
+use Rattle.construction.proofs.Basics.{on-test, true-false, sameGate-true, sameGate-false, sameHolder-true, sameHolder-refl, nobody-process, never, never′, active-not-done, exit-not-done}
+use Rattle.construction.proofs.World.{Fixed, World, leftIn, taking, freeing}
+use Rattle.construction.proofs.World.Move.{take, free}
+use Rattle.construction.proofs.Claims.{Limit}
+use Rattle.construction.proofs.Locals.{Local, localAt, atTask, atGate, fixedOf, Updated, gate-updated, task-updated}
+use Rattle.construction.proofs.Places.{Mine, Helping, LocAt, Loc}
+use Rattle.construction.proofs.Acting.{worldOf, Before, Acted, place-fits, untouched, keeps, reads-gate}
+
+gate-path : {a b : Gate} → a .holder ≡ b .holder → a .seq ≡ b .seq → a ≡ b
+gate-path e q = λ i. record { holder = e i; seq = q i }
+
+module _ {c : Card} {w : World} {i : ℕ} (B : Before c w i) where
+  abbrev W : World
+  W = worldOf c w
+
+  abbrev F : Fixed
+  F = fixedOf c
+
+  abbrev L : Place → Type 0
+  L l = LocAt l F W i (localAt c i)
+
+  -- process i with the gate that it has read
+  abbrev read : Place → Local
+  read l = atTask (atGate (localAt c i) (c .gate)) (goTo (taskAt c i) l)
+
+  limit-now : Limit W i (c .gate .seq)
+  limit-now = record { low = λ _. B .good .bound-below i; high = λ _ _. omega arith }
+
+  helping-now : (m : ℕ) → c .gate .holder ≡ Process m → Helping F W (c .gate)
+  helping-now m e = record { named = rw e; inside = rw e (B .good .inside m e); seen = record { still = λ z. (rw e, refl) } }
+
+  read-P1 : (h : Holder) → L P1 → Loc F W i (read (byHolder h P3 P3))
+  read-P1 Nobody q = (q .0, q .1, B .good .left-below i, omega arith)
+  read-P1 (Process m) q = (q .0, q .1, B .good .left-below i, omega arith)
+
+  pub at-P1 : L P1 → Acted c W i (accessGate (GateAccess.Read P3 P3) c i)
+  unfolding accessGate
+  at-P1 q = reads-gate B (byHolder (c .gate .holder) P3 P3) (read-P1 (c .gate .holder) q)
+
+  read-P10 : (h : Holder) → c .gate .holder ≡ h → Mine W i (operationAt c i) → Loc F W i (read (byHolder h P16 C2))
+  read-P10 Nobody e q = (q, e, omega arith, limit-now)
+  read-P10 (Process m) e q = (q, helping-now m e, limit-now)
+
+  pub at-P10 : Mine W i (operationAt c i) → Acted c W i (accessGate (GateAccess.Read P16 C2) c i)
+  unfolding accessGate
+  at-P10 q = reads-gate B (byHolder (c .gate .holder) P16 C2) (read-P10 (c .gate .holder) refl q)
+
+  read-P14 : (h : Holder) → c .gate .holder ≡ h → L P14 → Loc F W i (read (byHolder h P16 P22))
+  read-P14 Nobody e q = (q .0, record { late = λ lv. q .1 .past lv e; free-of = λ _ h. nobody-process _ i e h })
+  read-P14 (Process m) e q = (q .0, helping-now m e, limit-now)
+
+  pub at-P14 : L P14 → Acted c W i (accessGate (GateAccess.Read P16 P22) c i)
+  unfolding accessGate
+  at-P14 q = reads-gate B (byHolder (c .gate .holder) P16 P22) (read-P14 (c .gate .holder) refl q)
+
+  pub at-F1 : L F1 → Acted c W i (accessGate GateAccess.ReadLast c i)
+  unfolding accessGate
+  at-F1 q =
+      on-test (λ l. Acted c W i (readGate c i l)) (sameHolder (c .gate .holder) (Process i))
+      (λ e. reads-gate B F3 (q, sameHolder-true _ _ e, record { only = λ _. refl }))
+      (λ e. reads-gate B Idle (
+        record {
+          not-active = λ a. active-not-done _ a (q .done);
+          free-of = λ z. true-false _ (rw z (sameHolder-refl (Process i))) e;
+          late = λ l. absurd (exit-not-done _ l (q .done));
+        },
+        record { same = q .same; out = λ _. ap (λ r. r .words) (q .same) ∙ q .out },
+      ))
+
+  -- the card after a swap of the gate, with process i at a place
+  abbrev swapped : Gate → Place → Card
+  swapped g l = withTask (withGate c g) i (goTo (taskAt c i) l)
+
+  swapped-updated : (g : Gate) (l : Place) → Updated c i (swapped g l) (atTask (localAt c i) (goTo (taskAt c i) l))
+  swapped-updated g l = task-updated (gate-updated (untouched B) g) (place-fits B) (goTo (taskAt c i) l)
+
+  -- a swap that was lost
+  lost : (l : Place) → Loc F W i (atTask (localAt c i) (goTo (taskAt c i) l)) → Acted c W i (swapped (c .gate) l)
+  lost l q = keeps B (swapped-updated (c .gate) l) refl refl refl (B .tidy) q
+
+  -- a swap that released the gate
+  frees :
+      (m : ℕ) (l : Place) → m < c .processes → c .gate .holder ≡ Process m → announcementAt c m .flag ≡ Done → c .gate ≡ heldAt c i →
+      Loc F (freeing W m) i (atTask (localAt c i) (goTo (taskAt c i) l)) → Acted c W i (swapped (released (heldAt c i)) l)
+  unfolding released
+  frees m l ml h d z q =
+      let zs : c .gate .seq ≡ heldAt c i .seq = ap (λ (g : Gate). g .seq) z in
+      let few : c .gate .seq ≤ 1000000000000000000 = B .small in
+      record {
+        after = freeing W m;
+        move = free m ml h d;
+        gate-is = gate-path refl (omega arith);
+        announcements-is = refl;
+        records-is = refl;
+        calls-is = refl;
+        local = _;
+        updated = swapped-updated (released (heldAt c i)) l;
+        tidy = B .tidy;
+        loc = q;
+      }
+
+  pub at-P13 : L P13 → Acted c W i (accessGate GateAccess.Nominate c i)
+  unfolding accessGate swapGate
+  at-P13 q = on-test (λ g. Acted c W i (swapped g P14)) (sameGate (c .gate) (heldAt c i)) won (λ e. lost P14 (late e))
+    where
+      late : sameGate (c .gate) (heldAt c i) ≡ false → Loc F W i (atTask (localAt c i) (goTo (taskAt c i) P14))
+      late e = (
+        q .0,
+        record {
+          past = λ lv h. let ne : c .gate .seq ≢ heldAt c i .seq = λ z. sameGate-false _ _ e (gate-path (h ∙ sym (q .1)) z) in
+              omega (arith, q .4 .low lv, q .3 .below);
+        },
+      )
+
+      won : sameGate (c .gate) (heldAt c i) ≡ true → Acted c W i (swapped (record { holder = Process (taskAt c i .target); seq = heldAt c i .seq }) P14)
+      won e =
+          let z = sameGate-true (c .gate) (heldAt c i) e in
+          let zh : c .gate .holder ≡ Nobody = ap (λ (g : Gate). g .holder) z ∙ q .1 in
+          let zs : c .gate .seq ≡ heldAt c i .seq = ap (λ (g : Gate). g .seq) z in
+          record {
+            after = taking W (taskAt c i .target);
+            move = take (taskAt c i .target) (q .2) zh (q .3 .alive zh zs) (q .3 .op zh zs)
+                (⊎-elim inl (λ b. inr (λ l. rw zs (b l))) (q .3 .right zh zs));
+            gate-is = gate-path refl (sym zs);
+            announcements-is = refl;
+            records-is = refl;
+            calls-is = refl;
+            local = _;
+            updated = swapped-updated _ P14;
+            tidy = B .tidy;
+            loc = (
+              record { own = record { out = q .0 .own .out; op = q .0 .own .op }; called = q .0 .called },
+              record { past = λ _ h. absurd (never′ h) },
+            );
+          }
+
+  pub at-P21 : L P21 → Acted c W i (accessGate (GateAccess.Release P22) c i)
+  unfolding accessGate swapGate
+  at-P21 q = on-test (λ g. Acted c W i (swapped g P22)) (sameGate (c .gate) (heldAt c i)) won (λ e. lost P22 (late (past e)))
+    where
+      m : ℕ
+      m = holderOf (heldAt c i .holder)
+
+      won : sameGate (c .gate) (heldAt c i) ≡ true → Acted c W i (swapped (released (heldAt c i)) P22)
+      won e =
+          let z = sameGate-true (c .gate) (heldAt c i) e in
+          let zh : c .gate .holder ≡ Process m = ap (λ (g : Gate). g .holder) z ∙ q .1 .named in
+          let zs : c .gate .seq ≡ heldAt c i .seq = ap (λ (g : Gate). g .seq) z in
+          frees m P22 (q .1 .inside) zh (q .3 .over zh zs) z (
+            record { own = record { out = q .0 .own .out; op = q .0 .own .op }; called = q .0 .called },
+            record { late = λ lv. omega (arith, q .2 .low lv); free-of = λ _. never },
+          )
+
+      past : sameGate (c .gate) (heldAt c i) ≡ false → heldAt c i .seq < c .gate .seq
+      past e = go (decLt (leftIn W m) (heldAt c i .seq))
+        where
+          go : Dec (leftIn W m < heldAt c i .seq) → heldAt c i .seq < c .gate .seq
+          go (yes l) = let y = q .1 .seen .still l in absurd (sameGate-false _ _ e (gate-path (y .0 ∙ sym (q .1 .named)) (y .1)))
+          go (no l) = omega (arith, B .good .left-below m)
+
+      late : heldAt c i .seq < c .gate .seq → Loc F W i (atTask (localAt c i) (goTo (taskAt c i) P22))
+      late l = (q .0, record { late = λ lv. omega (arith, q .2 .low lv); free-of = λ lv h. omega (arith, q .2 .high lv h) })
+
+  pub at-F3 : L F3 → Acted c W i (accessGate (GateAccess.Release Idle) c i)
+  unfolding accessGate swapGate
+  at-F3 q = on-test (λ g. Acted c W i (swapped g Idle)) (sameGate (c .gate) (heldAt c i)) won (λ e. lost Idle (late e))
+    where
+      won : sameGate (c .gate) (heldAt c i) ≡ true → Acted c W i (swapped (released (heldAt c i)) Idle)
+      won e =
+          let z = sameGate-true (c .gate) (heldAt c i) e in
+          frees i Idle (B .inside) (ap (λ (g : Gate). g .holder) z ∙ q .1) (q .0 .done) z (
+            record { not-active = λ a. active-not-done _ a (q .0 .done); free-of = never; late = λ l. absurd (exit-not-done _ l (q .0 .done)) },
+            record { same = q .0 .same; out = λ _. ap (λ r. r .words) (q .0 .same) ∙ q .0 .out },
+          )
+
+      late : sameGate (c .gate) (heldAt c i) ≡ false → Loc F W i (atTask (localAt c i) (goTo (taskAt c i) Idle))
+      late e = (
+        record {
+          not-active = λ a. active-not-done _ a (q .0 .done);
+          free-of = λ z. sameGate-false _ _ e (gate-path (z ∙ sym (q .1)) (q .2 .only z));
+          late = λ l. absurd (exit-not-done _ l (q .0 .done));
+        },
+        record { same = q .0 .same; out = λ _. ap (λ r. r .words) (q .0 .same) ∙ q .0 .out },
+      )

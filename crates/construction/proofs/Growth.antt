@@ -1,0 +1,64 @@
+-- The notes only grow at their front.
+use Prim.Native.Nat.{ℕ}
+use mathlib.Core.Path.{_≡_, refl, sym, subst}
+use mathlib.Core.List.{List, [], _∷_, _++_}
+use Rattle.construction.specs.declared.Card.{Card}
+use Rattle.construction.specs.declared.Answer.{Answer}
+use Rattle.construction.specs.History.{Entry, act, Response, Notes, finishing, finishedOne, finished, noted, Moment, observe, observeAll}
+use Rattle.construction.proofs.NotesLaws.{Extends, extends-trans}
+
+finished-order : (o : Card) (gate : ℕ) (is : List ℕ) (s : Notes) → Extends (s .order) (finished o gate is s .order)
+unfolding finished
+finished-order o gate [] s = Extends.same
+finished-order o gate (i ∷ is) s = extends-trans (Extends.more Extends.same) (finished-order o gate is (finishedOne o gate i s))
+
+finished-returns : (o : Card) (gate : ℕ) (is : List ℕ) (s : Notes) → finished o gate is s .returns ≡ s .returns
+unfolding finished
+finished-returns o gate [] s = refl
+finished-returns o gate (i ∷ is) s = finished-returns o gate is (finishedOne o gate i s)
+
+noted-grows : (s : Notes) (e : Entry) (a : Answer) → (noted s e a .order ≡ s .order) × Extends (s .returns) (noted s e a .returns)
+noted-grows s (Entry.Call i k inputs) Answer.Taken = (refl, Extends.same)
+noted-grows s (Entry.Call i k inputs) Answer.Run = (refl, Extends.same)
+noted-grows s (Entry.Call i k inputs) (Answer.Done o n) = (refl, Extends.same)
+noted-grows s (Entry.Call i k inputs) (Answer.Exited n) = (refl, Extends.same)
+noted-grows s (Entry.Call i k inputs) (Answer.Value x) = (refl, Extends.same)
+noted-grows s (Entry.Call i k inputs) (Answer.Refused r) = (refl, Extends.same)
+noted-grows s (Entry.Exit i) a = (refl, Extends.same)
+noted-grows s (Entry.Step i) Answer.Taken = (refl, Extends.same)
+noted-grows s (Entry.Step i) Answer.Run = (refl, Extends.same)
+noted-grows s (Entry.Step i) (Answer.Done o n) = (refl, Extends.more Extends.same)
+noted-grows s (Entry.Step i) (Answer.Exited n) = (refl, Extends.more Extends.same)
+noted-grows s (Entry.Step i) (Answer.Value x) = (refl, Extends.same)
+noted-grows s (Entry.Step i) (Answer.Refused r) = (refl, Extends.same)
+noted-grows s (Entry.Read v) a = (refl, Extends.same)
+
+pub record Grown (s t : Notes) : Type 0 where
+  pub order : Extends (s .order) (t .order)
+  pub returns : Extends (s .returns) (t .returns)
+
+observe-grows : (o : Card) (m : Moment) (e : Entry) → Grown (m .notes) (observe o m e .notes)
+unfolding observe
+observe-grows o m e =
+    let r = act (m .card) e in
+    let n = finished o (m .card .gate .seq) (finishing (m .card) (r .card)) (m .notes) in
+    let g = noted-grows n e (r .answer) in
+    record {
+      order = subst (Extends (m .notes .order)) (sym (g .0)) (finished-order o (m .card .gate .seq) (finishing (m .card) (r .card)) (m .notes));
+      returns =
+          subst (λ (l : List Response). Extends l (noted n e (r .answer) .returns))
+          (finished-returns o (m .card .gate .seq) (finishing (m .card) (r .card)) (m .notes)) (g .1);
+    }
+
+pub all-grow : (o : Card) (m : Moment) (es : List Entry) → Grown (m .notes) (observeAll o m es .notes)
+unfolding observeAll
+all-grow o m [] = record { order = Extends.same; returns = Extends.same }
+all-grow o m (e ∷ es) =
+    let g = observe-grows o m e in
+    let h = all-grow o (observe o m e) es in
+    record { order = extends-trans (g .order) (h .order); returns = extends-trans (g .returns) (h .returns) }
+
+pub observe-append : (o : Card) (m : Moment) (es fs : List Entry) → observeAll o m (es ++ fs) ≡ observeAll o (observeAll o m es) fs
+unfolding observeAll
+observe-append o m [] fs = refl
+observe-append o m (e ∷ es) fs = observe-append o (observe o m e) es fs

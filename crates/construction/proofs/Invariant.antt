@@ -1,0 +1,373 @@
+-- The invariant of a card beside a world, and that fresh cards have it and every taken call, exit request and step keeps it.
+use Prim.Native.Nat.{ℕ, zero, suc, _+_, _≤_, _<_, _%_}
+use mathlib.Core.Path.{_≡_, refl, sym, subst, ap, _∙_}
+use mathlib.Core.Bool.{Bool, true, false}
+use mathlib.Core.Logic.{_≢_}
+use mathlib.Core.List.{[], _∷_, map}
+use native.Mathlib.Omega.{arith}
+use native.Mathlib.Decide.{ℕ-discrete}
+use lib.ListN.{length, getD, set, take, replicate, length-set, length-replicate, length-map, List·getD-map}
+use lib.Seq.{getD-set-same, getD-set-other, getD-take, length-take-le}
+use lib.Dec.{ltb}
+use borrow.Author.Tests.{ltb-true}
+use Rattle.construction.specs.declared.Gate.{Gate}
+use Rattle.construction.specs.declared.Announcement.{Announcement}
+use Rattle.construction.specs.declared.Words.{Words}
+use Rattle.construction.specs.declared.Task.{Task}
+use Rattle.construction.specs.declared.Operation.{Operation}
+use Rattle.construction.specs.declared.Card.{Card}
+use Rattle.construction.specs.declared.Contents.{Contents}
+use Rattle.construction.specs.declared.Flag.the-variants.{Done}
+use Rattle.construction.specs.declared.Place.{Place}
+use Rattle.construction.specs.declared.Place.the-variants.{Idle, P1, P3, P5, P7, P10, C2, C4, P13, P14, P16, H21, H36, P19, P20, P21, P22, F1, F3}
+use Rattle.construction.specs.Cells.{zeros, openAnnouncement, openRecord, current}
+use Rattle.construction.specs.Instructions.{noProgram}
+use Rattle.construction.specs.Dictionary.{noItem, empty}
+use Rattle.construction.specs.Parts.{idleTask, noOperation, taskAt, exitAt, countAt, dictionaryAt, withExit}
+use Rattle.construction.specs.Machine.{accessOf, perform, counted, advance}
+use Rattle.construction.specs.Requests.{isProcess, isIdle, isBusy, begun}
+use Rattle.construction.specs.Opening.{fresh}
+use Rattle.construction.proofs.Basics.{on-set, and-true, active-not-done, exit-not-done, never}
+use Rattle.construction.proofs.Tests.{not-true, not-false}
+use Rattle.construction.proofs.SequentialLaws.{Short}
+use Rattle.construction.proofs.World.{Fixed, World, Good, asking, Quiet, Move}
+use Rattle.construction.proofs.World.Move.{ask}
+use Rattle.construction.proofs.Kept.{good-move, seq-move}
+use Rattle.construction.proofs.Locals.{Local, localAt, fixedOf, Sizes}
+use Rattle.construction.proofs.Places.{LocAt, Loc, loc-stays}
+use Rattle.construction.proofs.Acting.{worldOf, Tidy, Before, Acted}
+use Rattle.construction.proofs.Steps.{at-place}
+
+pub record Inv (c : Card) (w : World) : Type 0 where
+  pub cells : worldOf c w ≡ w
+  pub good : Good (fixedOf c) w
+  pub sizes : Sizes c
+  pub locs : (j : ℕ) → j < c .processes → Loc (fixedOf c) w j (localAt c j)
+  pub tidy : (j : ℕ) → Tidy (dictionaryAt c j)
+  pub numbered : c .gate .seq ≤ suc (c .steps)
+  pub limited : c .steps ≤ c .limit
+  pub capped : c .limit ≤ 1000000000000000000
+  pub counts : (j : ℕ) → countAt c j ≤ c .steps
+
+-- the shared cells of the card are those of the world
+module _ {c : Card} {w : World} (I : Inv c w) where
+  pub gate-is : c .gate ≡ w .gate
+  gate-is = ap (λ (u : World). u .gate) (I .cells)
+
+  pub announcements-is : c .announcements ≡ w .announcements
+  announcements-is = ap (λ (u : World). u .announcements) (I .cells)
+
+  pub records-is : c .records ≡ w .records
+  records-is = ap (λ (u : World). u .records) (I .cells)
+
+-- a card v after a move to the world u: all but process i is as in c
+module _ {c : Card} {w : World} {i : ℕ} (I : Inv c w) {u : World} (M : Move (fixedOf c) i w u) (v : Card) (t : Local) where
+  moved :
+      worldOf v u ≡ u → Sizes v → localAt v i ≡ t → ((j : ℕ) → j ≢ i → localAt v j ≡ localAt c j) → fixedOf v ≡ fixedOf c →
+      Loc (fixedOf c) u i t → Tidy (t .dictionary) → u .gate .seq ≤ suc (v .steps) → v .steps ≤ c .limit →
+      ((j : ℕ) → countAt v j ≤ v .steps) → Inv v u
+  moved cells sizes here elsewhere fixed loc tidy numbered limited counts = record {
+    cells = cells;
+    good = subst (λ (K : Fixed). Good K u) (sym fixed) (good-move (I .good) M);
+    sizes = sizes;
+    locs = subst (λ (K : Fixed). (j : ℕ) → j < K .processes → Loc K u j (localAt v j)) (sym fixed) (λ j h. at-process j h (ℕ-discrete j i));
+    tidy = λ j. at-dictionary j (ℕ-discrete j i);
+    numbered = subst (λ (g : Gate). g .seq ≤ suc (v .steps)) (sym (ap (λ (x : World). x .gate) cells)) numbered;
+    limited = subst (λ (K : Fixed). v .steps ≤ K .limit) (sym fixed) limited;
+    capped = subst (λ (K : Fixed). K .limit ≤ 1000000000000000000) (sym fixed) (I .capped);
+    counts = counts;
+  }
+    where
+      at-process : (j : ℕ) → j < c .processes → Dec (j ≡ i) → Loc (fixedOf c) u j (localAt v j)
+      at-process j h (yes e) = subst (λ (k : ℕ). Loc (fixedOf c) u k (localAt v k)) (sym e) (subst (Loc (fixedOf c) u i) (sym here) loc)
+      at-process j h (no ne) = subst (Loc (fixedOf c) u j) (sym (elsewhere j ne)) (loc-stays (I .good) M j ne (localAt c j) (I .locs j h))
+
+      at-dictionary : (j : ℕ) → Dec (j ≡ i) → Tidy (dictionaryAt v j)
+      at-dictionary j (yes e) = subst (λ (k : ℕ). Tidy (dictionaryAt v k)) (sym e) (subst (λ (l : Local). Tidy (l .dictionary)) (sym here) tidy)
+      at-dictionary j (no ne) = subst (λ (l : Local). Tidy (l .dictionary)) (sym (elsewhere j ne)) (I .tidy j)
+
+inside : (c : Card) (i : ℕ) → isProcess c i ≡ true → i < c .processes
+inside c i e = ltb-true i (c .processes) (and-true (ltb i (c .processes)) _ e .0)
+
+pub record Stepped (c : Card) (w : World) (i : ℕ) : Type 0 where
+  pub after : World
+  pub move : Move (fixedOf c) i w after
+  pub inv : Inv (advance c i) after
+  pub calls-is : after .calls ≡ w .calls
+  pub fixed-is : fixedOf (advance c i) ≡ fixedOf c
+  pub elsewhere : (j : ℕ) → j ≢ i → localAt (advance c i) j ≡ localAt c j
+
+-- a step that is accepted
+pub inv-step : (c : Card) (w : World) (i : ℕ) → Inv c w → isProcess c i ≡ true → isBusy c i ≡ true → c .steps < c .limit → Stepped c w i
+unfolding advance
+inv-step c w i I p b h = record {
+  after = A .after;
+  move = M;
+  inv = moved I M (counted v i) (A .local)
+      (λ k. record {
+        gate = A .gate-is k;
+        announcements = A .announcements-is k;
+        records = A .records-is k;
+        words = A .after .words;
+        calls = A .after .calls;
+        outs = A .after .outs;
+        left = A .after .left;
+        bound = A .after .bound;
+        rounds = A .after .rounds;
+        count = A .after .count;
+      })
+      (record {
+        tasks = Z .tasks;
+        operations = Z .operations;
+        exits = Z .exits;
+        counts = rw length-set (Z .counts);
+        gates = Z .gates;
+        copies = Z .copies;
+        simulations = Z .simulations;
+        dictionaries = Z .dictionaries;
+      })
+      (A .updated .here) (A .updated .elsewhere) (A .updated .fixed-is) (A .loc) (A .tidy)
+      (rw steps (omega (arith, seq-move M, ap (λ (g : Gate). g .seq) (gate-is I), I .numbered)))
+      (rw steps (omega arith))
+      (λ j. rw steps (counts j));
+  calls-is = A .calls-is;
+  fixed-is = A .updated .fixed-is;
+  elsewhere = A .updated .elsewhere;
+}
+  where
+    v : Card
+    v = perform (accessOf (taskAt c i .place) (exitAt c i)) c i
+
+    lt : i < c .processes
+    lt = inside c i p
+
+    B : Before c w i
+    B = record {
+      good = subst (Good (fixedOf c)) (sym (I .cells)) (I .good);
+      sizes = I .sizes;
+      inside = lt;
+      small = omega (arith, I .numbered, I .capped);
+      tidy = I .tidy i;
+    }
+
+    A : Acted c (worldOf c w) i v
+    A = at-place B (taskAt c i .place) (exitAt c i) (not-true _ b) (subst (λ (x : World). Loc (fixedOf c) x i (localAt c i)) (sym (I .cells)) (I .locs i lt))
+
+    Z : Sizes v
+    Z = A .updated .sizes
+
+    M : Move (fixedOf c) i w (A .after)
+    M = subst (λ (x : World). Move (fixedOf c) i x (A .after)) (I .cells) (A .move)
+
+    steps : (v .steps + 1) % 18446744073709551616 ≡ suc (c .steps)
+    steps = rw (A .updated .steps-is) (omega (arith, I .capped))
+
+    counts : (j : ℕ) → countAt (counted v i) j ≤ suc (c .steps)
+    counts j = on-set (λ n. n ≤ suc (c .steps)) (v .counts) i j _ 0 (omega (arith, Z .counts, I .good .few, lt))
+        (λ _. rw (A .updated .counts-is) (omega (arith, I .counts i, I .capped)))
+        (λ _. rw (A .updated .counts-is) (omega (arith, I .counts j)))
+
+is-idle : (l : Place) → isIdle l ≡ true → l ≡ Idle
+is-idle Idle e = refl
+is-idle P1 e = cc
+is-idle P3 e = cc
+is-idle P5 e = cc
+is-idle P7 e = cc
+is-idle P10 e = cc
+is-idle C2 e = cc
+is-idle C4 e = cc
+is-idle P13 e = cc
+is-idle P14 e = cc
+is-idle P16 e = cc
+is-idle H21 e = cc
+is-idle H36 e = cc
+is-idle P19 e = cc
+is-idle P20 e = cc
+is-idle P21 e = cc
+is-idle P22 e = cc
+is-idle F1 e = cc
+is-idle F3 e = cc
+
+-- what is known of a process that has no operation under way
+pub at-rest : {c : Card} {w : World} (I : Inv c w) (i : ℕ) → i < c .processes → isBusy c i ≡ false → LocAt Idle (fixedOf c) w i (localAt c i)
+at-rest {c} {w} I i lt b =
+    subst (λ (l : Place). LocAt l (fixedOf c) w i (localAt c i)) (is-idle (taskAt c i .place) (not-false _ b)) (I .locs i lt)
+
+-- a call that is taken
+abbrev pub called : ℕ → Words → Operation
+called k inputs = record { program = k; inputs = inputs }
+
+pub call-move :
+    (c : Card) (w : World) (i k : ℕ) (inputs : Words) → Inv c w → isProcess c i ≡ true → isBusy c i ≡ false →
+    Move (fixedOf c) i w (asking w i (called k inputs))
+call-move c w i k inputs I p b = ask (called k inputs) (inside c i p) (at-rest I i (inside c i p) b .0)
+
+pub inv-call :
+    (c : Card) (w : World) (i k : ℕ) (inputs : Words) → Inv c w → isProcess c i ≡ true → isBusy c i ≡ false →
+    Inv (begun c i k inputs) (asking w i (called k inputs))
+inv-call c w i k inputs I p b =
+    moved I (call-move c w i k inputs I p b) (begun c i k inputs)
+    (record {
+      place = P1;
+      target = 0;
+      operation = called k inputs;
+      gate = T .gate;
+      copy = T .copy;
+      simulation = T .simulation;
+      dictionary = T .dictionary;
+    })
+    (λ n. record {
+      gate = gate-is I n;
+      announcements = announcements-is I n;
+      records = records-is I n;
+      words = w .words;
+      calls = set (w .calls) i (called k inputs);
+      outs = w .outs;
+      left = w .left;
+      bound = w .bound;
+      rounds = w .rounds;
+      count = w .count;
+    })
+    (record {
+      tasks = rw length-set (Z .tasks);
+      operations = rw length-set (Z .operations);
+      exits = rw length-set (Z .exits);
+      counts = rw length-set (Z .counts);
+      gates = Z .gates;
+      copies = Z .copies;
+      simulations = Z .simulations;
+      dictionaries = Z .dictionaries;
+    })
+    (rw (
+      getD-set-same (c .tasks) i (record { place = P1; target = 0 }) idleTask (omega (arith, few, Z .tasks)),
+      getD-set-same (c .operations) i (called k inputs) noOperation (omega (arith, few, Z .operations)),
+    ))
+    (λ j ne. rw (
+      getD-set-other (c .tasks) i j (record { place = P1; target = 0 }) idleTask ne,
+      getD-set-other (c .operations) i j (called k inputs) noOperation ne,
+    ))
+    refl (
+      record { not-active = Q .not-active; free-of = Q .free-of; late = Q .late },
+      sym (getD-set-same (w .calls) i (called k inputs) noOperation (omega (arith, few, I .good .size-calls))),
+    )
+    (I .tidy i) (subst (λ (g : Gate). g .seq ≤ suc (c .steps)) (gate-is I) (I .numbered)) (I .limited)
+    (λ j. on-set (λ n. n ≤ c .steps) (c .counts) i j 0 0 (omega (arith, few, Z .counts)) (λ _. omega arith) (λ _. I .counts j))
+  where
+    T : Local
+    T = localAt c i
+
+    Z : Sizes c
+    Z = I .sizes
+
+    few : i < 8
+    few = omega (arith, inside c i p, I .good .few)
+
+    Q : Quiet w i
+    Q = at-rest I i (inside c i p) b .0
+
+-- an exit request that is taken: no process knows of its own
+pub inv-exit : (c : Card) (w : World) (i : ℕ) (b : Bool) → Inv c w → Inv (withExit c i b) w
+inv-exit c w i b I = record {
+  cells = I .cells;
+  good = I .good;
+  sizes = record {
+    tasks = I .sizes .tasks;
+    operations = I .sizes .operations;
+    exits = rw length-set (I .sizes .exits);
+    counts = I .sizes .counts;
+    gates = I .sizes .gates;
+    copies = I .sizes .copies;
+    simulations = I .sizes .simulations;
+    dictionaries = I .sizes .dictionaries;
+  };
+  locs = I .locs;
+  tidy = I .tidy;
+  numbered = I .numbered;
+  limited = I .limited;
+  capped = I .capped;
+  counts = I .counts;
+}
+
+-- a card as opened
+abbrev pub firstWorld : Contents → World
+firstWorld x =
+    record {
+      gate = fresh x .gate;
+      announcements = fresh x .announcements;
+      records = fresh x .records;
+      words = take (x .variables) (x .starts);
+      calls = replicate 8 noOperation;
+      outs = replicate 8 zeros;
+      left = replicate 8 0;
+      bound = replicate 8 0;
+      rounds = record { words = take (x .variables) (x .starts); call = noOperation } ∷ [];
+      count = 1;
+    }
+
+all-same : {A : Type 0} (n i : ℕ) (a : A) → getD (replicate n a) i a ≡ a
+all-same zero i a = refl
+all-same (suc n) zero a = refl
+all-same (suc n) (suc i) a = all-same n i a
+
+module _ (x : Contents) (few : x .processes ≤ 8) (narrow : x .variables ≤ 64) (capped : x .limit ≤ 1000000000000000000)
+    (many : length (x .starts) ≡ 64) (short : (k : ℕ) → Short (getD (x .code) k noProgram)) where
+  open-flag : (m : ℕ) → getD (replicate 8 openAnnouncement) m openAnnouncement .flag ≡ Done
+  open-flag m = ap (λ (a : Announcement). a .flag) (all-same 8 m openAnnouncement)
+
+  open-record : (v : ℕ) → getD (map openRecord (x .starts)) v (openRecord 0) ≡ openRecord (getD (x .starts) v 0)
+  open-record v = List·getD-map openRecord (x .starts) v 0
+
+  open-words : length (take (x .variables) (x .starts)) ≡ x .variables
+  open-words = length-take-le (x .variables) (x .starts) (omega arith)
+
+  good-fresh : Good (fixedOf (fresh x)) (firstWorld x)
+  unfolding fresh current
+  good-fresh = record {
+    few = few;
+    narrow = narrow;
+    short = λ k number. short k;
+    size-announcements = length-replicate 8 openAnnouncement;
+    size-records = length-map (x .starts) openRecord ∙ many;
+    size-calls = length-replicate 8 noOperation;
+    size-outs = length-replicate 8 zeros;
+    size-left = length-replicate {A = ℕ} 8 0;
+    size-bound = length-replicate {A = ℕ} 8 0;
+    size-words = open-words;
+    size-round = λ s l. let z : s ≡ 0 = omega arith in rw z open-words;
+    left-below = λ m. rw (all-same {A = ℕ} 8 m 0) (omega arith);
+    bound-below = λ m. rw (all-same {A = ℕ} 8 m 0) (omega arith);
+    announcement-below = λ m. rw (all-same 8 m openAnnouncement) (omega arith);
+    fresh = λ m e. absurd (e (open-flag m));
+    inside = λ m e. absurd (never e);
+    active-operation = λ m e. absurd (active-not-done _ e (open-flag m));
+    phase = (refl, refl);
+    recorded = record {
+      below = λ v. rw (open-record v) (omega arith);
+      old = λ s v l vl h. absurd (omega arith);
+      same = λ v vl h. absurd (omega (arith, rw (open-record v) at h));
+      settled = λ s v l vl h. absurd (omega arith);
+      words-are = λ v vl e. rw (open-record v) (sym (getD-take (x .variables) (x .starts) v 0 vl));
+    };
+  }
+
+  pub inv-fresh : Inv (fresh x) (firstWorld x)
+  unfolding fresh
+  inv-fresh = record {
+    cells = refl;
+    good = good-fresh;
+    sizes = record { tasks = refl; operations = refl; exits = refl; counts = refl; gates = refl; copies = refl; simulations = refl; dictionaries = refl };
+    locs = λ j h. subst (λ (l : Place). LocAt l (fixedOf (fresh x)) (firstWorld x) j (localAt (fresh x) j))
+        (sym (ap (λ (t : Task). t .place) (all-same 8 j idleTask))) (
+          record {
+            not-active = λ a. active-not-done _ a (open-flag j);
+            free-of = never;
+            late = λ l. absurd (exit-not-done _ l (open-flag j));
+          },
+          record { same = refl; out = λ _. ap (λ (a : Announcement). a .words) (all-same 8 j openAnnouncement) ∙ sym (all-same 8 j zeros) },
+        );
+    tidy = λ j. subst Tidy (sym (all-same 8 j empty)) (record { short = omega arith; full = length-replicate 32 noItem; keyed = tt });
+    numbered = omega arith;
+    limited = omega arith;
+    capped = capped;
+    counts = λ j. rw (all-same {A = ℕ} 8 j 0) (omega arith);
+  }

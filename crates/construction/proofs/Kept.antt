@@ -1,0 +1,405 @@
+-- Every move keeps the world good.
+use Prim.Native.Nat.{ℕ, suc, _+_, _≤_, _<_}
+use mathlib.Core.Path.{_≡_, refl, sym, subst, ap, _∙_}
+use mathlib.Core.Bool.{Bool, true, false, cond, not}
+use mathlib.Core.Logic.{_≢_, _⊎_, inl, inr, ⊎-elim}
+use mathlib.Core.List.{[], _∷_}
+use native.Mathlib.Omega.{arith}
+use native.Mathlib.Decide.{ℕ-discrete}
+use lib.ListN.{length, getD, set, length-set, length-append, List·getD-append}
+use lib.Seq.{getD-set-other, getD-at}
+use Rattle.construction.specs.declared.Announcement.{Announcement}
+use Rattle.construction.specs.declared.Record.{Record}
+use Rattle.construction.specs.declared.Operation.{Operation}
+use Rattle.construction.specs.declared.Holder.{Holder}
+use Rattle.construction.specs.declared.Holder.the-variants.{Nobody, Process}
+use Rattle.construction.specs.declared.Flag.the-variants.{Done, Active, Exit}
+use Rattle.construction.specs.Cells.{openAnnouncement, openRecord, current, previous, rewritten}
+use Rattle.construction.specs.Instructions.{started}
+use Rattle.construction.specs.Sequential.{sequential}
+use Rattle.construction.specs.Parts.{noOperation}
+use Rattle.construction.proofs.Basics.{on-set, active-not-done, active-not-exit, exit-not-done, never, process-same}
+use Rattle.construction.proofs.SequentialLaws.{run-length}
+use Rattle.construction.proofs.World.{Fixed, Round, noRound, endingOf, endingIn, programIn, World, announcementIn, recordIn, leftIn, callIn, roundIn, wordAt, operationOf, doneWith, Pending, Phase, Good, asking, announcing, leaving, taking, writing, ending, freeing, Quiet, Move}
+use Rattle.construction.proofs.World.Move.{stay, ask, announce, leave, take, write, end, free}
+
+ending-length : (F : Fixed) (s : ℕ) (r : Round) → length (endingOf F s r .words) ≡ length (r .words)
+unfolding endingOf sequential
+ending-length F s r = run-length (F .variables) _ (r .call .inputs) 32 started (r .words)
+
+current-rewritten : (r : Record) (x s : ℕ) → current (rewritten r x s) ≡ x
+unfolding current rewritten
+current-rewritten r x s = go (r .toggle)
+  where
+    go : (b : Bool) → cond (not b) (cond b (r .val1) x) (cond b x (r .val0)) ≡ x
+    go true = refl
+    go false = refl
+
+previous-rewritten : (r : Record) (x s : ℕ) → previous (rewritten r x s) ≡ current r
+unfolding current previous rewritten
+previous-rewritten r x s = go (r .toggle)
+  where
+    go : (b : Bool) → cond (not b) (cond b x (r .val0)) (cond b (r .val1) x) ≡ cond b (r .val1) (r .val0)
+    go true = refl
+    go false = refl
+
+pub below-or : (n s : ℕ) → s < suc n → (s < n) ⊎ (s ≡ n)
+below-or n s h = go (ℕ-discrete s n)
+  where
+    go : Dec (s ≡ n) → (s < n) ⊎ (s ≡ n)
+    go (yes e) = inr e
+    go (no ne) = inl (omega arith)
+
+module _ {F : Fixed} {w : World} (G : Good F w) where
+  -- after announcement i was set to a: by cases on whose is meant
+  pub announcements-set :
+      (P : Announcement → Type 0) (i j : ℕ) (a : Announcement) →
+      i < F .processes → (j ≡ i → P a) → (j ≢ i → P (announcementIn w j)) →
+      P (getD (set (w .announcements) i a) j openAnnouncement)
+  announcements-set P i j a lt = on-set P (w .announcements) i j a openAnnouncement (omega arith)
+
+  phase-ask : (i : ℕ) (q : Operation) (h : Holder) → h ≢ Process i → Phase h w → Phase h (asking w i q)
+  phase-ask i q Nobody ne ph = ph
+  phase-ask i q (Process m) ne ph =
+      let z = getD-set-other (w .calls) i m q noOperation (λ e. ne (ap Process e)) in
+      (ph .0, ph .1, λ d. record { counted = ph .2 d .counted; now = rw z (ph .2 d .now); asked = rw z (ph .2 d .asked) })
+
+  good-ask : (i : ℕ) (q : Operation) → i < F .processes → Quiet w i → Good F (asking w i q)
+  good-ask i q lt Q = record {
+    few = G .few;
+    narrow = G .narrow;
+    short = G .short;
+    size-announcements = G .size-announcements;
+    size-records = G .size-records;
+    size-calls = rw length-set (G .size-calls);
+    size-outs = G .size-outs;
+    size-left = G .size-left;
+    size-bound = G .size-bound;
+    size-words = G .size-words;
+    size-round = G .size-round;
+    left-below = G .left-below;
+    bound-below = G .bound-below;
+    announcement-below = G .announcement-below;
+    fresh = G .fresh;
+    inside = G .inside;
+    active-operation = λ m a.
+        on-set (λ r. operationOf (announcementIn w m) ≡ r) (w .calls) i m q noOperation (omega arith)
+        (λ e. absurd (Q .not-active (rw e at a)))
+        (λ e. G .active-operation m a);
+    phase = phase-ask i q (w .gate .holder) (Q .free-of) (G .phase);
+    recorded = G .recorded;
+  }
+
+  phase-announce :
+      (i : ℕ) (a : Announcement) (h : Holder) → h ≢ Process i → Phase h w → Phase h (announcing w i a)
+  phase-announce i a Nobody ne ph = ph
+  phase-announce i a (Process m) ne ph =
+      let z = getD-set-other (w .announcements) i m a openAnnouncement (λ e. ne (ap Process e)) in
+      (ph .0, rw z (ph .1),
+      rw z (λ d. record { counted = ph .2 d .counted; now = ph .2 d .now; asked = rw z (ph .2 d .asked) }))
+
+  good-announce :
+      (i : ℕ) (a : Announcement) → i < F .processes → Quiet w i → a .flag ≡ Active → operationOf a ≡ callIn w i →
+      leftIn w i < a .seq → a .seq ≤ w .gate .seq → Good F (announcing w i a)
+  good-announce i a lt Q fa op l b = record {
+    few = G .few;
+    narrow = G .narrow;
+    short = G .short;
+    size-announcements = rw length-set (G .size-announcements);
+    size-records = G .size-records;
+    size-calls = G .size-calls;
+    size-outs = G .size-outs;
+    size-left = G .size-left;
+    size-bound = G .size-bound;
+    size-words = G .size-words;
+    size-round = G .size-round;
+    left-below = G .left-below;
+    bound-below = G .bound-below;
+    announcement-below = λ m.
+        announcements-set (λ r. r .seq ≤ w .gate .seq) i m a lt (λ _. b) (λ _. G .announcement-below m);
+    fresh = λ m.
+        announcements-set (λ r. r .flag ≢ Done → leftIn w m < r .seq) i m a lt (λ e _. rw e l) (λ _. G .fresh m);
+    inside = G .inside;
+    active-operation = λ m.
+        announcements-set (λ r. r .flag ≡ Active → operationOf r ≡ callIn w m) i m a lt
+        (λ e _. rw e op) (λ _. G .active-operation m);
+    phase = phase-announce i a (w .gate .holder) (Q .free-of) (G .phase);
+    recorded = G .recorded;
+  }
+
+  phase-leave :
+      (i : ℕ) → i < F .processes → announcementIn w i .flag ≡ Active → (h : Holder) → Phase h w → Phase h (leaving w i)
+  phase-leave i lt fa Nobody ph = ph
+  phase-leave i lt fa (Process m) ph =
+      (ph .0,
+      announcements-set (λ r. r .flag ≡ Done → w .count ≡ suc (w .gate .seq)) i m _ lt
+      (λ _ q. absurd (exit-not-done _ refl q)) (λ _. ph .1),
+      announcements-set (λ r. r .flag ≢ Done → Pending (leaving w i) m) i m _ lt
+      (λ e _. busy (ph .2 (λ d. active-not-done _ fa (rw e at d)))) (λ _ d. busy (ph .2 d)))
+    where
+      busy : Pending w m → Pending (leaving w i) m
+      busy B = record {
+        counted = B .counted;
+        now = B .now;
+        asked = announcements-set (λ r. operationOf r ≡ callIn w m) i m _ lt
+            (λ e. rw e (rw e at (B .asked))) (λ _. B .asked);
+      }
+
+  good-leave : (i : ℕ) → i < F .processes → announcementIn w i .flag ≡ Active → Good F (leaving w i)
+  good-leave i lt fa = record {
+    few = G .few;
+    narrow = G .narrow;
+    short = G .short;
+    size-announcements = rw length-set (G .size-announcements);
+    size-records = G .size-records;
+    size-calls = G .size-calls;
+    size-outs = G .size-outs;
+    size-left = G .size-left;
+    size-bound = rw length-set (G .size-bound);
+    size-words = G .size-words;
+    size-round = G .size-round;
+    left-below = G .left-below;
+    bound-below = λ m.
+        on-set (λ r. r ≤ w .gate .seq) (w .bound) i m (w .gate .seq) 0 (omega arith)
+        (λ _. omega arith) (λ _. G .bound-below m);
+    announcement-below = λ m.
+        announcements-set (λ r. r .seq ≤ w .gate .seq) i m _ lt (λ _. G .announcement-below i) (λ _. G .announcement-below m);
+    fresh = λ m.
+        announcements-set (λ r. r .flag ≢ Done → leftIn w m < r .seq) i m _ lt
+        (λ e _. rw e (G .fresh i (λ d. active-not-done _ fa d))) (λ _. G .fresh m);
+    inside = G .inside;
+    active-operation = λ m.
+        announcements-set (λ r. r .flag ≡ Active → operationOf r ≡ callIn w m) i m _ lt
+        (λ _ q. absurd (active-not-exit _ q refl)) (λ _. G .active-operation m);
+    phase = phase-leave i lt fa (w .gate .holder) (G .phase);
+    recorded = G .recorded;
+  }
+
+  -- one round more: the earlier ones are as before
+  abbrev page : ℕ → Round
+  page m = record { words = w .words; call = callIn w m }
+
+  earlier : (m s : ℕ) → s < length (w .rounds) → roundIn (taking w m) s ≡ roundIn w s
+  earlier m s lt = List·getD-append (w .rounds) (page m ∷ []) noRound s lt
+
+  latest : (m s : ℕ) → s ≡ length (w .rounds) → roundIn (taking w m) s ≡ page m
+  latest m s e = getD-at (w .rounds) (page m) [] noRound s (sym e)
+
+  -- a number below the longer list is below the list, or the last
+  split-last : (m s : ℕ) → s < length (taking w m .rounds) → (s < length (w .rounds)) ⊎ (s ≡ length (w .rounds))
+  split-last m s lt = below-or (length (w .rounds)) s (omega (arith, simp length-append at lt))
+
+  good-take :
+      (m : ℕ) → m < F .processes → w .gate .holder ≡ Nobody → announcementIn w m .flag ≢ Done →
+      operationOf (announcementIn w m) ≡ callIn w m → Good F (taking w m)
+  good-take m lt hn fl op =
+      let R = G .recorded in
+      let ph : Phase Nobody w = subst (λ (h : Holder). Phase h w) hn (G .phase) in
+      let more : length (taking w m .rounds) ≡ suc (length (w .rounds)) = rw length-append (omega arith) in
+      record {
+        few = G .few;
+        narrow = G .narrow;
+        short = G .short;
+        size-announcements = G .size-announcements;
+        size-records = G .size-records;
+        size-calls = G .size-calls;
+        size-outs = G .size-outs;
+        size-left = G .size-left;
+        size-bound = G .size-bound;
+        size-words = G .size-words;
+        size-round = λ s sl.
+            ⊎-elim (λ l. rw (earlier m s l) (G .size-round s l)) (λ e. rw (latest m s e) (G .size-words)) (split-last m s sl);
+        left-below = G .left-below;
+        bound-below = G .bound-below;
+        announcement-below = G .announcement-below;
+        fresh = G .fresh;
+        inside = λ j e. rw (← process-same e) lt;
+        active-operation = G .active-operation;
+        phase =
+            (omega arith, λ d. absurd (fl d),
+            λ d. record { counted = ph .1; now = latest m (w .gate .seq) (omega arith); asked = op });
+        recorded = record {
+          below = λ v. omega (arith, R .below v);
+          old = λ s v sl vl h.
+              ⊎-elim (λ l. rw (earlier m s l) (R .old s v l vl h))
+              (λ e. rw (latest m s e) (R .words-are v vl (omega arith))) (split-last m s sl);
+          same = λ v vl z. rw (earlier m (recordIn w v .seq) (R .below v)) (R .same v vl z);
+          settled = λ s v sl vl h. rw (earlier m s (omega arith)) (R .settled s v sl vl h);
+          words-are = λ v vl e. absurd (omega arith);
+        };
+      }
+
+  phase-write : (v x : ℕ) (h : Holder) → Phase h w → Phase h (writing w v x)
+  phase-write v x Nobody ph = ph
+  phase-write v x (Process m) ph =
+      (ph .0, ph .1,
+      λ d. let B = ph .2 d in record { counted = B .counted; now = B .now; asked = B .asked })
+
+  good-write :
+      (m v x : ℕ) → v < F .variables → w .gate .holder ≡ Process m → announcementIn w m .flag ≢ Done →
+      recordIn w v .seq < w .gate .seq → x ≡ wordAt (endingIn F w (w .gate .seq) .words) v → Good F (writing w v x)
+  unfolding rewritten
+  good-write m v x vl hm fl below ex =
+      let R = G .recorded in
+      let ph : Phase (Process m) w = subst (λ (h : Holder). Phase h w) hm (G .phase) in
+      let many : length (w .rounds) ≡ suc (w .gate .seq) = ph .0 in
+      let B : Pending w m = ph .2 fl in
+      let counted : w .count ≡ w .gate .seq = B .counted in
+      let set-record :
+              (P : Record → Type 0) (u : ℕ) → (u ≡ v → P (rewritten (recordIn w v) x (w .gate .seq))) →
+              (u ≢ v → P (recordIn w u)) → P (recordIn (writing w v x) u) =
+              λ P u. on-set P (w .records) v u (rewritten (recordIn w v) x (w .gate .seq)) (openRecord 0) (omega arith) in
+      record {
+        few = G .few;
+        narrow = G .narrow;
+        short = G .short;
+        size-announcements = G .size-announcements;
+        size-records = rw length-set (G .size-records);
+        size-calls = G .size-calls;
+        size-outs = G .size-outs;
+        size-left = G .size-left;
+        size-bound = G .size-bound;
+        size-words = G .size-words;
+        size-round = G .size-round;
+        left-below = G .left-below;
+        bound-below = G .bound-below;
+        announcement-below = G .announcement-below;
+        fresh = G .fresh;
+        inside = G .inside;
+        active-operation = G .active-operation;
+        phase = phase-write v x (w .gate .holder) (G .phase);
+        recorded = record {
+          below = λ u. set-record (λ q. q .seq < length (w .rounds)) u (λ _. omega arith) (λ _. R .below u);
+          old = λ s u sl ul.
+              set-record (λ q. q .seq < s → current q ≡ wordAt (roundIn w s .words) u) u
+              (λ _ h. absurd (omega arith)) (λ _. R .old s u sl ul);
+          same = λ u ul.
+              set-record
+              (λ q. 0 < q .seq →
+                  (previous q ≡ wordAt (roundIn w (q .seq) .words) u) × (current q ≡ wordAt (endingIn F w (q .seq) .words) u))
+              u
+              (λ e h. (
+                  previous-rewritten (recordIn w v) x (w .gate .seq) ∙ rw e (R .old (w .gate .seq) v (omega arith) vl below),
+                  current-rewritten (recordIn w v) x (w .gate .seq) ∙ rw e ex))
+              (λ _. R .same u ul);
+          settled = λ s u sl ul.
+              set-record (λ q. q .seq < s → wordAt (endingIn F w s .words) u ≡ wordAt (roundIn w s .words) u) u
+              (λ _ h. absurd (omega arith)) (λ _. R .settled s u sl ul);
+          words-are = λ u ul e. absurd (omega arith);
+        };
+      }
+
+  good-end :
+      (m : ℕ) → m < F .processes → w .gate .holder ≡ Process m → announcementIn w m .flag ≢ Done →
+      ((v : ℕ) → v < F .variables → recordIn w v .seq < w .gate .seq →
+          wordAt (endingIn F w (w .gate .seq) .words) v ≡ wordAt (roundIn w (w .gate .seq) .words) v) →
+      Good F (ending F w m)
+  good-end m lt hm fl all =
+      let R = G .recorded in
+      let ph : Phase (Process m) w = subst (λ (h : Holder). Phase h w) hm (G .phase) in
+      let many : length (w .rounds) ≡ suc (w .gate .seq) = ph .0 in
+      let B : Pending w m = ph .2 fl in
+      let counted : w .count ≡ w .gate .seq = B .counted in
+      let a : Announcement = doneWith (announcementIn w m) (endingIn F w (w .gate .seq) .outputs) in
+      record {
+        few = G .few;
+        narrow = G .narrow;
+        short = G .short;
+        size-announcements = rw length-set (G .size-announcements);
+        size-records = G .size-records;
+        size-calls = G .size-calls;
+        size-outs = rw length-set (G .size-outs);
+        size-left = G .size-left;
+        size-bound = G .size-bound;
+        size-words =
+            ending-length F (w .gate .seq) (roundIn w (w .gate .seq)) ∙ G .size-round (w .gate .seq) (omega arith);
+        size-round = G .size-round;
+        left-below = G .left-below;
+        bound-below = G .bound-below;
+        announcement-below = λ j.
+            announcements-set (λ r. r .seq ≤ w .gate .seq) m j a lt (λ _. G .announcement-below m) (λ _. G .announcement-below j);
+        fresh = λ j.
+            announcements-set (λ r. r .flag ≢ Done → leftIn w j < r .seq) m j a lt (λ _ q. absurd (q refl)) (λ _. G .fresh j);
+        inside = G .inside;
+        active-operation = λ j.
+            announcements-set (λ r. r .flag ≡ Active → operationOf r ≡ callIn w j) m j a lt
+            (λ _ q. absurd (active-not-done _ q refl)) (λ _. G .active-operation j);
+        phase = subst (λ (h : Holder). Phase h (ending F w m)) (sym hm)
+            (many, λ _. omega arith,
+            λ d. absurd (d (announcements-set (λ r. r .flag ≡ Done) m m a lt (λ _. refl) (λ ne. absurd (ne refl)))));
+        recorded = record {
+          below = R .below;
+          old = R .old;
+          same = R .same;
+          settled = λ s v sl vl h.
+              ⊎-elim (λ l. R .settled s v (omega arith) vl h) (λ e. rw e (all v vl (rw e at h)))
+              (below-or (w .gate .seq) s (omega arith));
+          words-are = λ v vl e.
+              ⊎-elim (λ l. R .old (w .gate .seq) v (omega arith) vl l ∙ sym (all v vl l))
+              (λ l. let z = R .same v vl (omega (arith, G .left-below m)) .1 in rw l at z)
+              (below-or (w .gate .seq) (recordIn w v .seq) (omega (arith, R .below v)));
+        };
+      }
+
+  good-free :
+      (m : ℕ) → m < F .processes → w .gate .holder ≡ Process m → announcementIn w m .flag ≡ Done → Good F (freeing w m)
+  good-free m lt hm d =
+      let ph : Phase (Process m) w = subst (λ (h : Holder). Phase h w) hm (G .phase) in
+      let many : length (w .rounds) ≡ suc (w .gate .seq) = ph .0 in
+      let counted : w .count ≡ suc (w .gate .seq) = ph .1 d in
+      let set-left :
+              (P : ℕ → Type 0) (j : ℕ) → (j ≡ m → P (w .gate .seq)) → (j ≢ m → P (leftIn w j)) → P (leftIn (freeing w m) j) =
+              λ P j. on-set P (w .left) m j (w .gate .seq) 0 (omega arith) in
+      record {
+        few = G .few;
+        narrow = G .narrow;
+        short = G .short;
+        size-announcements = G .size-announcements;
+        size-records = G .size-records;
+        size-calls = G .size-calls;
+        size-outs = G .size-outs;
+        size-left = rw length-set (G .size-left);
+        size-bound = G .size-bound;
+        size-words = G .size-words;
+        size-round = G .size-round;
+        left-below = λ j. set-left (λ b. b < w .gate .seq + 1) j (λ _. omega arith) (λ _. omega (arith, G .left-below j));
+        bound-below = λ j. omega (arith, G .bound-below j);
+        announcement-below = λ j. omega (arith, G .announcement-below j);
+        fresh = λ j q. set-left (λ b. b < announcementIn w j .seq) j (λ e. absurd (q (rw e d))) (λ _. G .fresh j q);
+        inside = λ j e. absurd (never e);
+        active-operation = G .active-operation;
+        phase = (omega arith, omega arith);
+        recorded = G .recorded;
+      }
+
+pub good-move : {F : Fixed} {i : ℕ} {w v : World} → Good F w → Move F i w v → Good F v
+good-move G stay = G
+good-move G (ask q lt Q) = good-ask G _ q lt Q
+good-move G (announce a lt Q fa op l b) = good-announce G _ a lt Q fa op l b
+good-move G (leave lt fa) = good-leave G _ lt fa
+good-move G (take m lt hn fl op z) = good-take G m lt hn fl op
+good-move G (write m v x vl hm fl below ex) = good-write G m v x vl hm fl below ex
+good-move G (end m lt hm fl all) = good-end G m lt hm fl all
+good-move G (free m lt hm d) = good-free G m lt hm d
+
+-- a move takes the gate's number up by one at most
+pub seq-move : {F : Fixed} {i : ℕ} {w v : World} → Move F i w v → v .gate .seq ≤ suc (w .gate .seq)
+seq-move stay = omega arith
+seq-move (ask c lt Q) = omega arith
+seq-move (announce a lt Q fa op l b) = omega arith
+seq-move (leave lt fa) = omega arith
+seq-move (take m lt hn fl op z) = omega arith
+seq-move (write m v x vl hm fl below ex) = omega arith
+seq-move (end m lt hm fl all) = omega arith
+seq-move (free m lt hm d) = omega arith
+
+-- the operation that a gate is held for runs on the words so far, and its number is the next
+pub ends-now :
+    {F : Fixed} {w : World} → Good F w → (m : ℕ) → w .gate .holder ≡ Process m → announcementIn w m .flag ≢ Done →
+    (w .count ≡ w .gate .seq)
+    × (endingIn F w (w .gate .seq)
+    ≡ sequential (F .variables) (programIn F (callIn w m .program) (w .gate .seq)) (callIn w m .inputs) (w .words))
+unfolding endingOf
+ends-now {F} {w} G m hm fl =
+    let ph : Phase (Process m) w = subst (λ (h : Holder). Phase h w) hm (G .phase) in
+    (ph .2 fl .counted, ap (endingOf F (w .gate .seq)) (ph .2 fl .now))

@@ -1,0 +1,316 @@
+-- Card, world and notes go together, and every entry keeps them so.
+use Prim.Native.Nat.{ℕ, _<_}
+use mathlib.Core.Path.{_≡_, refl, sym, subst, ap, _∙_}
+use mathlib.Core.Bool.{Bool, true, false, not}
+use mathlib.Core.Logic.{_≢_, _⊎_, inl, inr, ⊎-elim}
+use mathlib.Core.List.{List, [], _∷_}
+use native.Mathlib.Omega.{arith}
+use lib.ListN.{length, getD}
+use lib.Seq.{getD-set-same, getD-set-other}
+use lib.Dec.{ltb}
+use borrow.Author.Tests.{ltb-true, lt-ltb}
+use Rattle.construction.specs.declared.Flag.{Flag}
+use Rattle.construction.specs.declared.Flag.the-variants.{Done, Active, Exit}
+use Rattle.construction.specs.declared.Words.{Words}
+use Rattle.construction.specs.declared.Gate.{Gate}
+use Rattle.construction.specs.declared.Announcement.{Announcement}
+use Rattle.construction.specs.declared.Card.{Card}
+use Rattle.construction.specs.declared.Contents.{Contents}
+use Rattle.construction.specs.declared.Answer.{Answer}
+use Rattle.construction.specs.declared.Answered.{Answered}
+use Rattle.construction.specs.declared.Refusal.{Refusal}
+use Rattle.construction.specs.declared.Task.{Task}
+use Rattle.construction.specs.declared.Place.{Place}
+use Rattle.construction.specs.declared.Place.the-variants.{P1, P3, P5}
+use Rattle.construction.specs.Cells.{isDone, openAnnouncement}
+use Rattle.construction.specs.Parts.{idleTask, taskAt, withExit}
+use Rattle.construction.specs.Machine.{advance}
+use Rattle.construction.specs.Requests.{isProcess, isVariable, isIdle, isBusy, refused, begun as cardBegun, answerOf, read}
+use Rattle.construction.specs.History.{Entry, act, Invocation, Notes, turned, finishing, finished, begun, withReturn, ended, noted, Moment, observe, FinishesOne, FinishesAtMostOne}
+use Rattle.construction.proofs.Basics.{true-or-false, true-false, cond-true, cond-false, and-true}
+use Rattle.construction.proofs.NotesLaws.{turned-same}
+use Rattle.construction.proofs.TextKept.{contentsOf, advance-kept}
+use Rattle.construction.proofs.Outcomes.{Outcome, outcome}
+use Rattle.construction.proofs.World.{World, announcementIn, outputsIn, ending, asking}
+use Rattle.construction.proofs.Locals.{Local, fixedOf}
+use Rattle.construction.proofs.Invariant.{Inv, Stepped, gate-is, announcements-is, inv-call, inv-exit, inv-step}
+use Rattle.construction.proofs.Answers.{read-is, answer-is, isAnnounced, holder-announced}
+use Rattle.construction.proofs.NextPlaces.{P1-next, P3-next, P3-active, announced-next}
+use Rattle.construction.proofs.Course.{active-before, announced-busy, stage-of}
+use Rattle.construction.proofs.Observed.{requestOf, Own, Tracks, under-way, Calm, Ends, kind-of, turned-ends, tracks-calm, tracks-finished, own-next, tracks-place, tracks-called, tracks-returned}
+
+-- the processes of a card that have an operation under way, and those that have announced it
+abbrev busyIn : Card → ℕ → Bool
+busyIn c j = isBusy c j
+
+abbrev announcedIn : Card → ℕ → Bool
+announcedIn c j = isAnnounced (taskAt c j .place)
+
+abbrev Follows : Card → Card → World → Notes → Type 0
+Follows o c w s = Tracks (o .processes) (busyIn c) (announcedIn c) w s
+
+-- a moment in which card, world and notes go together
+pub record Consistent (o : Card) (m : Moment) : Type 0 where
+  pub world : World
+  pub inv : Inv (m .card) world
+  pub tracks : Follows o (m .card) world (m .notes)
+  pub text : contentsOf (m .card) ≡ contentsOf o
+
+-- the moment after an entry with a given answer
+abbrev after : Card → Moment → Entry → Answered → Moment
+after o m e r =
+    record {
+      card = r .card;
+      notes = noted (finished o (m .card .gate .seq) (finishing (m .card) (r .card)) (m .notes)) e (r .answer);
+    }
+
+module _ (o : Card) (m : Moment) (O : Consistent o m) where
+  abbrev c : Card
+  c = m .card
+
+  abbrev s : Notes
+  s = m .notes
+
+  abbrev w : World
+  w = O .world
+
+  nothing-finished : (d : Card) → c .announcements ≡ d .announcements → finished o (c .gate .seq) (finishing c d) s ≡ s
+  unfolding finished
+  nothing-finished d e = rw (← e, turned-same 0 (c .announcements))
+
+  processes-is : c .processes ≡ o .processes
+  processes-is = ap (λ (x : Contents). x .processes) (O .text)
+
+  -- an entry that is turned back
+  refused-kept : (e : Entry) (why : Refusal) → Consistent o (after o m e (refused c why))
+  refused-kept e why = subst (λ (n : Notes). Consistent o (record { card = c; notes = n })) (sym (noted-refused e ∙ nothing-finished c refl)) O
+    where
+      noted-refused : {n : Notes} (e : Entry) → noted n e (Answer.Refused why) ≡ n
+      noted-refused (Entry.Call i k inputs) = refl
+      noted-refused (Entry.Exit i) = refl
+      noted-refused (Entry.Step i) = refl
+      noted-refused (Entry.Read v) = refl
+
+  -- a read and an exit request
+  read-kept : (v x : ℕ) → Consistent o (after o m (Entry.Read v) (record { card = c; answer = Answer.Value x }))
+  read-kept v x = subst (λ (n : Notes). Consistent o (record { card = c; notes = n })) (sym (nothing-finished c refl)) O
+
+  exit-kept : (i : ℕ) → Consistent o (after o m (Entry.Exit i) (record { card = withExit c i true; answer = Answer.Taken }))
+  exit-kept i =
+      subst (λ (n : Notes). Consistent o (record { card = withExit c i true; notes = n })) (sym (nothing-finished (withExit c i true) refl))
+      (record { world = w; inv = inv-exit c w i true (O .inv); tracks = O .tracks; text = O .text })
+
+  inside : (i : ℕ) → isProcess c i ≡ true → i < c .processes
+  inside i e = ltb-true i (c .processes) (and-true (ltb i (c .processes)) _ e .0)
+
+  -- a call
+  call-kept :
+      (i k : ℕ) (inputs : Words) → isProcess c i ≡ true → isBusy c i ≡ false →
+      Consistent o (after o m (Entry.Call i k inputs) (record { card = cardBegun c i k inputs; answer = Answer.Taken }))
+  call-kept i k inputs e f =
+      let x : Invocation = record { process = i; program = k; inputs = inputs } in
+      let d = cardBegun c i k inputs in
+      let lt = inside i e in
+      let others : (j : ℕ) → j ≢ i → (busyIn d j ≡ busyIn c j) × (announcedIn d j ≡ announcedIn c j) =
+      λ j ne. rw (getD-set-other (c .tasks) i j (record { place = P1; target = 0 }) idleTask ne) (refl, refl) in
+      let here : taskAt d i ≡ record { place = P1; target = 0 } =
+      getD-set-same (c .tasks) i _ idleTask (omega (arith, O .inv .sizes .tasks, O .inv .good .few)) in
+      subst (λ (n : Notes). Consistent o (record { card = d; notes = begun n x Answer.Taken })) (sym (nothing-finished d refl))
+      (record {
+        world = asking w i (requestOf x);
+        inv = inv-call c w i k inputs (O .inv) e f;
+        tracks = tracks-called i x (O .inv .good) lt refl others (ap (λ (t : Task). isAnnounced (t .place)) here) (O .tracks);
+        text = O .text;
+      })
+
+  -- an accepted step of process i
+  module _ (i : ℕ) (e : isProcess c i ≡ true) (b : isBusy c i ≡ true) (l : c .steps < c .limit) where
+    abbrev d : Card
+    d = advance c i
+
+    S : Stepped c w i
+    S = inv-step c w i (O .inv) e b l
+
+    abbrev noticed : Notes
+    noticed = finished o (c .gate .seq) (finishing c d) s
+
+    finishing-is : finishing c d ≡ turned 0 (w .announcements) (S .after .announcements)
+    finishing-is =
+        ap (λ (x : List Announcement). turned 0 x (d .announcements)) (announcements-is (O .inv))
+        ∙ ap (turned 0 (w .announcements)) (announcements-is (S .inv))
+
+    only : announcedIn c i ≡ true → announcementIn (S .after) i .flag ≡ Active → announcementIn w i .flag ≡ Active
+    only t h =
+        let flag : List Announcement → Flag = λ x. getD x i openAnnouncement .flag in
+        ap flag (sym (announcements-is (O .inv))) ∙ active-before c i t (ap flag (announcements-is (S .inv)) ∙ h)
+
+    kind : Calm (announcedIn c) w (S .after) ⊎ Ends (fixedOf c) w (S .after)
+    kind = kind-of (fixedOf c) i (announcedIn c) w (S .after) (O .inv .good) (S .move) only
+
+    -- the operation that an ending move finishes
+    module _ (E : Ends (fixedOf c) w (S .after)) where
+      ends-announced : announcedIn c (E .process) ≡ true
+      ends-announced = holder-announced (O .inv) (E .process) (E .inside) (E .held)
+
+      ends-own : Own true w s (E .process)
+      ends-own =
+          subst (λ (a : Bool). Own a w s (E .process)) ends-announced
+          (O .tracks .own (E .process) (subst (λ (n : ℕ). E .process < n) processes-is (E .inside))
+          (announced-busy (taskAt c (E .process) .place) ends-announced))
+
+      ends-one : finishing c d ≡ E .process ∷ []
+      ends-one = finishing-is ∙ turned-ends (O .inv .good) E
+
+    -- the notes after the step and before its answer
+    abbrev Moved : ℕ → List ℕ → World → Type 0
+    Moved gate is v = Tracks (o .processes) (busyIn c) (announcedIn c) v (finished o gate is s)
+
+    moved : Tracks (o .processes) (busyIn c) (announcedIn c) (S .after) noticed
+    unfolding finished
+    moved = ⊎-elim calm ends kind
+      where
+        calm : Calm (announcedIn c) w (S .after) → Moved (c .gate .seq) (finishing c d) (S .after)
+        calm C =
+            subst (λ (is : List ℕ). Moved (c .gate .seq) is (S .after)) (sym (finishing-is ∙ C .none))
+            (tracks-calm C (S .calls-is) (O .tracks))
+
+        ends : Ends (fixedOf c) w (S .after) → Moved (c .gate .seq) (finishing c d) (S .after)
+        ends E =
+            subst (λ (is : List ℕ). Moved (c .gate .seq) is (S .after)) (sym (ends-one E))
+            (subst (λ (v : World). Moved (c .gate .seq) (E .process ∷ []) v) (sym (E .becomes))
+            (subst (λ (g : Gate). Moved (g .seq) (E .process ∷ []) (ending (fixedOf c) w (E .process))) (sym (gate-is (O .inv)))
+            (tracks-finished o (fixedOf c) (o .processes) (busyIn c) (announcedIn c) w s (O .inv .good) (O .tracks) (E .process) (E .inside)
+            (E .held) (E .undone) (ends-own E) (ap (λ (x : Contents). x .variables) (sym (O .text)))
+            (ap (λ (x : Contents). x .code) (sym (O .text))) (ends-announced E))))
+
+    others : (j : ℕ) → j ≢ i → (busyIn d j ≡ busyIn c j) × (announcedIn d j ≡ announcedIn c j)
+    others j ne =
+        let h : taskAt d j .place ≡ taskAt c j .place = ap (λ (t : Local). t .place) (S .elsewhere j ne) in
+        rw h (refl, refl)
+
+    abbrev own-place : Place
+    own-place = taskAt c i .place
+
+    abbrev next-place : Place
+    next-place = taskAt d i .place
+
+    -- the operation of i itself
+    own-moved : Own (announcedIn c i) (S .after) noticed i
+    own-moved = moved .own i (subst (λ (n : ℕ). i < n) processes-is (inside i e)) b
+
+    stage : (own-place ≡ P1) ⊎ (own-place ≡ P3) ⊎ (isAnnounced own-place ≡ true)
+    stage = stage-of own-place b
+
+    has-task : i < length (c .tasks)
+    has-task = omega (arith, O .inv .sizes .tasks, O .inv .good .few, inside i e)
+
+    has-announcement : i < length (c .announcements)
+    has-announcement =
+        omega (arith, O .inv .good .size-announcements, ap length (announcements-is (O .inv)), O .inv .good .few, inside i e)
+
+    at-P1 : own-place ≡ P1 → next-place ≡ P3
+    at-P1 h = P1-next c i has-task h
+
+    at-P3 : own-place ≡ P3 → next-place ≡ P5
+    at-P3 h = P3-next c i has-task h
+
+    -- it was unannounced if it is so still
+    unannounced : isBusy d i ≡ true → isAnnounced next-place ≡ false → isAnnounced own-place ≡ false
+    unannounced busy h =
+        ⊎-elim (λ z. ap isAnnounced z)
+        (⊎-elim (λ z. ap isAnnounced z)
+        (λ t. ⊎-elim (λ z. absurd (true-false _ z h)) (λ z. absurd (true-false _ busy (ap (λ (l : Place). not (isIdle l)) z)))
+        (announced-next c i has-task t))) stage
+
+    -- it was announced before, or is active now
+    newly : isAnnounced next-place ≡ true → (isAnnounced own-place ≡ true) ⊎ (announcementIn (S .after) i .flag ≡ Active)
+    newly h =
+        ⊎-elim (λ z. absurd (true-false _ h (ap isAnnounced (at-P1 z))))
+        (⊎-elim
+        (λ z. inr
+        (ap (λ (x : List Announcement). getD x i openAnnouncement .flag) (sym (announcements-is (S .inv)))
+        ∙ ap (λ (a : Announcement). a .flag) (P3-active c i has-task has-announcement z)))
+        inl) stage
+
+    -- one that returns was announced
+    returning : isBusy d i ≡ false → isAnnounced own-place ≡ true
+    returning idle =
+        ⊎-elim (λ z. absurd (true-false _ (ap (λ (l : Place). not (isIdle l)) (at-P1 z)) idle))
+        (⊎-elim (λ z. absurd (true-false _ (ap (λ (l : Place). not (isIdle l)) (at-P3 z)) idle)) (λ z. z)) stage
+
+    text-moved : contentsOf d ≡ contentsOf o
+    text-moved = advance-kept c i ∙ O .text
+
+    running : isBusy d i ≡ true → Follows o d (S .after) noticed
+    running busy = tracks-place i others (λ _ _. own-next (unannounced busy) newly own-moved) moved
+
+    ended-done :
+        isBusy d i ≡ false → announcementIn (S .after) i .flag ≡ Done → (k : ℕ) →
+        Follows o d (S .after) (withReturn noticed i (Answer.Done (outputsIn (S .after) i) k))
+    ended-done idle h k =
+        tracks-returned i (Answer.Done (outputsIn (S .after) i) k) own-moved (own-moved .over (returning idle) (ap isDone h)) others idle moved
+
+    ended-exited :
+        isBusy d i ≡ false → announcementIn (S .after) i .flag ≡ Exit → (k : ℕ) → Follows o d (S .after) (withReturn noticed i (Answer.Exited k))
+    ended-exited idle h k = tracks-returned i (Answer.Exited k) own-moved (own-moved .pending (ap isDone h)) others idle moved
+
+    answered : Follows o d (S .after) (ended noticed i (answerOf d i))
+    answered =
+        ⊎-elim (λ busy. subst (λ (a : Answer). Follows o d (S .after) (ended noticed i a)) (sym (cond-true (isBusy d i) _ _ busy)) (running busy))
+        (λ idle.
+        ⊎-elim
+        (λ z. subst (λ (a : Answer). Follows o d (S .after) (ended noticed i a)) (sym (z .1)) (ended-done idle (z .0) _))
+        (λ z. subst (λ (a : Answer). Follows o d (S .after) (ended noticed i a)) (sym (z .1)) (ended-exited idle (z .0) _))
+        (answer-is (S .inv) i (subst (λ (x : Contents). i < x .processes) (sym (advance-kept c i)) (inside i e)) idle))
+        (true-or-false (isBusy d i))
+
+    step-kept : Consistent o (after o m (Entry.Step i) (record { card = d; answer = answerOf d i }))
+    step-kept = record { world = S .after; inv = S .inv; tracks = answered; text = text-moved }
+
+  -- every entry
+  outcome-kept : {e : Entry} {r : Answered} → Outcome c e r → Consistent o (after o m e r)
+  outcome-kept (Outcome.turned-back e why) = refused-kept e why
+  outcome-kept (Outcome.called i k inputs p b) = call-kept i k inputs p b
+  outcome-kept (Outcome.asked i) = exit-kept i
+  outcome-kept (Outcome.stepped i p b l) = step-kept i p b l
+  outcome-kept (Outcome.shown v x) = read-kept v x
+
+  pub entry-kept : (e : Entry) → Consistent o (observe o m e)
+  unfolding observe
+  entry-kept e = outcome-kept (outcome c e)
+
+  -- an entry finishes at most one operation
+  abbrev AtMostOne : Entry → Answered → Type 0
+  AtMostOne e r = (finishing c (r .card) ≡ []) ⊎ (act c e ≡ r → FinishesOne m e)
+
+  step-finishes : (i : ℕ) → isProcess c i ≡ true → isBusy c i ≡ true → c .steps < c .limit →
+      AtMostOne (Entry.Step i) (record { card = advance c i; answer = answerOf (advance c i) i })
+  step-finishes i p b l =
+      ⊎-elim (λ C. inl (finishing-is i p b l ∙ C .none))
+      (λ E. inr (λ is. record {
+        process = E .process;
+        only = ap (λ (r : Answered). finishing c (r .card)) is ∙ ends-one i p b l E;
+        underWay = under-way (ends-own i p b l E);
+        byStep = refl;
+      })) (kind i p b l)
+
+  outcome-finishes : {e : Entry} {r : Answered} → Outcome c e r → AtMostOne e r
+  outcome-finishes (Outcome.turned-back e why) = inl (turned-same 0 (c .announcements))
+  outcome-finishes (Outcome.called i k inputs p b) = inl (turned-same 0 (c .announcements))
+  outcome-finishes (Outcome.asked i) = inl (turned-same 0 (c .announcements))
+  outcome-finishes (Outcome.stepped i p b l) = step-finishes i p b l
+  outcome-finishes (Outcome.shown v x) = inl (turned-same 0 (c .announcements))
+
+  pub finishes-one : (e : Entry) → FinishesAtMostOne m e
+  finishes-one e = ⊎-elim inl (λ f. inr (f refl)) (outcome-finishes (outcome c e))
+
+-- a read shows the word of the bench
+pub read-shown : (o : Card) (m : Moment) → Consistent o m → (v : ℕ) → v < o .variables →
+    read (m .card) v ≡ record { card = m .card; answer = Answer.Value (getD (m .notes .words) v 0) }
+unfolding read
+read-shown o m O v l =
+    let inside : v < m .card .variables = subst (λ (x : Contents). v < x .variables) (sym (O .text)) l in
+    let there : isVariable (m .card) v ≡ true = rw (lt-ltb v (m .card .variables) inside) (lt-ltb v 64 (omega (arith, O .inv .good .narrow))) in
+    cond-false (not (isVariable (m .card) v)) _ _ (ap not there)
+    ∙ ap (λ (x : ℕ). record { card = m .card; answer = Answer.Value x })
+    (read-is (m .card) (O .world) (O .inv) v inside ∙ ap (λ (ws : List ℕ). getD ws v 0) (sym (O .tracks .words)))

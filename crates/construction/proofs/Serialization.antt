@@ -1,0 +1,101 @@
+-- Demand 3: for every text and every list of entries, the card and the single-user bench go side by side.
+use Prim.Native.Nat.{ℕ, _≤_, _<_}
+use mathlib.Core.Path.{_≡_, refl, sym, subst, ap}
+use mathlib.Core.Bool.{true, not}
+use mathlib.Core.List.{List, [], _∷_, _++_}
+use native.Mathlib.Omega.{arith}
+use lib.ListN.{length, getD}
+use Rattle.construction.specs.declared.Card.{Card}
+use Rattle.construction.specs.declared.Contents.{Contents}
+use Rattle.construction.specs.declared.Task.{Task}
+use Rattle.construction.specs.Instructions.{noProgram}
+use Rattle.construction.specs.Parts.{idleTask, countAt}
+use Rattle.construction.specs.Requests.{isIdle}
+use Rattle.construction.specs.Opening.{fresh, readCard, opened}
+use Rattle.construction.specs.History.{Entry, Notes, Moment, opening, observe, observeAll, run, times, place, hasReturned, Serialized}
+use Rattle.construction.proofs.Basics.{true-false}
+use Rattle.construction.proofs.NotesLaws.{agree-earlier, returned-times, place-below, place-kept, place-after}
+use Rattle.construction.proofs.OpenedBounds.{getD-same, Bounded, opened-bounded}
+use Rattle.construction.proofs.SequentialLaws.{Short}
+use Rattle.construction.proofs.Invariant.{firstWorld, inv-fresh}
+use Rattle.construction.proofs.Growth.{Grown, all-grow, observe-append}
+use Rattle.construction.proofs.Moments.{Consistent, entry-kept, finishes-one, read-shown}
+
+-- every list of entries, from the opened card on
+all-consistent : (o : Card) (m : Moment) (es : List Entry) → Consistent o m → Consistent o (observeAll o m es)
+unfolding observeAll
+all-consistent o m [] O = O
+all-consistent o m (e ∷ es) O = all-consistent o (observe o m e) es (entry-kept o m O e)
+
+short-code : (x : Contents) → Bounded x → (k : ℕ) → Short (getD (x .code) k noProgram)
+short-code x B k = omega (arith, B .lines k)
+
+fresh-consistent : (x : Contents) → Bounded x → Consistent (fresh x) (opening (fresh x))
+unfolding fresh times hasReturned
+fresh-consistent x B =
+    record {
+      world = firstWorld x;
+      inv = inv-fresh x (B .processes) (B .variables) (B .limit) (B .starts) (short-code x B);
+      tracks =
+          record {
+            words = refl;
+            count = refl;
+            numbers = tt;
+            agree = tt;
+            once = λ k. omega arith;
+            known = λ k h. refl;
+            unborn = λ k h. refl;
+            own = λ j l b. absurd (true-false _ b (ap (λ (t : Task). not (isIdle (t .place))) (getD-same 8 j idleTask)));
+          };
+      text = refl;
+    }
+
+opened-consistent : (t : List ℕ) (es : List Entry) → Consistent (opened t .card) (run (opened t .card) es)
+unfolding opened
+opened-consistent t es =
+    all-consistent (opened t .card) (opening (opened t .card)) es (fresh-consistent (readCard t .contents) (opened-bounded t))
+
+-- 6: an operation that had returned before another was called stands earlier
+module _ (t : List ℕ) (es fs : List Entry) where
+  abbrev early : Notes
+  early = run (opened t .card) es .notes
+
+  abbrev late : Notes
+  late = run (opened t .card) (es ++ fs) .notes
+
+  grown : Grown early late
+  grown =
+      subst (λ (m : Moment). Grown early (m .notes)) (sym (observe-append (opened t .card) (opening (opened t .card)) es fs))
+      (all-grow (opened t .card) (run (opened t .card) es) fs)
+
+  earlier :
+      (j k : ℕ) → hasReturned j (early .returns) ≡ true → length (early .operations) ≤ k → 0 < place k (late .order) →
+      place j (late .order) < place k (late .order)
+  earlier j k h l p =
+      let T = opened-consistent t es .tracks in
+      let same = returned-times (early .order) (late .order) (early .returns) j (T .agree)
+      (agree-earlier (late .order) (grown .returns) (opened-consistent t (es ++ fs) .tracks .agree)) h in
+      omega (arith, place-kept j (grown .order) same, place-below j (early .order), place-after k (grown .order) (T .known k l) p)
+
+-- Demand 3
+pub serialization : (t : List ℕ) (es : List Entry) → Serialized (opened t .card) es
+serialization t es =
+    let O = opened-consistent t es in
+    record {
+      reads = read-shown (opened t .card) (run (opened t .card) es) O;
+      returns = O .tracks .agree;
+      numbers = O .tracks .numbers;
+      finishes = finishes-one (opened t .card) (run (opened t .card) es) O;
+      once = O .tracks .once;
+      known = O .tracks .known;
+      precedes = λ es₁ es₂ e j k h l p q.
+          subst (λ (x : List Entry). place j (run (opened t .card) x .notes .order) < place k (run (opened t .card) x .notes .order)) (sym e)
+          (earlier t es₁ es₂ j k h l (subst (λ (x : List Entry). 0 < place k (run (opened t .card) x .notes .order)) e q));
+    }
+
+-- the numbers of 64 bits never wrap: steps, own counts and the gate's number stay below 2 ^ 64
+pub bounded : (t : List ℕ) (es : List Entry) → let c = run (opened t .card) es .card in
+    (c .steps < 18446744073709551616) × ((i : ℕ) → countAt c i < 18446744073709551616) × (c .gate .seq < 18446744073709551616)
+bounded t es =
+    let I = opened-consistent t es .inv in
+    (omega (arith, I .limited, I .capped), λ i. omega (arith, I .counts i, I .limited, I .capped), omega (arith, I .numbered, I .limited, I .capped))

@@ -71,7 +71,7 @@ keyed-put (e ∷ b) v x q =
     on-test Keyed (eqb (e .variable) v) (λ _. q) (λ _. (has-put b v x (e .variable) ∙ q .0, keyed-put b v x (q .1)))
 
 -- the first item is not that of a variable which the list lacks, and the others lack it
-lacks-cons : (x : Item) (b : List Item) (v : ℕ) → hasIn (x ∷ b) v ≡ false → (eqb (x .variable) v ≡ false) × (hasIn b v ≡ false)
+pub lacks-cons : (x : Item) (b : List Item) (v : ℕ) → hasIn (x ∷ b) v ≡ false → (eqb (x .variable) v ≡ false) × (hasIn b v ≡ false)
 unfolding hasIn
 lacks-cons x b v h =
     ⊎-elim (λ t. absurd (true-false _ (cond-true _ true (hasIn b v) t) h))

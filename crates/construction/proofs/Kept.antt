@@ -94,9 +94,11 @@ module _ {F : Fixed} {w : World} (G : Good F w) where
       (i : ℕ) (a : Announcement) (h : Holder) → h ≢ Process i → Phase h w → Phase h (announcing w i a)
   phase-announce i a Nobody ne ph = ph
   phase-announce i a (Process m) ne ph =
-      let z = getD-set-other (w .announcements) i m a openAnnouncement (λ e. ne (ap Process e)) in
-      (ph .0, rw z (ph .1),
-      rw z (λ d. record { counted = ph .2 d .counted; now = ph .2 d .now; asked = rw z (ph .2 d .asked) }))
+      let z = getD-set-other (w .announcements) i m a openAnnouncement (λ e. ne (ap Process e)) in (
+        ph .0,
+        rw z (ph .1),
+        rw z (λ d. record { counted = ph .2 d .counted; now = ph .2 d .now; asked = rw z (ph .2 d .asked) }),
+      )
 
   good-announce :
       (i : ℕ) (a : Announcement) → i < F .processes → Quiet w i → a .flag ≡ Active → operationOf a ≡ callIn w i →
@@ -130,12 +132,13 @@ module _ {F : Fixed} {w : World} (G : Good F w) where
   phase-leave :
       (i : ℕ) → i < F .processes → announcementIn w i .flag ≡ Active → (h : Holder) → Phase h w → Phase h (leaving w i)
   phase-leave i lt fa Nobody ph = ph
-  phase-leave i lt fa (Process m) ph =
-      (ph .0,
-      announcements-set (λ r. r .flag ≡ Done → w .count ≡ suc (w .gate .seq)) i m _ lt
-      (λ _ q. absurd (exit-not-done _ refl q)) (λ _. ph .1),
-      announcements-set (λ r. r .flag ≢ Done → Pending (leaving w i) m) i m _ lt
-      (λ e _. busy (ph .2 (λ d. active-not-done _ fa (rw e at d)))) (λ _ d. busy (ph .2 d)))
+  phase-leave i lt fa (Process m) ph = (
+    ph .0,
+    announcements-set (λ r. r .flag ≡ Done → w .count ≡ suc (w .gate .seq)) i m _ lt
+        (λ _ q. absurd (exit-not-done _ refl q)) (λ _. ph .1),
+    announcements-set (λ r. r .flag ≢ Done → Pending (leaving w i) m) i m _ lt
+        (λ e _. busy (ph .2 (λ d. active-not-done _ fa (rw e at d)))) (λ _ d. busy (ph .2 d)),
+  )
     where
       busy : Pending w m → Pending (leaving w i) m
       busy B = record {
@@ -215,9 +218,11 @@ module _ {F : Fixed} {w : World} (G : Good F w) where
         fresh = G .fresh;
         inside = λ j e. rw (← process-same e) lt;
         active-operation = G .active-operation;
-        phase =
-            (omega arith, λ d. absurd (fl d),
-            λ d. record { counted = ph .1; now = latest m (w .gate .seq) (omega arith); asked = op });
+        phase = (
+          omega arith,
+          λ d. absurd (fl d),
+          λ d. record { counted = ph .1; now = latest m (w .gate .seq) (omega arith); asked = op },
+        );
         recorded = record {
           below = λ v. omega (arith, R .below v);
           old = λ s v sl vl h.
@@ -231,9 +236,11 @@ module _ {F : Fixed} {w : World} (G : Good F w) where
 
   phase-write : (v x : ℕ) (h : Holder) → Phase h w → Phase h (writing w v x)
   phase-write v x Nobody ph = ph
-  phase-write v x (Process m) ph =
-      (ph .0, ph .1,
-      λ d. let B = ph .2 d in record { counted = B .counted; now = B .now; asked = B .asked })
+  phase-write v x (Process m) ph = (
+    ph .0,
+    ph .1,
+    λ d. let B = ph .2 d in record { counted = B .counted; now = B .now; asked = B .asked },
+  )
 
   good-write :
       (m v x : ℕ) → v < F .variables → w .gate .holder ≡ Process m → announcementIn w m .flag ≢ Done →
@@ -246,9 +253,9 @@ module _ {F : Fixed} {w : World} (G : Good F w) where
       let B : Pending w m = ph .2 fl in
       let counted : w .count ≡ w .gate .seq = B .counted in
       let set-record :
-              (P : Record → Type 0) (u : ℕ) → (u ≡ v → P (rewritten (recordIn w v) x (w .gate .seq))) →
-              (u ≢ v → P (recordIn w u)) → P (recordIn (writing w v x) u) =
-              λ P u. on-set P (w .records) v u (rewritten (recordIn w v) x (w .gate .seq)) (openRecord 0) (omega arith) in
+      (P : Record → Type 0) (u : ℕ) → (u ≡ v → P (rewritten (recordIn w v) x (w .gate .seq))) →
+      (u ≢ v → P (recordIn w u)) → P (recordIn (writing w v x) u) =
+      λ P u. on-set P (w .records) v u (rewritten (recordIn w v) x (w .gate .seq)) (openRecord 0) (omega arith) in
       record {
         few = G .few;
         narrow = G .narrow;
@@ -276,11 +283,12 @@ module _ {F : Fixed} {w : World} (G : Good F w) where
           same = λ u ul.
               set-record
               (λ q. 0 < q .seq →
-                  (previous q ≡ wordAt (roundIn w (q .seq) .words) u) × (current q ≡ wordAt (endingIn F w (q .seq) .words) u))
+              (previous q ≡ wordAt (roundIn w (q .seq) .words) u) × (current q ≡ wordAt (endingIn F w (q .seq) .words) u))
               u
               (λ e h. (
-                  previous-rewritten (recordIn w v) x (w .gate .seq) ∙ rw e (R .old (w .gate .seq) v (omega arith) vl below),
-                  current-rewritten (recordIn w v) x (w .gate .seq) ∙ rw e ex))
+                previous-rewritten (recordIn w v) x (w .gate .seq) ∙ rw e (R .old (w .gate .seq) v (omega arith) vl below),
+                current-rewritten (recordIn w v) x (w .gate .seq) ∙ rw e ex,
+              ))
               (λ _. R .same u ul);
           settled = λ s u sl ul.
               set-record (λ q. q .seq < s → wordAt (endingIn F w s .words) u ≡ wordAt (roundIn w s .words) u) u
@@ -292,7 +300,7 @@ module _ {F : Fixed} {w : World} (G : Good F w) where
   good-end :
       (m : ℕ) → m < F .processes → w .gate .holder ≡ Process m → announcementIn w m .flag ≢ Done →
       ((v : ℕ) → v < F .variables → recordIn w v .seq < w .gate .seq →
-          wordAt (endingIn F w (w .gate .seq) .words) v ≡ wordAt (roundIn w (w .gate .seq) .words) v) →
+      wordAt (endingIn F w (w .gate .seq) .words) v ≡ wordAt (roundIn w (w .gate .seq) .words) v) →
       Good F (ending F w m)
   good-end m lt hm fl all =
       let R = G .recorded in
@@ -324,9 +332,11 @@ module _ {F : Fixed} {w : World} (G : Good F w) where
         active-operation = λ j.
             announcements-set (λ r. r .flag ≡ Active → operationOf r ≡ callIn w j) m j a lt
             (λ _ q. absurd (active-not-done _ q refl)) (λ _. G .active-operation j);
-        phase = subst (λ (h : Holder). Phase h (ending F w m)) (sym hm)
-            (many, λ _. omega arith,
-            λ d. absurd (d (announcements-set (λ r. r .flag ≡ Done) m m a lt (λ _. refl) (λ ne. absurd (ne refl)))));
+        phase = subst (λ (h : Holder). Phase h (ending F w m)) (sym hm) (
+          many,
+          λ _. omega arith,
+          λ d. absurd (d (announcements-set (λ r. r .flag ≡ Done) m m a lt (λ _. refl) (λ ne. absurd (ne refl)))),
+        );
         recorded = record {
           below = R .below;
           old = R .old;
@@ -348,8 +358,8 @@ module _ {F : Fixed} {w : World} (G : Good F w) where
       let many : length (w .rounds) ≡ suc (w .gate .seq) = ph .0 in
       let counted : w .count ≡ suc (w .gate .seq) = ph .1 d in
       let set-left :
-              (P : ℕ → Type 0) (j : ℕ) → (j ≡ m → P (w .gate .seq)) → (j ≢ m → P (leftIn w j)) → P (leftIn (freeing w m) j) =
-              λ P j. on-set P (w .left) m j (w .gate .seq) 0 (omega arith) in
+      (P : ℕ → Type 0) (j : ℕ) → (j ≡ m → P (w .gate .seq)) → (j ≢ m → P (leftIn w j)) → P (leftIn (freeing w m) j) =
+      λ P j. on-set P (w .left) m j (w .gate .seq) 0 (omega arith) in
       record {
         few = G .few;
         narrow = G .narrow;

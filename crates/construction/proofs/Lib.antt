@@ -31,3 +31,4 @@ pub mod Moments
 pub mod Growth
 pub mod Serialization
 pub mod SerializationExample
+pub mod LimitsKept

@@ -9,7 +9,7 @@ use Rattle.construction.specs.declared.Card.{Card}
 use Rattle.construction.specs.declared.Contents.{Contents}
 use Rattle.construction.specs.declared.Task.{Task}
 use Rattle.construction.specs.Instructions.{noProgram}
-use Rattle.construction.specs.Parts.{idleTask, countAt}
+use Rattle.construction.specs.Parts.{idleTask}
 use Rattle.construction.specs.Requests.{isIdle}
 use Rattle.construction.specs.Opening.{fresh, readCard, opened}
 use Rattle.construction.specs.History.{Entry, Notes, Moment, opening, observe, observeAll, run, times, place, hasReturned, Serialized}
@@ -50,7 +50,7 @@ fresh-consistent x B =
       text = refl;
     }
 
-opened-consistent : (t : List ℕ) (es : List Entry) → Consistent (opened t .card) (run (opened t .card) es)
+pub opened-consistent : (t : List ℕ) (es : List Entry) → Consistent (opened t .card) (run (opened t .card) es)
 unfolding opened
 opened-consistent t es =
     all-consistent (opened t .card) (opening (opened t .card)) es (fresh-consistent (readCard t .contents) (opened-bounded t))
@@ -92,10 +92,3 @@ serialization t es =
           subst (λ (x : List Entry). place j (run (opened t .card) x .notes .order) < place k (run (opened t .card) x .notes .order)) (sym e)
           (earlier t es₁ es₂ j k h l (subst (λ (x : List Entry). 0 < place k (run (opened t .card) x .notes .order)) e q));
     }
-
--- the numbers of 64 bits never wrap: steps, own counts and the gate's number stay below 2 ^ 64
-pub bounded : (t : List ℕ) (es : List Entry) → let c = run (opened t .card) es .card in
-    (c .steps < 18446744073709551616) × ((i : ℕ) → countAt c i < 18446744073709551616) × (c .gate .seq < 18446744073709551616)
-bounded t es =
-    let I = opened-consistent t es .inv in
-    (omega (arith, I .limited, I .capped), λ i. omega (arith, I .counts i, I .limited, I .capped), omega (arith, I .numbered, I .limited, I .capped))

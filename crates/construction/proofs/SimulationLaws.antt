@@ -25,7 +25,8 @@ use Rattle.construction.proofs.SequentialLaws.{by-effect, stops, Short,
 use Rattle.construction.proofs.DictionaryLaws.{hasIn, valueIn, putIn, AllIn, all-put, all-snoc, Keyed, keyed-put, keyed-snoc}
 use Rattle.construction.proofs.DictionaryLaws.{value-none, value-put-same, value-put-other, value-snoc-same, value-snoc-other}
 use Rattle.construction.proofs.DictionaryLaws.{has-position, has-snoc, found, noted-assign, noted-insert, insert-length, insert-items, assign-items}
-use Rattle.construction.proofs.Touching.{isTouching, touching, touching-places, touching-later, touching-suc, Touches, touches}
+use Rattle.construction.specs.Limits.{isTouching, touching}
+use Rattle.construction.proofs.Touching.{touching-places, touching-later, touching-suc, Touches, touches}
 
 -- the variable that an effect touches; 0 where it touches none
 abbrev pub variableOf : Effect → ℕ

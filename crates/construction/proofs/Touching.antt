@@ -11,27 +11,8 @@ use Rattle.construction.specs.declared.Instruction.{Instruction}
 use Rattle.construction.specs.declared.Program.{Program}
 use Rattle.construction.specs.declared.Effect.{Effect}
 use Rattle.construction.specs.Instructions.{word, load, store, effectOf, fetch}
+use Rattle.construction.specs.Limits.{isTouching, touching}
 use Rattle.construction.proofs.Basics.{on-test}
-
--- codes 3 to 6
-abbrev pub isTouching : Instruction → Bool
-isTouching Instruction.Stop = false
-isTouching (Instruction.Input a b) = false
-isTouching (Instruction.Constant a b) = false
-isTouching (Instruction.Load a v) = true
-isTouching (Instruction.Store v b) = true
-isTouching (Instruction.LoadAt a b) = true
-isTouching (Instruction.StoreAt a b) = true
-isTouching (Instruction.Add a b) = false
-isTouching (Instruction.Subtract a b) = false
-isTouching (Instruction.SkipEqual a b c) = false
-isTouching (Instruction.SkipLess a b c) = false
-isTouching (Instruction.Output a b) = false
-
--- the touching instructions of a program before place k
-unfoldable pub touching : Program → ℕ → ℕ
-touching program zero = 0
-touching program (suc k) = cond (isTouching (fetch program k)) (suc (touching program k)) (touching program k)
 
 -- no more than the places, and no fewer at a later place
 pub touching-places : (program : Program) (k : ℕ) → touching program k ≤ k

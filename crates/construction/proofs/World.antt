@@ -124,7 +124,7 @@ pub record Recorded (F : Fixed) (records : List Record) (rounds : List Round) (c
       (v : ℕ) → v < F .variables → 0 < recordOf records v .seq →
       (previous (recordOf records v) ≡ wordAt (roundOf rounds (recordOf records v .seq) .words) v)
       × (current (recordOf records v)
-          ≡ wordAt (endingOf F (recordOf records v .seq) (roundOf rounds (recordOf records v .seq)) .words) v)
+      ≡ wordAt (endingOf F (recordOf records v .seq) (roundOf rounds (recordOf records v .seq)) .words) v)
   pub settled :
       (s v : ℕ) → s < count → v < F .variables → recordOf records v .seq < s →
       wordAt (endingOf F s (roundOf rounds s) .words) v ≡ wordAt (roundOf rounds s .words) v

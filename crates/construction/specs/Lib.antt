@@ -10,5 +10,6 @@ pub mod Requests
 pub mod Lines
 pub mod Opening
 pub mod Writing
+pub mod Limits
 pub mod History
 pub mod Examples

@@ -9,8 +9,8 @@ use borrow.Author.Tests.{eqb-false}
 use Rattle.construction.specs.declared.Item.{Item}
 use Rattle.construction.specs.declared.Place.{Place}
 use Rattle.construction.specs.declared.Place.the-variants.{Idle, P1, P3, P5, P7, P10, C2, C4, P13, P14, P16, H21, H36, P19, P20, P21, P22, F1, F3}
-use Rattle.construction.specs.Dictionary.{noItem}
-use Rattle.construction.specs.Parts.{taskAt}
+use Rattle.construction.specs.Dictionary.{noItem, noted}
+use Rattle.construction.specs.Parts.{taskAt, dictionaryAt}
 use Rattle.construction.specs.Opening.{opened}
 use Rattle.construction.specs.Limits.{touching, Distinct, usesDictionary, Limited}
 use Rattle.construction.specs.History.{Entry, run}
@@ -69,6 +69,6 @@ limits t es =
       counts = λ i. omega (arith, I .counts i, I .limited, I .capped);
       numbers = omega (arith, I .numbered, I .limited, I .capped);
       items = λ i. I .tidy i .short;
-      distinct = λ i. distinct _ (I .tidy i .keyed);
+      distinct = λ i. distinct (noted (dictionaryAt c i)) (I .tidy i .keyed);
       touched = λ i l u. few (taskAt c i .place) (fixedOf c) (O .world) i (localAt c i) u (I .locs i l);
     }

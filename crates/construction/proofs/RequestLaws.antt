@@ -2,10 +2,9 @@
 -- no lower one of the same request does; otherwise the request is taken. A refused request changes nothing.
 use Prim.Native.Nat.{ℕ, _<_, _≤_}
 use mathlib.Core.Path.{_≡_, refl}
-use mathlib.Core.Bool.{true, false, not}
+use mathlib.Core.Bool.{true, false}
 use mathlib.Core.List.{[], _∷_}
 use native.Mathlib.Omega.{arith}
-use lib.Dec.{ltb}
 use borrow.Author.Tests.{lt-ltb, le-ltb}
 use Rattle.construction.specs.declared.Words.{Words}
 use Rattle.construction.specs.declared.Announcement.{Announcement}
@@ -21,6 +20,7 @@ use Rattle.construction.specs.Machine.{advance}
 use Rattle.construction.specs.Parts.{copyAt, countAt, withExit}
 use Rattle.construction.specs.Requests.{isProcess, isProgram, isVariable, isBusy, refused, begun, call, requestExit, returned, answerOf, step, valueOf, read}
 use Rattle.construction.proofs.Basics.{on-test}
+use Rattle.construction.proofs.Entries.{on-call, on-exit, on-step, on-read}
 
 module _ (c : Card) (i k : ℕ) (inputs : Words) where
   pub call-no-process : isProcess c i ≡ false → call c i k inputs ≡ refused c NoProcess
@@ -119,27 +119,14 @@ accepted c i why =
     (λ _. returns (copyAt c i) (copyAt c i .flag) (countAt c i) why)
 
 pub call-kept : (c : Card) (i k : ℕ) (inputs : Words) → Kept c (call c i k inputs)
-unfolding call
-call-kept c i k inputs =
-    on-test (Kept c) (not (isProcess c i)) (λ _. same c NoProcess)
-    (λ _. on-test (Kept c) (not (isProgram c k)) (λ _. same c NoProgram)
-    (λ _. on-test (Kept c) (isBusy c i) (λ _. same c Busy) (λ _. other c _ Answer.Taken taken)))
+call-kept c i k inputs = on-call (Kept c) c (same c) i k inputs (λ _ _ _. other c _ Answer.Taken taken)
 
 pub exit-kept : (c : Card) (i : ℕ) → Kept c (requestExit c i)
-unfolding requestExit
-exit-kept c i =
-    on-test (Kept c) (not (isProcess c i)) (λ _. same c NoProcess)
-    (λ _. on-test (Kept c) (not (isBusy c i)) (λ _. same c NotBusy) (λ _. other c _ Answer.Taken taken))
+exit-kept c i = on-exit (Kept c) c (same c) i (λ _ _. other c _ Answer.Taken taken)
 
 pub step-kept : (c : Card) (i : ℕ) → Kept c (step c i)
-unfolding step
-step-kept c i =
-    on-test (Kept c) (not (isProcess c i)) (λ _. same c NoProcess)
-    (λ _. on-test (Kept c) (not (isBusy c i)) (λ _. same c NotBusy)
-    (λ _. on-test (Kept c) (not (ltb (c .steps) (c .limit))) (λ _. same c LimitReached)
-    (λ _. other c (advance c i) (answerOf (advance c i) i) (accepted (advance c i) i))))
+step-kept c i = on-step (Kept c) c (same c) i (λ _ _ _. other c _ _ (accepted (advance c i) i))
 
 -- a read never changes the card
 pub read-kept : (c : Card) (v : ℕ) → read c v .card ≡ c
-unfolding read
-read-kept c v = on-test (λ (r : Answered). r .card ≡ c) (not (isVariable c v)) (λ _. refl) (λ _. refl)
+read-kept c v = on-read (λ (r : Answered). r .card ≡ c) c (λ _. refl) v (λ _. refl)

@@ -1,0 +1,128 @@
+#!/usr/bin/env python3
+"""Mutation test of the contracts: small changes to a crate's source that the prover should refuse.
+
+    tests/mutation/mutate.py CRATE [MOST]
+
+Each change alters one token of the code (a constant, a comparison, an operator, a variant, a truth value; never a
+contract, a comment or a type) in a copy of the repository, and `rt check` asks the prover. A change that is still
+proved either has no effect or shows a contract that leaves something open: it is printed for a person to judge.
+With MOST, an even sample of that many changes is tried. Not part of the gate.
+"""
+import os
+import pathlib
+import queue
+import re
+import shutil
+import subprocess
+import sys
+import tempfile
+import threading
+
+ROOT = pathlib.Path(__file__).resolve().parents[2]
+WORKERS = os.cpu_count() or 1
+
+SWAPS = {"<": "<=", "<=": "<", "==": "!=", "!=": "==", "+": "-", "-": "+", "true": "false", "false": "true"}
+
+
+def code_lines(text):
+    """The lines of function bodies, with their numbers: no contracts, types, comments or imports."""
+    depth, inside = 0, False
+    for number, line in enumerate(text.splitlines()):
+        stripped = line.strip()
+        if depth == 0:
+            inside = bool(re.match(r"(pub )?fn ", stripped)) or (inside and stripped != "")
+        body = inside and depth > 0 and not stripped.startswith(("//", "requires", "ensures", "⌜"))
+        if body:
+            yield number, line
+        depth += line.count("{") - line.count("}") if inside and not stripped.startswith(("requires", "ensures")) else 0
+
+
+def variants(text):
+    """The variants without data of each enum that the source names, as Enum::Variant."""
+    found = {}
+    for enum, variant in re.findall(r"\b([A-Z]\w*)::([A-Z]\w*)\b(?!\s*[({])", text):
+        found.setdefault(enum, set()).add(variant)
+    return {enum: sorted(names) for enum, names in found.items()}
+
+
+def changes(line, enums):
+    """Every changed form of a line, one token at a time."""
+    for match in re.finditer(r"(?<![\w.])\d+(?![\w.])", line):
+        yield match, str(int(match.group()) + 1)
+    for match in re.finditer(r"(?<=[\w)\]] )(<=|<|==|!=|\+|-)(?= [\w(])", line):
+        yield match, SWAPS[match.group()]
+    for match in re.finditer(r"\b(true|false)\b", line):
+        yield match, SWAPS[match.group()]
+    for match in re.finditer(r"\b([A-Z]\w*)::([A-Z]\w*)\b(?!\s*[({])", line):
+        names = enums.get(match.group(1), [])
+        if len(names) > 1:
+            other = names[(names.index(match.group(2)) + 1) % len(names)]
+            yield match, f"{match.group(1)}::{other}"
+
+
+def all_changes(crate):
+    """All changes of a crate: the file, the line's number, the line before and after."""
+    source = ROOT / "crates" / crate / "src"
+    for path in sorted(source.glob("**/*.rt")):
+        text = path.read_text()
+        enums = variants(text)
+        for number, line in code_lines(text):
+            for match, new in changes(line, enums):
+                yield path.relative_to(ROOT), number, line, line[: match.start()] + new + line[match.end():]
+
+
+def judge(copy, crate, change):
+    """Whether the prover refuses a change; 'invalid' where it does not compile."""
+    file, number, before, after = change
+    target = copy / file
+    text = target.read_text()
+    lines = text.split("\n")
+    assert lines[number] == before
+    lines[number] = after
+    target.write_text("\n".join(lines))
+    answer = subprocess.run(["rt", "check", crate], cwd=copy, capture_output=True, text=True)
+    target.write_text(text)
+    output = answer.stdout + answer.stderr
+    if answer.returncode == 0:
+        return "still proved"
+    return "refused" if "logic=not-proved" in output else "invalid"
+
+
+def work(scratch, crate, jobs, verdicts):
+    """One copy of the repository, and changes until none is left."""
+    copy = pathlib.Path(tempfile.mkdtemp(dir=scratch)) / "repository"
+    shutil.copytree(ROOT, copy, ignore=shutil.ignore_patterns(".git"))
+    while True:
+        try:
+            index, change = jobs.get_nowait()
+        except queue.Empty:
+            return
+        verdicts[index] = judge(copy, crate, change)
+
+
+def main():
+    if len(sys.argv) < 2:
+        sys.exit(__doc__)
+    crate = sys.argv[1]
+    every = list(all_changes(crate))
+    most = int(sys.argv[2]) if len(sys.argv) > 2 else len(every)
+    step = max(1, len(every) / max(1, most))
+    chosen = [every[int(k * step)] for k in range(min(most, len(every)))]
+    jobs, verdicts = queue.Queue(), {}
+    for item in enumerate(chosen):
+        jobs.put(item)
+    with tempfile.TemporaryDirectory() as scratch:
+        workers = [threading.Thread(target=work, args=(scratch, crate, jobs, verdicts)) for _ in range(WORKERS)]
+        for worker in workers:
+            worker.start()
+        for worker in workers:
+            worker.join()
+    count = {verdict: list(verdicts.values()).count(verdict) for verdict in ("refused", "invalid", "still proved")}
+    print(f"{crate}: {len(every)} changes found, {len(chosen)} tried: " + ", ".join(f"{n} {v}" for v, n in count.items()))
+    for index, (file, number, before, after) in enumerate(chosen):
+        if verdicts[index] == "still proved":
+            print(f"  still proved: {file}:{number + 1}: {before.strip()}  ->  {after.strip()}")
+
+
+if __name__ == "__main__":
+    main()

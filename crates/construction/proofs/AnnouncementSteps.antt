@@ -1,7 +1,7 @@
 -- The steps whose access is of an announcement, but for P16: P3, P6, P7, C2, C4, P19, P20, P22.
 use Prim.Native.Nat.{ℕ, _<_}
 use mathlib.Core.Path.{_≡_, refl, sym, ap, _∙_}
-use mathlib.Core.Bool.{true}
+use mathlib.Core.Bool.{true, false}
 use mathlib.Core.Logic.{_≢_, inl, inr, ⊎-elim}
 use mathlib.Core.List.{List}
 use native.Mathlib.Omega.{arith}
@@ -22,11 +22,11 @@ use Rattle.construction.specs.Cells.{openAnnouncement, sameAnnouncement,
 use Rattle.construction.specs.Parts.{announcementAt, recordAt, taskAt, operationAt, heldAt, copyAt, simulationAt, withAnnouncement, withTask}
 use Rattle.construction.specs.Machine.{goTo, byFlag, holderOf, firstChoice, announced, flagged, withdrawn, finished, accessAnnouncement}
 use Rattle.construction.proofs.Basics.{on-test, sameAnnouncement-true, sameAnnouncement-false, active-not-done, active-not-exit, exit-not-done}
-use Rattle.construction.proofs.World.{Fixed, endingIn, World, announcementIn, roundIn, wordAt, operationOf, doneWith, announcing, leaving, ending, Move}
+use Rattle.construction.proofs.World.{Fixed, endingIn, World, announcementIn, roundIn, wordAt, operationOf, announcing, leaving, ending, Move}
 use Rattle.construction.proofs.World.Move.{announce, leave, end}
-use Rattle.construction.proofs.Claims.{Nominated, Returning, owned-end, limit-end}
+use Rattle.construction.proofs.Claims.{viewOf, Change, end-change}
 use Rattle.construction.proofs.Locals.{Local, localAt, atTask, atCopy, fixedOf, Updated, announcement-updated, copy-updated, task-updated}
-use Rattle.construction.proofs.Places.{Mine, Helping, Plan, Ready, LocAt, Loc, helping-stays, plan-stays, ready-stays}
+use Rattle.construction.proofs.Places.{Mine, Helper, Plan, Ready, LocAt, Loc, helper-stays, plan-stays, ready-stays}
 use Rattle.construction.proofs.Acting.{worldOf, Before, Acted, place-fits, untouched, keeps, reads-announcement}
 
 announcement-path :
@@ -56,13 +56,15 @@ module _ {c : Card} {w : World} {i : ℕ} (B : Before c w i) where
 
   -- the announcement of m after it was set
   set-is : (m : ℕ) (a : Announcement) → m < c .processes → getD (set (c .announcements) m a) m openAnnouncement ≡ a
-  set-is m a lt = getD-set-same (c .announcements) m a openAnnouncement (omega (arith, B .good .few, B .good .size-announcements))
+  set-is m a lt =
+      getD-set-same (c .announcements) m a openAnnouncement (omega (arith, B .good .few, B .good .size-announcements))
 
   pub at-P3 : L P3 → Acted c W i (accessAnnouncement AnnouncementAccess.Announce c i)
   unfolding accessAnnouncement
   at-P3 q =
       let a : Announcement = announced c i in
-      let z : getD (set (c .announcements) i (announced c i)) i openAnnouncement ≡ announced c i = set-is i (announced c i) (B .inside) in
+      let z : getD (set (c .announcements) i (announced c i)) i openAnnouncement ≡ announced c i =
+      set-is i (announced c i) (B .inside) in
       record {
         after = announcing W i a;
         move = announce a (B .inside) (q .0) refl (q .1) (q .2) (q .3);
@@ -71,25 +73,29 @@ module _ {c : Card} {w : World} {i : ℕ} (B : Before c w i) where
         records-is = refl;
         calls-is = refl;
         local = _;
-        updated = task-updated (copy-updated (announcement-updated (untouched B) i (announced c i)) (place-fits B) (announced c i)) (place-fits B) (goTo (taskAt c i) P5);
+        updated =
+            task-updated (copy-updated (announcement-updated (untouched B) i a) (place-fits B) a) (place-fits B)
+            (goTo (taskAt c i) P5);
         tidy = B .tidy;
         loc = (
           record {
-            own = record { out = λ d. absurd (active-not-done _ (ap (λ (r : Announcement). r .flag) z) d); op = λ _. ap operationOf z ∙ q .1 };
+            own = record {
+              out = λ d. absurd (active-not-done _ (ap (λ (r : Announcement). r .flag) z) d);
+              op = λ _. ap operationOf z ∙ q .1;
+            };
             called = q .1;
           },
-          record { same = λ _. z },
           refl,
           refl,
         );
       }
 
-  answered : announcementAt c i .flag ≡ Done → Mine W i (operationAt c i) → Returning W i (announcementAt c i)
-  answered e q = record { done = e; same = refl; out = q .own .out e }
-
   -- process i with its own announcement read, and at a place
   abbrev read : Place → Local
   read l = atTask (atCopy (localAt c i) (announcementAt c i)) (record { place = l; target = i })
+
+  answered : announcementAt c i .flag ≡ Done → Mine (viewOf W i) (operationAt c i) → Loc F W i (read F1)
+  answered e q = record { done = e; same = refl; out = q .own .out e }
 
   read-P7 : (f : Flag) → announcementAt c i .flag ≡ f → L P7 → Loc F W i (read (byFlag f F1 P10 P10))
   read-P7 Done e q = answered e q
@@ -100,13 +106,19 @@ module _ {c : Card} {w : World} {i : ℕ} (B : Before c w i) where
   unfolding accessAnnouncement
   at-P7 q = reads-announcement B (announcementAt c i) _ (read-P7 (announcementAt c i .flag) refl q)
 
-  self : announcementAt c i .flag ≢ Done → L C4 → Nominated W i i (heldAt c i .seq)
-  self nd q = record { below = q .2; alive = λ _ _. nd; op = λ _ _. q .0 .own .op nd; right = λ _ _. inl refl }
+  self : announcementAt c i .flag ≢ Done → L C4 → Loc F W i (read P13)
+  self nd q = (
+    q .0,
+    q .1,
+    B .inside,
+    record { below = q .2; fit = λ _ _. record { alive = nd; op = q .0 .own .op nd; right = inl refl } },
+    q .3,
+  )
 
   read-C4 : (f : Flag) → announcementAt c i .flag ≡ f → L C4 → Loc F W i (read (byFlag f F1 P13 P13))
   read-C4 Done e q = answered e (q .0)
-  read-C4 Active e q = (q .0, q .1, B .inside, self (λ d. active-not-done _ e d) q, q .3)
-  read-C4 Exit e q = (q .0, q .1, B .inside, self (λ d. exit-not-done _ e d) q, q .3)
+  read-C4 Active e q = self (λ d. active-not-done _ e d) q
+  read-C4 Exit e q = self (λ d. exit-not-done _ e d) q
 
   pub at-C4 : L C4 → Acted c W i (accessAnnouncement (AnnouncementAccess.ReadOwn F1 P13 P13) c i)
   unfolding accessAnnouncement
@@ -116,7 +128,6 @@ module _ {c : Card} {w : World} {i : ℕ} (B : Before c w i) where
   read-P22 Done e q = answered e (q .0)
   read-P22 Active e q = (
     q .0,
-    record { same = λ _. refl },
     e,
     ap (λ (r : Operation). r .inputs) (q .0 .own .op (λ d. active-not-done _ e d) ∙ sym (q .0 .called)),
   )
@@ -139,9 +150,11 @@ module _ {c : Card} {w : World} {i : ℕ} (B : Before c w i) where
     ml,
     record {
       below = q .2;
-      alive = λ _ _ d. active-not-done _ e d;
-      op = λ _ _. B .good .active-operation m e;
-      right = λ _ _. inr (λ l. absurd (active-not-exit _ e l));
+      fit = λ _ _. record {
+        alive = λ d. active-not-done _ e d;
+        op = B .good .active-operation m e;
+        right = inr (λ x. absurd (active-not-exit _ e x));
+      };
     },
     q .3,
   )
@@ -158,30 +171,38 @@ module _ {c : Card} {w : World} {i : ℕ} (B : Before c w i) where
   abbrev swapped : ℕ → Announcement → Place → Card
   swapped m a l = withTask (withAnnouncement c m a) i (goTo (taskAt c i) l)
 
-  swapped-updated : (m : ℕ) (a : Announcement) (l : Place) → Updated c i (swapped m a l) (atTask (localAt c i) (goTo (taskAt c i) l))
+  swapped-updated :
+      (m : ℕ) (a : Announcement) (l : Place) → Updated c i (swapped m a l) (atTask (localAt c i) (goTo (taskAt c i) l))
   swapped-updated m a l = task-updated (announcement-updated (untouched B) m a) (place-fits B) (goTo (taskAt c i) l)
 
   -- a swap that was lost
-  lost : (m : ℕ) (l : Place) → Loc F W i (atTask (localAt c i) (goTo (taskAt c i) l)) → Acted c W i (swapped m (announcementAt c m) l)
+  lost :
+      (m : ℕ) (l : Place) → Loc F W i (atTask (localAt c i) (goTo (taskAt c i) l)) →
+      Acted c W i (swapped m (announcementAt c m) l)
   lost m l q =
-      keeps B (swapped-updated m (announcementAt c m) l) refl (set-getD (c .announcements) m openAnnouncement) refl (B .tidy) q
+      keeps B (swapped-updated m (announcementAt c m) l) refl (set-getD (c .announcements) m openAnnouncement) refl
+      (B .tidy) q
 
   pub at-P6 : L P5 → Acted c W i (accessAnnouncement AnnouncementAccess.Withdraw c i)
   unfolding accessAnnouncement swapAnnouncement
-  at-P6 q = on-test (λ a. Acted c W i (swapped i a P7)) (sameAnnouncement (announcementAt c i) (copyAt c i)) won (λ _. lost i P7 (q .0))
+  at-P6 q =
+      on-test (λ a. Acted c W i (swapped i a P7)) (sameAnnouncement (announcementAt c i) (copyAt c i)) won
+      (λ _. lost i P7 (q .0))
     where
       won : sameAnnouncement (announcementAt c i) (copyAt c i) ≡ true → Acted c W i (swapped i (withdrawn c i) P7)
       won e =
           let z = sameAnnouncement-true (announcementAt c i) (copyAt c i) e in
-          let fa : announcementAt c i .flag ≡ Active = ap (λ (r : Announcement). r .flag) z ∙ q .2 in
-          let zw : operationAt c i .inputs ≡ announcementAt c i .words = sym (ap (λ (r : Announcement). r .words) z ∙ q .3) in
+          let fa : announcementAt c i .flag ≡ Active = ap (λ (r : Announcement). r .flag) z ∙ q .1 in
+          let zw : announcementAt c i .words ≡ operationAt c i .inputs = ap (λ (r : Announcement). r .words) z ∙ q .2 in
           let y = set-is i (flagged (announcementAt c i) Exit) (B .inside) in
           record {
             after = leaving W i;
             move = leave (B .inside) fa;
             gate-is = refl;
-            announcements-is = ap {B = List Announcement} (set (c .announcements) i)
-                (announcement-path (ap (λ (r : Announcement). r .program) (sym z)) refl (ap (λ (r : Announcement). r .seq) (sym z)) zw);
+            announcements-is =
+                ap {B = List Announcement} (set (c .announcements) i)
+                (announcement-path (ap (λ (r : Announcement). r .program) (sym z)) refl
+                (ap (λ (r : Announcement). r .seq) (sym z)) (sym zw));
             records-is = refl;
             calls-is = refl;
             local = _;
@@ -200,75 +221,66 @@ module _ {c : Card} {w : World} {i : ℕ} (B : Before c w i) where
   abbrev helped : ℕ
   helped = holderOf (heldAt c i .holder)
 
-  -- the flag is turned to done, from the flag f that the swap expects
-  module _ (l : Place) (f : Flag) (nf : f ≢ Done) (hp : Helping F W (heldAt c i)) (plan : Plan F W (heldAt c i) (copyAt c i))
-      (rd : Ready F W (heldAt c i .seq) (simulationAt c i .outputs)) where
+  -- a helper that swaps the flag to done, from the flag f that it expects
+  module _ (l : Place) (f : Flag) (nf : f ≢ Done) (helper : Helper F W i (operationAt c i) (heldAt c i))
+      (plan : Plan F W (heldAt c i) (copyAt c i)) (rd : Ready F W (heldAt c i .seq) (simulationAt c i .outputs)) where
     ends :
         announcementAt c helped ≡ flagged (copyAt c i) f →
-        (Move F i W (ending F W helped) → Loc F (ending F W helped) i (atTask (localAt c i) (goTo (taskAt c i) l))) →
+        (Move F i W (ending F W helped) → Change i (viewOf W i) (viewOf (ending F W helped) i) →
+        Loc F (ending F W helped) i (atTask (localAt c i) (goTo (taskAt c i) l))) →
         Acted c W i (swapped helped (finished c i) l)
     ends z loc =
         let nd : announcementAt c helped .flag ≢ Done = λ d. nf (sym (ap (λ (r : Announcement). r .flag) z) ∙ d) in
         let zq : announcementAt c helped .seq ≡ copyAt c i .seq = ap (λ (r : Announcement). r .seq) z in
-        let still = hp .seen .still (omega (arith, B .good .fresh helped nd, plan .early)) in
+        let still = helper .seen .still (omega (arith, B .good .fresh helped nd, plan .early)) in
         let zs : c .gate .seq ≡ heldAt c i .seq = still .1 in
-        let all : (v : ℕ) → v < c .variables → recordAt c v .seq < c .gate .seq →
+        let all :
+        (v : ℕ) → v < c .variables → recordAt c v .seq < c .gate .seq →
         wordAt (endingIn F W (c .gate .seq) .words) v ≡ wordAt (roundIn W (c .gate .seq) .words) v =
         ⊎-elim (λ b. absurd (omega arith)) (λ g. rw zs g) (rd .all) in
         let outs : simulationAt c i .outputs ≡ endingIn F W (c .gate .seq) .outputs =
         ⊎-elim (λ b. absurd (omega arith)) (λ g. rw zs g) (rd .outs) in
-        let M : Move F i W (ending F W helped) = end helped (hp .inside) (still .0) nd all in
+        let M : Move F i W (ending F W helped) = end helped (helper .inside) (still .0) nd all in
         record {
           after = ending F W helped;
           move = M;
           gate-is = refl;
-          announcements-is = ap {B = List Announcement} (set (c .announcements) helped)
+          announcements-is =
+              ap {B = List Announcement} (set (c .announcements) helped)
               (announcement-path (sym (ap (λ (r : Announcement). r .program) z)) refl (sym zq) outs);
           records-is = refl;
           calls-is = refl;
           local = _;
           updated = swapped-updated helped (finished c i) l;
           tidy = B .tidy;
-          loc = loc M;
+          loc = loc M (end-change (B .good) helped i (helper .inside) (still .0) nd);
         }
+
+    -- where the swap is lost, the flag is not f
+    missed :
+        sameAnnouncement (announcementAt c helped) (flagged (copyAt c i) f) ≡ false →
+        c .gate .holder ≡ Process helped → c .gate .seq ≡ heldAt c i .seq → announcementAt c helped .flag ≢ f
+    missed e h z a =
+        let y = plan .working .alike h z (λ d. nf (sym a ∙ d)) in
+        sameAnnouncement-false _ _ e (announcement-path (y .program) a (y .seq) (y .words))
 
   -- afterwards the flag of m is done
   is-done : (m : ℕ) → m < c .processes → announcementIn (ending F W m) m .flag ≡ Done
-  is-done m ml = ap (λ (r : Announcement). r .flag) (set-is m (doneWith (announcementAt c m) (endingIn F W (c .gate .seq) .outputs)) ml)
-
-  mine-end : (m : ℕ) → m < c .processes → Mine W i (operationAt c i) → Mine (ending F W m) i (operationAt c i)
-  mine-end m ml q = record { own = owned-end (B .good) m i ml (q .own); called = q .called }
-
-  -- the announcement is as the swap expects, where its flag is f
-  as-expected :
-      (f : Flag) → Plan F W (heldAt c i) (copyAt c i) → f ≢ Done → c .gate .holder ≡ Process helped → c .gate .seq ≡ heldAt c i .seq →
-      announcementAt c helped .flag ≡ f → announcementAt c helped ≡ flagged (copyAt c i) f
-  as-expected f plan nf h e a =
-      let nd : announcementAt c helped .flag ≢ Done = λ d. nf (sym a ∙ d) in
-      announcement-path (plan .working .program h e nd) a (plan .working .seq h e nd) (plan .working .words h e nd)
+  is-done m ml = ap (λ (r : Announcement). r .flag) (set-is m _ ml)
 
   pub at-P19 : L P19 → Acted c W i (accessAnnouncement (AnnouncementAccess.Finish Active P20) c i)
   unfolding accessAnnouncement swapAnnouncement
   at-P19 q =
-      on-test (λ a. Acted c W i (swapped helped a P20)) (sameAnnouncement (announcementAt c helped) (flagged (copyAt c i) Active))
-      (λ e. ends P20 Active na (q .1) (q .3) (q .4) (sameAnnouncement-true _ _ e) (λ M. (
-        mine-end helped (q .1 .inside) (q .0),
-        helping-stays (B .good) M (heldAt c i) (q .1),
-        limit-end (B .good) helped i (heldAt c i .seq) (q .1 .inside) (q .2),
-        plan-stays (B .good) M (heldAt c i) (copyAt c i) (q .1) (q .3),
-        ready-stays (B .good) M (heldAt c i .seq) (q .3 .number) (q .3 .below) (simulationAt c i .outputs) (q .4),
-        record { isnt = λ _ _ a. active-not-done _ a (is-done helped (q .1 .inside)) },
-        q .5,
+      on-test (λ a. Acted c W i (swapped helped a P20))
+      (sameAnnouncement (announcementAt c helped) (flagged (copyAt c i) Active))
+      (λ e. ends P20 Active na (q .0) (q .1) (q .2) (sameAnnouncement-true _ _ e) (λ M C. (
+        helper-stays (B .good) M C (q .0),
+        plan-stays (B .good) M (heldAt c i) (copyAt c i) (q .0 .seen) (q .1),
+        ready-stays (B .good) M (heldAt c i .seq) (q .1 .number) (q .1 .below) (simulationAt c i .outputs) (q .2),
+        record { isnt = λ _ _ a. active-not-done _ a (is-done helped (q .0 .inside)) },
       )))
-      (λ e. lost helped P20 (
-        q .0,
-        q .1,
-        q .2,
-        q .3,
-        q .4,
-        record { isnt = λ h z a. sameAnnouncement-false _ _ e (as-expected Active (q .3) na h z a) },
-        q .5,
-      ))
+      (λ e. lost helped P20
+      (q .0, q .1, q .2, record { isnt = missed P20 Active na (q .0) (q .1) (q .2) e }))
     where
       na : Active ≢ Done
       na d = active-not-done Active refl d
@@ -276,19 +288,12 @@ module _ {c : Card} {w : World} {i : ℕ} (B : Before c w i) where
   pub at-P20 : L P20 → Acted c W i (accessAnnouncement (AnnouncementAccess.Finish Exit P21) c i)
   unfolding accessAnnouncement swapAnnouncement
   at-P20 q =
-      on-test (λ a. Acted c W i (swapped helped a P21)) (sameAnnouncement (announcementAt c helped) (flagged (copyAt c i) Exit))
-      (λ e. ends P21 Exit ne (q .1) (q .3) (q .4) (sameAnnouncement-true _ _ e) (λ M. (
-        mine-end helped (q .1 .inside) (q .0),
-        helping-stays (B .good) M (heldAt c i) (q .1),
-        limit-end (B .good) helped i (heldAt c i .seq) (q .1 .inside) (q .2),
-        record { over = λ _ _. is-done helped (q .1 .inside) },
-      )))
-      (λ e. lost helped P21 (
-        q .0,
-        q .1,
-        q .2,
-        record { over = λ h z. flag-done _ (q .5 .isnt h z) (λ a. sameAnnouncement-false _ _ e (as-expected Exit (q .3) ne h z a)) },
-      ))
+      on-test (λ a. Acted c W i (swapped helped a P21))
+      (sameAnnouncement (announcementAt c helped) (flagged (copyAt c i) Exit))
+      (λ e. ends P21 Exit ne (q .0) (q .1) (q .2) (sameAnnouncement-true _ _ e)
+      (λ M C. (helper-stays (B .good) M C (q .0), record { over = λ _ _. is-done helped (q .0 .inside) })))
+      (λ e. lost helped P21
+      (q .0, record { over = λ h z. flag-done _ (q .3 .isnt h z) (missed P21 Exit ne (q .0) (q .1) (q .2) e h z) }))
     where
       ne : Exit ≢ Done
       ne d = exit-not-done Exit refl d

@@ -40,7 +40,8 @@ module _ (c : Card) (w : World) (I : Inv c w) (v : ℕ) (vl : v < c .variables) 
 
   under-way : (m : ℕ) → Phase (Process m) W → announcementAt c m .flag ≢ Done → shown true ≡ wordAt (w .words) v
   under-way m ph nd =
-      let now : wordAt (roundIn W (c .gate .seq) .words) v ≡ wordAt (w .words) v = ap (λ (r : Round). wordAt (r .words) v) (ph .2 nd .now) in
+      let now : wordAt (roundIn W (c .gate .seq) .words) v ≡ wordAt (w .words) v =
+      ap (λ (r : Round). wordAt (r .words) v) (ph .2 nd .now) in
       on-test (λ y. y ≡ wordAt (w .words) v) (eqb (recordAt c v .seq) (c .gate .seq))
       (λ e. let z : recordAt c v .seq ≡ c .gate .seq = eqb-true _ _ e in
       subst (λ (k : ℕ). previous (recordAt c v) ≡ wordAt (roundIn W k .words) v) z
@@ -48,7 +49,9 @@ module _ (c : Card) (w : World) (I : Inv c w) (v : ℕ) (vl : v < c .variables) 
       (λ e. let z : recordAt c v .seq ≢ c .gate .seq = eqb-false _ _ e in
       good .recorded .old (c .gate .seq) v (omega (arith, ph .0)) vl (omega (arith, good .recorded .below v, ph .0)) ∙ now)
 
-  by-flag : (m : ℕ) → Phase (Process m) W → (f : Flag) → announcementAt c m .flag ≡ f → shown (not (isDone f)) ≡ wordAt (w .words) v
+  by-flag :
+      (m : ℕ) → Phase (Process m) W → (f : Flag) → announcementAt c m .flag ≡ f →
+      shown (not (isDone f)) ≡ wordAt (w .words) v
   by-flag m ph Done e = good .recorded .words-are v vl (omega (arith, ph .1 e, ph .0))
   by-flag m ph Active e = under-way m ph (λ d. active-not-done _ e d)
   by-flag m ph Exit e = under-way m ph (λ d. exit-not-done _ e d)
@@ -63,29 +66,27 @@ module _ (c : Card) (w : World) (I : Inv c w) (v : ℕ) (vl : v < c .variables) 
 
 -- the answer of an operation that has returned: done with the outputs of the sequential run, or exited
 module _ {c : Card} {w : World} (I : Inv c w) (i : ℕ) (lt : i < c .processes) (b : isBusy c i ≡ false) where
-  pub answer-is :
-      ((announcementIn w i .flag ≡ Done) × (answerOf c i ≡ Answer.Done (outputsIn w i) (countAt c i)))
-      ⊎ ((announcementIn w i .flag ≡ Exit) × (answerOf c i ≡ Answer.Exited (countAt c i)))
-  answer-is = go (copyAt c i .flag) (same-flag)
+  -- what the announcement says, and the answer
+  abbrev pub Returned : Answer → Type 0
+  Returned a =
+      ((announcementIn w i .flag ≡ Done) × (a ≡ Answer.Done (outputsIn w i) (countAt c i)))
+      ⊎ ((announcementIn w i .flag ≡ Exit) × (a ≡ Answer.Exited (countAt c i)))
+
+  pub answer-is : Returned (answerOf c i)
+  answer-is = go (copyAt c i .flag) (ap (λ (a : Announcement). a .flag) (q .1 .same))
     where
       q : LocAt Idle (fixedOf c) w i (localAt c i)
       q = at-rest I i lt b
 
-      same-flag : announcementIn w i .flag ≡ copyAt c i .flag
-      same-flag = ap (λ (a : Announcement). a .flag) (q .1 .same)
+      words : announcementIn w i .flag ≡ Done → copyAt c i .words ≡ outputsIn w i
+      words e = sym (ap (λ (a : Announcement). a .words) (q .1 .same)) ∙ q .1 .out e
 
-      go : (f : Flag) → announcementIn w i .flag ≡ f →
-          ((announcementIn w i .flag ≡ Done) × (cond (isBusy c i) Answer.Run (returned (copyAt c i) f (countAt c i)) ≡ Answer.Done (outputsIn w i) (countAt c i)))
-          ⊎ ((announcementIn w i .flag ≡ Exit) × (cond (isBusy c i) Answer.Run (returned (copyAt c i) f (countAt c i)) ≡ Answer.Exited (countAt c i)))
-      go Done e = inl (e, rw b (ap (λ (o : Words). Answer.Done o (countAt c i)) (sym (ap (λ (a : Announcement). a .words) (q .1 .same)) ∙ q .1 .out e)))
+      go :
+          (f : Flag) → announcementIn w i .flag ≡ f →
+          Returned (cond (isBusy c i) Answer.Run (returned (copyAt c i) f (countAt c i)))
+      go Done e = inl (e, rw b (ap (λ (o : Words). Answer.Done o (countAt c i)) (words e)))
       go Active e = absurd (q .0 .not-active e)
       go Exit e = inr (e, rw b)
-
-  pub done-is : {o : Words} {k : ℕ} → answerOf c i ≡ Answer.Done o k → (announcementIn w i .flag ≡ Done) × (o ≡ outputsIn w i)
-  done-is e = ⊎-elim (λ z. (z .0, cc (z .1))) (λ z. (cc (z .1), cc (z .1))) answer-is
-
-  pub exited-is : {k : ℕ} → answerOf c i ≡ Answer.Exited k → announcementIn w i .flag ≡ Exit
-  exited-is e = ⊎-elim (λ z. cc (z .1)) (λ z. z .0) answer-is
 
 -- the places of an announced operation: from P3 on until it returns
 abbrev pub isAnnounced : Place → Bool
@@ -138,9 +139,5 @@ module _ {c : Card} {w : World} (I : Inv c w) (i : ℕ) (lt : i < c .processes) 
 
   -- the holder of the gate is announced
   pub holder-announced : w .gate .holder ≡ Process i → isAnnounced (taskAt c i .place) ≡ true
-  holder-announced h = ⊎-elim (λ z. z) (λ z. absurd (quiet-is z .free-of h)) (true-or-false (isAnnounced (taskAt c i .place)))
-
-  -- at F1 and F3 the flag is done
-  pub last-done : (taskAt c i .place ≡ F1) ⊎ (taskAt c i .place ≡ F3) → announcementIn w i .flag ≡ Done
-  last-done (inl e) = (subst (λ (l : Place). LocAt l (fixedOf c) w i (localAt c i)) e (I .locs i lt)) .done
-  last-done (inr e) = (subst (λ (l : Place). LocAt l (fixedOf c) w i (localAt c i)) e (I .locs i lt)) .0 .done
+  holder-announced h =
+      ⊎-elim (λ z. z) (λ z. absurd (quiet-is z .free-of h)) (true-or-false (isAnnounced (taskAt c i .place)))

@@ -6,6 +6,8 @@ use mathlib.Core.Logic.{_≢_, inl, inr, ⊎-elim}
 use native.Mathlib.Omega.{arith}
 use native.Mathlib.Decide.{decLt}
 use Rattle.construction.specs.declared.Gate.{Gate}
+use Rattle.construction.specs.declared.Announcement.{Announcement}
+use Rattle.construction.specs.declared.Operation.{Operation}
 use Rattle.construction.specs.declared.Card.{Card}
 use Rattle.construction.specs.declared.Flag.the-variants.{Done}
 use Rattle.construction.specs.declared.Holder.{Holder}
@@ -17,15 +19,32 @@ use Rattle.construction.specs.Cells.{sameHolder, sameGate, swapGate, rel
 use Rattle.construction.specs.Parts.{announcementAt, taskAt, operationAt, heldAt, withGate, withTask}
 use Rattle.construction.specs.Machine.{goTo, byHolder, holderOf, readGate, accessGate}
 use Rattle.construction.proofs.Basics.{on-test, true-false, sameGate-true, sameGate-false, sameHolder-true, sameHolder-refl, nobody-process, never, never′, active-not-done, exit-not-done}
-use Rattle.construction.proofs.World.{Fixed, World, leftIn, taking, freeing}
+use Rattle.construction.proofs.World.{Fixed, World, leftIn, taking, freeing, Quiet}
 use Rattle.construction.proofs.World.Move.{take, free}
-use Rattle.construction.proofs.Claims.{Limit}
+use Rattle.construction.proofs.Claims.{View, viewOf, gated, Limit, Returning, Rested, Eligible}
 use Rattle.construction.proofs.Locals.{Local, localAt, atTask, atGate, fixedOf, Updated, gate-updated, task-updated}
-use Rattle.construction.proofs.Places.{Mine, Helping, LocAt, Loc}
+use Rattle.construction.proofs.Places.{Mine, Helper, LocAt, Loc}
 use Rattle.construction.proofs.Acting.{worldOf, Before, Acted, place-fits, untouched, keeps, reads-gate}
 
 gate-path : {a b : Gate} → a .holder ≡ b .holder → a .seq ≡ b .seq → a ≡ b
 gate-path e q = λ i. record { holder = e i; seq = q i }
+
+-- what is known of an operation at its return
+rests :
+    (w : World) (i : ℕ) {a : Announcement} → Returning (viewOf w i) a → w .gate .holder ≢ Process i →
+    Quiet w i × Rested (viewOf w i) a
+rests w i q ne = (
+  record {
+    not-active = λ e. active-not-done _ e (q .done);
+    free-of = ne;
+    late = λ e. absurd (exit-not-done _ e (q .done));
+  },
+  record { same = q .same; out = λ _. ap (λ (r : Announcement). r .words) (q .same) ∙ q .out },
+)
+
+-- the gate plays no part in what is known of one's own operation
+mine-gated : {x : View} {g : Gate} {o : Operation} → Mine x o → Mine (gated x g) o
+mine-gated q = record { own = record { out = q .own .out; op = q .own .op }; called = q .called }
 
 module _ {c : Card} {w : World} {i : ℕ} (B : Before c w i) where
   abbrev W : World
@@ -41,11 +60,18 @@ module _ {c : Card} {w : World} {i : ℕ} (B : Before c w i) where
   abbrev read : Place → Local
   read l = atTask (atGate (localAt c i) (c .gate)) (goTo (taskAt c i) l)
 
-  limit-now : Limit W i (c .gate .seq)
+  limit-now : Limit (viewOf W i) i (c .gate .seq)
   limit-now = record { low = λ _. B .good .bound-below i; high = λ _ _. omega arith }
 
-  helping-now : (m : ℕ) → c .gate .holder ≡ Process m → Helping F W (c .gate)
-  helping-now m e = record { named = rw e; inside = rw e (B .good .inside m e); seen = record { still = λ z. (rw e, refl) } }
+  helper-now :
+      (m : ℕ) → c .gate .holder ≡ Process m → Mine (viewOf W i) (operationAt c i) → Helper F W i (operationAt c i) (c .gate)
+  helper-now m e q = record {
+    mine = q;
+    named = rw e;
+    inside = rw e (B .good .inside m e);
+    seen = record { still = λ z. (rw e, refl) };
+    limit = limit-now;
+  }
 
   read-P1 : (h : Holder) → L P1 → Loc F W i (read (byHolder h P3 P3))
   read-P1 Nobody q = (q .0, q .1, B .good .left-below i, omega arith)
@@ -55,17 +81,17 @@ module _ {c : Card} {w : World} {i : ℕ} (B : Before c w i) where
   unfolding accessGate
   at-P1 q = reads-gate B (byHolder (c .gate .holder) P3 P3) (read-P1 (c .gate .holder) q)
 
-  read-P10 : (h : Holder) → c .gate .holder ≡ h → Mine W i (operationAt c i) → Loc F W i (read (byHolder h P16 C2))
+  read-P10 : (h : Holder) → c .gate .holder ≡ h → Mine (viewOf W i) (operationAt c i) → Loc F W i (read (byHolder h P16 C2))
   read-P10 Nobody e q = (q, e, omega arith, limit-now)
-  read-P10 (Process m) e q = (q, helping-now m e, limit-now)
+  read-P10 (Process m) e q = helper-now m e q
 
-  pub at-P10 : Mine W i (operationAt c i) → Acted c W i (accessGate (GateAccess.Read P16 C2) c i)
+  pub at-P10 : Mine (viewOf W i) (operationAt c i) → Acted c W i (accessGate (GateAccess.Read P16 C2) c i)
   unfolding accessGate
   at-P10 q = reads-gate B (byHolder (c .gate .holder) P16 C2) (read-P10 (c .gate .holder) refl q)
 
   read-P14 : (h : Holder) → c .gate .holder ≡ h → L P14 → Loc F W i (read (byHolder h P16 P22))
   read-P14 Nobody e q = (q .0, record { late = λ lv. q .1 .past lv e; free-of = λ _ h. nobody-process _ i e h })
-  read-P14 (Process m) e q = (q .0, helping-now m e, limit-now)
+  read-P14 (Process m) e q = helper-now m e (q .0)
 
   pub at-P14 : L P14 → Acted c W i (accessGate (GateAccess.Read P16 P22) c i)
   unfolding accessGate
@@ -76,14 +102,7 @@ module _ {c : Card} {w : World} {i : ℕ} (B : Before c w i) where
   at-F1 q =
       on-test (λ l. Acted c W i (readGate c i l)) (sameHolder (c .gate .holder) (Process i))
       (λ e. reads-gate B F3 (q, sameHolder-true _ _ e, record { only = λ _. refl }))
-      (λ e. reads-gate B Idle (
-        record {
-          not-active = λ a. active-not-done _ a (q .done);
-          free-of = λ z. true-false _ (rw z (sameHolder-refl (Process i))) e;
-          late = λ l. absurd (exit-not-done _ l (q .done));
-        },
-        record { same = q .same; out = λ _. ap (λ r. r .words) (q .same) ∙ q .out },
-      ))
+      (λ e. reads-gate B Idle (rests W i q (λ z. true-false _ (rw z (sameHolder-refl (Process i))) e)))
 
   -- the card after a swap of the gate, with process i at a place
   abbrev swapped : Gate → Place → Card
@@ -98,8 +117,9 @@ module _ {c : Card} {w : World} {i : ℕ} (B : Before c w i) where
 
   -- a swap that released the gate
   frees :
-      (m : ℕ) (l : Place) → m < c .processes → c .gate .holder ≡ Process m → announcementAt c m .flag ≡ Done → c .gate ≡ heldAt c i →
-      Loc F (freeing W m) i (atTask (localAt c i) (goTo (taskAt c i) l)) → Acted c W i (swapped (released (heldAt c i)) l)
+      (m : ℕ) (l : Place) → m < c .processes → c .gate .holder ≡ Process m → announcementAt c m .flag ≡ Done →
+      c .gate ≡ heldAt c i → Loc F (freeing W m) i (atTask (localAt c i) (goTo (taskAt c i) l)) →
+      Acted c W i (swapped (released (heldAt c i)) l)
   unfolding released
   frees m l ml h d z q =
       let zs : c .gate .seq ≡ heldAt c i .seq = ap (λ (g : Gate). g .seq) z in
@@ -121,24 +141,30 @@ module _ {c : Card} {w : World} {i : ℕ} (B : Before c w i) where
   unfolding accessGate swapGate
   at-P13 q = on-test (λ g. Acted c W i (swapped g P14)) (sameGate (c .gate) (heldAt c i)) won (λ e. lost P14 (late e))
     where
+      m : ℕ
+      m = taskAt c i .target
+
       late : sameGate (c .gate) (heldAt c i) ≡ false → Loc F W i (atTask (localAt c i) (goTo (taskAt c i) P14))
       late e = (
         q .0,
         record {
-          past = λ lv h. let ne : c .gate .seq ≢ heldAt c i .seq = λ z. sameGate-false _ _ e (gate-path (h ∙ sym (q .1)) z) in
-              omega (arith, q .4 .low lv, q .3 .below);
+          past = λ x h.
+              let ne : c .gate .seq ≢ heldAt c i .seq = λ z. sameGate-false _ _ e (gate-path (h ∙ sym (q .1)) z) in
+              omega (arith, q .4 .low x, q .3 .below);
         },
       )
 
-      won : sameGate (c .gate) (heldAt c i) ≡ true → Acted c W i (swapped (record { holder = Process (taskAt c i .target); seq = heldAt c i .seq }) P14)
+      won :
+          sameGate (c .gate) (heldAt c i) ≡ true →
+          Acted c W i (swapped (record { holder = Process m; seq = heldAt c i .seq }) P14)
       won e =
           let z = sameGate-true (c .gate) (heldAt c i) e in
           let zh : c .gate .holder ≡ Nobody = ap (λ (g : Gate). g .holder) z ∙ q .1 in
           let zs : c .gate .seq ≡ heldAt c i .seq = ap (λ (g : Gate). g .seq) z in
+          let E : Eligible W i m (heldAt c i .seq) = q .3 .fit zh zs in
           record {
-            after = taking W (taskAt c i .target);
-            move = take (taskAt c i .target) (q .2) zh (q .3 .alive zh zs) (q .3 .op zh zs)
-                (⊎-elim inl (λ b. inr (λ l. rw zs (b l))) (q .3 .right zh zs));
+            after = taking W m;
+            move = take m (q .2) zh (E .alive) (E .op) (⊎-elim inl (λ b. inr (λ x. rw zs (b x))) (E .right));
             gate-is = gate-path refl (sym zs);
             announcements-is = refl;
             records-is = refl;
@@ -146,15 +172,13 @@ module _ {c : Card} {w : World} {i : ℕ} (B : Before c w i) where
             local = _;
             updated = swapped-updated _ P14;
             tidy = B .tidy;
-            loc = (
-              record { own = record { out = q .0 .own .out; op = q .0 .own .op }; called = q .0 .called },
-              record { past = λ _ h. absurd (never′ h) },
-            );
+            loc = (mine-gated (q .0), record { past = λ _ h. absurd (never′ h) });
           }
 
   pub at-P21 : L P21 → Acted c W i (accessGate (GateAccess.Release P22) c i)
   unfolding accessGate swapGate
-  at-P21 q = on-test (λ g. Acted c W i (swapped g P22)) (sameGate (c .gate) (heldAt c i)) won (λ e. lost P22 (late (past e)))
+  at-P21 q =
+      on-test (λ g. Acted c W i (swapped g P22)) (sameGate (c .gate) (heldAt c i)) won (λ e. lost P22 (late (past e)))
     where
       m : ℕ
       m = holderOf (heldAt c i .holder)
@@ -162,22 +186,25 @@ module _ {c : Card} {w : World} {i : ℕ} (B : Before c w i) where
       won : sameGate (c .gate) (heldAt c i) ≡ true → Acted c W i (swapped (released (heldAt c i)) P22)
       won e =
           let z = sameGate-true (c .gate) (heldAt c i) e in
-          let zh : c .gate .holder ≡ Process m = ap (λ (g : Gate). g .holder) z ∙ q .1 .named in
+          let zh : c .gate .holder ≡ Process m = ap (λ (g : Gate). g .holder) z ∙ q .0 .named in
           let zs : c .gate .seq ≡ heldAt c i .seq = ap (λ (g : Gate). g .seq) z in
-          frees m P22 (q .1 .inside) zh (q .3 .over zh zs) z (
-            record { own = record { out = q .0 .own .out; op = q .0 .own .op }; called = q .0 .called },
-            record { late = λ lv. omega (arith, q .2 .low lv); free-of = λ _. never },
-          )
+          frees m P22 (q .0 .inside) zh (q .1 .over zh zs) z
+          (mine-gated (q .0 .mine), record { late = λ x. omega (arith, q .0 .limit .low x); free-of = λ _. never })
 
       past : sameGate (c .gate) (heldAt c i) ≡ false → heldAt c i .seq < c .gate .seq
       past e = go (decLt (leftIn W m) (heldAt c i .seq))
         where
           go : Dec (leftIn W m < heldAt c i .seq) → heldAt c i .seq < c .gate .seq
-          go (yes l) = let y = q .1 .seen .still l in absurd (sameGate-false _ _ e (gate-path (y .0 ∙ sym (q .1 .named)) (y .1)))
+          go (yes l) =
+              let y = q .0 .seen .still l in
+              absurd (sameGate-false _ _ e (gate-path (y .0 ∙ sym (q .0 .named)) (y .1)))
           go (no l) = omega (arith, B .good .left-below m)
 
       late : heldAt c i .seq < c .gate .seq → Loc F W i (atTask (localAt c i) (goTo (taskAt c i) P22))
-      late l = (q .0, record { late = λ lv. omega (arith, q .2 .low lv); free-of = λ lv h. omega (arith, q .2 .high lv h) })
+      late l = (
+        q .0 .mine,
+        record { late = λ x. omega (arith, q .0 .limit .low x); free-of = λ x h. omega (arith, q .0 .limit .high x h) },
+      )
 
   pub at-F3 : L F3 → Acted c W i (accessGate (GateAccess.Release Idle) c i)
   unfolding accessGate swapGate
@@ -186,17 +213,9 @@ module _ {c : Card} {w : World} {i : ℕ} (B : Before c w i) where
       won : sameGate (c .gate) (heldAt c i) ≡ true → Acted c W i (swapped (released (heldAt c i)) Idle)
       won e =
           let z = sameGate-true (c .gate) (heldAt c i) e in
-          frees i Idle (B .inside) (ap (λ (g : Gate). g .holder) z ∙ q .1) (q .0 .done) z (
-            record { not-active = λ a. active-not-done _ a (q .0 .done); free-of = never; late = λ l. absurd (exit-not-done _ l (q .0 .done)) },
-            record { same = q .0 .same; out = λ _. ap (λ r. r .words) (q .0 .same) ∙ q .0 .out },
-          )
+          let r = q .0 in
+          frees i Idle (B .inside) (ap (λ (g : Gate). g .holder) z ∙ q .1) (r .done) z
+          (rests (freeing W i) i (record { done = r .done; same = r .same; out = r .out }) never)
 
       late : sameGate (c .gate) (heldAt c i) ≡ false → Loc F W i (atTask (localAt c i) (goTo (taskAt c i) Idle))
-      late e = (
-        record {
-          not-active = λ a. active-not-done _ a (q .0 .done);
-          free-of = λ z. sameGate-false _ _ e (gate-path (z ∙ sym (q .1)) (q .2 .only z));
-          late = λ l. absurd (exit-not-done _ l (q .0 .done));
-        },
-        record { same = q .0 .same; out = λ _. ap (λ r. r .words) (q .0 .same) ∙ q .0 .out },
-      )
+      late e = rests W i (q .0) (λ z. sameGate-false _ _ e (gate-path (z ∙ sym (q .1)) (q .2 .only z)))

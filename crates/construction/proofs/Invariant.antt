@@ -63,14 +63,16 @@ module _ {c : Card} {w : World} (I : Inv c w) where
 -- a card v after a move to the world u: all but process i is as in c
 module _ {c : Card} {w : World} {i : ℕ} (I : Inv c w) {u : World} (M : Move (fixedOf c) i w u) (v : Card) (t : Local) where
   moved :
-      worldOf v u ≡ u → Sizes v → localAt v i ≡ t → ((j : ℕ) → j ≢ i → localAt v j ≡ localAt c j) → fixedOf v ≡ fixedOf c →
-      Loc (fixedOf c) u i t → Tidy (t .dictionary) → u .gate .seq ≤ suc (v .steps) → v .steps ≤ c .limit →
+      worldOf v u ≡ u → Sizes v → localAt v i ≡ t → ((j : ℕ) → j ≢ i → localAt v j ≡ localAt c j) →
+      fixedOf v ≡ fixedOf c → Loc (fixedOf c) u i t → Tidy (t .dictionary) → u .gate .seq ≤ suc (v .steps) → v .steps ≤ c .limit →
       ((j : ℕ) → countAt v j ≤ v .steps) → Inv v u
   moved cells sizes here elsewhere fixed loc tidy numbered limited counts = record {
     cells = cells;
     good = subst (λ (K : Fixed). Good K u) (sym fixed) (good-move (I .good) M);
     sizes = sizes;
-    locs = subst (λ (K : Fixed). (j : ℕ) → j < K .processes → Loc K u j (localAt v j)) (sym fixed) (λ j h. at-process j h (ℕ-discrete j i));
+    locs =
+        subst (λ (K : Fixed). (j : ℕ) → j < K .processes → Loc K u j (localAt v j)) (sym fixed)
+        (λ j h. at-process j h (ℕ-discrete j i));
     tidy = λ j. at-dictionary j (ℕ-discrete j i);
     numbered = subst (λ (g : Gate). g .seq ≤ suc (v .steps)) (sym (ap (λ (x : World). x .gate) cells)) numbered;
     limited = subst (λ (K : Fixed). v .steps ≤ K .limit) (sym fixed) limited;
@@ -79,11 +81,16 @@ module _ {c : Card} {w : World} {i : ℕ} (I : Inv c w) {u : World} (M : Move (f
   }
     where
       at-process : (j : ℕ) → j < c .processes → Dec (j ≡ i) → Loc (fixedOf c) u j (localAt v j)
-      at-process j h (yes e) = subst (λ (k : ℕ). Loc (fixedOf c) u k (localAt v k)) (sym e) (subst (Loc (fixedOf c) u i) (sym here) loc)
-      at-process j h (no ne) = subst (Loc (fixedOf c) u j) (sym (elsewhere j ne)) (loc-stays (I .good) M j ne (localAt c j) (I .locs j h))
+      at-process j h (yes e) =
+          subst (λ (k : ℕ). Loc (fixedOf c) u k (localAt v k)) (sym e) (subst (Loc (fixedOf c) u i) (sym here) loc)
+      at-process j h (no ne) =
+          subst (Loc (fixedOf c) u j) (sym (elsewhere j ne))
+          (loc-stays (I .good) M j ne (localAt c j) (I .locs j h))
 
       at-dictionary : (j : ℕ) → Dec (j ≡ i) → Tidy (dictionaryAt v j)
-      at-dictionary j (yes e) = subst (λ (k : ℕ). Tidy (dictionaryAt v k)) (sym e) (subst (λ (l : Local). Tidy (l .dictionary)) (sym here) tidy)
+      at-dictionary j (yes e) =
+          subst (λ (k : ℕ). Tidy (dictionaryAt v k)) (sym e)
+          (subst (λ (l : Local). Tidy (l .dictionary)) (sym here) tidy)
       at-dictionary j (no ne) = subst (λ (l : Local). Tidy (l .dictionary)) (sym (elsewhere j ne)) (I .tidy j)
 
 inside : (c : Card) (i : ℕ) → isProcess c i ≡ true → i < c .processes
@@ -98,7 +105,9 @@ pub record Stepped (c : Card) (w : World) (i : ℕ) : Type 0 where
   pub elsewhere : (j : ℕ) → j ≢ i → localAt (advance c i) j ≡ localAt c j
 
 -- a step that is accepted
-pub inv-step : (c : Card) (w : World) (i : ℕ) → Inv c w → isProcess c i ≡ true → isBusy c i ≡ true → c .steps < c .limit → Stepped c w i
+pub inv-step :
+    (c : Card) (w : World) (i : ℕ) →
+    Inv c w → isProcess c i ≡ true → isBusy c i ≡ true → c .steps < c .limit → Stepped c w i
 unfolding advance
 inv-step c w i I p b h = record {
   after = A .after;
@@ -116,16 +125,7 @@ inv-step c w i I p b h = record {
         rounds = A .after .rounds;
         count = A .after .count;
       })
-      (record {
-        tasks = Z .tasks;
-        operations = Z .operations;
-        exits = Z .exits;
-        counts = rw length-set (Z .counts);
-        gates = Z .gates;
-        copies = Z .copies;
-        simulations = Z .simulations;
-        dictionaries = Z .dictionaries;
-      })
+      (rw length-set Z)
       (A .updated .here) (A .updated .elsewhere) (A .updated .fixed-is) (A .loc) (A .tidy)
       (rw steps (omega (arith, seq-move M, ap (λ (g : Gate). g .seq) (gate-is I), I .numbered)))
       (rw steps (omega arith))
@@ -151,7 +151,9 @@ inv-step c w i I p b h = record {
     }
 
     A : Acted c (worldOf c w) i v
-    A = at-place B (taskAt c i .place) (exitAt c i) (not-true _ b) (subst (λ (x : World). Loc (fixedOf c) x i (localAt c i)) (sym (I .cells)) (I .locs i lt))
+    A =
+        at-place B (taskAt c i .place) (exitAt c i) (not-true _ b)
+        (subst (λ (x : World). Loc (fixedOf c) x i (localAt c i)) (sym (I .cells)) (I .locs i lt))
 
     Z : Sizes v
     Z = A .updated .sizes
@@ -189,7 +191,9 @@ is-idle F1 e = cc
 is-idle F3 e = cc
 
 -- what is known of a process that has no operation under way
-pub at-rest : {c : Card} {w : World} (I : Inv c w) (i : ℕ) → i < c .processes → isBusy c i ≡ false → LocAt Idle (fixedOf c) w i (localAt c i)
+pub at-rest :
+    {c : Card} {w : World} (I : Inv c w) (i : ℕ) →
+    i < c .processes → isBusy c i ≡ false → LocAt Idle (fixedOf c) w i (localAt c i)
 at-rest {c} {w} I i lt b =
     subst (λ (l : Place). LocAt l (fixedOf c) w i (localAt c i)) (is-idle (taskAt c i .place) (not-false _ b)) (I .locs i lt)
 
@@ -228,16 +232,12 @@ inv-call c w i k inputs I p b =
       rounds = w .rounds;
       count = w .count;
     })
-    (record {
-      tasks = rw length-set (Z .tasks);
-      operations = rw length-set (Z .operations);
-      exits = rw length-set (Z .exits);
-      counts = rw length-set (Z .counts);
-      gates = Z .gates;
-      copies = Z .copies;
-      simulations = Z .simulations;
-      dictionaries = Z .dictionaries;
-    })
+    (rw (
+      length-set (c .tasks) i (record { place = P1; target = 0 }),
+      length-set (c .operations) i (called k inputs),
+      length-set (c .exits) i false,
+      length-set (c .counts) i 0,
+    ) Z)
     (rw (
       getD-set-same (c .tasks) i (record { place = P1; target = 0 }) idleTask (omega (arith, few, Z .tasks)),
       getD-set-same (c .operations) i (called k inputs) noOperation (omega (arith, few, Z .operations)),
@@ -251,7 +251,9 @@ inv-call c w i k inputs I p b =
       sym (getD-set-same (w .calls) i (called k inputs) noOperation (omega (arith, few, I .good .size-calls))),
     )
     (I .tidy i) (subst (λ (g : Gate). g .seq ≤ suc (c .steps)) (gate-is I) (I .numbered)) (I .limited)
-    (λ j. on-set (λ n. n ≤ c .steps) (c .counts) i j 0 0 (omega (arith, few, Z .counts)) (λ _. omega arith) (λ _. I .counts j))
+    (λ j.
+    on-set (λ n. n ≤ c .steps) (c .counts) i j 0 0 (omega (arith, few, Z .counts)) (λ _. omega arith)
+    (λ _. I .counts j))
   where
     T : Local
     T = localAt c i
@@ -270,16 +272,7 @@ pub inv-exit : (c : Card) (w : World) (i : ℕ) (b : Bool) → Inv c w → Inv (
 inv-exit c w i b I = record {
   cells = I .cells;
   good = I .good;
-  sizes = record {
-    tasks = I .sizes .tasks;
-    operations = I .sizes .operations;
-    exits = rw length-set (I .sizes .exits);
-    counts = I .sizes .counts;
-    gates = I .sizes .gates;
-    copies = I .sizes .copies;
-    simulations = I .sizes .simulations;
-    dictionaries = I .sizes .dictionaries;
-  };
+  sizes = rw length-set (I .sizes);
   locs = I .locs;
   tidy = I .tidy;
   numbered = I .numbered;
@@ -355,7 +348,16 @@ module _ (x : Contents) (few : x .processes ≤ 8) (narrow : x .variables ≤ 64
   inv-fresh = record {
     cells = refl;
     good = good-fresh;
-    sizes = record { tasks = refl; operations = refl; exits = refl; counts = refl; gates = refl; copies = refl; simulations = refl; dictionaries = refl };
+    sizes = record {
+      tasks = refl;
+      operations = refl;
+      exits = refl;
+      counts = refl;
+      gates = refl;
+      copies = refl;
+      simulations = refl;
+      dictionaries = refl;
+    };
     locs = λ j h. subst (λ (l : Place). LocAt l (fixedOf (fresh x)) (firstWorld x) j (localAt (fresh x) j))
         (sym (ap (λ (t : Task). t .place) (all-same 8 j idleTask))) (
           record {
@@ -363,9 +365,15 @@ module _ (x : Contents) (few : x .processes ≤ 8) (narrow : x .variables ≤ 64
             free-of = never;
             late = λ l. absurd (exit-not-done _ l (open-flag j));
           },
-          record { same = refl; out = λ _. ap (λ (a : Announcement). a .words) (all-same 8 j openAnnouncement) ∙ sym (all-same 8 j zeros) },
+          record {
+            same = refl;
+            out = λ _.
+                ap (λ (a : Announcement). a .words) (all-same 8 j openAnnouncement) ∙ sym (all-same 8 j zeros);
+          },
         );
-    tidy = λ j. subst Tidy (sym (all-same 8 j empty)) (record { short = omega arith; full = length-replicate 32 noItem; keyed = tt });
+    tidy = λ j.
+        subst Tidy (sym (all-same 8 j empty))
+        (record { short = omega arith; full = length-replicate 32 noItem; keyed = tt });
     numbered = omega arith;
     limited = omega arith;
     capped = capped;

@@ -13,12 +13,12 @@ use Rattle.construction.specs.declared.Record.{Record}
 use Rattle.construction.specs.declared.Operation.{Operation}
 use Rattle.construction.specs.declared.Holder.{Holder}
 use Rattle.construction.specs.declared.Holder.the-variants.{Nobody, Process}
-use Rattle.construction.specs.declared.Flag.the-variants.{Done, Active, Exit}
+use Rattle.construction.specs.declared.Flag.the-variants.{Done, Active}
 use Rattle.construction.specs.Cells.{openAnnouncement, openRecord, current, previous, rewritten}
 use Rattle.construction.specs.Instructions.{started}
 use Rattle.construction.specs.Sequential.{sequential}
 use Rattle.construction.specs.Parts.{noOperation}
-use Rattle.construction.proofs.Basics.{on-set, active-not-done, active-not-exit, exit-not-done, never, process-same}
+use Rattle.construction.proofs.Basics.{on-set, active-not-done, active-not-exit, exit-not-done, never, process-same, done?}
 use Rattle.construction.proofs.SequentialLaws.{run-length}
 use Rattle.construction.proofs.World.{Fixed, Round, noRound, endingOf, endingIn, programIn, World, announcementIn, recordIn, leftIn, callIn, roundIn, wordAt, operationOf, doneWith, Pending, Phase, Good, asking, announcing, leaving, taking, writing, ending, freeing, Quiet, Move}
 use Rattle.construction.proofs.World.Move.{stay, ask, announce, leave, take, write, end, free}
@@ -413,3 +413,13 @@ unfolding endingOf
 ends-now {F} {w} G m hm fl =
     let ph : Phase (Process m) w = subst (λ (h : Holder). Phase h w) hm (G .phase) in
     (ph .2 fl .counted, ap (endingOf F (w .gate .seq)) (ph .2 fl .now))
+
+-- how many rounds there are at most, and operations finished at least
+pub rounds-few : (h : Holder) (w : World) → Phase h w → length (w .rounds) ≤ suc (w .gate .seq)
+rounds-few Nobody w ph = omega arith
+rounds-few (Process m) w ph = omega arith
+
+pub count-many : (h : Holder) (w : World) → Phase h w → w .gate .seq ≤ w .count
+count-many Nobody w ph = omega arith
+count-many (Process m) w ph =
+    ⊎-elim (λ d. omega (arith, ph .1 d)) (λ d. omega (arith, ph .2 d .counted)) (done? (announcementIn w m .flag))

@@ -16,6 +16,7 @@ pub mod Acting
 pub mod GateSteps
 pub mod AnnouncementSteps
 pub mod HelpSteps
+pub mod WriteSteps
 pub mod Steps
 pub mod Invariant
 pub mod Answers

@@ -95,15 +95,20 @@ abbrev pub fixedOf : Card → Fixed
 fixedOf c = record { processes = c .processes; variables = c .variables; limit = c .limit; code = c .code }
 
 -- the arrays of local state have 8 places
-pub record Sizes (c : Card) : Type 0 where
-  pub tasks : length (c .tasks) ≡ 8
-  pub operations : length (c .operations) ≡ 8
-  pub exits : length (c .exits) ≡ 8
-  pub counts : length (c .counts) ≡ 8
-  pub gates : length (c .gates) ≡ 8
-  pub copies : length (c .copies) ≡ 8
-  pub simulations : length (c .simulations) ≡ 8
-  pub dictionaries : length (c .dictionaries) ≡ 8
+pub record Eight (t o e n g a s d : ℕ) : Type 0 where
+  pub tasks : t ≡ 8
+  pub operations : o ≡ 8
+  pub exits : e ≡ 8
+  pub counts : n ≡ 8
+  pub gates : g ≡ 8
+  pub copies : a ≡ 8
+  pub simulations : s ≡ 8
+  pub dictionaries : d ≡ 8
+
+abbrev pub Sizes : Card → Type 0
+Sizes c =
+    Eight (length (c .tasks)) (length (c .operations)) (length (c .exits)) (length (c .counts)) (length (c .gates))
+    (length (c .copies)) (length (c .simulations)) (length (c .dictionaries))
 
 -- the card v is the card c but for the shared cells and for process i, whose local state is t
 pub record Updated (c : Card) (i : ℕ) (v : Card) (t : Local) : Type 0 where
@@ -115,56 +120,103 @@ pub record Updated (c : Card) (i : ℕ) (v : Card) (t : Local) : Type 0 where
   pub counts-is : v .counts ≡ c .counts
 
 pub unchanged : (c : Card) (i : ℕ) → Sizes c → Updated c i c (localAt c i)
-unchanged c i z = record { sizes = z; here = refl; elsewhere = λ j ne. refl; fixed-is = refl; steps-is = refl; counts-is = refl }
+unchanged c i z =
+    record {
+      sizes = z;
+      here = refl;
+      elsewhere = λ j ne. refl;
+      fixed-is = refl;
+      steps-is = refl;
+      counts-is = refl;
+    }
 
 module _ {c : Card} {i : ℕ} {v : Card} {t : Local} (U : Updated c i v t) where
   -- a change of a shared cell
   pub gate-updated : (g : Gate) → Updated c i (withGate v g) t
-  gate-updated g = record { sizes = record { tasks = U .sizes .tasks; operations = U .sizes .operations; exits = U .sizes .exits; counts = U .sizes .counts; gates = U .sizes .gates; copies = U .sizes .copies; simulations = U .sizes .simulations; dictionaries = U .sizes .dictionaries }; here = U .here; elsewhere = U .elsewhere; fixed-is = U .fixed-is; steps-is = U .steps-is; counts-is = U .counts-is }
+  gate-updated g =
+      record {
+        sizes = U .sizes;
+        here = U .here;
+        elsewhere = U .elsewhere;
+        fixed-is = U .fixed-is;
+        steps-is = U .steps-is;
+        counts-is = U .counts-is;
+      }
 
   pub announcement-updated : (m : ℕ) (a : Announcement) → Updated c i (withAnnouncement v m a) t
-  announcement-updated m a = record { sizes = record { tasks = U .sizes .tasks; operations = U .sizes .operations; exits = U .sizes .exits; counts = U .sizes .counts; gates = U .sizes .gates; copies = U .sizes .copies; simulations = U .sizes .simulations; dictionaries = U .sizes .dictionaries }; here = U .here; elsewhere = U .elsewhere; fixed-is = U .fixed-is; steps-is = U .steps-is; counts-is = U .counts-is }
+  announcement-updated m a =
+      record {
+        sizes = U .sizes;
+        here = U .here;
+        elsewhere = U .elsewhere;
+        fixed-is = U .fixed-is;
+        steps-is = U .steps-is;
+        counts-is = U .counts-is;
+      }
 
   pub record-updated : (u : ℕ) (r : Record) → Updated c i (withRecord v u r) t
-  record-updated u r = record { sizes = record { tasks = U .sizes .tasks; operations = U .sizes .operations; exits = U .sizes .exits; counts = U .sizes .counts; gates = U .sizes .gates; copies = U .sizes .copies; simulations = U .sizes .simulations; dictionaries = U .sizes .dictionaries }; here = U .here; elsewhere = U .elsewhere; fixed-is = U .fixed-is; steps-is = U .steps-is; counts-is = U .counts-is }
+  record-updated u r =
+      record {
+        sizes = U .sizes;
+        here = U .here;
+        elsewhere = U .elsewhere;
+        fixed-is = U .fixed-is;
+        steps-is = U .steps-is;
+        counts-is = U .counts-is;
+      }
 
   -- a change of local state
   pub task-updated : i < 8 → (x : Task) → Updated c i (withTask v i x) (atTask t x)
-  task-updated lt x = record {
-    sizes = record { tasks = rw length-set (U .sizes .tasks); operations = U .sizes .operations; exits = U .sizes .exits; counts = U .sizes .counts; gates = U .sizes .gates; copies = U .sizes .copies; simulations = U .sizes .simulations; dictionaries = U .sizes .dictionaries };
-    here = rw (getD-set-same (v .tasks) i x idleTask (omega (arith, U .sizes .tasks))) (ap (λ (l : Local). atTask l x) (U .here));
-    elsewhere = λ j ne. rw (getD-set-other (v .tasks) i j x idleTask ne) (U .elsewhere j ne);
-    fixed-is = U .fixed-is;
-    steps-is = U .steps-is;
-    counts-is = U .counts-is;
-  }
+  task-updated lt x =
+      let fits : i < length (v .tasks) = omega (arith, U .sizes .tasks) in
+      record {
+        sizes = rw length-set (U .sizes);
+        here = rw (getD-set-same (v .tasks) i x idleTask fits) (ap (λ (l : Local). atTask l x) (U .here));
+        elsewhere = λ j ne. rw (getD-set-other (v .tasks) i j x idleTask ne) (U .elsewhere j ne);
+        fixed-is = U .fixed-is;
+        steps-is = U .steps-is;
+        counts-is = U .counts-is;
+      }
 
   pub held-updated : i < 8 → (x : Gate) → Updated c i (withHeld v i x) (atGate t x)
-  held-updated lt x = record {
-    sizes = record { tasks = U .sizes .tasks; operations = U .sizes .operations; exits = U .sizes .exits; counts = U .sizes .counts; gates = rw length-set (U .sizes .gates); copies = U .sizes .copies; simulations = U .sizes .simulations; dictionaries = U .sizes .dictionaries };
-    here = rw (getD-set-same (v .gates) i x noGate (omega (arith, U .sizes .gates))) (ap (λ (l : Local). atGate l x) (U .here));
-    elsewhere = λ j ne. rw (getD-set-other (v .gates) i j x noGate ne) (U .elsewhere j ne);
-    fixed-is = U .fixed-is;
-    steps-is = U .steps-is;
-    counts-is = U .counts-is;
-  }
+  held-updated lt x =
+      let fits : i < length (v .gates) = omega (arith, U .sizes .gates) in
+      record {
+        sizes = rw length-set (U .sizes);
+        here = rw (getD-set-same (v .gates) i x noGate fits) (ap (λ (l : Local). atGate l x) (U .here));
+        elsewhere = λ j ne. rw (getD-set-other (v .gates) i j x noGate ne) (U .elsewhere j ne);
+        fixed-is = U .fixed-is;
+        steps-is = U .steps-is;
+        counts-is = U .counts-is;
+      }
 
   pub copy-updated : i < 8 → (x : Announcement) → Updated c i (withCopy v i x) (atCopy t x)
-  copy-updated lt x = record {
-    sizes = record { tasks = U .sizes .tasks; operations = U .sizes .operations; exits = U .sizes .exits; counts = U .sizes .counts; gates = U .sizes .gates; copies = rw length-set (U .sizes .copies); simulations = U .sizes .simulations; dictionaries = U .sizes .dictionaries };
-    here = rw (getD-set-same (v .copies) i x openAnnouncement (omega (arith, U .sizes .copies))) (ap (λ (l : Local). atCopy l x) (U .here));
-    elsewhere = λ j ne. rw (getD-set-other (v .copies) i j x openAnnouncement ne) (U .elsewhere j ne);
-    fixed-is = U .fixed-is;
-    steps-is = U .steps-is;
-    counts-is = U .counts-is;
-  }
+  copy-updated lt x =
+      let fits : i < length (v .copies) = omega (arith, U .sizes .copies) in
+      record {
+        sizes = rw length-set (U .sizes);
+        here = rw (getD-set-same (v .copies) i x openAnnouncement fits) (ap (λ (l : Local). atCopy l x) (U .here));
+        elsewhere = λ j ne. rw (getD-set-other (v .copies) i j x openAnnouncement ne) (U .elsewhere j ne);
+        fixed-is = U .fixed-is;
+        steps-is = U .steps-is;
+        counts-is = U .counts-is;
+      }
 
-  pub simulation-updated : i < 8 → (s : Simulation) (d : Dictionary) → Updated c i (withDictionary (withSimulation v i s) i d) (atSimulation t s d)
-  simulation-updated lt s d = record {
-    sizes = record { tasks = U .sizes .tasks; operations = U .sizes .operations; exits = U .sizes .exits; counts = U .sizes .counts; gates = U .sizes .gates; copies = U .sizes .copies; simulations = rw length-set (U .sizes .simulations); dictionaries = rw length-set (U .sizes .dictionaries) };
-    here = rw (getD-set-same (v .simulations) i s started (omega (arith, U .sizes .simulations)), getD-set-same (v .dictionaries) i d empty (omega (arith, U .sizes .dictionaries))) (ap (λ (l : Local). atSimulation l s d) (U .here));
-    elsewhere = λ j ne. rw (getD-set-other (v .simulations) i j s started ne, getD-set-other (v .dictionaries) i j d empty ne) (U .elsewhere j ne);
-    fixed-is = U .fixed-is;
-    steps-is = U .steps-is;
-    counts-is = U .counts-is;
-  }
+  pub simulation-updated :
+      i < 8 → (s : Simulation) (d : Dictionary) →
+      Updated c i (withDictionary (withSimulation v i s) i d) (atSimulation t s d)
+  simulation-updated lt s d =
+      let fits : i < length (v .simulations) = omega (arith, U .sizes .simulations) in
+      let room : i < length (v .dictionaries) = omega (arith, U .sizes .dictionaries) in
+      record {
+        sizes = rw (length-set (v .simulations) i s, length-set (v .dictionaries) i d) (U .sizes);
+        here =
+            rw (getD-set-same (v .simulations) i s started fits, getD-set-same (v .dictionaries) i d empty room)
+            (ap (λ (l : Local). atSimulation l s d) (U .here));
+        elsewhere = λ j ne.
+            rw (getD-set-other (v .simulations) i j s started ne, getD-set-other (v .dictionaries) i j d empty ne)
+            (U .elsewhere j ne);
+        fixed-is = U .fixed-is;
+        steps-is = U .steps-is;
+        counts-is = U .counts-is;
+      }

@@ -6,6 +6,7 @@ use mathlib.Core.Logic.{_⊎_, inl, inr}
 use lib.ListN.{length, getD, set}
 use lib.Seq.{getD-set-same}
 use lib.Dec.{ltb}
+use Rattle.construction.specs.declared.Announcement.{Announcement}
 use Rattle.construction.specs.declared.Task.{Task}
 use Rattle.construction.specs.declared.Simulation.{Simulation}
 use Rattle.construction.specs.declared.Simulated.{Simulated}
@@ -61,7 +62,8 @@ module _ (Q : Place → Type 0) where
   by-flag Exit done active exit a b c = c
 
   by-write : (seq : ℕ) (d : Dictionary) (k : ℕ) → Q H36 → Q P19 → Q (writeFrom seq d k .place)
-  by-write seq d k a b = on-test (λ (x : Task). Q (x .place)) (ltb (nextWrite seq d k) (length (noted d))) (λ _. a) (λ _. b)
+  by-write seq d k a b =
+      on-test (λ (x : Task). Q (x .place)) (ltb (nextWrite seq d k) (length (noted d))) (λ _. a) (λ _. b)
 
   by-pause : (seq : ℕ) (d : Dictionary) (p : Pause) → Q H21 → Q H36 → Q P19 → Q (afterPause seq d p .place)
   by-pause seq d Ended a b c = by-write seq d 0 b c
@@ -77,13 +79,16 @@ module _ (Q : Place → Type 0) where
     help-leads s d a b e =
         let x : Simulated =
         simulate (c .variables) (programOf c (copyAt c i .program) (heldAt c i .seq)) (copyAt c i .words) s d in
-        placed (afterPause (heldAt c i .seq) (x .dictionary) (x .pause)) (by-pause (heldAt c i .seq) (x .dictionary) (x .pause) a b e)
+        placed (afterPause (heldAt c i .seq) (x .dictionary) (x .pause))
+        (by-pause (heldAt c i .seq) (x .dictionary) (x .pause) a b e)
 
   module _ (c : Card) (i : ℕ) (lt : i < length (c .tasks)) where
     gate-leads : (a : GateAccess) → GateLeads a → Q (taskAt (accessGate a c i) i .place)
     unfolding accessGate
     gate-leads (GateAccess.Read held free) q = placed c i lt _ (by-holder (c .gate .holder) held free (q .0) (q .1))
-    gate-leads GateAccess.ReadLast q = placed c i lt _ (on-test Q (sameHolder (c .gate .holder) (Process i)) (λ _. q .0) (λ _. q .1))
+    gate-leads GateAccess.ReadLast q =
+        placed c i lt _
+        (on-test Q (sameHolder (c .gate .holder) (Process i)) (λ _. q .0) (λ _. q .1))
     gate-leads GateAccess.Nominate q = placed c i lt _ q
     gate-leads (GateAccess.Release next) q = placed c i lt _ q
 
@@ -94,10 +99,12 @@ module _ (Q : Place → Type 0) where
     announcement-leads (AnnouncementAccess.ReadOwn done active exit) q =
         placed c i lt _ (by-flag (announcementAt c i .flag) done active exit (q .0) (q .1) (q .2))
     announcement-leads AnnouncementAccess.ReadFirst q =
-        placed c i lt _ (by-flag (announcementAt c (firstChoice (heldAt c i .seq) (c .processes)) .flag) C4 P13 C4 (q .0) (q .1) (q .0))
+        let m : ℕ = firstChoice (heldAt c i .seq) (c .processes) in
+        placed c i lt _ (by-flag (announcementAt c m .flag) C4 P13 C4 (q .0) (q .1) (q .0))
     announcement-leads AnnouncementAccess.Help q =
-        on-test (λ (v : Card). Q (taskAt v i .place)) (helps (announcementAt c (holderOf (heldAt c i .holder))) (heldAt c i .seq))
-        (λ _. help-leads (withCopy c i (announcementAt c (holderOf (heldAt c i .holder)))) i lt started empty (q .1) (q .2) (q .3))
+        let a : Announcement = announcementAt c (holderOf (heldAt c i .holder)) in
+        on-test (λ (v : Card). Q (taskAt v i .place)) (helps a (heldAt c i .seq))
+        (λ _. help-leads (withCopy c i a) i lt started empty (q .1) (q .2) (q .3))
         (λ _. placed c i lt _ (q .0))
     announcement-leads (AnnouncementAccess.Finish flag next) q = placed c i lt _ q
 
@@ -107,7 +114,9 @@ module _ (Q : Place → Type 0) where
         on-test (λ (v : Card). Q (taskAt v i .place)) (ltb (heldAt c i .seq) (recordAt c (taskAt c i .target) .seq))
         (λ _. placed c i lt _ (q .0))
         (λ _. help-leads c i lt _ _ (q .1) (q .2) (q .0))
-    record-leads RecordAccess.Swap q = placed c i lt _ (by-write (heldAt c i .seq) (dictionaryAt c i) (suc (taskAt c i .target)) (q .0) (q .1))
+    record-leads RecordAccess.Swap q =
+        placed c i lt _
+        (by-write (heldAt c i .seq) (dictionaryAt c i) (suc (taskAt c i .target)) (q .0) (q .1))
 
 -- an announced operation stays announced until it returns
 abbrev pub Onward : Place → Type 0

@@ -1,6 +1,6 @@
 -- What a process knows at each place, and that it stays so when another process moves.
 use Prim.Native.Nat.{ℕ, _≤_, _<_}
-use mathlib.Core.Path.{_≡_, refl, sym, ap, _∙_}
+use mathlib.Core.Path.{_≡_, sym, ap, _∙_}
 use mathlib.Core.Bool.{true}
 use mathlib.Core.Logic.{_≢_, _⊎_, inl, inr, ⊎-elim}
 use mathlib.Core.List.{List}
@@ -20,32 +20,35 @@ use Rattle.construction.specs.declared.Flag.the-variants.{Active}
 use Rattle.construction.specs.declared.Place.{Place}
 use Rattle.construction.specs.declared.Place.the-variants.{Idle, P1, P3, P5, P7, P10, C2, C4, P13, P14, P16, H21, H36, P19, P20, P21, P22, F1, F3}
 use Rattle.construction.specs.Dictionary.{noItem, noted, valueUnder, altered}
-use Rattle.construction.specs.Parts.{noOperation}
 use Rattle.construction.specs.Machine.{holderOf}
 use Rattle.construction.proofs.DictionaryLaws.{all-map}
-use Rattle.construction.proofs.SimulationLaws.{Room, Core, Finished, Needing}
-use Rattle.construction.proofs.World.{Fixed, Round, programIn, endingIn, World, recordIn, leftIn, callIn, roundIn, wordAt, operationOf, Good, Quiet, Move}
+use Rattle.construction.proofs.SimulationLaws.{Core, Finished, Needing}
+use Rattle.construction.proofs.World.{Fixed, programIn, endingIn, World, recordIn, leftIn, callIn, roundIn, wordAt, Good, Quiet, Move}
 use Rattle.construction.proofs.World.Move.{stay, ask, announce, leave, take, write, end, free}
-use Rattle.construction.proofs.Claims.{Owned, Seen, Nominated, Limit, Past, Gone, Own, Working, Halfway, Over, Returning, Rested, Last}
-use Rattle.construction.proofs.Claims.{quiet-stays, owned-stays, seen-stays, nominated-stays, limit-stays, past-stays, gone-stays, own-stays, working-stays, halfway-stays, over-stays, returning-stays, rested-stays, last-stays, below-stays, record-stays, round-stays}
+use Rattle.construction.proofs.Claims.{View, viewOf, Change, Owned, Limit, Past, Gone, Returning, Rested, Last, Seen, Nominated, Working, Halfway, Over}
+use Rattle.construction.proofs.Claims.{change, call-change, owned-change, limit-change, past-change, gone-change, returning-change, rested-change, last-change, quiet-stays, seen-stays, nominated-stays, working-stays, halfway-stays, over-stays, below-stays, record-stays, round-stays}
 use Rattle.construction.proofs.Locals.{Local}
 
--- j's operation o is under way and announced
-pub record Mine (w : World) (j : ℕ) (o : Operation) : Type 0 where
-  pub own : Owned w j
-  pub called : o ≡ callIn w j
+-- the operation o of a process is under way and announced
+pub record Mine (x : View) (o : Operation) : Type 0 where
+  pub own : Owned x
+  pub called : o ≡ x .call
 
--- the helper has read the gate g, held
-pub record Helping (F : Fixed) (w : World) (g : Gate) : Type 0 where
+pub mine-change : {j : ℕ} {o : Operation} {x y : View} → Change j x y → Mine x o → Mine y o
+mine-change C q = record { own = owned-change C (q .own); called = q .called ∙ call-change C }
+
+-- process j, with its operation o, has read the gate g, held
+pub record Helper (F : Fixed) (w : World) (j : ℕ) (o : Operation) (g : Gate) : Type 0 where
+  pub mine : Mine (viewOf w j) o
   pub named : g .holder ≡ Process (holderOf (g .holder))
   pub inside : holderOf (g .holder) < F .processes
   pub seen : Seen w (holderOf (g .holder)) (g .seq)
+  pub limit : Limit (viewOf w j) j (g .seq)
 
--- the helper of g works on the announcement a of the holder
+-- a helper that has read g works on the announcement a of the holder
 pub record Plan (F : Fixed) (w : World) (g : Gate) (a : Announcement) : Type 0 where
   pub below : g .seq ≤ w .gate .seq
   pub number : g .seq < length (w .rounds)
-  pub call : roundIn w (g .seq) .call ≡ operationOf a
   pub early : a .seq ≤ g .seq
   pub positive : 0 < g .seq
   pub working : Working w (holderOf (g .holder)) (g .seq) a
@@ -53,7 +56,6 @@ pub record Plan (F : Fixed) (w : World) (g : Gate) (a : Announcement) : Type 0 w
 -- an item of the dictionary of a helper of number s
 pub record Noted (F : Fixed) (w : World) (s : ℕ) (e : Item) : Type 0 where
   pub inside : e .variable < F .variables
-  pub old : e .cell .seq ≤ s
   pub base : valueUnder s (e .cell) ≡ wordAt (roundIn w s .words) (e .variable)
   pub kept : (recordIn w (e .variable) ≡ e .cell) ⊎ (s ≤ recordIn w (e .variable) .seq)
 
@@ -64,7 +66,9 @@ pub record Fine (w : World) (s : ℕ) (e : Item) : Type 0 where
 -- a helper of number s with outputs o has nothing more to write, or comes too late
 pub record Ready (F : Fixed) (w : World) (s : ℕ) (o : Words) : Type 0 where
   pub outs : (s < w .gate .seq) ⊎ (o ≡ endingIn F w s .outputs)
-  pub all : (s < w .gate .seq) ⊎ ((v : ℕ) → v < F .variables → recordIn w v .seq < s → wordAt (endingIn F w s .words) v ≡ wordAt (roundIn w s .words) v)
+  pub all :
+      (s < w .gate .seq)
+      ⊎ ((v : ℕ) → v < F .variables → recordIn w v .seq < s → wordAt (endingIn F w s .words) v ≡ wordAt (roundIn w s .words) v)
 
 -- the program that a helper of number s runs for the announcement a
 abbrev pub programFor : Fixed → ℕ → Announcement → Program
@@ -73,13 +77,16 @@ programFor F s a = programIn F (a .program) s
 -- its simulation, from the words before number s to the ending of number s
 module _ (F : Fixed) (w : World) (s : ℕ) (a : Announcement) where
   abbrev pub CoreAt : Simulation → Dictionary → Type 0
-  CoreAt l b = Core (F .variables) (programFor F s a) (a .words) (roundIn w s .words) (endingIn F w s) (Noted F w s) l b
+  CoreAt l d =
+      Core (F .variables) (programFor F s a) (a .words) (roundIn w s .words) (endingIn F w s) (Noted F w s) l d
 
   abbrev pub NeedingAt : ℕ → Simulation → Dictionary → Type 0
-  NeedingAt v l b = Needing (F .variables) (programFor F s a) (a .words) (roundIn w s .words) (endingIn F w s) (Noted F w s) v l b
+  NeedingAt v l d =
+      Needing (F .variables) (programFor F s a) (a .words) (roundIn w s .words) (endingIn F w s) (Noted F w s) v l d
 
   abbrev pub FinishedAt : Simulation → Dictionary → Type 0
-  FinishedAt l b = Finished (F .variables) (programFor F s a) (a .words) (roundIn w s .words) (endingIn F w s) (Noted F w s) l b
+  FinishedAt l d =
+      Finished (F .variables) (programFor F s a) (a .words) (roundIn w s .words) (endingIn F w s) (Noted F w s) l d
 
 -- item k is to be written, and those before it need no write
 pub record Writing (F : Fixed) (w : World) (s : ℕ) (b : List Item) (k : ℕ) : Type 0 where
@@ -89,40 +96,49 @@ pub record Writing (F : Fixed) (w : World) (s : ℕ) (b : List Item) (k : ℕ) :
 
 -- what process j with local state t knows at each place
 abbrev pub LocAt : Place → Fixed → World → ℕ → Local → Type 0
-LocAt Idle F w j t = Quiet w j × Rested w j (t .copy)
+LocAt Idle F w j t = Quiet w j × Rested (viewOf w j) (t .copy)
 LocAt P1 F w j t = Quiet w j × (t .operation ≡ callIn w j)
-LocAt P3 F w j t = Quiet w j × (t .operation ≡ callIn w j) × (leftIn w j < t .gate .seq) × (t .gate .seq ≤ w .gate .seq)
-LocAt P5 F w j t = Mine w j (t .operation) × Own w j (t .copy) × (t .copy .flag ≡ Active) × (t .copy .words ≡ t .operation .inputs)
-LocAt P7 F w j t = Mine w j (t .operation)
-LocAt P10 F w j t = Mine w j (t .operation)
-LocAt C2 F w j t = Mine w j (t .operation) × (t .gate .holder ≡ Nobody) × (t .gate .seq ≤ w .gate .seq) × Limit w j (t .gate .seq)
-LocAt C4 F w j t = Mine w j (t .operation) × (t .gate .holder ≡ Nobody) × (t .gate .seq ≤ w .gate .seq) × Limit w j (t .gate .seq)
-LocAt P13 F w j t = Mine w j (t .operation) × (t .gate .holder ≡ Nobody) × (t .target < F .processes) × Nominated w j (t .target) (t .gate .seq) × Limit w j (t .gate .seq)
-LocAt P14 F w j t = Mine w j (t .operation) × Past w j
-LocAt P16 F w j t = Mine w j (t .operation) × Helping F w (t .gate) × Limit w j (t .gate .seq)
-LocAt H21 F w j t = Mine w j (t .operation) × Helping F w (t .gate) × Limit w j (t .gate .seq) × Plan F w (t .gate) (t .copy) × NeedingAt F w (t .gate .seq) (t .copy) (t .target) (t .simulation) (t .dictionary)
-LocAt H36 F w j t = Mine w j (t .operation) × Helping F w (t .gate) × Limit w j (t .gate .seq) × Plan F w (t .gate) (t .copy) × FinishedAt F w (t .gate .seq) (t .copy) (t .simulation) (t .dictionary) × Writing F w (t .gate .seq) (noted (t .dictionary)) (t .target)
-LocAt P19 F w j t = Mine w j (t .operation) × Helping F w (t .gate) × Limit w j (t .gate .seq) × Plan F w (t .gate) (t .copy) × Ready F w (t .gate .seq) (t .simulation .outputs) × Room (programFor F (t .gate .seq) (t .copy)) (t .dictionary)
-LocAt P20 F w j t = Mine w j (t .operation) × Helping F w (t .gate) × Limit w j (t .gate .seq) × Plan F w (t .gate) (t .copy) × Ready F w (t .gate .seq) (t .simulation .outputs) × Halfway w (holderOf (t .gate .holder)) (t .gate .seq) × Room (programFor F (t .gate .seq) (t .copy)) (t .dictionary)
-LocAt P21 F w j t = Mine w j (t .operation) × Helping F w (t .gate) × Limit w j (t .gate .seq) × Over w (holderOf (t .gate .holder)) (t .gate .seq)
-LocAt P22 F w j t = Mine w j (t .operation) × Gone w j
-LocAt F1 F w j t = Returning w j (t .copy)
-LocAt F3 F w j t = Returning w j (t .copy) × (t .gate .holder ≡ Process j) × Last w j (t .gate .seq)
+LocAt P3 F w j t =
+    Quiet w j × (t .operation ≡ callIn w j) × (leftIn w j < t .gate .seq) × (t .gate .seq ≤ w .gate .seq)
+LocAt P5 F w j t =
+    Mine (viewOf w j) (t .operation) × (t .copy .flag ≡ Active) × (t .copy .words ≡ t .operation .inputs)
+LocAt P7 F w j t = Mine (viewOf w j) (t .operation)
+LocAt P10 F w j t = Mine (viewOf w j) (t .operation)
+LocAt C2 F w j t =
+    Mine (viewOf w j) (t .operation) × (t .gate .holder ≡ Nobody) × (t .gate .seq ≤ w .gate .seq)
+    × Limit (viewOf w j) j (t .gate .seq)
+LocAt C4 F w j t =
+    Mine (viewOf w j) (t .operation) × (t .gate .holder ≡ Nobody) × (t .gate .seq ≤ w .gate .seq)
+    × Limit (viewOf w j) j (t .gate .seq)
+LocAt P13 F w j t =
+    Mine (viewOf w j) (t .operation) × (t .gate .holder ≡ Nobody) × (t .target < F .processes)
+    × Nominated w j (t .target) (t .gate .seq) × Limit (viewOf w j) j (t .gate .seq)
+LocAt P14 F w j t = Mine (viewOf w j) (t .operation) × Past (viewOf w j)
+LocAt P16 F w j t = Helper F w j (t .operation) (t .gate)
+LocAt H21 F w j t =
+    Helper F w j (t .operation) (t .gate) × Plan F w (t .gate) (t .copy)
+    × NeedingAt F w (t .gate .seq) (t .copy) (t .target) (t .simulation) (t .dictionary)
+LocAt H36 F w j t =
+    Helper F w j (t .operation) (t .gate) × Plan F w (t .gate) (t .copy)
+    × FinishedAt F w (t .gate .seq) (t .copy) (t .simulation) (t .dictionary)
+    × Writing F w (t .gate .seq) (noted (t .dictionary)) (t .target)
+LocAt P19 F w j t =
+    Helper F w j (t .operation) (t .gate) × Plan F w (t .gate) (t .copy)
+    × Ready F w (t .gate .seq) (t .simulation .outputs)
+LocAt P20 F w j t =
+    Helper F w j (t .operation) (t .gate) × Plan F w (t .gate) (t .copy)
+    × Ready F w (t .gate .seq) (t .simulation .outputs)
+    × Halfway w (holderOf (t .gate .holder)) (t .gate .seq)
+LocAt P21 F w j t = Helper F w j (t .operation) (t .gate) × Over w (holderOf (t .gate .holder)) (t .gate .seq)
+LocAt P22 F w j t = Mine (viewOf w j) (t .operation) × Gone (viewOf w j) j
+LocAt F1 F w j t = Returning (viewOf w j) (t .copy)
+LocAt F3 F w j t =
+    Returning (viewOf w j) (t .copy) × (t .gate .holder ≡ Process j) × Last (viewOf w j) j (t .gate .seq)
 
 abbrev pub Loc : Fixed → World → ℕ → Local → Type 0
 Loc F w j t = LocAt (t .place) F w j t
 
 module _ {F : Fixed} {i : ℕ} {w v : World} (G : Good F w) (M : Move F i w v) where
-  calls-stay : {u : World} (j : ℕ) → j ≢ i → Move F i w u → callIn u j ≡ callIn w j
-  calls-stay j ne stay = refl
-  calls-stay j ne (ask c lt Q) = getD-set-other (w .calls) i j c noOperation ne
-  calls-stay j ne (announce a lt Q fa op l b) = refl
-  calls-stay j ne (leave lt fa) = refl
-  calls-stay j ne (take m lt hn fl op z) = refl
-  calls-stay j ne (write m v x vl hm fl below ex) = refl
-  calls-stay j ne (end m lt hm fl all) = refl
-  calls-stay j ne (free m lt hm d) = refl
-
   left-stays : {u : World} (j n : ℕ) → Move F i w u → Quiet w j → leftIn w j < n → leftIn u j < n
   left-stays j n stay q h = h
   left-stays j n (ask c lt Q) q h = h
@@ -131,22 +147,26 @@ module _ {F : Fixed} {i : ℕ} {w v : World} (G : Good F w) (M : Move F i w v) w
   left-stays j n (take m lt hn fl op z) q h = h
   left-stays j n (write m v x vl hm fl below ex) q h = h
   left-stays j n (end m lt hm fl all) q h = h
-  left-stays j n (free m lt hm d) q h = rw (getD-set-other (w .left) m j (w .gate .seq) 0 (λ e. q .free-of (hm ∙ ap Process (sym e)))) h
+  left-stays j n (free m lt hm d) q h =
+      rw (getD-set-other (w .left) m j (w .gate .seq) 0 (λ e. q .free-of (hm ∙ ap Process (sym e)))) h
 
-  mine-stays : (j : ℕ) (o : Operation) → j ≢ i → Mine w j o → Mine v j o
-  mine-stays j o ne q = record { own = owned-stays G ne M (q .own); called = q .called ∙ sym (calls-stay j ne M) }
+  pub helper-stays :
+      {j : ℕ} {o : Operation} {g : Gate} → Change j (viewOf w j) (viewOf v j) → Helper F w j o g → Helper F v j o g
+  helper-stays C h = record {
+    mine = mine-change C (h .mine);
+    named = h .named;
+    inside = h .inside;
+    seen = seen-stays G M (h .seen);
+    limit = limit-change C (h .limit);
+  }
 
-  pub helping-stays : (g : Gate) → Helping F w g → Helping F v g
-  helping-stays g h = record { named = h .named; inside = h .inside; seen = seen-stays G M (h .seen) }
-
-  pub plan-stays : (g : Gate) (a : Announcement) → Helping F w g → Plan F w g a → Plan F v g a
+  pub plan-stays : (g : Gate) (a : Announcement) → Seen w (holderOf (g .holder)) (g .seq) → Plan F w g a → Plan F v g a
   plan-stays g a h q = record {
     below = below-stays G M (q .below);
     number = round-stays G M (g .seq) (q .number) .1;
-    call = ap (λ (ch : Round). ch .call) (round-stays G M (g .seq) (q .number) .0) ∙ q .call;
     early = q .early;
     positive = q .positive;
-    working = working-stays G M (h .seen) (q .working);
+    working = working-stays G M h (q .working);
   }
 
   module _ (s : ℕ) (number : s < length (w .rounds)) (below : s ≤ w .gate .seq) where
@@ -156,27 +176,30 @@ module _ {F : Fixed} {i : ℕ} {w v : World} (G : Good F w) (M : Move F i w v) w
     noted-stays : (e : Item) → Noted F w s e → Noted F v s e
     noted-stays e q = record {
       inside = q .inside;
-      old = q .old;
       base = rw same-round (q .base);
-      kept = ⊎-elim (λ z. rw z (q .kept)) (λ z. inr (rw (z .0) below)) (record-stays G M (e .variable));
+      kept = ⊎-elim (λ z. rw z (q .kept)) (λ z. inr (rw z below)) (record-stays G M (e .variable));
     }
 
     pub fine-stays : (e : Item) → Fine w s e → Fine v s e
     fine-stays e q = record {
-      fine = ⊎-elim (λ (z : recordIn v (e .variable) ≡ recordIn w (e .variable)). rw (z, same-round) (q .fine)) (λ z. inl (rw (z .0) below)) (record-stays G M (e .variable));
+      fine = ⊎-elim (λ (z : recordIn v (e .variable) ≡ recordIn w (e .variable)). rw (z, same-round) (q .fine))
+          (λ z. inl (rw z below)) (record-stays G M (e .variable));
     }
 
     pub ready-stays : (o : Words) → Ready F w s o → Ready F v s o
     ready-stays o q = record {
       outs = ⊎-elim (λ z. inl (below-stays G M z)) (λ z. inr (rw same-round z)) (q .outs);
       all = ⊎-elim (λ z. inl (below-stays G M z))
-          (λ z. inr (λ u ul h. rw same-round (z u ul (⊎-elim (λ y. rw y at h) (λ y. absurd (omega (arith, y .0))) (record-stays G M u))))) (q .all);
+          (λ z. inr (λ u ul h. rw same-round (z u ul
+          (⊎-elim (λ y. rw y at h) (λ y. absurd (omega arith)) (record-stays G M u)))))
+          (q .all);
     }
 
-    needing-stays : (a : Announcement) (u : ℕ) (l : Simulation) (b : Dictionary) → NeedingAt F w s a u l b → NeedingAt F v s a u l b
-    needing-stays a u l b q = record {
+    needing-stays :
+        (a : Announcement) (u : ℕ) (l : Simulation) (d : Dictionary) → NeedingAt F w s a u l d → NeedingAt F v s a u l d
+    needing-stays a u l d q = record {
       core = record {
-        booked = all-map (Noted F w s) (Noted F v s) (noted b) noted-stays (q .core .booked);
+        booked = all-map (Noted F w s) (Noted F v s) (noted d) noted-stays (q .core .booked);
         keyed = q .core .keyed;
         room = q .core .room;
         passed = q .core .passed;
@@ -194,9 +217,10 @@ module _ {F : Fixed} {i : ℕ} {w v : World} (G : Good F w) (M : Move F i w v) w
       fewer = q .fewer;
     }
 
-    pub finished-stays : (a : Announcement) (l : Simulation) (b : Dictionary) → FinishedAt F w s a l b → FinishedAt F v s a l b
-    finished-stays a l b q = record {
-      booked = all-map (Noted F w s) (Noted F v s) (noted b) noted-stays (q .booked);
+    pub finished-stays :
+        (a : Announcement) (l : Simulation) (d : Dictionary) → FinishedAt F w s a l d → FinishedAt F v s a l d
+    finished-stays a l d q = record {
+      booked = all-map (Noted F w s) (Noted F v s) (noted d) noted-stays (q .booked);
       keyed = q .keyed;
       room = q .room;
       outputs = rw same-round (q .outputs);
@@ -204,28 +228,54 @@ module _ {F : Fixed} {i : ℕ} {w v : World} (G : Good F w) (M : Move F i w v) w
     }
 
     writing-stays : (b : List Item) (k : ℕ) → Writing F w s b k → Writing F v s b k
-    writing-stays b k q = record { inside = q .inside; due = q .due; before = λ j h. fine-stays (getD b j noItem) (q .before j h) }
+    writing-stays b k q =
+        record { inside = q .inside; due = q .due; before = λ j h. fine-stays (getD b j noItem) (q .before j h) }
 
-  loc-at-stays : (j : ℕ) → j ≢ i → (l : Place) (t : Local) → LocAt l F w j t → LocAt l F v j t
-  loc-at-stays j ne Idle t q = (quiet-stays G ne M (q .0), rested-stays G ne M (q .0) (q .1))
-  loc-at-stays j ne P1 t q = (quiet-stays G ne M (q .0), q .1 ∙ sym (calls-stay j ne M))
-  loc-at-stays j ne P3 t q = (quiet-stays G ne M (q .0), q .1 ∙ sym (calls-stay j ne M), left-stays j (t .gate .seq) M (q .0) (q .2), below-stays G M (q .3))
-  loc-at-stays j ne P5 t q = (mine-stays j _ ne (q .0), own-stays G ne M (q .1), q .2, q .3)
-  loc-at-stays j ne P7 t q = mine-stays j _ ne q
-  loc-at-stays j ne P10 t q = mine-stays j _ ne q
-  loc-at-stays j ne C2 t q = (mine-stays j _ ne (q .0), q .1, below-stays G M (q .2), limit-stays G ne M (q .3))
-  loc-at-stays j ne C4 t q = (mine-stays j _ ne (q .0), q .1, below-stays G M (q .2), limit-stays G ne M (q .3))
-  loc-at-stays j ne P13 t q = (mine-stays j _ ne (q .0), q .1, q .2, nominated-stays G ne M (q .3), limit-stays G ne M (q .4))
-  loc-at-stays j ne P14 t q = (mine-stays j _ ne (q .0), past-stays G ne M (q .1))
-  loc-at-stays j ne P16 t q = (mine-stays j _ ne (q .0), helping-stays (t .gate) (q .1), limit-stays G ne M (q .2))
-  loc-at-stays j ne H21 t q = (mine-stays j _ ne (q .0), helping-stays (t .gate) (q .1), limit-stays G ne M (q .2), plan-stays (t .gate) (t .copy) (q .1) (q .3), needing-stays (t .gate .seq) (q .3 .number) (q .3 .below) (t .copy) (t .target) (t .simulation) (t .dictionary) (q .4))
-  loc-at-stays j ne H36 t q = (mine-stays j _ ne (q .0), helping-stays (t .gate) (q .1), limit-stays G ne M (q .2), plan-stays (t .gate) (t .copy) (q .1) (q .3), finished-stays (t .gate .seq) (q .3 .number) (q .3 .below) (t .copy) (t .simulation) (t .dictionary) (q .4), writing-stays (t .gate .seq) (q .3 .number) (q .3 .below) (noted (t .dictionary)) (t .target) (q .5))
-  loc-at-stays j ne P19 t q = (mine-stays j _ ne (q .0), helping-stays (t .gate) (q .1), limit-stays G ne M (q .2), plan-stays (t .gate) (t .copy) (q .1) (q .3), ready-stays (t .gate .seq) (q .3 .number) (q .3 .below) (t .simulation .outputs) (q .4), q .5)
-  loc-at-stays j ne P20 t q = (mine-stays j _ ne (q .0), helping-stays (t .gate) (q .1), limit-stays G ne M (q .2), plan-stays (t .gate) (t .copy) (q .1) (q .3), ready-stays (t .gate .seq) (q .3 .number) (q .3 .below) (t .simulation .outputs) (q .4), halfway-stays G M (q .1 .seen) (q .5), q .6)
-  loc-at-stays j ne P21 t q = (mine-stays j _ ne (q .0), helping-stays (t .gate) (q .1), limit-stays G ne M (q .2), over-stays G M (q .1 .seen) (q .3))
-  loc-at-stays j ne P22 t q = (mine-stays j _ ne (q .0), gone-stays G ne M (q .1))
-  loc-at-stays j ne F1 t q = returning-stays G ne M q
-  loc-at-stays j ne F3 t q = (returning-stays G ne M (q .0), q .1, last-stays G M (q .0 .done) (q .2))
+  module _ (j : ℕ) (ne : j ≢ i) where
+    abbrev C : Change j (viewOf w j) (viewOf v j)
+    C = change G ne M
 
-pub loc-stays : {F : Fixed} {i : ℕ} {w v : World} → Good F w → Move F i w v → (j : ℕ) → j ≢ i → (t : Local) → Loc F w j t → Loc F v j t
+    loc-at-stays : (l : Place) (t : Local) → LocAt l F w j t → LocAt l F v j t
+    loc-at-stays Idle t q = (quiet-stays G ne M (q .0), rested-change (q .0 .free-of) C (q .1))
+    loc-at-stays P1 t q = (quiet-stays G ne M (q .0), q .1 ∙ call-change C)
+    loc-at-stays P3 t q =
+        (quiet-stays G ne M (q .0), q .1 ∙ call-change C, left-stays j (t .gate .seq) M (q .0) (q .2), below-stays G M (q .3))
+    loc-at-stays P5 t q = (mine-change C (q .0), q .1, q .2)
+    loc-at-stays P7 t q = mine-change C q
+    loc-at-stays P10 t q = mine-change C q
+    loc-at-stays C2 t q = (mine-change C (q .0), q .1, below-stays G M (q .2), limit-change C (q .3))
+    loc-at-stays C4 t q = (mine-change C (q .0), q .1, below-stays G M (q .2), limit-change C (q .3))
+    loc-at-stays P13 t q =
+        (mine-change C (q .0), q .1, q .2, nominated-stays G ne M (q .3), limit-change C (q .4))
+    loc-at-stays P14 t q = (mine-change C (q .0), past-change C (q .1))
+    loc-at-stays P16 t q = helper-stays C q
+    loc-at-stays H21 t q = (
+      helper-stays C (q .0),
+      plan-stays (t .gate) (t .copy) (q .0 .seen) (q .1),
+      needing-stays (t .gate .seq) (q .1 .number) (q .1 .below) (t .copy) (t .target) (t .simulation) (t .dictionary) (q .2),
+    )
+    loc-at-stays H36 t q = (
+      helper-stays C (q .0),
+      plan-stays (t .gate) (t .copy) (q .0 .seen) (q .1),
+      finished-stays (t .gate .seq) (q .1 .number) (q .1 .below) (t .copy) (t .simulation) (t .dictionary) (q .2),
+      writing-stays (t .gate .seq) (q .1 .number) (q .1 .below) (noted (t .dictionary)) (t .target) (q .3),
+    )
+    loc-at-stays P19 t q = (
+      helper-stays C (q .0),
+      plan-stays (t .gate) (t .copy) (q .0 .seen) (q .1),
+      ready-stays (t .gate .seq) (q .1 .number) (q .1 .below) (t .simulation .outputs) (q .2),
+    )
+    loc-at-stays P20 t q = (
+      helper-stays C (q .0),
+      plan-stays (t .gate) (t .copy) (q .0 .seen) (q .1),
+      ready-stays (t .gate .seq) (q .1 .number) (q .1 .below) (t .simulation .outputs) (q .2),
+      halfway-stays G M (q .0 .seen) (q .3),
+    )
+    loc-at-stays P21 t q = (helper-stays C (q .0), over-stays G M (q .0 .seen) (q .1))
+    loc-at-stays P22 t q = (mine-change C (q .0), gone-change C (q .1))
+    loc-at-stays F1 t q = returning-change C q
+    loc-at-stays F3 t q = (returning-change C (q .0), q .1, last-change (q .0 .done) C (q .2))
+
+pub loc-stays :
+    {F : Fixed} {i : ℕ} {w v : World} → Good F w → Move F i w v → (j : ℕ) → j ≢ i → (t : Local) → Loc F w j t → Loc F v j t
 loc-stays G M j ne t q = loc-at-stays G M j ne (t .place) t q

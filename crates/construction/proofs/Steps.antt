@@ -14,7 +14,8 @@ use Rattle.construction.proofs.Places.{LocAt}
 use Rattle.construction.proofs.Acting.{worldOf, Before, Acted}
 use Rattle.construction.proofs.GateSteps.{at-P1, at-P10, at-P13, at-P14, at-P21, at-F1, at-F3}
 use Rattle.construction.proofs.AnnouncementSteps.{at-P3, at-P6, at-P7, at-C2, at-C4, at-P19, at-P20, at-P22}
-use Rattle.construction.proofs.HelpSteps.{at-P16, at-H21, at-H36}
+use Rattle.construction.proofs.HelpSteps.{at-P16, at-H21}
+use Rattle.construction.proofs.WriteSteps.{at-H36}
 
 module _ {c : Card} {w : World} {i : ℕ} (B : Before c w i) where
   pub at-place :

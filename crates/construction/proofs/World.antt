@@ -275,14 +275,16 @@ pub data Move (F : Fixed) (i : ℕ) (w : World) : World → Type 0 where
   stay : Move F i w w
   ask : (q : Operation) → i < F .processes → Quiet w i → Move F i w (asking w i q)
   announce :
-      (a : Announcement) → i < F .processes → Quiet w i → a .flag ≡ Active → operationOf a ≡ callIn w i → leftIn w i < a .seq →
-      a .seq ≤ w .gate .seq → Move F i w (announcing w i a)
+      (a : Announcement) → i < F .processes → Quiet w i → a .flag ≡ Active → operationOf a ≡ callIn w i →
+      leftIn w i < a .seq → a .seq ≤ w .gate .seq → Move F i w (announcing w i a)
   leave : i < F .processes → announcementIn w i .flag ≡ Active → Move F i w (leaving w i)
   take :
-      (m : ℕ) → m < F .processes → w .gate .holder ≡ Nobody → announcementIn w m .flag ≢ Done → operationOf (announcementIn w m) ≡ callIn w m →
+      (m : ℕ) → m < F .processes → w .gate .holder ≡ Nobody → announcementIn w m .flag ≢ Done →
+      operationOf (announcementIn w m) ≡ callIn w m →
       (m ≡ i) ⊎ (announcementIn w m .flag ≡ Exit → w .gate .seq ≤ boundIn w m) → Move F i w (taking w m)
   write :
-      (m v x : ℕ) → v < F .variables → w .gate .holder ≡ Process m → announcementIn w m .flag ≢ Done → recordIn w v .seq < w .gate .seq →
+      (m v x : ℕ) → v < F .variables → w .gate .holder ≡ Process m → announcementIn w m .flag ≢ Done →
+      recordIn w v .seq < w .gate .seq →
       x ≡ wordAt (endingIn F w (w .gate .seq) .words) v → Move F i w (writing w v x)
   end :
       (m : ℕ) → m < F .processes → w .gate .holder ≡ Process m → announcementIn w m .flag ≢ Done →

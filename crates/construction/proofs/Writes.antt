@@ -22,9 +22,8 @@ use Rattle.construction.proofs.Tests.{not-false, and-false}
 use Rattle.construction.proofs.DictionaryLaws.{hasIn, valueIn, all-at, value-none, has-position, at-position, next-before, next-at}
 use Rattle.construction.proofs.SimulationLaws.{PausedAt}
 use Rattle.construction.proofs.World.{Fixed, endingIn, World, recordIn, roundIn, wordAt}
-use Rattle.construction.proofs.Claims.{Limit}
 use Rattle.construction.proofs.Locals.{Local, atTask, atSimulation}
-use Rattle.construction.proofs.Places.{Mine, Helping, Plan, Noted, Fine, Ready, programFor, FinishedAt, Loc}
+use Rattle.construction.proofs.Places.{Helper, Plan, Noted, Fine, Ready, programFor, FinishedAt, Loc}
 
 -- an item that is not altered needs no write
 unaltered-fine : (F : Fixed) (w : World) (s : ℕ) (e : Item) → Noted F w s e → altered s e ≡ false → Fine w s e
@@ -39,37 +38,40 @@ unaltered-fine F w s e q h = ⊎-elim late same (and-false (ltb (e .cell .seq) s
         let z : current (e .cell) ≡ wordAt (roundIn w s .words) (e .variable) = rw t at (q .base) in
         record { fine = inr (sym (eqb-true _ _ (not-false _ f)) ∙ z) }
 
-module _ (F : Fixed) (w : World) (i : ℕ) (t : Local) (mine : Mine w i (t .operation)) (helping : Helping F w (t .gate))
-    (limit : Limit w i (t .gate .seq)) (plan : Plan F w (t .gate) (t .copy)) where
+module _ (F : Fixed) (w : World) (i : ℕ) (t : Local) (helper : Helper F w i (t .operation) (t .gate))
+    (plan : Plan F w (t .gate) (t .copy)) where
+  abbrev s : ℕ
+  s = t .gate .seq
+
   -- no item needs a write: the operation can be finished
   ready :
-      (l : Simulation) (d : Dictionary) → FinishedAt F w (t .gate .seq) (t .copy) l d →
-      ((q : ℕ) → q < length (noted d) → Fine w (t .gate .seq) (getD (noted d) q noItem)) → Ready F w (t .gate .seq) (l .outputs)
+      (l : Simulation) (d : Dictionary) → FinishedAt F w s (t .copy) l d →
+      ((q : ℕ) → q < length (noted d) → Fine w s (getD (noted d) q noItem)) → Ready F w s (l .outputs)
   ready l d f fine = record {
     outs = inr (f .outputs);
-    all = inr (λ v vl h. f .agree v vl ∙ ⊎-elim (known v h) (λ z. value-none (noted d) v _ z) (true-or-false (hasIn (noted d) v)));
+    all = inr (λ v vl h.
+        f .agree v vl ∙ ⊎-elim (known v h) (λ z. value-none (noted d) v _ z) (true-or-false (hasIn (noted d) v)));
   }
     where
       known :
-          (v : ℕ) → recordIn w v .seq < t .gate .seq → hasIn (noted d) v ≡ true →
-          valueIn (noted d) v (wordAt (roundIn w (t .gate .seq) .words) v) ≡ wordAt (roundIn w (t .gate .seq) .words) v
+          (v : ℕ) → recordIn w v .seq < s → hasIn (noted d) v ≡ true →
+          valueIn (noted d) v (wordAt (roundIn w s .words) v) ≡ wordAt (roundIn w s .words) v
       known v h z =
           let k : position (noted d) v < length (noted d) = ltb-true _ _ (has-position (noted d) v ∙ z) in
-          let y = at-position (noted d) v (wordAt (roundIn w (t .gate .seq) .words) v) z in
+          let y = at-position (noted d) v (wordAt (roundIn w s .words) v) z in
           let e : getD (noted d) (position (noted d) v) noItem .variable ≡ v = y .0 in
-          y .1 ∙ ⊎-elim (λ b. absurd (omega (arith, h, rw e at b))) (λ b. rw e at b) (fine (position (noted d) v) k .fine)
+          y .1
+          ∙ ⊎-elim (λ b. absurd (omega (arith, h, rw e at b))) (λ b. rw e at b) (fine (position (noted d) v) k .fine)
 
   -- the next write from item k on, where those before k need none
   pub write-loc :
-      (l : Simulation) (d : Dictionary) → FinishedAt F w (t .gate .seq) (t .copy) l d → (k : ℕ) →
-      ((q : ℕ) → q < k → Fine w (t .gate .seq) (getD (noted d) q noItem)) →
-      Loc F w i (atTask (atSimulation t l d) (writeFrom (t .gate .seq) d k))
+      (l : Simulation) (d : Dictionary) → FinishedAt F w s (t .copy) l d → (k : ℕ) →
+      ((q : ℕ) → q < k → Fine w s (getD (noted d) q noItem)) →
+      Loc F w i (atTask (atSimulation t l d) (writeFrom s d k))
   write-loc l d fin k fine =
       on-test (λ (x : Task). Loc F w i (atTask (atSimulation t l d) x)) (ltb (nextWrite s d k) (length (noted d)))
       (λ e. (
-        mine,
-        helping,
-        limit,
+        helper,
         plan,
         fin,
         record {
@@ -79,25 +81,22 @@ module _ (F : Fixed) (w : World) (i : ℕ) (t : Local) (mine : Mine w i (t .oper
         },
       ))
       (λ e. (
-        mine,
-        helping,
-        limit,
+        helper,
         plan,
         ready l d fin (λ q h. passed q (omega (arith, ltb-false (nextWrite s d k) (length (noted d)) e)) h (decLt q k)),
-        fin .room,
       ))
     where
-      s : ℕ
-      s = t .gate .seq
-
-      passed : (q : ℕ) → q < nextWrite s d k → q < length (noted d) → Dec (q < k) → Fine w (t .gate .seq) (getD (noted d) q noItem)
+      passed :
+          (q : ℕ) → q < nextWrite s d k → q < length (noted d) → Dec (q < k) → Fine w s (getD (noted d) q noItem)
       passed q h b (yes z) = fine q z
-      passed q h b (no z) = unaltered-fine F w s (getD (noted d) q noItem) (all-at (Noted F w s) (noted d) q (fin .booked) b) (next-before s d k q (omega arith) h)
+      passed q h b (no z) =
+          unaltered-fine F w s (getD (noted d) q noItem) (all-at (Noted F w s) (noted d) q (fin .booked) b)
+          (next-before s d k q (omega arith) h)
 
   pub pause-loc :
       (p : Pause) (l : Simulation) (d : Dictionary) →
-      PausedAt (F .variables) (programFor F (t .gate .seq) (t .copy)) (t .copy .words) (roundIn w (t .gate .seq) .words) (endingIn F w (t .gate .seq))
-      (Noted F w (t .gate .seq)) p l d →
-      Loc F w i (atTask (atSimulation t l d) (afterPause (t .gate .seq) d p))
+      PausedAt (F .variables) (programFor F s (t .copy)) (t .copy .words) (roundIn w s .words) (endingIn F w s)
+      (Noted F w s) p l d →
+      Loc F w i (atTask (atSimulation t l d) (afterPause s d p))
   pause-loc Ended l d q = write-loc l d q 0 (λ k h. absurd (omega arith))
-  pause-loc (Lacks v) l d q = (mine, helping, limit, plan, q)
+  pause-loc (Lacks v) l d q = (helper, plan, q)

@@ -4,7 +4,6 @@ use mathlib.Core.List.{List, [], _∷_}
 use Rattle.construction.specs.declared.Answer.{Answer}
 use Rattle.construction.specs.declared.Verdict.{Verdict}
 use Rattle.construction.specs.declared.Written.{Written}
-use Rattle.construction.specs.declared.RowSwap.{RowSwap}
 use Rattle.construction.specs.declared.Refusal.{Refusal}
 use Rattle.construction.specs.declared.Refusal.the-variants.{TooLong, Malformed, OutOfRange, BadInstruction, NoProcess, NoProgram, Busy, NotBusy, NoPlace, LimitReached, ShortBuffer}
 
@@ -40,9 +39,3 @@ verdictValues (Verdict.Refused r line) = numberOf r ∷ line ∷ []
 unfoldable pub writtenValues : Written → List ℕ
 writtenValues (Written.Bytes n) = n ∷ []
 writtenValues (Written.Refused r) = numberOf r ∷ []
-
--- a swap on a lent row: won 1, lost 0, or the refusal
-unfoldable pub rowSwapValues : RowSwap → List ℕ
-rowSwapValues RowSwap.Won = 1 ∷ []
-rowSwapValues RowSwap.Lost = 0 ∷ []
-rowSwapValues (RowSwap.Refused r) = numberOf r ∷ []

@@ -1,0 +1,36 @@
+use borrow.Author.Tests.{eq-eqb, ne-eqb}
+use Rattle.construction.specs.Cells.{sameAnnouncement}
+use borrow.Author.Needs.{needs}
+use Rattle.cells.proofs.same_announcement.Statement.{statement}
+use Rattle.cells.proofs.same_announcement.Tie as tie
+
+same-flag-requires : tie.Need-same-flag-requires
+same-flag-requires c κs = search needs
+
+same-words-requires : tie.Need-same-words-requires
+same-words-requires c κs = search needs
+
+returns : tie.Need-returns
+unfolding sameAnnouncement
+returns c =
+    rw
+    (eq-eqb _ _ (c .before .before .before .before .before .before .if1 .taken), eq-eqb _ _ (c .before .before .before .if2 .taken), ← c .before .before .same-flag .ensures, c .before .if3 .taken) (c .same-words .ensures)
+
+returns-2 : tie.Need-returns-2
+unfolding sameAnnouncement
+returns-2 c =
+    rw
+    (eq-eqb _ _ (c .before .before .before .before .before .if1 .taken), eq-eqb _ _ (c .before .before .if2 .taken), ← c .before .same-flag .ensures, c .if3 .left)
+
+returns-3 : tie.Need-returns-3
+unfolding sameAnnouncement
+returns-3 c = rw (eq-eqb _ _ (c .before .before .before .if1 .taken), ne-eqb _ _ (c .if2 .left))
+
+returns-4 : tie.Need-returns-4
+unfolding sameAnnouncement
+returns-4 c = rw (ne-eqb _ _ (c .if1 .left))
+
+pub same-announcement-spec : {M : Type 1} → statement M
+same-announcement-spec =
+    tie.close
+    (tie.spec same-flag-requires same-words-requires returns returns-2 returns-3 returns-4)

@@ -1,0 +1,26 @@
+use Rattle.cells.proofs.Laws.{by-seq, by-toggle}
+use borrow.Author.Tests.{eq-eqb, ne-eqb}
+use Rattle.construction.specs.Cells.{sameRecord}
+use Rattle.cells.proofs.same_record.Statement.{statement}
+use Rattle.cells.proofs.same_record.Tie as tie
+
+returns : tie.Need-returns
+returns c =
+    by-seq _ _ (c .before .before .before .before .before .before .before .before .if1 .taken)
+    (c .before .before .before .before .before .if2 .taken) (c .before .before .if3 .taken)
+
+returns-2 : tie.Need-returns-2
+returns-2 c =
+    by-toggle _ _ (c .before .before .before .before .before .before .if1 .taken)
+    (c .before .before .before .if2 .taken) (c .if3 .left)
+
+returns-3 : tie.Need-returns-3
+unfolding sameRecord
+returns-3 c = rw (eq-eqb _ _ (c .before .before .before .if1 .taken), ne-eqb _ _ (c .if2 .left))
+
+returns-4 : tie.Need-returns-4
+unfolding sameRecord
+returns-4 c = rw (ne-eqb _ _ (c .if1 .left))
+
+pub same-record-spec : {M : Type 1} → statement M
+same-record-spec = tie.close (tie.spec returns returns-2 returns-3 returns-4)

@@ -1,0 +1,42 @@
+-- The swap on one place of a lent row of records (document 01, 'Shared cells': 'one that changes at most the named record in a lent row
+-- of records. A place at or past the row's end is refusal 9.')
+use Prim.Native.Nat.{ℕ}
+use mathlib.Core.Bool.{Bool, cond}
+use mathlib.Core.List.{List, [], _∷_}
+use lib.Dec.{leb}
+use lib.ListN.{length, getD, set}
+use Rattle.construction.specs.declared.Record.{Record}
+use Rattle.construction.specs.declared.SwappedRecord.{SwappedRecord}
+use Rattle.construction.specs.declared.RowSwap.{RowSwap}
+use Rattle.construction.specs.declared.RowSwap.the-variants.{Won, Lost, Refused}
+use Rattle.construction.specs.declared.Refusal.the-variants.{NoPlace}
+use Rattle.construction.specs.Cells.{openRecord, swapRecord}
+use Rattle.construction.specs.Answers.{numberOf}
+
+-- the answer to a swap that was made: it 'tells which' (document 01, 'Shared cells')
+abbrev pub tells : Bool → RowSwap
+tells won = cond won Won Lost
+
+-- the named record swapped as 'Shared cells' says; past the end, where nothing is swapped, the opening record stands in for it
+abbrev pub swapAt : List Record → ℕ → Record → Record → SwappedRecord
+swapAt row place expected new = swapRecord (getD row place (openRecord 0)) expected new
+
+-- 'A place at or past the row's end is refusal 9'; else the answer tells which
+unfoldable pub rowAnswer : List Record → ℕ → Record → Record → RowSwap
+rowAnswer row place expected new =
+    cond (leb (length row) place) (Refused NoPlace) (tells (swapAt row place expected new .won))
+
+-- the row at exit. 'Turned back': refused, 'all lent cells and bytes remain as they were'; else 'at most the named record' changes
+unfoldable pub rowAfter : List Record → ℕ → Record → Record → List Record
+rowAfter row place expected new =
+    cond (leb (length row) place) row (set row place (swapAt row place expected new .cell))
+
+-- 'If an answer is an enum, a definition gives this paper's number and values for every case of the enum'
+unfoldable pub refusalOf : RowSwap → List ℕ
+refusalOf Won = []
+refusalOf Lost = []
+refusalOf (Refused r) = numberOf r ∷ []
+
+-- row 9 of 'Turned back', given when its condition holds, 'never else'
+unfoldable pub rowRefusal : List Record → ℕ → List ℕ
+rowRefusal row place = cond (leb (length row) place) (9 ∷ []) []

@@ -1,0 +1,201 @@
+// A test program over the crate lent: it lends a row of four records and a gate, makes won, lost and refused swaps,
+// compares every cell afterwards, and prints a line for each case. It rests on the crates construction, cells and lent.
+use construction::Gate;
+use construction::Holder;
+use construction::Record;
+use construction::Refusal;
+use construction::RowSwap;
+use construction::SwappedGate;
+use libc::STDOUT_FILENO;
+ghost use mathlib.Core.Path.{_≡_};
+ghost use Rattle.construction.specs.Cells.{swapGate};
+ghost use Rattle.lent.specs.Row.{rowAnswer, rowAfter};
+
+// A row that came back from a loan, and what the swap answered.
+struct Returned {
+    row: [Record; 4],
+    answer: RowSwap,
+}
+
+fn row_and_answer(row: [Record; 4], answer: RowSwap) -> Returned
+    ensures { λ r. ⌜ (r .row ≡ row) × (r .answer ≡ answer) ⌝ }
+{
+    Returned { row, answer }
+}
+
+// The row is lent for one swap.
+fn swap_in_four(mut row: [Record; 4], place: usize, expected: Record, new: Record) -> Returned
+    ensures { λ r. ⌜ (r .row ≡ rowAfter row place expected new) × (r .answer ≡ rowAnswer row place expected new) ⌝ }
+{
+    let answer = lent::swap_in_row(&mut row, place, expected, new);
+    row_and_answer(row, answer)
+}
+
+fn gate_and_outcome(cell: Gate, won: bool) -> SwappedGate
+    ensures { λ r. ⌜ (r .cell ≡ cell) × (r .won ≡ won) ⌝ }
+{
+    SwappedGate { cell, won }
+}
+
+// The gate is lent for one swap.
+fn swap_gate(mut gate: Gate, expected: Gate, new: Gate) -> SwappedGate
+    ensures { λ r. ⌜ (r .cell ≡ swapGate gate expected new .cell) × (r .won ≡ swapGate gate expected new .won) ⌝ }
+{
+    let won = lent::swap_lent_gate(&mut gate, expected, new);
+    gate_and_outcome(gate, won)
+}
+
+fn record(val0: u32, val1: u32, toggle: bool, seq: u64) -> Record {
+    Record {
+        val0,
+        val1,
+        toggle,
+        seq,
+    }
+}
+
+// Four records; each differs from the first in one field.
+fn first_row() -> [Record; 4] {
+    let first = record(1, 2, false, 5);
+    let second = record(1, 2, true, 5);
+    let third = record(1, 2, false, 6);
+    let fourth = record(3, 2, false, 5);
+    [first, second, third, fourth]
+}
+
+fn same_row(a: [Record; 4], b: [Record; 4]) -> bool {
+    cells::same_record(a[0], b[0])
+        && cells::same_record(a[1], b[1])
+        && cells::same_record(a[2], b[2])
+        && cells::same_record(a[3], b[3])
+}
+
+fn write_answer(answer: RowSwap) {
+    match answer {
+        RowSwap::Won => {
+            io::write_all(STDOUT_FILENO, b"won");
+        }
+        RowSwap::Lost => {
+            io::write_all(STDOUT_FILENO, b"lost");
+        }
+        RowSwap::Refused(refusal) => {
+            if let Refusal::NoPlace = refusal {
+                io::write_all(STDOUT_FILENO, b"refused,9");
+            } else {
+                io::write_all(STDOUT_FILENO, b"refused");
+            }
+        }
+    }
+}
+
+fn write_verdict(same: bool) {
+    if same {
+        io::write_all(STDOUT_FILENO, b",as wanted\n");
+    } else {
+        io::write_all(STDOUT_FILENO, b",differs\n");
+    }
+}
+
+// Lends the first row for a swap and compares the whole row with the one that is wanted.
+fn row_case(label: &[u8], place: usize, expected: Record, new: Record, wanted: [Record; 4]) {
+    let after = swap_in_four(first_row(), place, expected, new);
+    let answer = after.answer;
+    let row = after.row;
+    io::write_all(STDOUT_FILENO, label);
+    write_answer(answer);
+    write_verdict(same_row(row, wanted));
+}
+
+// A swap that is to win: only the named record changes.
+fn won_row(label: &[u8], place: usize) {
+    if place < 4 {
+        let row = first_row();
+        let new = record(9, 8, true, 7);
+        let mut wanted = row;
+        wanted[place] = new;
+        let expected = row[place];
+        row_case(label, place, expected, new, wanted);
+    }
+}
+
+// A swap that expects the first record and is to change nothing.
+fn kept_row(label: &[u8], place: usize) {
+    let row = first_row();
+    row_case(
+        label,
+        place,
+        record(1, 2, false, 5),
+        record(9, 8, true, 7),
+        row,
+    );
+}
+
+fn gate_case(label: &[u8], expected: Gate, wanted: Gate) {
+    let gate = Gate {
+        holder: Holder::Process(1),
+        seq: 7,
+    };
+    let new = Gate {
+        holder: Holder::Nobody,
+        seq: 8,
+    };
+    let after = swap_gate(gate, expected, new);
+    io::write_all(STDOUT_FILENO, label);
+    if after.won {
+        io::write_all(STDOUT_FILENO, b"won");
+    } else {
+        io::write_all(STDOUT_FILENO, b"lost");
+    }
+    write_verdict(cells::same_gate(after.cell, wanted));
+}
+
+fn gate_cases() {
+    let held = Gate {
+        holder: Holder::Process(1),
+        seq: 7,
+    };
+    let free = Gate {
+        holder: Holder::Nobody,
+        seq: 8,
+    };
+    gate_case(b"gate,equal,", held, free);
+    gate_case(
+        b"gate,other seq,",
+        Gate {
+            holder: Holder::Process(1),
+            seq: 6,
+        },
+        held,
+    );
+    gate_case(
+        b"gate,other process,",
+        Gate {
+            holder: Holder::Process(0),
+            seq: 7,
+        },
+        held,
+    );
+    gate_case(
+        b"gate,nobody,",
+        Gate {
+            holder: Holder::Nobody,
+            seq: 7,
+        },
+        held,
+    );
+}
+
+fn main() {
+    won_row(b"row,0,equal,", 0);
+    won_row(b"row,2,equal,", 2);
+    won_row(b"row,3,equal,", 3);
+    kept_row(b"row,1,other toggle,", 1);
+    kept_row(b"row,2,other seq,", 2);
+    kept_row(b"row,3,other value,", 3);
+    kept_row(b"row,4,past the end,", 4);
+    kept_row(
+        b"row,18446744073709551615,past the end,",
+        18446744073709551615,
+    );
+    gate_cases();
+}

@@ -25,6 +25,10 @@ pub mod Entries
 pub mod NotesLaws
 pub mod OpenedBounds
 pub mod Outcomes
+pub mod TextLines
+pub mod TextReading
+pub mod TextWriting
+pub mod TextRoundTrip
 pub mod TextKept
 pub mod Course
 pub mod Observed

@@ -4,6 +4,7 @@ use mathlib.Core.Path.{_≡_, refl, sym, ap, _∙_}
 use mathlib.Core.List.{List, [], _∷_}
 use lib.Dec.{ltb}
 use Rattle.construction.specs.declared.Card.{Card}
+use Rattle.construction.specs.declared.Verdict.{Verdict}
 use Rattle.construction.specs.declared.Contents.{Contents}
 use Rattle.construction.specs.declared.Answered.{Answered}
 use Rattle.construction.specs.declared.Simulation.{Simulation}
@@ -19,6 +20,7 @@ use Rattle.construction.specs.Machine.{accessOf, holderOf, accessGate, h
 use Rattle.construction.specs.Opening.{fresh, opened}
 use Rattle.construction.specs.Writing.{textOf}
 use Rattle.construction.specs.History.{Entry, Moment, observe, observeAll, run}
+use Rattle.construction.proofs.TextRoundTrip.{given-back}
 use Rattle.construction.proofs.Basics.{on-test}
 use Rattle.construction.proofs.Outcomes.{Outcome, outcome}
 
@@ -97,3 +99,8 @@ pub same-text : (t : List ℕ) (es : List Entry) → textOf (run (opened t .card
 same-text t es =
     let o = opened t .card in
     text-of (run o es .card) ∙ (ap (λ (x : Contents). textOf (fresh x)) (all-kept o _ es) ∙ sym (text-of o))
+
+-- the writer's promise: a text that opens is what is written for its card after any list of entries
+pub given-back-after :
+    (t : List ℕ) → opened t .verdict ≡ Verdict.Accepted → (es : List Entry) → textOf (run (opened t .card) es .card) ≡ t
+given-back-after t a es = same-text t es ∙ given-back t a

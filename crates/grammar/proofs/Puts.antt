@@ -104,18 +104,13 @@ module _ {b : List ℕ} {at i j k l : ℕ} {z₁ z₂ z₃ z₄ : List ℕ} wher
       Put z₃ k (fieldText 10 w) l z₄ → Put b at (fourText x y z w) l z₄
   put-fields x y z w h p q r s = rest-last (rest-step (rest-step (rest-step (rest-all b at (fourText x y z w) h) p) q) r) s
 
--- ---- a text whose length was told by a buffer of no bytes: q before and p after, in front of the bytes b
-no-bytes : (p b : List ℕ) → length p ≡ 0 → p ++ b ≡ b
-no-bytes [] b e = refl
-no-bytes (x ∷ xs) b e = absurd (omega arith)
+-- ---- a text put at the front of a buffer that has room for it, and the length that an empty buffer tells
+module _ {b text : List ℕ} {next : ℕ} {z : List ℕ} where
+  pub put-front : length text ≤ length b → Put b 0 text next z → z ≡ text ++ drop (length text) b
+  put-front h p =
+      let e : 0 + length text ≡ length text = omega arith in
+      p .bytes ∙ sets-eq text b 0 (omega arith) ∙ rw e
 
-module _ (b p : List ℕ) (none : length p ≡ 0) (short : length b < largest) {q text : List ℕ} {need : ℕ} (told : Put q 0 text need p) where
-  pub told-short : length (p ++ b) < need → (length b < length text) × (p ++ b ≡ b)
-  told-short h = let n = told .place in (omega (arith, length-append p b), no-bytes p b none)
-
-  pub told-fits : {next : ℕ} {z : List ℕ} → need ≤ length (p ++ b) → Put (p ++ b) 0 text next z → (length text ≤ length b) × (need ≡ length text) × (z ≡ text ++ drop (length text) b)
-  told-fits {next} {z} h w =
-      let n = told .place in
-      let f : length text ≤ length b = omega (arith, length-append p b) in
-      let k : 0 + length text ≡ length text = omega arith in
-      (f, omega (arith, length-append p b), w .bytes ∙ ap (λ (l : List ℕ). sets l 0 text) (no-bytes p b none) ∙ sets-eq text b 0 (omega arith) ∙ rw k)
+  -- the place told decides whether a text fits a buffer, even one too long for any place
+  pub put-fits : (n : ℕ) → n < largest → Put b 0 text next z → (next ≤ n → (length text ≤ n) × (next ≡ length text)) × (n < next → n < length text)
+  put-fits n h p = let m = p .place in (λ (q : next ≤ n). omega arith, λ (q : n < next). omega arith)

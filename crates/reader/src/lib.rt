@@ -1,0 +1,190 @@
+// The reader of a card text (document 01, "The card text" and "Turned back"): the text is judged by its length, then line by line,
+// and the card is made once, at the end. It rests on the crates lines and construction.
+mod blank; // blank.rt: what a card, a program or a refused reading starts from
+mod refusals; // refusals.rt: the refusal of a line
+
+use crate::blank::begun_contents;
+use crate::blank::fresh_card;
+use crate::blank::no_line;
+use crate::blank::program_refused_at;
+use crate::blank::refused_at;
+use crate::refusals::card_refusal;
+use crate::refusals::ins_refusal;
+use crate::refusals::sheet_refusal;
+use crate::refusals::var_refusal;
+use construction::CardLine;
+use construction::Contents;
+use construction::InsLine;
+use construction::Line;
+use construction::Opened;
+use construction::Program;
+use construction::ProgramReading;
+use construction::Reading;
+use construction::Refusal;
+use construction::SheetLine;
+use construction::VarLine;
+use construction::Verdict;
+ghost use mathlib.Core.Path.{_≡_};
+ghost use Prim.Native.Nat.{_≤_};
+ghost use Rattle.construction.specs.Opening.{insFrom, readProgram, programsFrom, varsFrom, thenEnd, thenPrograms, readCard, opened};
+ghost use Rattle.construction.specs.Instructions.{noLine};
+ghost use Rattle.reader.specs.Gathering.{programSoFar, soFar};
+ghost use lib.ListN.{replicate};
+
+// The lines of a program, as many as its `sheet` line says.
+fn read_lines(variables: u8, text: &[u8], length: u8, start: usize, first: u64) -> ProgramReading
+    requires { ⌜ (length ≤ 32) × (first ≤ 10000) ⌝ }
+    ensures { λ r. ⌜ r ≡ insFrom variables (now (text .entry)) length 0 (programSoFar length (replicate 32 noLine) start first) ⌝ }
+{
+    let blank = no_line();
+    let mut lines = [blank; 32];
+    let mut at = start;
+    let mut number = first;
+    let count = length as usize;
+    let mut k: usize = 0;
+    while k < count {
+        let line = lines::ins_line(variables, text, at);
+        let InsLine::Ins { instruction, next } = line else {
+            return program_refused_at(ins_refusal(line), number);
+        };
+        lines[k] = Line { instruction };
+        at = next;
+        number = number + 1;
+        k = k + 1;
+    }
+    let program = Program { length, lines };
+    ProgramReading {
+        verdict: Verdict::Accepted,
+        program,
+        at,
+        line: number,
+    }
+}
+
+// One program: its `sheet` line and its lines.
+fn read_program(variables: u8, text: &[u8], at: usize, number: u64) -> ProgramReading
+    requires { ⌜ number ≤ 9000 ⌝ }
+    ensures { λ r. ⌜ r ≡ readProgram variables (now (text .entry)) at number ⌝ }
+{
+    let line = lines::sheet_line(text, at);
+    let SheetLine::Length { length, next } = line else {
+        return program_refused_at(sheet_refusal(line), number);
+    };
+    read_lines(variables, text, length, next, number + 1)
+}
+
+// The programs, as many as the `card` line says.
+fn read_programs(text: &[u8], count: u8, contents: Contents, start: usize, first: u64) -> Reading
+    requires { ⌜ (count ≤ 8) × (first ≤ 1000) ⌝ }
+    ensures { λ r. ⌜ r ≡ programsFrom (now (text .entry)) count 0 (soFar contents start first) ⌝ }
+{
+    let variables = contents.variables;
+    let mut code = contents.code;
+    let mut at = start;
+    let mut number = first;
+    let all = count as usize;
+    let mut k: usize = 0;
+    while k < all {
+        let read = read_program(variables, text, at, number);
+        let verdict = read.verdict;
+        if let Verdict::Refused { refusal, line } = verdict {
+            return refused_at(refusal, line);
+        }
+        let program = read.program;
+        code[k] = program;
+        at = read.at;
+        number = read.line;
+        k = k + 1;
+    }
+    let contents = Contents { code, ..contents };
+    Reading {
+        verdict: Verdict::Accepted,
+        contents,
+        at,
+        line: number,
+    }
+}
+
+// The `var` lines, as many as the `card` line says.
+fn read_vars(text: &[u8], count: u8, contents: Contents, start: usize, first: u64) -> Reading
+    requires { ⌜ (count ≤ 64) × (first ≤ 100) ⌝ }
+    ensures { λ r. ⌜ r ≡ varsFrom (now (text .entry)) count 0 (soFar contents start first) ⌝ }
+{
+    let mut starts = contents.starts;
+    let mut at = start;
+    let mut number = first;
+    let all = count as usize;
+    let mut k: usize = 0;
+    while k < all {
+        let line = lines::var_line(text, at);
+        let VarLine::Start { value, next } = line else {
+            return refused_at(var_refusal(line), number);
+        };
+        starts[k] = value;
+        at = next;
+        number = number + 1;
+        k = k + 1;
+    }
+    let contents = Contents { starts, ..contents };
+    Reading {
+        verdict: Verdict::Accepted,
+        contents,
+        at,
+        line: number,
+    }
+}
+
+// What follows the `card` line: the `var` lines, the programs, and nothing more.
+fn read_body(text: &[u8], variables: u8, programs: u8, contents: Contents, at: usize) -> Reading
+    requires { ⌜ (variables ≤ 64) × (programs ≤ 8) ⌝ }
+    ensures { λ r. ⌜ r ≡ thenEnd (now (text .entry)) (thenPrograms (now (text .entry)) programs (varsFrom (now (text .entry)) variables 0 (soFar contents at 2))) ⌝ }
+{
+    let vars = read_vars(text, variables, contents, at, 2);
+    let verdict = vars.verdict;
+    let Verdict::Accepted = verdict else {
+        return vars;
+    };
+    let started = vars.contents;
+    let all = read_programs(text, programs, started, vars.at, vars.line);
+    let verdict = all.verdict;
+    let Verdict::Accepted = verdict else {
+        return all;
+    };
+    if all.at == text.len() {
+        all
+    } else {
+        refused_at(Refusal::Malformed, all.line)
+    }
+}
+
+fn read_card(text: &[u8]) -> Reading
+    ensures { λ r. ⌜ r ≡ readCard (now (text .entry)) ⌝ }
+{
+    if 16384 < text.len() {
+        return refused_at(Refusal::TooLong, 0);
+    }
+    let line = lines::card_line(text, 0);
+    let CardLine::Fields {
+        processes,
+        variables,
+        programs,
+        limit,
+        next,
+    } = line
+    else {
+        return refused_at(card_refusal(line), 1);
+    };
+    let contents = begun_contents(processes, variables, programs, limit);
+    read_body(text, variables, programs, contents, next)
+}
+
+// The card that a text opens to, or the refusal with its line and the empty card.
+pub fn open(text: &[u8]) -> Opened
+    ensures { λ r. ⌜ r ≡ opened (now (text .entry)) ⌝ }
+{
+    let read = read_card(text);
+    let contents = read.contents;
+    let verdict = read.verdict;
+    let card = fresh_card(contents);
+    Opened { card, verdict }
+}

@@ -1,0 +1,230 @@
+-- The dictionary and the simulation by the tests that decide them, over plain values
+use Prim.Native.Nat.{ℕ, zero, suc, _+_, _%_, _<_, _≤_}
+use mathlib.Core.Bool.{true, false, not}
+use mathlib.Core.List.{List, [], _∷_, map}
+use mathlib.Core.Path.{_≡_, refl, sym, _∙_, ap}
+use native.Mathlib.Omega.{arith}
+use native.Mathlib.Numerals.{add-one}
+use lib.Dec.{eqb, ltb}
+use lib.ListN.{length, getD, set, take, drop, length-take, length-set, length-map, drop-of-length-le, List·getD-map}
+use lib.Seq.{drop-cons, getD-take, map-set-same, length-take-le, take-suc, take-suc-set, take-all}
+use borrow.Author.Tests.{eq-eqb, ne-eqb, lt-ltb, le-ltb}
+use Rattle.construction.specs.declared.Words.{Words}
+use Rattle.construction.specs.declared.Program.{Program}
+use Rattle.construction.specs.declared.Record.{Record}
+use Rattle.construction.specs.declared.Effect.{Effect}
+use Rattle.construction.specs.declared.Item.{Item}
+use Rattle.construction.specs.declared.Dictionary.{Dictionary}
+use Rattle.construction.specs.declared.Simulation.{Simulation}
+use Rattle.construction.specs.declared.Simulated.{Simulated}
+use Rattle.construction.specs.Cells.{current, previous}
+use Rattle.construction.specs.Instructions.{effectOf, noLine, nextEffect, withRegister, withOutput, skipped}
+use Rattle.programs.specs.Fetching.{instructionAt}
+use Rattle.programs.proofs.Laws.{fetched}
+use Rattle.construction.specs.Dictionary.{noItem, noted, position, find, valueAt, withValue, assign, valueUnder, insert, altered, unaltered, nextWrite}
+use Rattle.helping.specs.Keys.{keys, placeOf}
+use Rattle.construction.specs.Helping.{ended, lacks, simulateFrom, simulate}
+
+-- how many items are noted
+module _ (d : Dictionary) (sized : length (d .items) ≡ 32) where
+  pub noted-some : d .length < 32 → d .length ≡ length (noted d)
+  noted-some p = sym (length-take (d .length) (d .items) ∙ rw sized (omega arith))
+
+  pub noted-all : 32 ≤ d .length → 32 ≡ length (noted d)
+  noted-all p = sym (length-take (d .length) (d .items) ∙ rw sized (omega arith))
+
+-- a value assigned, and an item inserted
+module _ (d : Dictionary) where
+  assign-keys : (k x : ℕ) (ks : List ℕ) → ks ≡ keys d → ks ≡ keys (assign d k x)
+  unfolding assign
+  assign-keys k x ks e =
+      e ∙ sym (map-set-same (λ (e : Item). e .variable) (d .items) k (withValue (getD (d .items) k noItem) x) noItem refl)
+
+  assign-noted : (k x : ℕ) → length (noted (assign d k x)) ≡ length (noted d)
+  unfolding assign
+  assign-noted k x = simp (length-take, length-set)
+
+  pub insert-more : (e : Item) → d .length < 32 →
+      _≡_ {A = Dictionary} (record { length = d .length + 1; items = set (d .items) (d .length) e }) (insert d e)
+  unfolding insert
+  insert-more e p = rw (lt-ltb _ _ p, add-one)
+
+  pub insert-full : (e : Item) → 32 ≤ d .length → d ≡ insert d e
+  unfolding insert
+  insert-full e p = rw (le-ltb _ _ p)
+
+  noted-length : (k : ℕ) → k < length (noted d) → k < d .length
+  noted-length k p = omega (arith, length-take (d .length) (d .items))
+
+  noted-at : (k : ℕ) → k < length (noted d) → getD (noted d) k noItem ≡ getD (d .items) k noItem
+  noted-at k p = getD-take (d .length) (d .items) k noItem (noted-length k p)
+
+-- the value of a record, and whether an item is altered, by seq
+module _ (seq : ℕ) (r : Record) (x : ℕ) where
+  pub under-lower : r .seq < seq → x ≡ current r → x ≡ valueUnder seq r
+  unfolding valueUnder
+  under-lower p e = rw (lt-ltb _ _ p) e
+
+  pub under-equal : seq ≤ r .seq → x ≡ previous r → x ≡ valueUnder seq r
+  unfolding valueUnder
+  under-equal p e = rw (le-ltb _ _ p) e
+
+module _ (seq : ℕ) (e : Item) where
+  pub altered-not : seq ≤ e .cell .seq → ltb (e .cell .seq) seq ≡ altered seq e
+  unfolding altered
+  altered-not p = rw (le-ltb _ _ p)
+
+  pub altered-by : (x : ℕ) → e .cell .seq < seq → x ≡ current (e .cell) → not (eqb x (e .value)) ≡ altered seq e
+  unfolding altered
+  altered-by x p q = rw (lt-ltb _ _ p, q)
+
+-- how many items stand before the first that is altered
+module _ (seq : ℕ) (d : Dictionary) (k total : ℕ) (sought : total ≡ nextWrite seq d k) where
+  pub write-here : k < length (noted d) → altered seq (getD (d .items) k noItem) ≡ true → k ≡ total
+  unfolding nextWrite unaltered
+  write-here p h = sym (sought ∙ rw (drop-cons (noted d) k noItem p, noted-at d k p, h) (omega arith))
+
+  pub write-more : k < length (noted d) → altered seq (getD (d .items) k noItem) ≡ false → total ≡ nextWrite seq d (k + 1)
+  unfolding nextWrite unaltered
+  write-more p h = sought ∙ rw (add-one k, drop-cons (noted d) k noItem p, noted-at d k p, h) (omega arith)
+
+  pub write-end : length (noted d) ≤ k → k ≡ total
+  unfolding nextWrite unaltered
+  write-end p = sym (sought ∙ rw (drop-of-length-le (noted d) p) (omega arith))
+
+-- how many of the first keys stand before a variable's
+module _ (ks : List ℕ) (end v k total : ℕ) (long : end ≤ length ks) (sought : total ≡ k + placeOf (drop k (take end ks)) v) where
+  pub key-here : k < end → getD ks k 0 ≡ v → k ≡ total
+  unfolding placeOf
+  key-here p h =
+      let q : k < length (take end ks) = rw (length-take-le end ks long) p in
+      sym (sought ∙ rw (drop-cons (take end ks) k 0 q, getD-take end ks k 0 p, eq-eqb _ _ h) (omega arith))
+
+  pub key-more : k < end → (getD ks k 0 ≡ v → ⊥) → total ≡ k + 1 + placeOf (drop (k + 1) (take end ks)) v
+  unfolding placeOf
+  key-more p h =
+      let q : k < length (take end ks) = rw (length-take-le end ks long) p in
+      sought ∙ rw (add-one k, drop-cons (take end ks) k 0 q, getD-take end ks k 0 p, ne-eqb _ _ h) (omega arith)
+
+  pub key-end : end ≤ k → k ≡ total
+  unfolding placeOf
+  key-end p =
+      let q : length (take end ks) ≤ k = rw (length-take-le end ks long) p in
+      sym (sought ∙ rw (drop-of-length-le (take end ks) q) (omega arith))
+
+-- the array of keys, filled from the front
+module _ (d : Dictionary) (ks : List ℕ) (k : ℕ) (so-far : take k ks ≡ take k (keys d)) (long : length ks ≡ 32) (sized : length (d .items) ≡ 32) where
+  pub keys-more : k < 32 → take (k + 1) (set ks k (getD (d .items) k noItem .variable)) ≡ take (k + 1) (keys d)
+  keys-more p =
+      let q : k < length ks = omega arith in
+      let r : k < length (keys d) = rw (length-map (d .items) (λ (e : Item). e .variable)) (omega arith) in
+      rw (
+        add-one k,
+        take-suc-set ks k (getD (d .items) k noItem .variable) q,
+        take-suc (keys d) k 0 r,
+        so-far,
+        List·getD-map (λ (e : Item). e .variable) (d .items) k noItem,
+      )
+
+  pub keys-end : 32 ≤ k → ks ≡ keys d
+  keys-end p =
+      sym (take-all k ks (omega arith)) ∙
+      (so-far ∙ take-all k (keys d) (rw (length-map (d .items) (λ (e : Item). e .variable)) (omega arith)))
+
+-- the keys find what the dictionary finds
+take-again {ℓ} : {A : Type ℓ} (n : ℕ) (l : List A) → take (length (take n l)) l ≡ take n l
+take-again zero l = refl
+take-again (suc n) [] = refl
+take-again (suc n) (x ∷ l) = rw (take-again n l)
+
+position-is : (v n : ℕ) (es : List Item) → placeOf (take n (map (λ (e : Item). e .variable) es)) v ≡ position (take n es) v
+unfolding position placeOf
+position-is v zero es = refl
+position-is v (suc n) [] = refl
+position-is v (suc n) (e ∷ es) = rw (position-is v n es)
+
+pub enough-keys : (d : Dictionary) (ks : List ℕ) (end : ℕ) → end ≡ length (noted d) → ks ≡ keys d → end ≤ length ks
+enough-keys d ks end e p =
+    rw (e, p, length-map (d .items) (λ (e : Item). e .variable), length-take (d .length) (d .items)) (omega arith)
+
+find-by-keys :
+    (d : Dictionary) (ks : List ℕ) (v end k : ℕ) → end ≡ length (noted d) → ks ≡ keys d → k ≡ placeOf (take end ks) v →
+    k ≡ find d v
+find-by-keys d ks v end k e p q =
+    q ∙ rw (e, p) (position-is v (length (noted d)) (d .items) ∙ rw (take-again (d .length) (d .items)))
+
+-- a simulation whose result is `total` stands before the effect e, with m instructions left after it
+pub record Here (n : ℕ) (program : Program) (inputs : Words) (fuel m : ℕ) (s : Simulation) (d : Dictionary) (total : Simulated) (e : Effect) : Type 0 where
+  pub so-far : total ≡ simulateFrom n program inputs fuel s d
+  pub left : fuel ≡ suc m
+  pub next : e ≡ nextEffect n program inputs s
+
+module _ {n : ℕ} {program : Program} {inputs : Words} {fuel m : ℕ} {s : Simulation} {d : Dictionary} {total : Simulated} {e : Effect} (h : Here n program inputs fuel m s d total e) where
+  pub stops : e ≡ Effect.Stop → ended s d ≡ total
+  unfolding simulateFrom
+  stops p = sym (h .so-far ∙ rw (h .left, ← h .next, p))
+
+  pub sets :
+      (a x : ℕ) (t : Simulation) → e ≡ Effect.Set a x → t ≡ withRegister s a x → total ≡ simulateFrom n program inputs m t d
+  unfolding simulateFrom
+  sets a x t p q = h .so-far ∙ rw (h .left, ← h .next, p, q)
+
+  pub outputs :
+      (a x : ℕ) (t : Simulation) → e ≡ Effect.Output a x → t ≡ withOutput s a x → total ≡ simulateFrom n program inputs m t d
+  unfolding simulateFrom
+  outputs a x t p q = h .so-far ∙ rw (h .left, ← h .next, p, q)
+
+  pub skips : (c : ℕ) (t : Simulation) → e ≡ Effect.Skip c → t ≡ skipped s c → total ≡ simulateFrom n program inputs m t d
+  unfolding simulateFrom
+  skips c t p q = h .so-far ∙ rw (h .left, ← h .next, p, q)
+
+  module _ (ks : List ℕ) (v k end : ℕ) (counted : end ≡ length (noted d)) (keyed : ks ≡ keys d) (place : k ≡ placeOf (take end ks) v) where
+    found : k ≡ find d v
+    found = find-by-keys d ks v end k counted keyed place
+
+    pub loads :
+        (a x : ℕ) (t : Simulation) → e ≡ Effect.Load a v → k < end → x ≡ valueAt d k → t ≡ withRegister s a x →
+        total ≡ simulateFrom n program inputs m t d
+    unfolding simulateFrom
+    loads a x t p q y z =
+        let r : k < length (noted d) = omega arith in
+        h .so-far ∙ rw (h .left, ← h .next, p, ← found, lt-ltb _ _ r, z, y)
+
+    pub load-lacks : (a : ℕ) → e ≡ Effect.Load a v → end ≤ k → lacks v s d ≡ total
+    unfolding simulateFrom
+    load-lacks a p q =
+        let r : length (noted d) ≤ k = omega arith in
+        sym (h .so-far ∙ rw (h .left, ← h .next, p, ← found, le-ltb _ _ r))
+
+    pub stores :
+        (x : ℕ) (t : Simulation) (b : Dictionary) → e ≡ Effect.Store v x → k < end → b ≡ assign d k x → t ≡ skipped s 0 →
+        (total ≡ simulateFrom n program inputs m t b) × ((end ≡ length (noted b)) × (ks ≡ keys b))
+    unfolding simulateFrom
+    stores x t b p q y z =
+        let r : k < length (noted d) = omega arith in (
+          h .so-far ∙ rw (h .left, ← h .next, p, ← found, lt-ltb _ _ r, z, y),
+          (rw y (counted ∙ sym (assign-noted d k x)), rw y (assign-keys d k x ks keyed)),
+        )
+
+    pub store-lacks : (x : ℕ) → e ≡ Effect.Store v x → end ≤ k → lacks v s d ≡ total
+    unfolding simulateFrom
+    store-lacks x p q =
+        let r : length (noted d) ≤ k = omega arith in
+        sym (h .so-far ∙ rw (h .left, ← h .next, p, ← found, le-ltb _ _ r))
+
+-- the effect by the line at the counter
+pub effect-is :
+    (n : ℕ) (program : Program) (inputs : Words) (s : Simulation) (e : Effect) → length (program .lines) ≡ 32 →
+    e ≡ effectOf n inputs (s .registers) (instructionAt (program .length) (s .counter) (getD (program .lines) (s .counter % 32) noLine)) →
+    e ≡ nextEffect n program inputs s
+effect-is n program inputs s e z p = p ∙ ap (effectOf n inputs (s .registers)) (fetched program (s .counter) z)
+
+-- where the loop begins and ends
+module _ (n : ℕ) (program : Program) (inputs : Words) (s : Simulation) (d : Dictionary) where
+  pub simulate-start : simulate n program inputs s d ≡ simulateFrom n program inputs 32 s d
+  unfolding simulate
+  simulate-start = refl
+
+  pub simulate-end : (fuel : ℕ) (total : Simulated) → total ≡ simulateFrom n program inputs fuel s d → fuel ≤ 0 → ended s d ≡ total
+  unfolding simulateFrom
+  simulate-end fuel total p h = sym (p ∙ (let z : fuel ≡ 0 = omega arith in rw z))

@@ -1,0 +1,102 @@
+-- The definitions of the instructions by the tests that decide them, over plain values
+use Prim.Native.Nat.{ℕ, zero, suc, _+_, _-_, _%_, _^_, _<_, _≤_}
+use mathlib.Core.Bool.{Bool, true, false, cond}
+use mathlib.Core.Path.{_≡_, refl}
+use native.Mathlib.Omega.{arith}
+use lib.Dec.{eqb, ltb}
+use lib.ListN.{length, getD, List·getD-eq-default}
+use borrow.Author.Tests.{ne-eqb, lt-ltb, le-ltb, ltb-true, ltb-false}
+use Rattle.construction.specs.declared.Words.{Words}
+use Rattle.construction.specs.declared.Effect.{Effect}
+use Rattle.construction.specs.declared.Instruction.{Instruction}
+use Rattle.construction.specs.declared.Line.{Line}
+use Rattle.construction.specs.declared.Program.{Program}
+use Rattle.construction.specs.Instructions.{withWord, difference, load, store, forward, noLine, fetch}
+use Rattle.programs.specs.Fetching.{instructionAt}
+
+module _ (f : Words) (x : ℕ) where
+  -- four words of which the one at place k is x
+  placed : ℕ → Words
+  placed k =
+      record {
+        w0 = cond (eqb k 0) x (f .w0);
+        w1 = cond (eqb k 1) x (f .w1);
+        w2 = cond (eqb k 2) x (f .w2);
+        w3 = cond (ltb 2 k) x (f .w3);
+      }
+
+  placed-is : (k : ℕ) → placed k ≡ withWord f k x
+  unfolding placed withWord
+  placed-is zero = refl
+  placed-is (suc zero) = refl
+  placed-is (suc (suc zero)) = refl
+  placed-is (suc (suc (suc k))) =
+      rw (
+        ne-eqb (suc (suc (suc k))) 0 (λ e. omega arith),
+        ne-eqb (suc (suc (suc k))) 1 (λ e. omega arith),
+        ne-eqb (suc (suc (suc k))) 2 (λ e. omega arith),
+        lt-ltb 2 (suc (suc (suc k))) (omega arith),
+      )
+
+  pub with-word :
+      (k a b c d : ℕ) → a ≡ cond (eqb k 0) x (f .w0) → b ≡ cond (eqb k 1) x (f .w1) → c ≡ cond (eqb k 2) x (f .w2) →
+      d ≡ cond (ltb 2 k) x (f .w3) → _≡_ {A = Words} (record { w0 = a; w1 = b; w2 = c; w3 = d }) (withWord f k x)
+  unfolding placed
+  with-word k a b c d p q r s = rw (p, q, r, s) (placed-is k)
+
+pub difference-is : (r x y : ℕ) → r < 4294967296 → y < 4294967296 → (r + y) % 2 ^ 32 ≡ x → r ≡ difference x y
+unfolding difference
+difference-is r x y p q e = omega arith
+
+module _ (n a v : ℕ) where
+  pub load-there : v < n → Effect.Load a v ≡ load n a v
+  unfolding load
+  load-there p = rw (lt-ltb _ _ p)
+
+  pub load-none : n ≤ v → Effect.Set a 0 ≡ load n a v
+  unfolding load
+  load-none p = rw (le-ltb _ _ p)
+
+module _ (n v x : ℕ) where
+  pub store-there : v < n → Effect.Store v x ≡ store n v x
+  unfolding store
+  store-there p = rw (lt-ltb _ _ p)
+
+  pub store-none : n ≤ v → Effect.Skip 0 ≡ store n v x
+  unfolding store
+  store-none p = rw (le-ltb _ _ p)
+
+module _ (k c next : ℕ) (e : next ≡ k + c + 1) where
+  pub forward-in : next < 32 → next ≡ forward k c
+  unfolding forward
+  forward-in p = omega arith
+
+  pub forward-end : 32 ≤ next → 32 ≡ forward k c
+  unfolding forward
+  forward-end p = omega arith
+
+module _ (size k : ℕ) (line : Line) where
+  pub at-there : k < size → k < 32 → line .instruction ≡ instructionAt size k line
+  unfolding instructionAt
+  at-there p q = rw (lt-ltb _ _ p, lt-ltb _ _ q)
+
+  pub at-past : k < size → 32 ≤ k → Instruction.Stop ≡ instructionAt size k line
+  unfolding instructionAt
+  at-past p q = rw (lt-ltb _ _ p, le-ltb _ _ q)
+
+  pub at-end : size ≤ k → Instruction.Stop ≡ instructionAt size k line
+  unfolding instructionAt
+  at-end p = rw (le-ltb _ _ p)
+
+-- by the line at a place modulo 32, which is always there
+module _ (program : Program) (k : ℕ) (sized : length (program .lines) ≡ 32) where
+  fetched-by :
+      (b : Bool) → ltb k 32 ≡ b →
+      instructionAt (program .length) k (getD (program .lines) (k % 32) noLine) ≡ fetch program k
+  unfolding instructionAt fetch
+  fetched-by true p = rw (p, (let z : k % 32 ≡ k = omega (arith, ltb-true k 32 p) in z))
+  fetched-by false p =
+      rw (p, List·getD-eq-default (program .lines) noLine {n = k} (omega (arith, ltb-false k 32 p)))
+
+  pub fetched : instructionAt (program .length) k (getD (program .lines) (k % 32) noLine) ≡ fetch program k
+  fetched = fetched-by (ltb k 32) refl

@@ -1,0 +1,2 @@
+-- The definitions that the contracts of programs add to those of construction
+pub mod Fetching

@@ -1,0 +1,201 @@
+// The twelve instructions of document 01 ('The card text') as code: operands, arithmetic, and what an instruction does to a
+// running program. It rests on the crate construction, which declares the types and defines each result.
+use construction::Effect;
+use construction::Instruction;
+use construction::Line;
+use construction::Program;
+use construction::Simulation;
+use construction::Words;
+ghost use mathlib.Core.Path.{_≡_};
+ghost use mathlib.Core.Bool.{cond};
+ghost use Rattle.construction.specs.Instructions.{word, withWord, sum, difference, load, store, effectOf};
+ghost use Rattle.programs.specs.Fetching.{instructionAt};
+ghost use Rattle.construction.specs.Instructions.{forward, withRegister, withOutput, skipped, fetch};
+
+// Word `place` of four.
+pub fn word(words: Words, place: u8) -> u32
+    ensures { λ r. ⌜ r ≡ word words place ⌝ }
+{
+    match place {
+        0 => words.w0,
+        1 => words.w1,
+        2 => words.w2,
+        _ => words.w3,
+    }
+}
+
+fn choose(test: bool, new: u32, old: u32) -> u32
+    ensures { λ r. ⌜ r ≡ cond test new old ⌝ }
+{
+    if test { new } else { old }
+}
+
+// Four words with a value at a place. No branch yields a struct, for speed.
+pub fn with_word(words: Words, place: u8, value: u32) -> Words
+    ensures { λ r. ⌜ r ≡ withWord words place value ⌝ }
+{
+    Words {
+        w0: choose(place == 0, value, words.w0),
+        w1: choose(place == 1, value, words.w1),
+        w2: choose(place == 2, value, words.w2),
+        w3: choose(2 < place, value, words.w3),
+    }
+}
+
+// Code 7.
+pub fn sum(x: u32, y: u32) -> u32
+    ensures { λ r. ⌜ r ≡ sum x y ⌝ }
+{
+    std::num::wrapping_add_u32(x, y)
+}
+
+// Code 8.
+pub fn difference(x: u32, y: u32) -> u32
+    ensures { λ r. ⌜ r ≡ difference x y ⌝ }
+{
+    std::num::wrapping_sub_u32(x, y)
+}
+
+// A load of a variable, which touches nothing where the variable is not below n.
+pub fn load(n: u8, register: u8, variable: u32) -> Effect
+    ensures { λ r. ⌜ r ≡ load n register variable ⌝ }
+{
+    if variable < n as u32 {
+        return Effect::Load {
+            register,
+            variable: variable as u8,
+        };
+    }
+    Effect::Set { register, value: 0 }
+}
+
+// A store to a variable, which touches nothing where the variable is not below n.
+pub fn store(n: u8, variable: u32, value: u32) -> Effect
+    ensures { λ r. ⌜ r ≡ store n variable value ⌝ }
+{
+    if n as u32 <= variable {
+        return Effect::Skip { count: 0 };
+    }
+    Effect::Store {
+        variable: variable as u8,
+        value,
+    }
+}
+
+fn skip_if(test: bool, count: u8) -> Effect
+    ensures { λ r. ⌜ r ≡ Effect.Skip (cond test count 0) ⌝ }
+{
+    Effect::Skip {
+        count: if test { count } else { 0 },
+    }
+}
+
+fn set(register: u8, value: u32) -> Effect
+    ensures { λ e. ⌜ e ≡ Effect.Set register value ⌝ }
+{
+    Effect::Set { register, value }
+}
+
+// What an instruction does on a card of n variables, with the registers r.
+pub fn effect_of(n: u8, inputs: Words, r: Words, instruction: Instruction) -> Effect
+    ensures { λ e. ⌜ e ≡ effectOf n inputs r instruction ⌝ }
+{
+    match instruction {
+        Instruction::Stop => Effect::Stop,
+        Instruction::Input { register, input } => set(register, word(inputs, input)),
+        Instruction::Constant { register, constant } => set(register, constant),
+        Instruction::Load { register, variable } => load(n, register, variable as u32),
+        Instruction::Store { variable, register } => store(n, variable as u32, word(r, register)),
+        Instruction::LoadAt { register, address } => load(n, register, word(r, address)),
+        Instruction::StoreAt { address, register } => store(n, word(r, address), word(r, register)),
+        Instruction::Add { register, operand } => set(
+            register,
+            sum(word(r, register), word(r, operand)),
+        ),
+        Instruction::Subtract { register, operand } => set(
+            register,
+            difference(word(r, register), word(r, operand)),
+        ),
+        Instruction::SkipEqual { left, right, skip } => skip_if(
+            word(r, left) == word(r, right),
+            skip,
+        ),
+        Instruction::SkipLess { left, right, skip } => skip_if(
+            word(r, left) < word(r, right),
+            skip,
+        ),
+        Instruction::Output { output, register } => Effect::Output {
+            output,
+            value: word(r, register),
+        },
+    }
+}
+
+// The place after the next one and `count` more, at most the end.
+pub fn forward(counter: u8, count: u8) -> u8
+    ensures { λ r. ⌜ r ≡ forward counter count ⌝ }
+{
+    let next = counter as u16 + count as u16 + 1;
+    if next < 32 { next as u8 } else { 32 }
+}
+
+// The state after a register took a value.
+pub fn with_register(simulation: Simulation, register: u8, value: u32) -> Simulation
+    ensures { λ r. ⌜ r ≡ withRegister simulation register value ⌝ }
+{
+    let registers = simulation.registers;
+    let outputs = simulation.outputs;
+    Simulation {
+        counter: forward(simulation.counter, 0),
+        registers: with_word(registers, register, value),
+        outputs,
+    }
+}
+
+// The state after an output took a value.
+pub fn with_output(simulation: Simulation, output: u8, value: u32) -> Simulation
+    ensures { λ r. ⌜ r ≡ withOutput simulation output value ⌝ }
+{
+    let registers = simulation.registers;
+    let outputs = simulation.outputs;
+    Simulation {
+        counter: forward(simulation.counter, 0),
+        registers,
+        outputs: with_word(outputs, output, value),
+    }
+}
+
+// The state after `count` instructions were skipped.
+pub fn skipped(simulation: Simulation, count: u8) -> Simulation
+    ensures { λ r. ⌜ r ≡ skipped simulation count ⌝ }
+{
+    let registers = simulation.registers;
+    let outputs = simulation.outputs;
+    Simulation {
+        counter: forward(simulation.counter, count),
+        registers,
+        outputs,
+    }
+}
+
+// The instruction at a place, given the line that stands there in a program of this length.
+pub fn instruction_at(length: u8, counter: u8, line: Line) -> Instruction
+    ensures { λ r. ⌜ r ≡ instructionAt length counter line ⌝ }
+{
+    let instruction = line.instruction;
+    if counter < length {
+        if counter < 32 {
+            return instruction;
+        }
+    }
+    Instruction::Stop
+}
+
+// The instruction at a place of a program. A loop over a program reads its line itself, so that no program is copied.
+pub fn fetch(program: Program, counter: u8) -> Instruction
+    ensures { λ r. ⌜ r ≡ fetch program counter ⌝ }
+{
+    let at = (counter % 32) as usize;
+    let line = program.lines[at];
+    instruction_at(program.length, counter, line)
+}

@@ -1,14 +1,14 @@
 -- The reading of a card text, line by line: one law for each turn and each end of its loops, and bounds of the line's number.
-use mathlib.Core.Bool.{Bool, true, false}
+use mathlib.Core.Bool.{false}
 use mathlib.Core.Path.{_≡_, refl, sym, _∙_, ap}
 use mathlib.Core.List.{List, map}
 use Prim.Native.Nat.{ℕ, zero, suc, _+_, _-_, _<_, _≤_}
-use lib.Dec.{ltb, eqb}
 use lib.ListN.{length, replicate}
 use native.Mathlib.Omega.{arith}
 use native.Mathlib.Numerals.{add-one}
 use borrow.Author.Tests.{eq-eqb, ne-eqb, lt-ltb, le-ltb}
 use Rattle.construction.specs.declared.Words.{Words}
+use Rattle.construction.specs.declared.Gate.{Gate}
 use Rattle.construction.specs.declared.Announcement.{Announcement}
 use Rattle.construction.specs.declared.Record.{Record}
 use Rattle.construction.specs.declared.Simulation.{Simulation}
@@ -23,7 +23,6 @@ use Rattle.construction.specs.declared.Instruction.{Instruction}
 use Rattle.construction.specs.declared.Refusal.{Refusal}
 use Rattle.construction.specs.declared.Refusal.the-variants.{TooLong, Malformed}
 use Rattle.construction.specs.declared.Verdict.{Verdict}
-use Rattle.construction.specs.declared.Program.{Program}
 use Rattle.construction.specs.declared.Contents.{Contents}
 use Rattle.construction.specs.declared.ProgramReading.{ProgramReading}
 use Rattle.construction.specs.declared.Reading.{Reading}
@@ -168,10 +167,10 @@ vars-line t (suc m) k r = go (λ x. vars-line t m (suc k) x) (varLine t (r .at))
 
 -- ---- what follows the first line
 module _ {v : Verdict} (r : Reading) (go : Reading → Reading) where
-  pub goes-on : v ≡ Verdict.Accepted → ifAccepted v r go ≡ go r
+  goes-on : v ≡ Verdict.Accepted → ifAccepted v r go ≡ go r
   goes-on p = rw p
 
-  pub stops : {why : Refusal} {line : ℕ} → v ≡ Verdict.Refused why line → ifAccepted v r go ≡ r
+  stops : {why : Refusal} {line : ℕ} → v ≡ Verdict.Refused why line → ifAccepted v r go ≡ r
   stops p = rw p
 
 module _ (t : List ℕ) (s : ℕ) (a : Reading) where
@@ -210,9 +209,9 @@ unfolding readCard
 card-lines t h e = rw (le-ltb 16384 (length t) h, ← e)
 
 -- ---- the card of what was read
-module _ (x : Contents) {w : Words} {a : Announcement} {records : List Record} {s : Simulation} {d : Dictionary} where
+module _ (x : Contents) {w : Words} {g h : Gate} {a : Announcement} {records : List Record} {s : Simulation} {d : Dictionary} where
   pub fresh-made :
-      w ≡ zeros → a ≡ openAnnouncement → records ≡ map openRecord (x .starts) → s ≡ started → d ≡ empty →
+      w ≡ zeros → g ≡ openGate → h ≡ noGate → a ≡ openAnnouncement → records ≡ map openRecord (x .starts) → s ≡ started → d ≡ empty →
       _≡_ {A = Card}
       (record {
         processes = x .processes;
@@ -221,7 +220,7 @@ module _ (x : Contents) {w : Words} {a : Announcement} {records : List Record} {
         limit = x .limit;
         starts = x .starts;
         code = x .code;
-        gate = openGate;
+        gate = g;
         announcements = replicate 8 a;
         records = records;
         steps = 0;
@@ -229,14 +228,14 @@ module _ (x : Contents) {w : Words} {a : Announcement} {records : List Record} {
         operations = replicate 8 (record { program = 0; inputs = w });
         exits = replicate 8 false;
         counts = replicate 8 0;
-        gates = replicate 8 noGate;
+        gates = replicate 8 h;
         copies = replicate 8 a;
         simulations = replicate 8 s;
         dictionaries = replicate 8 d;
       })
       (fresh x)
   unfolding fresh
-  fresh-made ew ea er es ed =
+  fresh-made ew eg eh ea er es ed =
       λ i.
       record {
         processes = x .processes;
@@ -245,7 +244,7 @@ module _ (x : Contents) {w : Words} {a : Announcement} {records : List Record} {
         limit = x .limit;
         starts = x .starts;
         code = x .code;
-        gate = openGate;
+        gate = eg i;
         announcements = replicate 8 (ea i);
         records = er i;
         steps = 0;
@@ -253,7 +252,7 @@ module _ (x : Contents) {w : Words} {a : Announcement} {records : List Record} {
         operations = replicate 8 (record { program = 0; inputs = ew i });
         exits = replicate 8 false;
         counts = replicate 8 0;
-        gates = replicate 8 noGate;
+        gates = replicate 8 (eh i);
         copies = replicate 8 (ea i);
         simulations = replicate 8 (es i);
         dictionaries = replicate 8 (ed i);

@@ -4,12 +4,10 @@ use mathlib.Core.Path.{_≡_, refl, sym, _∙_, ap}
 use mathlib.Core.List.{List, [], _++_, append-assoc, append-nil}
 use Prim.Native.Nat.{ℕ, zero, suc, _+_, _<_, _≤_}
 use lib.Dec.{eqb, ltb}
-use lib.ListN.{getD, set, drop, length, replicate, length-set, length-replicate}
+use lib.ListN.{getD, drop, length, replicate, length-set, length-replicate}
 use lib.Seq.{drop-length, getD-set-same, getD-set-other}
 use native.Mathlib.Omega.{arith}
-use borrow.Author.Tests.{ne-eqb, eqb-true, ltb-true}
-use Rattle.grammar.specs.Reading.{most}
-use Rattle.grammar.specs.Writing.{fieldText, fourText}
+use borrow.Author.Tests.{ne-eqb, eqb-true}
 use Rattle.grammar.proofs.Cases.{on-test, and-true, clash}
 use Rattle.grammar.proofs.Bytes.{word-text}
 use Rattle.grammar.proofs.RoundTrip.{Small, field-text, four-text}
@@ -20,14 +18,10 @@ use Rattle.construction.specs.declared.InsLine.{InsLine}
 use Rattle.construction.specs.declared.Instruction.{Instruction}
 use Rattle.construction.specs.declared.Encoded.{Encoded}
 use Rattle.construction.specs.declared.Decoded.{Decoded}
-use Rattle.construction.specs.declared.Refusal.{Refusal}
 use Rattle.construction.specs.declared.Verdict.{Verdict}
 use Rattle.construction.specs.declared.Line.{Line}
-use Rattle.construction.specs.declared.Program.{Program}
-use Rattle.construction.specs.declared.Contents.{Contents}
 use Rattle.construction.specs.declared.ProgramReading.{ProgramReading}
 use Rattle.construction.specs.declared.Reading.{Reading}
-use Rattle.construction.specs.declared.Card.{Card}
 use Rattle.construction.specs.Instructions.{inRange, valid, decode, encoded, encode, noLine, noProgram}
 use Rattle.construction.specs.Lines.{
   cardWord,

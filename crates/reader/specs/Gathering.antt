@@ -2,6 +2,8 @@
 use Prim.Native.Nat.{ℕ}
 use mathlib.Core.List.{List}
 use lib.ListN.{replicate}
+use Rattle.construction.specs.declared.Holder.{Holder}
+use Rattle.construction.specs.declared.Gate.{Gate}
 use Rattle.construction.specs.declared.CardLine.{CardLine}
 use Rattle.construction.specs.declared.VarLine.{VarLine}
 use Rattle.construction.specs.declared.SheetLine.{SheetLine}
@@ -16,19 +18,22 @@ use Rattle.construction.specs.declared.ProgramReading.{ProgramReading}
 use Rattle.construction.specs.declared.Reading.{Reading}
 use Rattle.construction.specs.Instructions.{noProgram}
 
--- the refusal number of a line ('each line yields either its fields or a refusal number'); a line with fields has none to ask for
+-- the refusal of a `card` line ('each line yields either its fields or a refusal number'); a line with fields has none to ask for
 abbrev pub cardRefusal : CardLine → Refusal
 cardRefusal (CardLine.Fields p n s l i) = Malformed
 cardRefusal (CardLine.Refused why) = why
 
+-- the refusal of a `var` line, likewise
 abbrev pub varRefusal : VarLine → Refusal
 varRefusal (VarLine.Start v i) = Malformed
 varRefusal (VarLine.Refused why) = why
 
+-- the refusal of a `sheet` line, likewise
 abbrev pub sheetRefusal : SheetLine → Refusal
 sheetRefusal (SheetLine.Length m i) = Malformed
 sheetRefusal (SheetLine.Refused why) = why
 
+-- the refusal of an `ins` line, likewise
 abbrev pub insRefusal : InsLine → Refusal
 insRefusal (InsLine.Ins x i) = Malformed
 insRefusal (InsLine.Refused why) = why
@@ -45,7 +50,7 @@ soFar x at line = record { verdict = Verdict.Accepted; contents = x; at = at; li
 abbrev pub begun : ℕ → ℕ → ℕ → ℕ → Contents
 begun p n s l = record { processes = p; variables = n; programs = s; limit = l; starts = replicate 64 0; code = replicate 8 noProgram }
 
--- the contents with other starting values (`var` lines), or other programs
+-- the contents with other starting values ('n lines `var,value` with the starting values')
 abbrev pub withStarts : Contents → List ℕ → Contents
 withStarts x starts =
     record {
@@ -57,6 +62,7 @@ withStarts x starts =
       code = x .code;
     }
 
+-- the contents with other programs ('for each sheet `sheet,length` and its lines')
 abbrev pub withCode : Contents → List Program → Contents
 withCode x code =
     record {
@@ -67,3 +73,7 @@ withCode x code =
       starts = x .starts;
       code = code;
     }
+
+-- a gate that nobody holds ('Gate: holder (a process or none) and seq; at opening none and 1')
+abbrev pub freeGate : ℕ → Gate
+freeGate seq = record { holder = Holder.Nobody; seq = seq }

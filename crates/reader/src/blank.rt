@@ -1,3 +1,4 @@
+// What a card, a program and a refused reading start from (document 01, "Shared cells" and "Turned back").
 use construction::Announcement;
 use construction::Card;
 use construction::Contents;
@@ -26,7 +27,7 @@ ghost use Rattle.construction.specs.Cells.{zeros, openRecord, openAnnouncement}
 ghost use Rattle.construction.specs.Instructions.{noLine, noProgram, started};
 ghost use Rattle.construction.specs.Dictionary.{empty};
 ghost use Rattle.construction.specs.Opening.{refusedAt, programRefusedAt, fresh};
-ghost use Rattle.reader.specs.Gathering.{begun};
+ghost use Rattle.reader.specs.Gathering.{begun, freeGate};
 
 pub fn no_line() -> Line
     ensures { λ r. ⌜ r ≡ noLine ⌝ }
@@ -95,6 +96,15 @@ fn zero_words() -> Words
         w1: 0,
         w2: 0,
         w3: 0,
+    }
+}
+
+fn free_gate(seq: u64) -> Gate
+    ensures { λ r. ⌜ r ≡ freeGate seq ⌝ }
+{
+    Gate {
+        holder: Holder::Nobody,
+        seq,
     }
 }
 
@@ -167,6 +177,8 @@ pub fn fresh_card(x: Contents) -> Card
     let starts = x.starts;
     let code = x.code;
     let words = zero_words();
+    let gate = free_gate(1);
+    let none = free_gate(0);
     let announcement = open_announcement();
     let records = open_records(starts);
     let simulation = start_simulation();
@@ -178,10 +190,7 @@ pub fn fresh_card(x: Contents) -> Card
         limit: x.limit,
         starts,
         code,
-        gate: Gate {
-            holder: Holder::Nobody,
-            seq: 1,
-        },
+        gate,
         announcements: [announcement; 8],
         records,
         steps: 0,
@@ -195,10 +204,7 @@ pub fn fresh_card(x: Contents) -> Card
         }; 8],
         exits: [false; 8],
         counts: [0; 8],
-        gates: [Gate {
-            holder: Holder::Nobody,
-            seq: 0,
-        }; 8],
+        gates: [none; 8],
         copies: [announcement; 8],
         simulations: [simulation; 8],
         dictionaries: [dictionary; 8],

@@ -6,65 +6,46 @@ use native.Mathlib.Omega.{arith}
 use borrow.Author.Needs.{needs}
 use Rattle.lines.proofs.card_line.Statement.{statement}
 use Rattle.lines.proofs.card_line.Tie as tie
-use Rattle.lines.proofs.card_line.Reads as reads
-use Rattle.lines.proofs.card_line.Lts as lts
-use Rattle.grammar.proofs.reading.four_at.Reads as four-at-reads
-use Rattle.grammar.proofs.reading.has_word.Reads as has-word-reads
-use Rattle.lines.proofs.card_fits.Reads as card-fits-reads
 
--- src/lib.rt:189:27
 slice-aggregate-has-word : tie.Need-slice-aggregate-has-word
 slice-aggregate-has-word c = search needs
 
--- src/lib.rt:189:8
 has-word-requires : tie.Need-has-word-requires
 has-word-requires c κs = search needs
 
--- src/lib.rt:190:66
 add-four-at : tie.Need-add-four-at
 add-four-at c = omega (arith, bytes.word-within (c .before .before .before .before .args .text .now) lines.cardWord (c .before .before .before .before .args .at) (omega arith) (sym (c .before .has-word .ensures) ∙ (c .if1 .taken)))
 
--- src/lib.rt:190:52
 four-at-requires : tie.Need-four-at-requires
 four-at-requires c κs = search needs
 
--- src/lib.rt:190:31
 enum-known-a : tie.Need-enum-known-a
 enum-known-a c = search needs
 
--- src/lib.rt:191:38
 enum-told : tie.Need-enum-told
 enum-told c = search needs
 
--- src/lib.rt:191:13
 returns : tie.Need-returns
 returns c = laws.card-malformed _ _ (c .before .before .before .before .has-word .ensures) (c .before .before .before .if1 .taken) (sym (c .enum-told .given .1) ∙ (c .before .before .four-at .ensures))
 
--- src/lib.rt:193:12
 card-fits-requires : tie.Need-card-fits-requires
 card-fits-requires c κs = search needs
 
--- src/lib.rt:195:28
 cast-t18 : tie.Need-cast-t18
 cast-t18 c = let h = laws.card-fits (c .before .before .before .a .given .0 .0) (c .before .before .before .a .given .0 .1 .0) (c .before .before .before .a .given .0 .1 .1 .0) (c .before .before .before .a .given .0 .1 .1 .1 .0) (sym (c .before .card-fits .ensures) ∙ (c .if2 .taken)) in omega (arith, h .processes)
 
--- src/lib.rt:196:28
 cast-t19 : tie.Need-cast-t19
 cast-t19 c = let h = laws.card-fits (c .before .before .before .a .given .0 .0) (c .before .before .before .a .given .0 .1 .0) (c .before .before .before .a .given .0 .1 .1 .0) (c .before .before .before .a .given .0 .1 .1 .1 .0) (sym (c .before .card-fits .ensures) ∙ (c .if2 .taken)) in omega (arith, h .variables)
 
--- src/lib.rt:197:27
 cast-t20 : tie.Need-cast-t20
 cast-t20 c = let h = laws.card-fits (c .before .before .before .a .given .0 .0) (c .before .before .before .a .given .0 .1 .0) (c .before .before .before .a .given .0 .1 .1 .0) (c .before .before .before .a .given .0 .1 .1 .1 .0) (sym (c .before .card-fits .ensures) ∙ (c .if2 .taken)) in omega (arith, h .programs)
 
--- src/lib.rt:186:1
 returns-2 : tie.Need-returns-2
 returns-2 c = laws.card-fields _ _ (c .before .before .before .before .before .before .before .has-word .ensures) (c .before .before .before .before .before .before .if1 .taken) (sym (c .before .before .before .a .given .1) ∙ (c .before .before .before .before .before .four-at .ensures)) (c .before .card-fits .ensures) (c .if2 .taken)
 
--- src/lib.rt:186:1
 returns-3 : tie.Need-returns-3
 returns-3 c = laws.card-out _ _ (c .before .before .before .before .before .before .before .has-word .ensures) (c .before .before .before .before .before .before .if1 .taken) (sym (c .before .before .before .a .given .1) ∙ (c .before .before .before .before .before .four-at .ensures)) (c .before .card-fits .ensures) (c .if2 .left)
 
--- src/lib.rt:186:1
 returns-4 : tie.Need-returns-4
 returns-4 c = laws.card-other _ _ (c .before .has-word .ensures) (c .if1 .left)
 

@@ -7,75 +7,52 @@ use native.Mathlib.Omega.{arith}
 use borrow.Author.Needs.{needs}
 use Rattle.lines.proofs.decode_last.Statement.{statement}
 use Rattle.lines.proofs.decode_last.Tie as tie
-use Rattle.lines.proofs.decode_last.Reads as reads
-use Rattle.lines.proofs.decode_last.Lts as lts
-use Rattle.lines.proofs.low_byte.Reads as low-byte-reads
-use Rattle.lines.proofs.pair.Reads as pair-reads
-use Rattle.lines.proofs.skip.Reads as skip-reads
-use Rattle.lines.proofs.unused.Reads as unused-reads
-use Rattle.lines.proofs.valid.Reads as valid-reads
 
--- src/lib.rt:167:9
 low-byte-requires : tie.Need-low-byte-requires
 low-byte-requires c κs = search needs
 
--- src/lib.rt:168:9
 low-byte-requires-2 : tie.Need-low-byte-requires-2
 low-byte-requires-2 c κs = search needs
 
--- src/lib.rt:169:9
 low-byte-requires-3 : tie.Need-low-byte-requires-3
 low-byte-requires-3 c κs = search needs
 
--- src/lib.rt:173:13
 skip-requires : tie.Need-skip-requires
 skip-requires c κs = search needs
 
--- src/lib.rt:172:14
 valid-requires : tie.Need-valid-requires
 valid-requires c κs = search needs
 
--- src/lib.rt:181:13
 skip-requires-2 : tie.Need-skip-requires-2
 skip-requires-2 c κs = search needs
 
--- src/lib.rt:180:15
 valid-requires-2 : tie.Need-valid-requires-2
 valid-requires-2 c κs = search needs
 
--- src/lib.rt:189:13
 pair-requires : tie.Need-pair-requires
 pair-requires c κs = search needs
 
--- src/lib.rt:188:15
 valid-requires-3 : tie.Need-valid-requires-3
 valid-requires-3 c κs = search needs
 
--- src/lib.rt:195:21
 unused-requires : tie.Need-unused-requires
 unused-requires c κs = search needs
 
--- src/lib.rt:195:15
 valid-requires-4 : tie.Need-valid-requires-4
 valid-requires-4 c κs = search needs
 
--- src/lib.rt:163:1
 returns : tie.Need-returns
 returns c = λ n. laws.valid-skip (λ u v w. Instruction.SkipEqual u v w) (c .before .before .before .before .before .before .args .x .a) (c .before .before .before .before .before .before .args .x .b) (c .before .before .before .before .before .before .args .x .c) (c .before .skip .ensures) (c .before .before .before .before .before .low-byte .ensures) (c .before .before .before .before .low-byte2 .ensures) (c .before .before .before .low-byte3 .ensures) (c .valid .ensures) ∙ sym (laws.decode-9 n (c .before .before .before .before .before .before .args .x) (c .before .before .match .keys1))
 
--- src/lib.rt:163:1
 returns-2 : tie.Need-returns-2
 returns-2 c = λ n. laws.valid-skip (λ u v w. Instruction.SkipLess u v w) (c .before .before .before .before .before .before .args .x .a) (c .before .before .before .before .before .before .args .x .b) (c .before .before .before .before .before .before .args .x .c) (c .before .skip2 .ensures) (c .before .before .before .before .before .low-byte .ensures) (c .before .before .before .before .low-byte2 .ensures) (c .before .before .before .low-byte3 .ensures) (c .valid2 .ensures) ∙ sym (laws.decode-10 n (c .before .before .before .before .before .before .args .x) (c .before .before .match .keys2))
 
--- src/lib.rt:163:1
 returns-3 : tie.Need-returns-3
 returns-3 c = λ n. laws.valid-pair (λ u v. Instruction.Output u v) 4 4 256 256 (c .before .before .before .before .before .before .args .x .a) (c .before .before .before .before .before .before .args .x .b) (c .before .before .before .before .before .before .args .x .c) (omega arith) (omega arith) (c .before .pair .ensures) (c .before .before .before .before .before .low-byte .ensures) (c .before .before .before .before .low-byte2 .ensures) (c .valid3 .ensures) ∙ sym (laws.decode-11 n (c .before .before .before .before .before .before .args .x) (c .before .before .match .keys3))
 
--- src/lib.rt:163:1
 returns-4 : tie.Need-returns-4
 returns-4 c = λ n. (c .valid4 .ensures) ∙ ap (λ (z : Bool). valid z Instruction.Stop) (c .before .unused .ensures) ∙ sym (laws.decode-12 n (c .before .before .before .before .before .before .args .x) (c .before .before .match .keys4))
 
--- src/lib.rt:163:1
 returns-5 : tie.Need-returns-5
 returns-5 c = λ n. sym (laws.decode-past n (c .before .before .before .before .args .x) (omega arith))
 

@@ -5,53 +5,37 @@ use native.Mathlib.Omega.{arith}
 use borrow.Author.Needs.{needs}
 use Rattle.lines.proofs.decode_registers.Statement.{statement}
 use Rattle.lines.proofs.decode_registers.Tie as tie
-use Rattle.lines.proofs.decode_registers.Reads as reads
-use Rattle.lines.proofs.decode_registers.Lts as lts
-use Rattle.lines.proofs.low_byte.Reads as low-byte-reads
-use Rattle.lines.proofs.pair.Reads as pair-reads
-use Rattle.lines.proofs.valid.Reads as valid-reads
 
--- src/lib.rt:126:9
 pair-requires : tie.Need-pair-requires
 pair-requires c κs = search needs
 
--- src/lib.rt:127:9
 low-byte-requires : tie.Need-low-byte-requires
 low-byte-requires c κs = search needs
 
--- src/lib.rt:128:9
 low-byte-requires-2 : tie.Need-low-byte-requires-2
 low-byte-requires-2 c κs = search needs
 
--- src/lib.rt:131:14
 valid-requires : tie.Need-valid-requires
 valid-requires c κs = search needs
 
--- src/lib.rt:138:14
 valid-requires-2 : tie.Need-valid-requires-2
 valid-requires-2 c κs = search needs
 
--- src/lib.rt:145:14
 valid-requires-3 : tie.Need-valid-requires-3
 valid-requires-3 c κs = search needs
 
--- src/lib.rt:152:14
 valid-requires-4 : tie.Need-valid-requires-4
 valid-requires-4 c κs = search needs
 
--- src/lib.rt:122:1
 returns : tie.Need-returns
 returns c = λ n. laws.valid-pair (λ u v. Instruction.LoadAt u v) 4 4 256 256 (c .before .before .before .before .before .args .x .a) (c .before .before .before .before .before .args .x .b) (c .before .before .before .before .before .args .x .c) (omega arith) (omega arith) (c .before .before .before .before .pair .ensures) (c .before .before .before .low-byte .ensures) (c .before .before .low-byte2 .ensures) (c .valid .ensures) ∙ sym (laws.decode-5 n (c .before .before .before .before .before .args .x) (c .before .match .keys1))
 
--- src/lib.rt:122:1
 returns-2 : tie.Need-returns-2
 returns-2 c = λ n. laws.valid-pair (λ u v. Instruction.StoreAt u v) 4 4 256 256 (c .before .before .before .before .before .args .x .a) (c .before .before .before .before .before .args .x .b) (c .before .before .before .before .before .args .x .c) (omega arith) (omega arith) (c .before .before .before .before .pair .ensures) (c .before .before .before .low-byte .ensures) (c .before .before .low-byte2 .ensures) (c .valid2 .ensures) ∙ sym (laws.decode-6 n (c .before .before .before .before .before .args .x) (c .before .match .keys2))
 
--- src/lib.rt:122:1
 returns-3 : tie.Need-returns-3
 returns-3 c = λ n. laws.valid-pair (λ u v. Instruction.Add u v) 4 4 256 256 (c .before .before .before .before .before .args .x .a) (c .before .before .before .before .before .args .x .b) (c .before .before .before .before .before .args .x .c) (omega arith) (omega arith) (c .before .before .before .before .pair .ensures) (c .before .before .before .low-byte .ensures) (c .before .before .low-byte2 .ensures) (c .valid3 .ensures) ∙ sym (laws.decode-7 n (c .before .before .before .before .before .args .x) (c .before .match .keys3))
 
--- src/lib.rt:122:1
 returns-4 : tie.Need-returns-4
 returns-4 c = λ n. laws.valid-pair (λ u v. Instruction.Subtract u v) 4 4 256 256 (c .before .before .before .before .before .args .x .a) (c .before .before .before .before .before .args .x .b) (c .before .before .before .before .before .args .x .c) (omega arith) (omega arith) (c .before .before .before .before .pair .ensures) (c .before .before .before .low-byte .ensures) (c .before .before .low-byte2 .ensures) (c .valid4 .ensures) ∙ sym (laws.decode-8 n (c .before .before .before .before .before .args .x) (omega arith))
 

@@ -6,54 +6,37 @@ use native.Mathlib.Omega.{arith}
 use borrow.Author.Needs.{needs}
 use Rattle.lines.proofs.ins_line.Statement.{statement}
 use Rattle.lines.proofs.ins_line.Tie as tie
-use Rattle.lines.proofs.ins_line.Reads as reads
-use Rattle.lines.proofs.ins_line.Lts as lts
-use Rattle.grammar.proofs.reading.four_at.Reads as four-at-reads
-use Rattle.grammar.proofs.reading.has_word.Reads as has-word-reads
-use Rattle.lines.proofs.decode.Reads as decode-reads
-use Rattle.lines.proofs.ins_of.Reads as ins-of-reads
 
--- src/lib.rt:265:27
 slice-aggregate-has-word : tie.Need-slice-aggregate-has-word
 slice-aggregate-has-word c = search needs
 
--- src/lib.rt:265:8
 has-word-requires : tie.Need-has-word-requires
 has-word-requires c κs = search needs
 
--- src/lib.rt:266:66
 add-four-at : tie.Need-add-four-at
 add-four-at c = omega (arith, bytes.word-within (c .before .before .before .before .args .text .now) lines.insWord (c .before .before .before .before .args .at) (omega arith) (sym (c .before .has-word .ensures) ∙ (c .if1 .taken)))
 
--- src/lib.rt:266:52
 four-at-requires : tie.Need-four-at-requires
 four-at-requires c κs = search needs
 
--- src/lib.rt:266:31
 enum-known-a : tie.Need-enum-known-a
 enum-known-a c = search needs
 
--- src/lib.rt:267:37
 enum-told : tie.Need-enum-told
 enum-told c = search needs
 
--- src/lib.rt:267:13
 returns : tie.Need-returns
 returns c = laws.ins-malformed _ _ _ (c .before .before .before .before .has-word .ensures) (c .before .before .before .if1 .taken) (sym (c .enum-told .given .1) ∙ (c .before .before .four-at .ensures))
 
--- src/lib.rt:275:16
 decode-requires : tie.Need-decode-requires
 decode-requires c κs = search needs
 
--- src/lib.rt:275:9
 ins-of-requires : tie.Need-ins-of-requires
 ins-of-requires c κs = search needs
 
--- src/lib.rt:262:1
 returns-2 : tie.Need-returns-2
 returns-2 c = laws.ins-decoded _ _ _ (c .before .before .before .before .before .before .before .has-word .ensures) (c .before .before .before .before .before .before .if1 .taken) (sym (c .before .before .before .a .given .1) ∙ (c .before .before .before .before .before .four-at .ensures)) (c .before .decode .ensures) (c .ins-of .ensures)
 
--- src/lib.rt:262:1
 returns-3 : tie.Need-returns-3
 returns-3 c = laws.ins-other _ _ _ (c .before .has-word .ensures) (c .if1 .left)
 

@@ -1,22 +1,16 @@
 use borrow.Author.Needs.{needs}
 use Rattle.lines.proofs.ins_of.Statement.{statement}
 use Rattle.lines.proofs.ins_of.Tie as tie
-use Rattle.lines.proofs.ins_of.Reads as reads
-use Rattle.lines.proofs.ins_of.Lts as lts
 
--- src/lib.rt:256:24
 enum-known-decoded : tie.Need-enum-known-decoded
 enum-known-decoded c = search needs
 
--- src/lib.rt:257:26
 enum-known-decoded-2 : tie.Need-enum-known-decoded-2
 enum-known-decoded-2 c = search needs
 
--- src/lib.rt:252:1
 returns : tie.Need-returns
 returns c = rw ((c .before .decoded .given .1))
 
--- src/lib.rt:252:1
 returns-2 : tie.Need-returns-2
 returns-2 c = rw ((c .before .decoded2 .given .1))
 

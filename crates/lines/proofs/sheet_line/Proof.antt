@@ -6,57 +6,40 @@ use native.Mathlib.Omega.{arith}
 use borrow.Author.Needs.{needs}
 use Rattle.lines.proofs.sheet_line.Statement.{statement}
 use Rattle.lines.proofs.sheet_line.Tie as tie
-use Rattle.lines.proofs.sheet_line.Reads as reads
-use Rattle.lines.proofs.sheet_line.Lts as lts
-use Rattle.grammar.proofs.reading.field_at.Reads as field-at-reads
-use Rattle.grammar.proofs.reading.has_word.Reads as has-word-reads
-use Rattle.lines.proofs.in_range.Reads as in-range-reads
 
--- src/lib.rt:234:27
 slice-aggregate-has-word : tie.Need-slice-aggregate-has-word
 slice-aggregate-has-word c = search needs
 
--- src/lib.rt:234:8
 has-word-requires : tie.Need-has-word-requires
 has-word-requires c κs = search needs
 
--- src/lib.rt:235:67
 add-field-at : tie.Need-add-field-at
 add-field-at c = omega (arith, bytes.word-within (c .before .before .before .before .args .text .now) lines.sheetWord (c .before .before .before .before .args .at) (omega arith) (sym (c .before .has-word .ensures) ∙ (c .if1 .taken)))
 
--- src/lib.rt:235:45
 field-at-requires : tie.Need-field-at-requires
 field-at-requires c κs = search needs
 
--- src/lib.rt:235:29
 enum-known-value : tie.Need-enum-known-value
 enum-known-value c = search needs
 
--- src/lib.rt:236:39
 enum-told : tie.Need-enum-told
 enum-told c = search needs
 
--- src/lib.rt:236:13
 returns : tie.Need-returns
 returns c = laws.sheet-malformed _ _ (c .before .before .before .before .has-word .ensures) (c .before .before .before .if1 .taken) (sym (c .enum-told .given .1) ∙ (c .before .before .field-at .ensures))
 
--- src/lib.rt:238:12
 in-range-requires : tie.Need-in-range-requires
 in-range-requires c κs = search needs
 
--- src/lib.rt:240:25
 cast-t15 : tie.Need-cast-t15
 cast-t15 c = let h = laws.range-true 1 32 (c .before .before .before .value .given .0 .0) (sym (c .before .in-range .ensures) ∙ (c .if2 .taken)) in omega arith
 
--- src/lib.rt:231:1
 returns-2 : tie.Need-returns-2
 returns-2 c = laws.sheet-length _ _ (c .before .before .before .before .before .before .before .has-word .ensures) (c .before .before .before .before .before .before .if1 .taken) (sym (c .before .before .before .value .given .1) ∙ (c .before .before .before .before .before .field-at .ensures)) (c .before .in-range .ensures) (c .if2 .taken)
 
--- src/lib.rt:231:1
 returns-3 : tie.Need-returns-3
 returns-3 c = laws.sheet-out _ _ (c .before .before .before .before .before .before .before .has-word .ensures) (c .before .before .before .before .before .before .if1 .taken) (sym (c .before .before .before .value .given .1) ∙ (c .before .before .before .before .before .field-at .ensures)) (c .before .in-range .ensures) (c .if2 .left)
 
--- src/lib.rt:231:1
 returns-4 : tie.Need-returns-4
 returns-4 c = laws.sheet-other _ _ (c .before .has-word .ensures) (c .if1 .left)
 

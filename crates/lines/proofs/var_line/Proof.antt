@@ -6,52 +6,37 @@ use native.Mathlib.Omega.{arith}
 use borrow.Author.Needs.{needs}
 use Rattle.lines.proofs.var_line.Statement.{statement}
 use Rattle.lines.proofs.var_line.Tie as tie
-use Rattle.lines.proofs.var_line.Reads as reads
-use Rattle.lines.proofs.var_line.Lts as lts
-use Rattle.grammar.proofs.reading.field_at.Reads as field-at-reads
-use Rattle.grammar.proofs.reading.has_word.Reads as has-word-reads
 
--- src/lib.rt:213:27
 slice-aggregate-has-word : tie.Need-slice-aggregate-has-word
 slice-aggregate-has-word c = search needs
 
--- src/lib.rt:213:8
 has-word-requires : tie.Need-has-word-requires
 has-word-requires c κs = search needs
 
--- src/lib.rt:214:67
 add-field-at : tie.Need-add-field-at
 add-field-at c = omega (arith, bytes.word-within (c .before .before .before .before .args .text .now) lines.varWord (c .before .before .before .before .args .at) (omega arith) (sym (c .before .has-word .ensures) ∙ (c .if1 .taken)))
 
--- src/lib.rt:214:45
 field-at-requires : tie.Need-field-at-requires
 field-at-requires c κs = search needs
 
--- src/lib.rt:214:29
 enum-known-value : tie.Need-enum-known-value
 enum-known-value c = search needs
 
--- src/lib.rt:215:37
 enum-told : tie.Need-enum-told
 enum-told c = search needs
 
--- src/lib.rt:215:13
 returns : tie.Need-returns
 returns c = laws.var-malformed _ _ (c .before .before .before .before .has-word .ensures) (c .before .before .before .if1 .taken) (sym (c .enum-told .given .1) ∙ (c .before .before .field-at .ensures))
 
--- src/lib.rt:219:24
 cast-t15 : tie.Need-cast-t15
 cast-t15 c = search needs
 
--- src/lib.rt:210:1
 returns-2 : tie.Need-returns-2
 returns-2 c = laws.var-start _ _ (c .before .before .before .before .before .before .has-word .ensures) (c .before .before .before .before .before .if1 .taken) (sym (c .before .before .value .given .1) ∙ (c .before .before .before .before .field-at .ensures)) (c .if2 .taken)
 
--- src/lib.rt:210:1
 returns-3 : tie.Need-returns-3
 returns-3 c = laws.var-out _ _ (c .before .before .before .before .before .before .has-word .ensures) (c .before .before .before .before .before .if1 .taken) (sym (c .before .before .value .given .1) ∙ (c .before .before .before .before .field-at .ensures)) (c .if2 .left)
 
--- src/lib.rt:210:1
 returns-4 : tie.Need-returns-4
 returns-4 c = laws.var-other _ _ (c .before .has-word .ensures) (c .if1 .left)
 

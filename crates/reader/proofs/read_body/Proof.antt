@@ -1,58 +1,43 @@
 use Rattle.reader.specs.Gathering.{soFar}
-use Rattle.construction.specs.Opening.{thenEnd, thenPrograms, refusedAt}
-use Rattle.construction.specs.declared.Refusal.the-variants.{Malformed}
+use Rattle.construction.specs.Opening.{thenEnd, thenPrograms}
 use Rattle.construction.specs.declared.Reading.{Reading}
 use Rattle.construction.proofs.TextReading as laws
-use mathlib.Core.Path.{_≡_, refl, sym, _∙_, ap}
+use mathlib.Core.Path.{_∙_, ap}
 use native.Mathlib.Omega.{arith}
 use borrow.Author.Needs.{needs}
 use Rattle.reader.proofs.read_body.Statement.{statement}
 use Rattle.reader.proofs.read_body.Tie as tie
-use Rattle.reader.proofs.read_body.Reads as reads
-use Rattle.reader.proofs.read_body.Lts as lts
-use Rattle.reader.proofs.blank.refused_at.Reads as refused-at-reads
-use Rattle.reader.proofs.read_programs.Reads as read-programs-reads
-use Rattle.reader.proofs.read_vars.Reads as read-vars-reads
 
--- src/lib.rt:142:9
 read-vars-requires : tie.Need-read-vars-requires
 read-vars-requires c κs = search needs
 
 enum-told : tie.Need-enum-told
 enum-told c = search needs
 
--- src/lib.rt:145:9
 enum-told-2 : tie.Need-enum-told-2
 enum-told-2 c = search needs
 
--- src/lib.rt:145:9
 returns : tie.Need-returns
 returns c = laws.body-no-vars _ _ (c .before .before .read-vars .result) (c .enum-told2 .given .1) ∙ ap (λ (z : Reading). thenEnd (c .before .before .before .before .args .text .now) (thenPrograms (c .before .before .before .before .args .text .now) (c .before .before .before .before .args .programs) z)) (c .before .before .read-vars .ensures)
 
--- src/lib.rt:148:9
 read-programs-requires : tie.Need-read-programs-requires
 read-programs-requires c κs = omega (arith, ap (λ (z : Reading). z .line) (c .before .before .before .read-vars .ensures), laws.vars-line (c .before .before .before .before .before .args .text .now) (c .before .before .before .before .before .args .variables) 0 (soFar (c .before .before .before .before .before .args .contents) (c .before .before .before .before .before .args .at) 2))
 
 enum-told-3 : tie.Need-enum-told-3
 enum-told-3 c = search needs
 
--- src/lib.rt:151:9
 enum-told-4 : tie.Need-enum-told-4
 enum-told-4 c = search needs
 
--- src/lib.rt:151:9
 returns-2 : tie.Need-returns-2
 returns-2 c = laws.body-no-programs _ _ (c .before .before .before .before .before .before .read-vars .result) (c .before .before .read-programs .result) (c .before .before .before .before .enum-told .given .1) (c .before .before .read-programs .ensures) (c .enum-told4 .given .1) ∙ ap (λ (z : Reading). thenEnd (c .before .before .before .before .before .before .before .before .args .text .now) (thenPrograms (c .before .before .before .before .before .before .before .before .args .text .now) (c .before .before .before .before .before .before .before .before .args .programs) z)) (c .before .before .before .before .before .before .read-vars .ensures)
 
--- src/lib.rt:156:9
 refused-at-requires : tie.Need-refused-at-requires
 refused-at-requires c κs = search needs
 
--- src/lib.rt:138:1
 returns-3 : tie.Need-returns-3
 returns-3 c = laws.body-whole _ _ (c .before .before .before .before .before .before .before .before .read-vars .result) (c .before .before .before .before .read-programs .result) (c .before .before .before .before .before .before .enum-told .given .1) (c .before .before .before .before .read-programs .ensures) (c .before .before .enum-told3 .given .1) (c .if1 .taken) ∙ ap (λ (z : Reading). thenEnd (c .before .before .before .before .before .before .before .before .before .before .args .text .now) (thenPrograms (c .before .before .before .before .before .before .before .before .before .before .args .text .now) (c .before .before .before .before .before .before .before .before .before .before .args .programs) z)) (c .before .before .before .before .before .before .before .before .read-vars .ensures)
 
--- src/lib.rt:138:1
 returns-4 : tie.Need-returns-4
 returns-4 c = (c .refused-at .ensures) ∙ laws.body-left _ _ (c .before .before .before .before .before .before .before .before .before .read-vars .result) (c .before .before .before .before .before .read-programs .result) (c .before .before .before .before .before .before .before .enum-told .given .1) (c .before .before .before .before .before .read-programs .ensures) (c .before .before .before .enum-told3 .given .1) (c .before .if1 .left) ∙ ap (λ (z : Reading). thenEnd (c .before .before .before .before .before .before .before .before .before .before .before .args .text .now) (thenPrograms (c .before .before .before .before .before .before .before .before .before .before .before .args .text .now) (c .before .before .before .before .before .before .before .before .before .before .before .args .programs) z)) (c .before .before .before .before .before .before .before .before .before .read-vars .ensures)
 

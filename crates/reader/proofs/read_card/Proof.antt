@@ -4,60 +4,41 @@ use Rattle.construction.specs.declared.Contents.{Contents}
 use Rattle.construction.specs.declared.Refusal.{Refusal}
 use Rattle.construction.proofs.TextLines.{card-read}
 use Rattle.construction.proofs.TextReading as laws
-use mathlib.Core.Path.{_≡_, refl, sym, _∙_, ap}
-use native.Mathlib.Omega.{arith}
+use mathlib.Core.Path.{sym, _∙_, ap}
 use borrow.Author.Needs.{needs}
 use Rattle.reader.proofs.read_card.Statement.{statement}
 use Rattle.reader.proofs.read_card.Tie as tie
-use Rattle.reader.proofs.read_card.Reads as reads
-use Rattle.reader.proofs.read_card.Lts as lts
-use Rattle.lines.proofs.card_line.Reads as card-line-reads
-use Rattle.reader.proofs.blank.begun_contents.Reads as begun-contents-reads
-use Rattle.reader.proofs.blank.refused_at.Reads as refused-at-reads
-use Rattle.reader.proofs.read_body.Reads as read-body-reads
-use Rattle.reader.proofs.refusals.card_refusal.Reads as card-refusal-reads
 
--- src/lib.rt:164:9
 refused-at-requires : tie.Need-refused-at-requires
 refused-at-requires c κs = search needs
 
--- src/lib.rt:164:9
 returns : tie.Need-returns
 returns c = (c .refused-at .ensures) ∙ laws.card-long _ (c .before .if1 .taken)
 
--- src/lib.rt:166:9
 card-line-requires : tie.Need-card-line-requires
 card-line-requires c κs = search needs
 
--- src/lib.rt:168:9
 enum-known-line : tie.Need-enum-known-line
 enum-known-line c = search needs
 
--- src/lib.rt:175:27
 enum-told : tie.Need-enum-told
 enum-told c = search needs
 
--- src/lib.rt:175:27
 card-refusal-requires : tie.Need-card-refusal-requires
 card-refusal-requires c κs = search needs
 
--- src/lib.rt:175:9
 refused-at-requires-2 : tie.Need-refused-at-requires-2
 refused-at-requires-2 c κs = search needs
 
--- src/lib.rt:175:9
 returns-2 : tie.Need-returns-2
 returns-2 c = (c .refused-at2 .ensures) ∙ ap (λ (w : Refusal). refusedAt w 1) ((c .before .card-refusal .ensures) ∙ ap cardRefusal (c .before .before .enum-told .given .1)) ∙ laws.card-lines _ (c .before .before .before .before .before .if1 .left) (sym (c .before .before .enum-told .given .1) ∙ (c .before .before .before .before .card-line .ensures))
 
--- src/lib.rt:177:9
 begun-contents-requires : tie.Need-begun-contents-requires
 begun-contents-requires c κs = search needs
 
--- src/lib.rt:178:5
 read-body-requires : tie.Need-read-body-requires
 read-body-requires c κs = let f = card-read (c .before .before .before .before .before .before .before .args .text .now) 0 (c .before .before .line .given .0 .0) (c .before .before .line .given .0 .1 .0) (c .before .before .line .given .0 .1 .1 .0) (c .before .before .line .given .0 .1 .1 .1 .0) (c .before .before .line .given .0 .1 .1 .1 .1 .0) (sym (c .before .before .before .before .card-line .ensures) ∙ (c .before .before .line .given .1)) .fits in (f .variables .1, f .programs .1)
 
--- src/lib.rt:160:1
 returns-3 : tie.Need-returns-3
 returns-3 c = (c .read-body .ensures) ∙ ap (λ (x : Contents). thenEnd (c .before .before .before .before .before .before .before .before .args .text .now) (thenPrograms (c .before .before .before .before .before .before .before .before .args .text .now) (c .before .before .before .line .given .0 .1 .1 .0) (varsFrom (c .before .before .before .before .before .before .before .before .args .text .now) (c .before .before .before .line .given .0 .1 .0) 0 (soFar x (c .before .before .before .line .given .0 .1 .1 .1 .1 .0) 2)))) (c .before .begun-contents .ensures) ∙ laws.card-lines _ (c .before .before .before .before .before .before .if1 .left) (sym (c .before .before .before .line .given .1) ∙ (c .before .before .before .before .before .card-line .ensures))
 

@@ -3,51 +3,36 @@ use Rattle.construction.specs.declared.Refusal.{Refusal}
 use Rattle.construction.specs.Opening.{programRefusedAt}
 use Rattle.construction.proofs.TextLines.{sheet-read}
 use Rattle.construction.proofs.TextReading as laws
-use mathlib.Core.Path.{_≡_, refl, sym, _∙_, ap}
+use mathlib.Core.Path.{sym, _∙_, ap}
 use native.Mathlib.Omega.{arith}
 use borrow.Author.Needs.{needs}
 use Rattle.reader.proofs.read_program.Statement.{statement}
 use Rattle.reader.proofs.read_program.Tie as tie
-use Rattle.reader.proofs.read_program.Reads as reads
-use Rattle.reader.proofs.read_program.Lts as lts
-use Rattle.lines.proofs.sheet_line.Reads as sheet-line-reads
-use Rattle.reader.proofs.blank.program_refused_at.Reads as program-refused-at-reads
-use Rattle.reader.proofs.read_lines.Reads as read-lines-reads
-use Rattle.reader.proofs.refusals.sheet_refusal.Reads as sheet-refusal-reads
 
--- src/lib.rt:69:9
 sheet-line-requires : tie.Need-sheet-line-requires
 sheet-line-requires c κs = search needs
 
--- src/lib.rt:70:29
 enum-known-line : tie.Need-enum-known-line
 enum-known-line c = search needs
 
--- src/lib.rt:71:35
 enum-told : tie.Need-enum-told
 enum-told c = search needs
 
--- src/lib.rt:71:35
 sheet-refusal-requires : tie.Need-sheet-refusal-requires
 sheet-refusal-requires c κs = search needs
 
--- src/lib.rt:71:9
 program-refused-at-requires : tie.Need-program-refused-at-requires
 program-refused-at-requires c κs = search needs
 
--- src/lib.rt:71:9
 returns : tie.Need-returns
 returns c = (c .program-refused-at .ensures) ∙ ap (λ (w : Refusal). programRefusedAt w (c .before .before .before .before .before .before .args .number)) ((c .before .sheet-refusal .ensures) ∙ ap sheetRefusal (c .before .before .enum-told .given .1)) ∙ laws.program-refused _ _ _ _ (c .before .before .before .before .sheet-line .ensures) (c .before .before .enum-told .given .1)
 
--- src/lib.rt:73:47
 add-read-lines : tie.Need-add-read-lines
 add-read-lines c = search needs
 
--- src/lib.rt:73:5
 read-lines-requires : tie.Need-read-lines-requires
 read-lines-requires c κs = omega (arith, sheet-read (c .before .before .before .before .before .args .text .now) (c .before .before .before .before .before .args .at) (c .before .line .given .0 .0) (c .before .line .given .0 .1 .0) (sym (c .before .before .before .sheet-line .ensures) ∙ (c .before .line .given .1)) .fits)
 
--- src/lib.rt:65:1
 returns-2 : tie.Need-returns-2
 returns-2 c = (c .read-lines .ensures) ∙ laws.program-read _ _ _ _ (c .before .before .before .before .sheet-line .ensures) (c .before .before .line .given .1)
 

@@ -6,15 +6,11 @@ use lib.ListN as list
 use lib.ListN.{length-set}
 use Prim.Native.Nat.{_+_, _-_, _*_, _≤_}
 use Rattle.construction.proofs.TextReading as laws
-use mathlib.Core.Path.{_≡_, refl, sym, _∙_, ap}
+use mathlib.Core.Path.{_≡_, sym, _∙_, ap}
 use native.Mathlib.Omega.{arith}
 use borrow.Author.Needs.{needs}
 use Rattle.reader.proofs.read_programs.Statement.{statement}
 use Rattle.reader.proofs.read_programs.Tie as tie
-use Rattle.reader.proofs.read_programs.Reads as reads
-use Rattle.reader.proofs.read_programs.Lts as lts
-use Rattle.reader.proofs.blank.refused_at.Reads as refused-at-reads
-use Rattle.reader.proofs.read_program.Reads as read-program-reads
 
 abbrev Inv-loop : tie.InvT-loop
 Inv-loop text count contents start first variables code₀ at₀ number₀ all k₀ code at number k = (programsFrom text count 0 (soFar contents start first) ≡ programsFrom text (all - k) k (soFar (withCode contents code) at number)) × (k ≤ all) × (number ≤ first + 33 * k) × (list.length code ≡ 8)
@@ -22,50 +18,39 @@ Inv-loop text count contents start first variables code₀ at₀ number₀ all k
 abbrev μ-loop : tie.MeasureT-loop
 μ-loop text count contents start first variables code₀ at₀ number₀ all k₀ code at number k = all - k
 
--- src/lib.rt:87:5
 loop-holds : tie.Need-loop-holds Inv-loop μ-loop
 loop-holds c = (laws.programs-start _ _ _, omega arith, omega arith, (let e : list.length (c .before .before .args .contents .code) ≡ 8 = simp length-map at (c .before .before .good .1 .1 .0 .1 .1 .1 .1 .1 .1 .1 .0 .1 .0 .1) in e))
 
--- src/lib.rt:88:13
 read-program-requires : tie.Need-read-program-requires Inv-loop μ-loop
 read-program-requires c κs = omega arith
 
--- src/lib.rt:90:35
 enum-known-verdict : tie.Need-enum-known-verdict Inv-loop μ-loop
 enum-known-verdict c = search needs
 
--- src/lib.rt:91:13
 refused-at-requires : tie.Need-refused-at-requires Inv-loop μ-loop
 refused-at-requires c κs = search needs
 
--- src/lib.rt:91:13
 returns : tie.Need-returns Inv-loop μ-loop
 returns c = (c .refused-at .ensures) ∙ sym ((c .before .before .before .before .before .before .loop .inv .0) ∙ laws.programs-refused _ _ _ _ (c .before .before .before .before .before .loop-test .taken) (c .before .before .before .before .read-program .ensures) (c .before .before .verdict .given .1))
 
 enum-told : tie.Need-enum-told Inv-loop μ-loop
 enum-told c = search needs
 
--- src/lib.rt:94:9
 mul-code : tie.Need-mul-code Inv-loop μ-loop
 mul-code c = search needs
 
--- src/lib.rt:94:9
 array-set-from-code : tie.Need-array-set-from-code Inv-loop μ-loop
 array-set-from-code c = search needs
 
--- src/lib.rt:97:13
 add-k : tie.Need-add-k Inv-loop μ-loop
 add-k c = search needs
 
--- src/lib.rt:87:5
 loop-less : tie.Need-loop-less Inv-loop μ-loop
 loop-less c = search needs
 
--- src/lib.rt:87:5
 loop-again : tie.Need-loop-again Inv-loop μ-loop
 loop-again c = ((c .before .before .before .before .before .loop .inv .0) ∙ laws.programs-more _ _ _ _ (c .before .before .before .before .loop-test .taken) (c .before .before .before .read-program .ensures) (c .before .enum-told .given .1), omega arith, omega (arith, ap (λ (y : ProgramReading). y .line) (c .before .before .before .read-program .ensures), laws.program-line (c .before .before .before .before .before .before .before .before .args .contents .variables) (c .before .before .before .before .before .before .before .before .args .text .now) (c .before .before .before .before .before .loop .at) (c .before .before .before .before .before .loop .number)), simp length-set ((c .before .before .before .before .before .loop .inv .3)))
 
--- src/lib.rt:77:1
 returns-2 : tie.Need-returns-2 Inv-loop μ-loop
 returns-2 c = sym ((c .before .before .loop .inv .0) ∙ laws.programs-end _ _ _ _ (c .before .loop-test .left))
 

@@ -3,19 +3,14 @@ use Rattle.construction.specs.Opening.{varsFrom, refusedAt}
 use Rattle.construction.proofs.TextReading as laws
 use Rattle.construction.specs.declared.Refusal.{Refusal}
 use lib.ListN as list
-use lib.ListN.{replicate, length-set}
-use mathlib.Core.Path.{_≡_, refl, sym, _∙_, ap}
+use lib.ListN.{length-set}
+use mathlib.Core.Path.{_≡_, sym, _∙_, ap}
 use Prim.Native.Nat.{_+_, _-_, _≤_}
 use native.Mathlib.Numerals.{add-one}
 use native.Mathlib.Omega.{arith}
 use borrow.Author.Needs.{needs}
 use Rattle.reader.proofs.read_vars.Statement.{statement}
 use Rattle.reader.proofs.read_vars.Tie as tie
-use Rattle.reader.proofs.read_vars.Reads as reads
-use Rattle.reader.proofs.read_vars.Lts as lts
-use Rattle.lines.proofs.var_line.Reads as var-line-reads
-use Rattle.reader.proofs.blank.refused_at.Reads as refused-at-reads
-use Rattle.reader.proofs.refusals.var_refusal.Reads as var-refusal-reads
 
 abbrev Inv-loop : tie.InvT-loop
 Inv-loop text count contents start first starts₀ at₀ number₀ all k₀ starts at number k = (varsFrom text count 0 (soFar contents start first) ≡ varsFrom text (all - k) k (soFar (withStarts contents starts) at number)) × (k ≤ all) × (number ≤ first + k) × (list.length starts ≡ 64)
@@ -23,59 +18,45 @@ Inv-loop text count contents start first starts₀ at₀ number₀ all k₀ star
 abbrev μ-loop : tie.MeasureT-loop
 μ-loop text count contents start first starts₀ at₀ number₀ all k₀ starts at number k = all - k
 
--- src/lib.rt:118:5
 loop-holds : tie.Need-loop-holds Inv-loop μ-loop
 loop-holds c = (laws.vars-start _ _ _, omega arith, omega arith, search needs)
 
--- src/lib.rt:119:13
 var-line-requires : tie.Need-var-line-requires Inv-loop μ-loop
 var-line-requires c κs = search needs
 
--- src/lib.rt:120:30
 enum-known-line : tie.Need-enum-known-line Inv-loop μ-loop
 enum-known-line c = search needs
 
--- src/lib.rt:121:31
 enum-told : tie.Need-enum-told Inv-loop μ-loop
 enum-told c = search needs
 
--- src/lib.rt:121:31
 var-refusal-requires : tie.Need-var-refusal-requires Inv-loop μ-loop
 var-refusal-requires c κs = search needs
 
--- src/lib.rt:121:13
 refused-at-requires : tie.Need-refused-at-requires Inv-loop μ-loop
 refused-at-requires c κs = search needs
 
--- src/lib.rt:121:13
 returns : tie.Need-returns Inv-loop μ-loop
 returns c = (c .refused-at .ensures) ∙ ap (λ (w : Refusal). refusedAt w (c .before .before .before .before .before .before .loop .number)) ((c .before .var-refusal .ensures) ∙ ap varRefusal (c .before .before .enum-told .given .1)) ∙ sym ((c .before .before .before .before .before .before .loop .inv .0) ∙ laws.vars-refused _ _ _ _ (c .before .before .before .before .before .loop-test .taken) (c .before .before .before .before .var-line .ensures) (c .before .before .enum-told .given .1))
 
--- src/lib.rt:123:9
 mul-starts : tie.Need-mul-starts Inv-loop μ-loop
 mul-starts c = search needs
 
--- src/lib.rt:123:9
 array-write-starts : tie.Need-array-write-starts Inv-loop μ-loop
 array-write-starts c = search needs
 
--- src/lib.rt:125:18
 add-number : tie.Need-add-number Inv-loop μ-loop
 add-number c = search needs
 
--- src/lib.rt:126:13
 add-k : tie.Need-add-k Inv-loop μ-loop
 add-k c = search needs
 
--- src/lib.rt:118:5
 loop-less : tie.Need-loop-less Inv-loop μ-loop
 loop-less c = search needs
 
--- src/lib.rt:118:5
 loop-again : tie.Need-loop-again Inv-loop μ-loop
 loop-again c = ((c .before .before .before .before .before .loop .inv .0) ∙ laws.vars-more _ _ _ _ (c .before .before .before .before .loop-test .taken) (c .before .before .before .var-line .ensures) (c .before .line .given .1) (rw add-one), omega arith, omega arith, simp length-set (c .before .before .before .before .before .loop .inv .3))
 
--- src/lib.rt:109:1
 returns-2 : tie.Need-returns-2 Inv-loop μ-loop
 returns-2 c = sym ((c .before .before .loop .inv .0) ∙ laws.vars-end _ _ _ _ (c .before .loop-test .left))
 

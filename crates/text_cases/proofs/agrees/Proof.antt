@@ -3,9 +3,6 @@ use Prim.Native.Nat.{_-_, _≤_}
 use lib.ListN.{length}
 use Rattle.text_cases.proofs.agrees.Statement.{statement}
 use Rattle.text_cases.proofs.agrees.Tie as tie
-use Rattle.text_cases.proofs.agrees.Reads as reads
-use Rattle.text_cases.proofs.agrees.Lts as lts
-use Rattle.text_cases.proofs.expected.Reads as expected-reads
 
 abbrev Inv-loop : tie.InvT-loop
 Inv-loop buffer text told k₀ k = k ≤ length buffer
@@ -13,35 +10,27 @@ Inv-loop buffer text told k₀ k = k ≤ length buffer
 abbrev μ-loop : tie.MeasureT-loop
 μ-loop buffer text told k₀ k = length buffer - k
 
--- src/main.rt:40:5
 loop-holds : tie.Need-loop-holds Inv-loop μ-loop
 loop-holds c = search needs
 
--- src/main.rt:41:12
 shared-slice-read-if1 : tie.Need-shared-slice-read-if1 Inv-loop μ-loop
 shared-slice-read-if1 c = search needs
 
--- src/main.rt:41:25
 expected-requires : tie.Need-expected-requires Inv-loop μ-loop
 expected-requires c κs = search needs
 
--- src/main.rt:42:13
 returns : tie.Need-returns Inv-loop μ-loop
 returns c = search needs
 
--- src/main.rt:44:13
 add-k : tie.Need-add-k Inv-loop μ-loop
 add-k c = search needs
 
--- src/main.rt:40:5
 loop-less : tie.Need-loop-less Inv-loop μ-loop
 loop-less c = search needs
 
--- src/main.rt:40:5
 loop-again : tie.Need-loop-again Inv-loop μ-loop
 loop-again c = search needs
 
--- src/main.rt:38:1
 returns-2 : tie.Need-returns-2 Inv-loop μ-loop
 returns-2 c = search needs
 

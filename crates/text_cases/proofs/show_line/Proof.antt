@@ -3,40 +3,28 @@ use lib.ListN.{length-take}
 use borrow.Author.Needs.{needs}
 use Rattle.text_cases.proofs.show_line.Statement.{statement}
 use Rattle.text_cases.proofs.show_line.Tie as tie
-use Rattle.text_cases.proofs.show_line.Reads as reads
-use Rattle.text_cases.proofs.show_line.Lts as lts
-use Rattle.io.proofs.write_all.Reads as write-all-reads
-use Rattle.text_cases.proofs.put_case.Reads as put-case-reads
 
--- src/main.rt:133:9
 put-case-requires : tie.Need-put-case-requires
 put-case-requires c κs = search needs
 
--- src/main.rt:135:38
 slice-reshare-prefix-write-all : tie.Need-slice-reshare-prefix-write-all
 slice-reshare-prefix-write-all c = search needs
 
--- src/main.rt:135:38
 slice-aggregate-write-all : tie.Need-slice-aggregate-write-all
 slice-aggregate-write-all c = simp length-take (omega arith)
 
--- src/main.rt:135:9
 write-all-requires : tie.Need-write-all-requires
 write-all-requires c κs = search needs
 
--- src/main.rt:132:1
 same-length : tie.Need-same-length
 same-length c = search needs
 
--- src/main.rt:132:1
 returns : tie.Need-returns
 returns c = search needs
 
--- src/main.rt:132:1
 same-length-2 : tie.Need-same-length-2
 same-length-2 c = search needs
 
--- src/main.rt:132:1
 returns-2 : tie.Need-returns-2
 returns-2 c = search needs
 

@@ -1,27 +1,20 @@
 use Rattle.construction.specs.Instructions.{noLine}
 use lib.ListN.{List·getD-eq-default}
 use mathlib.Core.Path.{sym}
-use Rattle.construction.proofs.TextWriting as laws
 use native.Mathlib.Omega.{arith}
 use borrow.Author.Needs.{needs}
 use Rattle.writer.proofs.line_at.Statement.{statement}
 use Rattle.writer.proofs.line_at.Tie as tie
-use Rattle.writer.proofs.line_at.Reads as reads
-use Rattle.writer.proofs.line_at.Lts as lts
 
--- src/lib.rt:67:9
 mul-result : tie.Need-mul-result
 mul-result c = search needs
 
--- src/lib.rt:67:9
 array-copy-out-result : tie.Need-array-copy-out-result
 array-copy-out-result c = search needs
 
--- src/lib.rt:63:1
 returns : tie.Need-returns
 returns c = search needs
 
--- src/lib.rt:63:1
 returns-2 : tie.Need-returns-2
 returns-2 c = sym (List·getD-eq-default (c .before .args .t1) noLine (omega arith))
 

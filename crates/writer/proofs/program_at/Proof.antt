@@ -6,22 +6,16 @@ use native.Mathlib.Omega.{arith}
 use borrow.Author.Needs.{needs}
 use Rattle.writer.proofs.program_at.Statement.{statement}
 use Rattle.writer.proofs.program_at.Tie as tie
-use Rattle.writer.proofs.program_at.Reads as reads
-use Rattle.writer.proofs.program_at.Lts as lts
 
--- src/lib.rt:79:9
 mul-result : tie.Need-mul-result
 mul-result c = search needs
 
--- src/lib.rt:79:9
 array-copy-out-result : tie.Need-array-copy-out-result
 array-copy-out-result c = search needs
 
--- src/lib.rt:75:1
 returns : tie.Need-returns
 returns c = laws.any-default (c .before .before .args .t1) (c .before .before .args .k) _ _ (omega arith)
 
--- src/lib.rt:75:1
 returns-2 : tie.Need-returns-2
 returns-2 c = sym (List·getD-eq-default (c .before .args .t1) noProgram (omega arith))
 

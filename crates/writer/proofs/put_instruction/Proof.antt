@@ -3,33 +3,22 @@ use native.Mathlib.Omega.{arith}
 use borrow.Author.Needs.{needs}
 use Rattle.writer.proofs.put_instruction.Statement.{statement}
 use Rattle.writer.proofs.put_instruction.Tie as tie
-use Rattle.writer.proofs.put_instruction.Reads as reads
-use Rattle.writer.proofs.put_instruction.Lts as lts
-use Rattle.grammar.proofs.writing.put_four.Reads as put-four-reads
-use Rattle.grammar.proofs.writing.put_word.Reads as put-word-reads
-use Rattle.writer.proofs.encode.Reads as encode-reads
 
--- src/lib.rt:113:37
 slice-aggregate-put-word : tie.Need-slice-aggregate-put-word
 slice-aggregate-put-word c = search needs
 
--- src/lib.rt:113:9
 put-word-requires : tie.Need-put-word-requires
 put-word-requires c κs = search needs
 
--- src/lib.rt:114:9
 encode-requires : tie.Need-encode-requires
 encode-requires c κs = search needs
 
--- src/lib.rt:115:5
 put-four-requires : tie.Need-put-four-requires
 put-four-requires c κs = search needs
 
--- src/lib.rt:110:1
 same-length : tie.Need-same-length
 same-length c = search needs
 
--- src/lib.rt:110:1
 returns : tie.Need-returns
 returns c = laws.put-instruction _ (c .before .before .before .before .encode .ensures) (omega arith) (c .before .before .before .before .before .before .before .put-word .ensures) (c .before .before .put-four .ensures)
 

@@ -9,10 +9,6 @@ use native.Mathlib.Omega.{arith}
 use borrow.Author.Needs.{needs}
 use Rattle.writer.proofs.put_lines.Statement.{statement}
 use Rattle.writer.proofs.put_lines.Tie as tie
-use Rattle.writer.proofs.put_lines.Reads as reads
-use Rattle.writer.proofs.put_lines.Lts as lts
-use Rattle.writer.proofs.line_at.Reads as line-at-reads
-use Rattle.writer.proofs.put_instruction.Reads as put-instruction-reads
 
 abbrev Inv-loop : tie.InvT-loop
 Inv-loop buffer₀ at count lines all i₀ k₀ buffer i k = puts.Rest buffer₀ at (linesText count 0 lines) buffer i (linesText (all - k) k lines) × (k ≤ all)
@@ -20,35 +16,27 @@ Inv-loop buffer₀ at count lines all i₀ k₀ buffer i k = puts.Rest buffer₀
 abbrev μ-loop : tie.MeasureT-loop
 μ-loop buffer₀ at count lines all i₀ k₀ buffer i k = all - k
 
--- src/lib.rt:124:5
 loop-holds : tie.Need-loop-holds Inv-loop μ-loop
 loop-holds c = (laws.series-begin (laws.lines-series (c .before .args .lines)) _ _ _ (omega arith), omega arith)
 
--- src/lib.rt:125:13
 line-at-requires : tie.Need-line-at-requires Inv-loop μ-loop
 line-at-requires c κs = search needs
 
--- src/lib.rt:127:9
 put-instruction-requires : tie.Need-put-instruction-requires Inv-loop μ-loop
 put-instruction-requires c κs = search needs
 
--- src/lib.rt:128:13
 add-k : tie.Need-add-k Inv-loop μ-loop
 add-k c = search needs
 
--- src/lib.rt:124:5
 loop-less : tie.Need-loop-less Inv-loop μ-loop
 loop-less c = search needs
 
--- src/lib.rt:124:5
 loop-again : tie.Need-loop-again Inv-loop μ-loop
 loop-again c = (laws.series-turn (laws.lines-series (c .before .before .before .before .before .before .before .before .args .lines)) _ _ (c .before .before .before .before .before .loop-test .taken) (c .before .before .before .before .before .before .loop .inv .0) (ap (λ (x : Line). insText (x .instruction)) (c .before .before .before .before .line-at .ensures)) (c .before .before .put-instruction .ensures), omega arith)
 
--- src/lib.rt:118:1
 same-length : tie.Need-same-length Inv-loop μ-loop
 same-length c = puts.rest-length (c .before .loop .inv .0)
 
--- src/lib.rt:118:1
 returns : tie.Need-returns Inv-loop μ-loop
 returns c = laws.series-end (laws.lines-series (c .before .before .before .args .lines)) _ _ (c .loop-test .left) (c .before .loop .inv .0)
 

@@ -3,37 +3,25 @@ use native.Mathlib.Omega.{arith}
 use borrow.Author.Needs.{needs}
 use Rattle.writer.proofs.put_program.Statement.{statement}
 use Rattle.writer.proofs.put_program.Tie as tie
-use Rattle.writer.proofs.put_program.Reads as reads
-use Rattle.writer.proofs.put_program.Lts as lts
-use Rattle.grammar.proofs.writing.put_field.Reads as put-field-reads
-use Rattle.grammar.proofs.writing.put_word.Reads as put-word-reads
-use Rattle.writer.proofs.put_lines.Reads as put-lines-reads
 
--- src/lib.rt:138:34
 slice-aggregate-put-word : tie.Need-slice-aggregate-put-word
 slice-aggregate-put-word c = search needs
 
--- src/lib.rt:138:9
 put-word-requires : tie.Need-put-word-requires
 put-word-requires c κs = search needs
 
--- src/lib.rt:139:41
 cast-put-field : tie.Need-cast-put-field
 cast-put-field c = search needs
 
--- src/lib.rt:139:9
 put-field-requires : tie.Need-put-field-requires
 put-field-requires c κs = search needs
 
--- src/lib.rt:140:5
 put-lines-requires : tie.Need-put-lines-requires
 put-lines-requires c κs = search needs
 
--- src/lib.rt:133:1
 same-length : tie.Need-same-length
 same-length c = search needs
 
--- src/lib.rt:133:1
 returns : tie.Need-returns
 returns c = laws.put-program (c .before .before .before .before .before .before .before .before .before .before .before .before .before .before .before .args .x) (omega arith) (c .before .before .before .before .before .before .before .before .before .before .put-word .ensures) (c .before .before .before .before .before .before .put-field .ensures) (c .before .before .put-lines .ensures)
 

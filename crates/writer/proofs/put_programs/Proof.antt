@@ -7,10 +7,6 @@ use native.Mathlib.Omega.{arith}
 use borrow.Author.Needs.{needs}
 use Rattle.writer.proofs.put_programs.Statement.{statement}
 use Rattle.writer.proofs.put_programs.Tie as tie
-use Rattle.writer.proofs.put_programs.Reads as reads
-use Rattle.writer.proofs.put_programs.Lts as lts
-use Rattle.writer.proofs.program_at.Reads as program-at-reads
-use Rattle.writer.proofs.put_program.Reads as put-program-reads
 
 abbrev Inv-loop : tie.InvT-loop
 Inv-loop buffer₀ at count code all i₀ k₀ buffer i k = puts.Rest buffer₀ at (programsText count 0 code) buffer i (programsText (all - k) k code) × (k ≤ all)
@@ -18,35 +14,27 @@ Inv-loop buffer₀ at count code all i₀ k₀ buffer i k = puts.Rest buffer₀ 
 abbrev μ-loop : tie.MeasureT-loop
 μ-loop buffer₀ at count code all i₀ k₀ buffer i k = all - k
 
--- src/lib.rt:149:5
 loop-holds : tie.Need-loop-holds Inv-loop μ-loop
 loop-holds c = (laws.series-begin (laws.programs-series (c .before .args .code)) _ _ _ (omega arith), omega arith)
 
--- src/lib.rt:150:13
 program-at-requires : tie.Need-program-at-requires Inv-loop μ-loop
 program-at-requires c κs = search needs
 
--- src/lib.rt:151:9
 put-program-requires : tie.Need-put-program-requires Inv-loop μ-loop
 put-program-requires c κs = search needs
 
--- src/lib.rt:152:13
 add-k : tie.Need-add-k Inv-loop μ-loop
 add-k c = search needs
 
--- src/lib.rt:149:5
 loop-less : tie.Need-loop-less Inv-loop μ-loop
 loop-less c = search needs
 
--- src/lib.rt:149:5
 loop-again : tie.Need-loop-again Inv-loop μ-loop
 loop-again c = (laws.series-turn (laws.programs-series (c .before .before .before .before .before .before .before .before .args .code)) _ _ (c .before .before .before .before .before .loop-test .taken) (c .before .before .before .before .before .before .loop .inv .0) (ap programText (c .before .before .before .before .program-at .ensures)) (c .before .before .put-program .ensures), omega arith)
 
--- src/lib.rt:143:1
 same-length : tie.Need-same-length Inv-loop μ-loop
 same-length c = puts.rest-length (c .before .loop .inv .0)
 
--- src/lib.rt:143:1
 returns : tie.Need-returns Inv-loop μ-loop
 returns c = laws.series-end (laws.programs-series (c .before .before .before .args .code)) _ _ (c .loop-test .left) (c .before .loop .inv .0)
 

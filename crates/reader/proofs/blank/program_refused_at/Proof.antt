@@ -1,15 +1,10 @@
 use borrow.Author.Needs.{needs}
 use Rattle.reader.proofs.blank.program_refused_at.Statement.{statement}
 use Rattle.reader.proofs.blank.program_refused_at.Tie as tie
-use Rattle.reader.proofs.blank.program_refused_at.Reads as reads
-use Rattle.reader.proofs.blank.program_refused_at.Lts as lts
-use Rattle.reader.proofs.blank.no_program.Reads as no-program-reads
 
--- src/blank.rt:80:9
 no-program-requires : tie.Need-no-program-requires
 no-program-requires c κs = search needs
 
--- src/blank.rt:77:1
 returns : tie.Need-returns
 returns c = cc
 

@@ -1,0 +1,55 @@
+use mathlib.Core.Path.{_≡_}
+use lib.ListN.{length, length-map}
+use Rattle.card.proofs.Laws as laws
+use borrow.Author.Needs.{needs}
+use Rattle.card.proofs.replace_announcement.Statement.{statement}
+use Rattle.card.proofs.replace_announcement.Tie as tie
+
+mul-task : tie.Need-mul-task
+mul-task c = search needs
+
+element-copy-out-task : tie.Need-element-copy-out-task
+element-copy-out-task c = search needs
+
+mul-t15 : tie.Need-mul-t15
+mul-t15 c = search needs
+
+element-set-from-after : tie.Need-element-set-from-after
+element-set-from-after c = search needs
+
+mul-cell : tie.Need-mul-cell
+mul-cell c = search needs
+
+element-copy-out-cell : tie.Need-element-copy-out-cell
+element-copy-out-cell c = search needs
+
+swap-announcement-requires : tie.Need-swap-announcement-requires
+swap-announcement-requires c κs = search needs
+
+mul-stored : tie.Need-mul-stored
+mul-stored c = search needs
+
+element-set-from-stored : tie.Need-element-set-from-stored
+element-set-from-stored c = search needs
+
+returns : tie.Need-returns
+returns c = rw (c .before .swap-announcement .ensures)
+
+returns-2 : tie.Need-returns-2
+returns-2 c = let e : length ((c .before .before .args .t1 .announcements)) ≡ 8 = simp length-map at (c .before .before .good .0 .1 .1 .1 .1 .1 .1 .1 .1 .1 .0 .1 .0 .1) in laws.no-announcement (c .before .before .args .t1) (c .before .before .args .i) (c .before .before .args .m) (c .before .before .args .expected) (c .before .before .args .new) (c .before .before .args .next) e (c .if1 .left)
+
+pub replace-announcement-spec : {M : Type 1} → statement M
+replace-announcement-spec =
+    tie.close
+    (tie.spec
+    mul-task
+    element-copy-out-task
+    mul-t15
+    element-set-from-after
+    mul-cell
+    element-copy-out-cell
+    swap-announcement-requires
+    mul-stored
+    element-set-from-stored
+    returns
+    returns-2)

@@ -1,0 +1,26 @@
+use Rattle.construction.specs.Dictionary.{noItem}
+use lib.ListN.{length, length-map}
+use mathlib.Core.Path.{_≡_}
+use Rattle.parts.proofs.Laws as laws
+use borrow.Author.Needs.{needs}
+use Rattle.parts.proofs.item_at.Statement.{statement}
+use Rattle.parts.proofs.item_at.Tie as tie
+
+mul-result : tie.Need-mul-result
+mul-result c = search needs
+
+element-copy-out-result : tie.Need-element-copy-out-result
+element-copy-out-result c = search needs
+
+returns : tie.Need-returns
+returns c = search needs
+
+no-item-requires : tie.Need-no-item-requires
+no-item-requires c κs = search needs
+
+returns-2 : tie.Need-returns-2
+returns-2 c = let e : length (c .before .before .args .t1 .items) ≡ 32 = simp length-map at (c .before .before .good .0 .1 .1 .1 .0 .1 .0 .1) in laws.outside (c .before .before .args .t1 .items) 32 (c .before .before .args .place) noItem e (c .before .if1 .left) (c .no-item .ensures)
+
+pub item-at-spec : {M : Type 1} → statement M
+item-at-spec =
+    tie.close (tie.spec mul-result element-copy-out-result returns no-item-requires returns-2)

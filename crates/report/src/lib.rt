@@ -1,0 +1,152 @@
+// Lines that test programs write to standard output: an answer with the verb and first number of its entry and whether the card changed,
+// and the shared cells. It rests on the crates construction, io and libc. No contract can say what is written.
+use construction::Announcement;
+use construction::Answer;
+use construction::Card;
+use construction::Flag;
+use construction::Gate;
+use construction::Holder;
+use construction::Record;
+use construction::Refusal;
+use construction::Words;
+use io::print_decimal;
+use libc::STDOUT_FILENO;
+
+fn write(text: &[u8]) {
+    io::write_all(STDOUT_FILENO, text);
+}
+
+fn write_number(value: u64) {
+    print_decimal(STDOUT_FILENO, value);
+}
+
+// A separator and a number.
+fn write_field(separator: &[u8], value: u64) {
+    write(separator);
+    write_number(value);
+}
+
+fn write_words(words: Words) {
+    write_field(b",", words.w0 as u64);
+    write_field(b",", words.w1 as u64);
+    write_field(b",", words.w2 as u64);
+    write_field(b",", words.w3 as u64);
+}
+
+fn refusal_number(refusal: Refusal) -> u64 {
+    match refusal {
+        Refusal::TooLong => 1,
+        Refusal::Malformed => 2,
+        Refusal::OutOfRange => 3,
+        Refusal::BadInstruction => 4,
+        Refusal::NoProcess => 5,
+        Refusal::NoProgram => 6,
+        Refusal::Busy => 7,
+        Refusal::NotBusy => 8,
+        Refusal::NoPlace => 9,
+        Refusal::LimitReached => 10,
+        Refusal::ShortBuffer => 11,
+    }
+}
+
+fn write_done(outputs: Words, steps: u64) {
+    write(b",done");
+    write_words(outputs);
+    write_field(b",", steps);
+}
+
+fn write_answer(answer: Answer) {
+    match answer {
+        Answer::Taken => write(b",taken"),
+        Answer::Run => write(b",run"),
+        Answer::Done { outputs, steps } => write_done(outputs, steps),
+        Answer::Exited { steps } => write_field(b",exited,", steps),
+        Answer::Value(value) => write_field(b",", value as u64),
+        Answer::Refused(refusal) => write_field(b",refused,", refusal_number(refusal)),
+    }
+}
+
+fn write_change(same: bool) {
+    if same {
+        write(b",same\n");
+    } else {
+        write(b",changed\n");
+    }
+}
+
+pub fn show_answer(verb: &[u8], number: u32, answer: Answer, same: bool) {
+    write_field(verb, number as u64);
+    write_answer(answer);
+    write_change(same);
+}
+
+// So many steps that ran on and changed the card.
+pub fn show_runs(process: u32, runs: u64) {
+    if 0 < runs {
+        write_number(runs);
+        write_field(b" x step,", process as u64);
+        write(b",run,changed\n");
+    }
+}
+
+pub fn show_refused_text(refusal: Refusal, line: u64) {
+    write_field(b"card,refused,", refusal_number(refusal));
+    write_field(b",", line);
+    write(b"\n");
+}
+
+fn show_gate(gate: Gate) {
+    let holder = gate.holder;
+    match holder {
+        Holder::Nobody => write(b"gate,none"),
+        Holder::Process(process) => write_field(b"gate,", process as u64),
+    }
+    write_field(b",", gate.seq);
+    write(b"\n");
+}
+
+fn write_flag(flag: Flag) {
+    match flag {
+        Flag::Done => write(b",done"),
+        Flag::Active => write(b",active"),
+        Flag::Exit => write(b",exit"),
+    }
+}
+
+fn show_announcement(process: u64, announcement: Announcement) {
+    let flag = announcement.flag;
+    let words = announcement.words;
+    write_field(b"announcement,", process);
+    write_field(b",", announcement.program as u64);
+    write_field(b",", announcement.seq);
+    write_flag(flag);
+    write_words(words);
+    write(b"\n");
+}
+
+fn show_record(variable: u64, record: Record) {
+    write_field(b"record,", variable);
+    write_field(b",", record.val0 as u64);
+    write_field(b",", record.val1 as u64);
+    write_field(b",", record.toggle as u64);
+    write_field(b",", record.seq);
+    write(b"\n");
+}
+
+// The gate, the announcements of all processes and the record of a variable.
+pub fn show_cells(card: Card, variable: u32) -> Card {
+    let gate = card.gate;
+    show_gate(gate);
+    for i in 0..8 {
+        let announcement = card.announcements[i];
+        if i < card.processes as usize {
+            show_announcement(i as u64, announcement);
+        }
+    }
+    let at = variable as usize;
+    if at < 64 {
+        let record = card.records[at];
+        show_record(at as u64, record);
+    }
+    card
+}

@@ -1,0 +1,4 @@
+pub mod CommandLaws
+pub mod PrintingLaws
+pub mod SessionLaws
+pub mod Histories

@@ -1,0 +1,147 @@
+-- A session of the bench program (document 01, 'The bench program'): from a card text and a calls text to the printed text.
+use Prim.Native.Nat.{ℕ, _+_, _≤_, _<_}
+use mathlib.Core.Bool.{cond}
+use mathlib.Core.Path.{_≡_}
+use mathlib.Core.List.{List, [], _∷_, _++_}
+use lib.ListN.{length, take}
+use lib.Seq.{sets}
+use lib.Dec.{ltb, leb}
+use Rattle.grammar.specs.Writing.{placeAfter, Put}
+use Rattle.construction.specs.declared.Card.{Card}
+use Rattle.construction.specs.declared.Answered.{Answered}
+use Rattle.construction.specs.declared.Opened.{Opened}
+use Rattle.construction.specs.declared.Verdict.{Verdict}
+use Rattle.construction.specs.declared.Refusal.the-variants.{Malformed}
+use Rattle.construction.specs.Requests.{refused}
+use Rattle.construction.specs.History.{Entry, act}
+use Rattle.construction.specs.Opening.{opened}
+use Rattle.session.specs.declared.Command.{Command}
+use Rattle.session.specs.declared.State.{State}
+use Rattle.session.specs.declared.Printed.{Printed}
+use Rattle.session.specs.Commands.{command, nextOf, commands}
+use Rattle.session.specs.Printing.{lineText, longest, cardRefusal, callsRefusal}
+
+-- the entries that a command names: one, or none where it is malformed
+abbrev pub entriesOf : Command → List Entry
+entriesOf (Command.Call i k x next) = Entry.Call i k x ∷ []
+entriesOf (Command.Exit i next) = Entry.Exit i ∷ []
+entriesOf (Command.Step i next) = Entry.Step i ∷ []
+entriesOf (Command.Read v next) = Entry.Read v ∷ []
+entriesOf (Command.Malformed next) = []
+
+-- the card acts on that entry; a malformed command is refusal 2 and leaves the card as it was
+abbrev pub executeEntries : Card → List Entry → Answered
+executeEntries c [] = refused c Malformed
+executeEntries c (e ∷ es) = act c e
+
+unfoldable pub execute : Card → Command → Answered
+execute c m = executeEntries c (entriesOf m)
+
+-- 'It prints a line for each': the line of a command, and the session after it. N counts all lines from 1; line numbers have 64 bits.
+unfoldable pub lineOf : State → Command → List ℕ
+lineOf s m = lineText (s .line) m (execute (s .card) m .answer)
+
+unfoldable pub afterLine : State → Command → State
+afterLine s m = record { card = execute (s .card) m .card; at = nextOf m; line = placeAfter (s .line) 1 }
+
+-- the lines one after the other, the card going from command to command
+unfoldable pub linesOf : State → List Command → List ℕ
+linesOf s [] = []
+linesOf s (m ∷ ms) = lineOf s m ++ linesOf (afterLine s m) ms
+
+unfoldable pub linesText : List ℕ → State → List ℕ
+linesText t s = linesOf s (commands t (s .at))
+
+-- the session that is left after the last line, and the entries of demand 3 that the commands name
+unfoldable pub lastState : State → List Command → State
+lastState s [] = s
+lastState s (m ∷ ms) = lastState (afterLine s m) ms
+
+unfoldable pub entries : List Command → List Entry
+entries [] = []
+entries (m ∷ ms) = entriesOf m ++ entries ms
+
+-- the session before its first command
+abbrev pub firstState : Card → State
+firstState c = record { card = c; at = 0; line = 1 }
+
+-- calls over the limit print one line only, and so does a refused card, 'judged before the calls'
+abbrev pub callsText : List ℕ → Card → List ℕ
+callsText calls c = cond (ltb 65536 (length calls)) callsRefusal (linesText calls (firstState c))
+
+abbrev pub verdictText : List ℕ → Card → Verdict → List ℕ
+verdictText calls c Verdict.Accepted = callsText calls c
+verdictText calls c (Verdict.Refused r line) = cardRefusal (Verdict.Refused r line)
+
+-- the whole session: what the bench program prints for a card text and a calls text
+unfoldable pub session : List ℕ → List ℕ → List ℕ
+session card calls = verdictText calls (opened card .card) (opened card .verdict)
+
+-- The session in pieces. Lines gathered so far, and the session after them.
+pub record Gathered : Type 0 where
+  pub text : List ℕ
+  pub state : State
+
+-- as many whole lines as `room` bytes take
+unfoldable pub gather : ℕ → Gathered → List Command → Gathered
+gather room g [] = g
+gather room g (m ∷ ms) =
+    cond (leb (length (g .text ++ lineOf (g .state) m)) room)
+    (gather room (record { text = g .text ++ lineOf (g .state) m; state = afterLine (g .state) m }) ms)
+    g
+
+abbrev pub fitting : List ℕ → State → ℕ → Gathered
+fitting t s room = gather room (record { text = []; state = s }) (commands t (s .at))
+
+-- the line of the first of these commands
+abbrev pub firstLine : State → List Command → List ℕ
+firstLine s [] = []
+firstLine s (m ∷ ms) = lineOf s m
+
+-- what is printed into a buffer: the lines that fit
+unfoldable pub printed : List ℕ → State → List ℕ → Printed
+printed t s b =
+    let g = fitting t s (length b) in
+    record { state = g .state; length = length (g .text) }
+
+-- the buffer then: those lines, after them as much of the next line as there is room for, and the other bytes as they were
+unfoldable pub printedInto : List ℕ → State → List ℕ → List ℕ
+printedInto t s b =
+    let g = fitting t s (length b) in
+    sets b 0 (g .text ++ firstLine (g .state) (commands t (g .state .at)))
+
+-- Printing into a buffer: the answer, the buffer, and that nothing of the session's text is lost; a buffer that has room for a line goes on.
+pub record Prints (t : List ℕ) (s : State) (b : List ℕ) (r : Printed) (z : List ℕ) : Type 0 where
+  pub answer : r ≡ printed t s b
+  pub bytes : z ≡ printedInto t s b
+  pub text : linesText t s ≡ take (r .length) z ++ linesText t (r .state)
+  pub within : r .length ≤ length b
+  pub onward : longest ≤ length b → s .at < length t → s .at < r .state .at
+
+-- What is printed before any command, and the session after it: a refusal, past which no command is left, or nothing.
+abbrev pub overState : List ℕ → Card → State
+overState calls c = record { card = c; at = length calls; line = 1 }
+
+abbrev pub callsBeginning : List ℕ → Card → Gathered
+callsBeginning calls c =
+    cond (ltb 65536 (length calls))
+    (record { text = callsRefusal; state = overState calls c })
+    (record { text = []; state = firstState c })
+
+abbrev pub verdictBeginning : List ℕ → Card → Verdict → Gathered
+verdictBeginning calls c Verdict.Accepted = callsBeginning calls c
+verdictBeginning calls c (Verdict.Refused r line) =
+    record { text = cardRefusal (Verdict.Refused r line); state = overState calls c }
+
+unfoldable pub beginning : List ℕ → List ℕ → Gathered
+beginning card calls = verdictBeginning calls (opened card .card) (opened card .verdict)
+
+-- Starting a session with a buffer: what is printed and the session after it, the buffer, and that this and the lines that follow are all.
+pub record Begins (x : Gathered) (b : List ℕ) (r : Printed) (z : List ℕ) : Type 0 where
+  pub state : r .state ≡ x .state
+  pub put : Put b 0 (x .text) (r .length) z
+  pub short : r .length ≤ longest
+
+pub record Starts (card calls b : List ℕ) (r : Printed) (z : List ℕ) : Type 0 where
+  pub begins : Begins (beginning card calls) b r z
+  pub text : longest ≤ length b → session card calls ≡ take (r .length) z ++ linesText calls (r .state)

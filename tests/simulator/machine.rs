@@ -1,0 +1,662 @@
+//! The card of document 01: its text, its shared cells and its steps.
+//! Written from document 01 and the paper's numbered lines alone, so that it can judge the bench program.
+
+/// 'The card text': at most this many bytes.
+pub const TEXT_LIMIT: usize = 16_384;
+/// 'The card and its edges': the greatest step limit.
+pub const GREATEST_LIMIT: u64 = 1_000_000_000_000_000_000;
+/// One past the greatest 32-bit word.
+pub const WORD_END: u64 = 1 << 32;
+
+// ---------------------------------------------------------------- lines and fields
+
+/// A line without its byte 10; the last line of a text may lack it.
+pub struct Line<'a> {
+    pub bytes: &'a [u8],
+    pub ended: bool,
+}
+
+/// The lines of a text. What stands after the last byte 10 is a line if it has a byte.
+pub fn lines(text: &[u8]) -> Vec<Line<'_>> {
+    text.split_inclusive(|&byte| byte == 10)
+        .map(|line| match line.strip_suffix(b"\n") {
+            Some(bytes) => Line { bytes, ended: true },
+            None => Line { bytes: line, ended: false },
+        })
+        .collect()
+}
+
+/// A decimal number without sign or leading zero. A number too large for 64 bits has the right form;
+/// it becomes the greatest 64-bit number, which is out of every range.
+pub fn number(field: &[u8]) -> Option<u64> {
+    let digits_only = !field.is_empty() && field.iter().all(u8::is_ascii_digit);
+    let leading_zero = field.len() > 1 && field[0] == b'0';
+    if !digits_only || leading_zero {
+        return None;
+    }
+    let push = |value: u64, digit: &u8| value.saturating_mul(10).saturating_add(u64::from(digit - b'0'));
+    Some(field.iter().fold(0, push))
+}
+
+/// The numbers of an ended line that consists of `word` and exactly `count` number fields.
+pub fn fields(line: &Line, word: &str, count: usize) -> Option<Vec<u64>> {
+    let mut parts = line.bytes.split(|&byte| byte == b',');
+    if !line.ended || parts.next() != Some(word.as_bytes()) {
+        return None;
+    }
+    let numbers = parts.map(number).collect::<Option<Vec<u64>>>()?;
+    (numbers.len() == count).then_some(numbers)
+}
+
+// ---------------------------------------------------------------- the card text
+
+/// One line of the instruction table; operands as they stand in the text.
+#[derive(Clone, Copy, Debug, PartialEq, Eq)]
+pub struct Instruction {
+    pub code: u64,
+    pub a: usize,
+    pub b: usize,
+    pub c: usize,
+}
+
+/// What a card text says.
+#[derive(Clone, Debug, PartialEq, Eq)]
+pub struct Card {
+    pub processes: usize,
+    pub limit: u64,
+    pub starting: Vec<u32>,
+    pub programs: Vec<Vec<Instruction>>,
+}
+
+/// 'Turned back': a refused text gives its number and its line.
+#[derive(Clone, Copy, Debug, PartialEq, Eq)]
+pub struct Refusal {
+    pub number: u8,
+    pub line: usize,
+}
+
+/// Takes the lines of a card text one after the other.
+struct Reader<'a> {
+    lines: Vec<Line<'a>>,
+    taken: usize,
+}
+
+impl Reader<'_> {
+    /// A refusal at the line taken last.
+    fn refuse(&self, number: u8) -> Refusal {
+        Refusal { number, line: self.taken }
+    }
+
+    /// The numbers of the next line. A missing line is numbered one past the last.
+    fn take(&mut self, word: &str, count: usize) -> Result<Vec<u64>, Refusal> {
+        self.taken += 1;
+        let numbers = self.lines.get(self.taken - 1).and_then(|line| fields(line, word, count));
+        numbers.ok_or(self.refuse(2))
+    }
+
+    /// Refusal 3 unless the number lies in the range.
+    fn in_range(&self, number: u64, least: u64, greatest: u64) -> Result<u64, Refusal> {
+        if (least..=greatest).contains(&number) {
+            Ok(number)
+        } else {
+            Err(self.refuse(3))
+        }
+    }
+
+    fn program(&mut self, variables: u64) -> Result<Vec<Instruction>, Refusal> {
+        let length = self.take("sheet", 1)?[0];
+        let length = self.in_range(length, 1, 32)?;
+        (0..length).map(|_| self.instruction(variables)).collect()
+    }
+
+    fn instruction(&mut self, variables: u64) -> Result<Instruction, Refusal> {
+        let numbers = self.take("ins", 4)?;
+        judge_instruction(&numbers, variables).ok_or(self.refuse(4))
+    }
+}
+
+/// The instruction table: each code's operands; unused ones are 0.
+fn judge_instruction(numbers: &[u64], variables: u64) -> Option<Instruction> {
+    let (code, a, b, c) = (numbers[0], numbers[1], numbers[2], numbers[3]);
+    let (a_end, b_end, c_range) = match code {
+        1 | 5 | 6 | 7 | 8 | 11 => (4, 4, 0..=0),
+        2 => (4, WORD_END, 0..=0),
+        3 => (4, variables, 0..=0),
+        4 => (variables, 4, 0..=0),
+        9 | 10 => (4, 4, 1..=31),
+        12 => (1, 1, 0..=0),
+        _ => return None,
+    };
+    let good = a < a_end && b < b_end && c_range.contains(&c);
+    good.then_some(Instruction { code, a: a as usize, b: b as usize, c: c as usize })
+}
+
+/// 'The card text' and rows 1 to 4 of 'Turned back': judged by 1, then line by line.
+pub fn open(text: &[u8]) -> Result<Card, Refusal> {
+    if text.len() > TEXT_LIMIT {
+        return Err(Refusal { number: 1, line: 0 });
+    }
+    let mut reader = Reader { lines: lines(text), taken: 0 };
+    let head = reader.take("card", 4)?;
+    let processes = reader.in_range(head[0], 1, 8)? as usize;
+    let variables = reader.in_range(head[1], 1, 64)?;
+    let program_count = reader.in_range(head[2], 1, 8)?;
+    let limit = reader.in_range(head[3], 1, GREATEST_LIMIT)?;
+    let mut starting = Vec::new();
+    for _ in 0..variables {
+        let value = reader.take("var", 1)?[0];
+        starting.push(reader.in_range(value, 0, WORD_END - 1)? as u32);
+    }
+    let mut programs = Vec::new();
+    for _ in 0..program_count {
+        programs.push(reader.program(variables)?);
+    }
+    if reader.taken < reader.lines.len() {
+        return Err(Refusal { number: 2, line: reader.taken + 1 });
+    }
+    Ok(Card { processes, limit, starting, programs })
+}
+
+// ---------------------------------------------------------------- shared cells
+
+#[derive(Clone, Copy, Debug, PartialEq, Eq)]
+pub struct Gate {
+    pub holder: Option<usize>,
+    pub seq: u64,
+}
+
+#[derive(Clone, Copy, Debug, PartialEq, Eq)]
+pub enum Flag {
+    Done,
+    Active,
+    Exit,
+}
+
+#[derive(Clone, Copy, Debug, PartialEq, Eq)]
+pub struct Announcement {
+    pub program: usize,
+    pub seq: u64,
+    pub flag: Flag,
+    pub words: [u32; 4],
+}
+
+#[derive(Clone, Copy, Debug, PartialEq, Eq)]
+pub struct Record {
+    pub val: [u32; 2],
+    pub toggle: usize,
+    pub seq: u64,
+}
+
+/// 'Shared cells'.
+#[derive(Clone, Debug)]
+pub struct Cells {
+    pub gate: Gate,
+    pub announcements: Vec<Announcement>,
+    pub records: Vec<Record>,
+}
+
+/// 'Shared cells': each cell at opening.
+fn opening_cells(card: &Card) -> Cells {
+    let announcement = Announcement { program: 0, seq: 0, flag: Flag::Done, words: [0; 4] };
+    let record = |&value: &u32| Record { val: [value, 0], toggle: 0, seq: 0 };
+    Cells {
+        gate: Gate { holder: None, seq: 1 },
+        announcements: vec![announcement; card.processes],
+        records: card.starting.iter().map(record).collect(),
+    }
+}
+
+/// A swap compares the whole cell, stores the new one if equal, and tells which.
+fn swap<T: Copy + PartialEq>(cell: &mut T, expected: T, new: T) -> &'static str {
+    if *cell == expected {
+        *cell = new;
+        "won"
+    } else {
+        "lost"
+    }
+}
+
+// ---------------------------------------------------------------- helping (H1, H7, H20 to H36)
+
+/// A dictionary entry: the variable, its record as read at H21, and its value so far.
+#[derive(Clone, Copy, Debug)]
+struct Noted {
+    variable: usize,
+    record: Record,
+    value: u32,
+}
+
+/// The local state of one helping; all of it starts anew at each helping.
+#[derive(Clone, Debug, Default)]
+struct Helping {
+    at: usize,
+    registers: [u32; 4],
+    outputs: [u32; 4],
+    dictionary: Vec<Noted>,
+    /// The variable that the next H21 reads.
+    touching: usize,
+    /// Dictionary entries already considered by the loop of H31.
+    considered: usize,
+}
+
+impl Helping {
+    /// The variable that an instruction touches; a number of n or more touches nothing.
+    fn touched(&self, instruction: &Instruction, variables: usize) -> Option<usize> {
+        let variable = match instruction.code {
+            3 => instruction.b,
+            4 => instruction.a,
+            5 => self.registers[instruction.b] as usize,
+            6 => self.registers[instruction.a] as usize,
+            _ => return None,
+        };
+        (variable < variables).then_some(variable)
+    }
+
+    /// H20 and H26: the dictionary's entry of a variable.
+    fn entry(&mut self, variable: usize) -> Option<&mut Noted> {
+        self.dictionary.iter_mut().find(|noted| noted.variable == variable)
+    }
+
+    /// H7 to H30: runs on to a first touch (then H21 is next) or to the stop (then H31).
+    fn run(&mut self, program: &[Instruction], inputs: &[u32; 4], gate_seq: u64, variables: usize) -> Label {
+        while let Some(instruction) = program.get(self.at).filter(|instruction| instruction.code != 12) {
+            let touched = self.touched(instruction, variables);
+            if let Some(variable) = touched.filter(|&variable| self.entry(variable).is_none()) {
+                self.touching = variable;
+                return Label::H21;
+            }
+            self.execute(instruction, touched, inputs);
+        }
+        self.next_write(gate_seq)
+    }
+
+    /// The instruction table; a touched variable is in the dictionary.
+    fn execute(&mut self, instruction: &Instruction, touched: Option<usize>, inputs: &[u32; 4]) {
+        let Instruction { code, a, b, c } = *instruction;
+        self.at += 1;
+        match code {
+            1 => self.registers[a] = inputs[b],
+            2 => self.registers[a] = b as u32,
+            3 | 5 => self.registers[a] = self.load(touched),
+            4 | 6 => self.store(touched, self.registers[b]),
+            7 => self.registers[a] = self.registers[a].wrapping_add(self.registers[b]),
+            8 => self.registers[a] = self.registers[a].wrapping_sub(self.registers[b]),
+            9 if self.registers[a] == self.registers[b] => self.at += c,
+            10 if self.registers[a] < self.registers[b] => self.at += c,
+            11 => self.outputs[a] = self.registers[b],
+            _ => (),
+        }
+    }
+
+    /// H27; code 5 gives 0 where nothing is touched.
+    fn load(&mut self, touched: Option<usize>) -> u32 {
+        touched.and_then(|variable| self.entry(variable)).map_or(0, |noted| noted.value)
+    }
+
+    /// H28.
+    fn store(&mut self, touched: Option<usize>, value: u32) {
+        if let Some(noted) = touched.and_then(|variable| self.entry(variable)) {
+            noted.value = value;
+        }
+    }
+
+    /// H31 and H32: the next entry with lower seq and altered value is written at H36; after the last comes P19.
+    fn next_write(&mut self, gate_seq: u64) -> Label {
+        while let Some(noted) = self.dictionary.get(self.considered) {
+            if noted.record.seq < gate_seq && noted.record.val[noted.record.toggle] != noted.value {
+                return Label::H36;
+            }
+            self.considered += 1;
+        }
+        Label::P19
+    }
+}
+
+// ---------------------------------------------------------------- operations and their steps
+
+/// The shared accesses of 'One step'.
+#[derive(Clone, Copy, Debug, PartialEq, Eq, PartialOrd, Ord)]
+#[rustfmt::skip]
+pub enum Label { P1, P3, P6, P7, P10, C2, C4, P13, P14, P16, H21, H36, P19, P20, P21, P22, F1, F3 }
+
+/// Where an operation stands between two steps.
+#[derive(Clone, Copy, Debug, PartialEq, Eq)]
+enum Place {
+    /// The top of the loop: P5 is looked at when the step begins.
+    Top,
+    At(Label),
+    /// Returned: F4 with the words of the announcement read last.
+    ReturnDone,
+    /// Returned: P23.
+    ReturnExited,
+}
+
+/// An operation under way, with the paper's local variables g_i, a_i, m_i.
+#[derive(Clone, Debug)]
+struct Operation {
+    process: usize,
+    program: usize,
+    inputs: [u32; 4],
+    exit_request: bool,
+    own_steps: u64,
+    place: Place,
+    gate: Gate,
+    announcement: Announcement,
+    nominee: usize,
+    helping: Helping,
+}
+
+/// What an accepted step answers.
+#[derive(Clone, Copy, Debug, PartialEq, Eq)]
+pub enum Answer {
+    Run,
+    Done { outputs: [u32; 4], own_steps: u64 },
+    Exited { own_steps: u64 },
+}
+
+/// An accepted step: its answer, its access, and how that came out.
+#[derive(Clone, Copy, Debug, PartialEq, Eq)]
+pub struct Stepped {
+    pub answer: Answer,
+    pub label: Label,
+    pub outcome: &'static str,
+}
+
+impl Operation {
+    fn new(process: usize, program: usize, inputs: [u32; 4], cells: &Cells) -> Operation {
+        Operation {
+            process,
+            program,
+            inputs,
+            exit_request: false,
+            own_steps: 0,
+            place: Place::At(Label::P1),
+            gate: cells.gate,
+            announcement: cells.announcements[process],
+            nominee: process,
+            helping: Helping::default(),
+        }
+    }
+
+    /// 'One step': the access that the next step makes.
+    fn next_access(&self) -> Label {
+        match self.place {
+            Place::At(label) => label,
+            _ if self.exit_request => Label::P6,
+            _ => Label::P10,
+        }
+    }
+
+    /// One shared access and the local work up to the next; tells how the access came out.
+    fn access(&mut self, label: Label, cells: &mut Cells, card: &Card) -> &'static str {
+        let (place, outcome) = match label {
+            Label::P1 => self.p1(cells),
+            Label::P3 => self.p3(cells),
+            Label::P6 => self.p6(cells),
+            Label::P7 => self.p7(cells),
+            Label::P10 => self.p10(cells),
+            Label::C2 => self.c2(cells),
+            Label::C4 => self.c4(cells),
+            Label::P13 => self.p13(cells),
+            Label::P14 => self.p14(cells),
+            Label::P16 => self.p16(cells, card),
+            Label::H21 => self.h21(cells, card),
+            Label::H36 => self.h36(cells),
+            Label::P19 => self.mark_done(Flag::Active, Label::P20, cells),
+            Label::P20 => self.mark_done(Flag::Exit, Label::P21, cells),
+            Label::P21 => (Place::At(Label::P22), self.release_gate(cells)),
+            Label::P22 => self.p22(cells),
+            Label::F1 => self.f1(cells),
+            Label::F3 => (Place::ReturnDone, self.release_gate(cells)),
+        };
+        self.place = place;
+        outcome
+    }
+
+    /// P1, P2.
+    fn p1(&mut self, cells: &Cells) -> (Place, &'static str) {
+        self.gate = cells.gate;
+        self.announcement =
+            Announcement { program: self.program, seq: self.gate.seq, flag: Flag::Active, words: self.inputs };
+        (Place::At(Label::P3), "read")
+    }
+
+    /// P3, P4.
+    fn p3(&mut self, cells: &mut Cells) -> (Place, &'static str) {
+        cells.announcements[self.process] = self.announcement;
+        (Place::Top, "written")
+    }
+
+    fn p6(&mut self, cells: &mut Cells) -> (Place, &'static str) {
+        let wanted = Announcement { flag: Flag::Exit, words: self.inputs, ..self.announcement };
+        let outcome = swap(&mut cells.announcements[self.process], self.announcement, wanted);
+        (Place::At(Label::P7), outcome)
+    }
+
+    /// P7, P8.
+    fn p7(&mut self, cells: &Cells) -> (Place, &'static str) {
+        self.announcement = cells.announcements[self.process];
+        match self.announcement.flag {
+            Flag::Done => (Place::At(Label::F1), "done"),
+            _ => (Place::At(Label::P10), "not done"),
+        }
+    }
+
+    /// P10, P11, C1, P15.
+    fn p10(&mut self, cells: &Cells) -> (Place, &'static str) {
+        self.gate = cells.gate;
+        match self.gate.holder {
+            None => {
+                self.nominee = (self.gate.seq % cells.announcements.len() as u64) as usize;
+                (Place::At(Label::C2), "free")
+            }
+            Some(_) => (Place::At(Label::P16), "held"),
+        }
+    }
+
+    /// C2, C3.
+    fn c2(&mut self, cells: &Cells) -> (Place, &'static str) {
+        self.announcement = cells.announcements[self.nominee];
+        match self.announcement.flag {
+            Flag::Active => (Place::At(Label::P13), "active"),
+            _ => (Place::At(Label::C4), "not active"),
+        }
+    }
+
+    /// C4, C5, C6.
+    fn c4(&mut self, cells: &Cells) -> (Place, &'static str) {
+        self.announcement = cells.announcements[self.process];
+        if self.announcement.flag == Flag::Done {
+            return (Place::At(Label::F1), "done");
+        }
+        self.nominee = self.process;
+        (Place::At(Label::P13), "not done")
+    }
+
+    fn p13(&mut self, cells: &mut Cells) -> (Place, &'static str) {
+        let held = Gate { holder: Some(self.nominee), ..self.gate };
+        (Place::At(Label::P14), swap(&mut cells.gate, self.gate, held))
+    }
+
+    /// P14, P15.
+    fn p14(&mut self, cells: &Cells) -> (Place, &'static str) {
+        self.gate = cells.gate;
+        match self.gate.holder {
+            None => (Place::At(Label::P22), "free"),
+            Some(_) => (Place::At(Label::P16), "held"),
+        }
+    }
+
+    /// The process that the gate read last names.
+    fn holder(&self) -> usize {
+        self.gate.holder.expect("P16 to P20 follow a gate with a holder")
+    }
+
+    /// P16, P17, H1.
+    fn p16(&mut self, cells: &Cells, card: &Card) -> (Place, &'static str) {
+        self.announcement = cells.announcements[self.holder()];
+        if self.announcement.flag == Flag::Done {
+            return (Place::At(Label::P21), "done");
+        }
+        if self.announcement.seq > self.gate.seq {
+            return (Place::At(Label::P21), "greater seq");
+        }
+        self.helping = Helping::default();
+        (self.help(card), "help")
+    }
+
+    /// Local work of helping up to the next access.
+    fn help(&mut self, card: &Card) -> Place {
+        let program = &card.programs[self.announcement.program];
+        Place::At(self.helping.run(program, &self.announcement.words, self.gate.seq, card.starting.len()))
+    }
+
+    /// H21 to H25.
+    fn h21(&mut self, cells: &Cells, card: &Card) -> (Place, &'static str) {
+        let variable = self.helping.touching;
+        let record = cells.records[variable];
+        if record.seq > self.gate.seq {
+            return (Place::At(Label::P19), "greater seq");
+        }
+        let (side, outcome) =
+            if record.seq < self.gate.seq { (record.toggle, "lower seq") } else { (1 - record.toggle, "equal seq") };
+        self.helping.dictionary.push(Noted { variable, record, value: record.val[side] });
+        (self.help(card), outcome)
+    }
+
+    /// H33 to H36, then H31 again.
+    fn h36(&mut self, cells: &mut Cells) -> (Place, &'static str) {
+        let noted = self.helping.dictionary[self.helping.considered];
+        let side = 1 - noted.record.toggle;
+        let mut new = Record { toggle: side, seq: self.gate.seq, ..noted.record };
+        new.val[side] = noted.value;
+        let outcome = swap(&mut cells.records[noted.variable], noted.record, new);
+        self.helping.considered += 1;
+        (Place::At(self.helping.next_write(self.gate.seq)), outcome)
+    }
+
+    /// P19 and P20.
+    fn mark_done(&mut self, flag: Flag, next: Label, cells: &mut Cells) -> (Place, &'static str) {
+        let expected = Announcement { flag, ..self.announcement };
+        let done = Announcement { flag: Flag::Done, words: self.helping.outputs, ..self.announcement };
+        (Place::At(next), swap(&mut cells.announcements[self.holder()], expected, done))
+    }
+
+    /// P21 and F3.
+    fn release_gate(&mut self, cells: &mut Cells) -> &'static str {
+        swap(&mut cells.gate, self.gate, Gate { holder: None, seq: self.gate.seq + 1 })
+    }
+
+    /// P22, P4, P23.
+    fn p22(&mut self, cells: &Cells) -> (Place, &'static str) {
+        self.announcement = cells.announcements[self.process];
+        match self.announcement.flag {
+            Flag::Active => (Place::Top, "active"),
+            Flag::Exit => (Place::ReturnExited, "exit"),
+            Flag::Done => (Place::At(Label::F1), "done"),
+        }
+    }
+
+    /// F1, F2; without F3 the operation returns here.
+    fn f1(&mut self, cells: &Cells) -> (Place, &'static str) {
+        self.gate = cells.gate;
+        if self.gate.holder == Some(self.process) {
+            (Place::At(Label::F3), "own")
+        } else {
+            (Place::ReturnDone, "not own")
+        }
+    }
+
+    fn answer(&self) -> Answer {
+        let own_steps = self.own_steps;
+        match self.place {
+            Place::ReturnDone => Answer::Done { outputs: self.announcement.words, own_steps },
+            Place::ReturnExited => Answer::Exited { own_steps },
+            _ => Answer::Run,
+        }
+    }
+}
+
+// ---------------------------------------------------------------- the machine
+
+/// An opened card with its cells and processes.
+#[derive(Clone, Debug)]
+pub struct Machine {
+    pub card: Card,
+    pub cells: Cells,
+    pub steps: u64,
+    operations: Vec<Option<Operation>>,
+}
+
+impl Machine {
+    pub fn new(card: Card) -> Machine {
+        Machine { cells: opening_cells(&card), steps: 0, operations: vec![None; card.processes], card }
+    }
+
+    /// Row 5: the process as a place.
+    fn process(&self, process: u32) -> Result<usize, u8> {
+        let process = process as usize;
+        if process < self.card.processes {
+            Ok(process)
+        } else {
+            Err(5)
+        }
+    }
+
+    pub fn under_way(&self, process: usize) -> bool {
+        self.operations[process].is_some()
+    }
+
+    /// The access that the next step of a process would make, if it has an operation under way.
+    pub fn next_access(&self, process: usize) -> Option<Label> {
+        self.operations[process].as_ref().map(Operation::next_access)
+    }
+
+    /// Call: rows 5, 6, 7.
+    pub fn call(&mut self, process: u32, program: u32, inputs: [u32; 4]) -> Result<(), u8> {
+        let process = self.process(process)?;
+        let program = program as usize;
+        if program >= self.card.programs.len() {
+            return Err(6);
+        }
+        if self.under_way(process) {
+            return Err(7);
+        }
+        self.operations[process] = Some(Operation::new(process, program, inputs, &self.cells));
+        Ok(())
+    }
+
+    /// Exit request: rows 5, 8. A second one is taken and alters nothing.
+    pub fn request_exit(&mut self, process: u32) -> Result<(), u8> {
+        let process = self.process(process)?;
+        self.operations[process].as_mut().ok_or(8)?.exit_request = true;
+        Ok(())
+    }
+
+    /// Step: rows 5, 8, 10. The limit counts the accepted steps of all processes.
+    pub fn step(&mut self, process: u32) -> Result<Stepped, u8> {
+        let process = self.process(process)?;
+        let operation = self.operations[process].as_mut().ok_or(8)?;
+        if self.steps >= self.card.limit {
+            return Err(10);
+        }
+        self.steps += 1;
+        operation.own_steps += 1;
+        let label = operation.next_access();
+        let outcome = operation.access(label, &mut self.cells, &self.card);
+        let answer = operation.answer();
+        if answer != Answer::Run {
+            self.operations[process] = None;
+        }
+        Ok(Stepped { answer, label, outcome })
+    }
+
+    /// Read ('Look'): row 9. The old value stays in sight until the holder's operation is finished.
+    pub fn read(&self, variable: u32) -> Result<u32, u8> {
+        let record = self.cells.records.get(variable as usize).ok_or(9)?;
+        let gate = self.cells.gate;
+        let unfinished = gate.holder.is_some_and(|holder| self.cells.announcements[holder].flag != Flag::Done);
+        let side = if unfinished && record.seq == gate.seq { 1 - record.toggle } else { record.toggle };
+        Ok(record.val[side])
+    }
+}

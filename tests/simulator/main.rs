@@ -1,0 +1,56 @@
+//! An independent simulator of the card (document 01). It says what the bench program must print,
+//! and compares a bench program with that on generated cases. Standard library only.
+
+mod compare;
+mod coverage;
+mod generate;
+mod machine;
+mod selftest;
+mod session;
+
+use std::fs;
+use std::io::Write;
+use std::path::Path;
+use std::process::ExitCode;
+
+const USAGE: &str = "usage: simulator simulate DIR
+       simulator compare PROGRAM FIRST_SEED COUNT
+       simulator coverage FIRST_SEED COUNT
+       simulator write SEED DIR
+       simulator selftest";
+
+fn main() -> ExitCode {
+    let arguments: Vec<String> = std::env::args().skip(1).collect();
+    let arguments: Vec<&str> = arguments.iter().map(String::as_str).collect();
+    match perform(&arguments) {
+        Ok(true) => ExitCode::SUCCESS,
+        Ok(false) => ExitCode::from(1),
+        Err(message) => {
+            eprintln!("{message}");
+            ExitCode::from(2)
+        }
+    }
+}
+
+fn perform(arguments: &[&str]) -> Result<bool, String> {
+    match arguments {
+        ["simulate", folder] => simulate(Path::new(folder)),
+        ["compare", program, first, count] => compare::compare(program, seed(first)?, seed(count)?),
+        ["coverage", first, count] => Ok(compare::cover(seed(first)?, seed(count)?)),
+        ["write", number, folder] => compare::write_case(seed(number)?, folder).map(|()| true),
+        ["selftest"] => Ok(selftest::selftest()),
+        _ => Err(USAGE.to_string()),
+    }
+}
+
+fn seed(text: &str) -> Result<u64, String> {
+    text.parse().map_err(|_| format!("not a number: {text}\n{USAGE}"))
+}
+
+/// Prints the expected output; a file that cannot be opened counts as empty.
+fn simulate(folder: &Path) -> Result<bool, String> {
+    let file = |name| fs::read(folder.join(name)).unwrap_or_default();
+    let printed = session::expected(&file("card.txt"), &file("calls.txt"));
+    std::io::stdout().write_all(&printed).map_err(|error| error.to_string())?;
+    Ok(true)
+}

@@ -1,0 +1,349 @@
+//! The simulator against document 01: the listing of card K, the proving pieces, the rows of 'Turned back',
+//! schedules that show the faults met in drafts, and the sequential run side by side.
+
+use crate::generate::{card_text, case, longest_card};
+use crate::machine::{lines, open, Answer, Flag, Instruction, Line, Machine, Record};
+use crate::session::{expected, parse, Command};
+
+/// Card K's program: store the input, output the old value.
+const EXCHANGE: &str = "sheet,4\nins,1,0,0,0\nins,3,1,0,0\nins,4,0,0,0\nins,11,0,1,0\n";
+/// The program v0 := 1 - v0.
+const FLIP: &str = "sheet,4\nins,2,0,1,0\nins,3,1,0,0\nins,8,0,1,0\nins,4,0,0,0\n";
+
+#[derive(Default)]
+struct Checks {
+    made: usize,
+    failed: usize,
+}
+
+impl Checks {
+    fn equal<T: PartialEq + std::fmt::Debug>(&mut self, name: &str, found: T, wanted: T) {
+        self.made += 1;
+        if found != wanted {
+            self.failed += 1;
+            println!("failed: {name}\n  found  {found:?}\n  wanted {wanted:?}");
+        }
+    }
+
+    /// The bench program's output for a card and commands.
+    fn session(&mut self, name: &str, card: &str, commands: &str, wanted: &str) {
+        let found = String::from_utf8(expected(card.as_bytes(), commands.as_bytes())).expect("ASCII");
+        self.equal(name, found.as_str(), wanted);
+    }
+}
+
+/// All checks; true if none failed.
+pub fn selftest() -> bool {
+    let mut checks = Checks::default();
+    card_k(&mut checks);
+    card_k_cells(&mut checks);
+    two_processes(&mut checks);
+    program_pieces(&mut checks);
+    card_refusals(&mut checks);
+    card_sizes(&mut checks);
+    command_refusals(&mut checks);
+    fault_schedules(&mut checks);
+    for seed in 1..=400 {
+        let found = side_by_side(seed);
+        checks.equal(&format!("sequential run, seed {seed}"), found, Ok(()));
+    }
+    println!("{} checks, {} failed", checks.made, checks.failed);
+    checks.failed == 0
+}
+
+fn card_of(processes: usize, limit: u64, value: u32, program: &str) -> String {
+    format!("card,{processes},1,1,{limit}\nvar,{value}\n{program}")
+}
+
+fn steps(process: usize, count: usize) -> String {
+    format!("step,{process}\n").repeat(count)
+}
+
+fn runs(process: usize, count: usize) -> String {
+    format!("step,{process},run\n").repeat(count)
+}
+
+/// 'The bench program' and the pieces about K alone.
+fn card_k(checks: &mut Checks) {
+    let k = card_of(1, 100, 7, EXCHANGE);
+    let listing = format!("look,0\ncall,0,0,9,0,0,0\n{}look,0\nstep,0\n", steps(0, 14));
+    let printed =
+        format!("look,0,7\ncall,0,taken\n{}step,0,done,7,0,0,0,14\nlook,0,9\nstep,0,refused,8\n", runs(0, 13));
+    checks.session("K listing", &k, &listing, &printed);
+    let same = format!("call,0,0,7,0,0,0\n{}look,0\n", steps(0, 13));
+    let printed = format!("call,0,taken\n{}step,0,done,7,0,0,0,13\nlook,0,7\n", runs(0, 12));
+    checks.session("K with input 7", &k, &same, &printed);
+    let exit = format!("call,0,0,9,0,0,0\nwish,0\nwish,0\n{}look,0\nwish,0\n", steps(0, 17));
+    let printed = format!(
+        "call,0,taken\nwish,0,taken\nwish,0,taken\n{}step,0,done,7,0,0,0,17\nlook,0,9\nwish,0,refused,8\n",
+        runs(0, 16)
+    );
+    checks.session("K with an exit request", &k, &exit, &printed);
+    let limited = format!("call,0,0,9,0,0,0\n{}look,0\n", steps(0, 14));
+    let printed = format!("call,0,taken\n{}step,0,refused,10\nlook,0,9\n", runs(0, 13));
+    checks.session("K with limit 13", &card_of(1, 13, 7, EXCHANGE), &limited, &printed);
+}
+
+/// The pieces about K's record.
+fn card_k_cells(checks: &mut Checks) {
+    let after = |input: u32, count: usize| {
+        let mut machine = Machine::new(open(card_of(1, 100, 7, EXCHANGE).as_bytes()).expect("K opens"));
+        machine.call(0, 0, [input, 0, 0, 0]).expect("taken");
+        let labels: Vec<String> = (0..count).map(|_| format!("{:?}", machine.step(0).expect("taken").label)).collect();
+        (machine.read(0), machine.cells.records[0], labels.join(" "))
+    };
+    let record = |val, toggle, seq| Record { val, toggle, seq };
+    let to_h36 = "P1 P3 P10 C2 P13 P14 P16 H21 H36";
+    checks.equal("K after step 9", after(9, 9), (Ok(7), record([7, 9], 1, 1), to_h36.to_string()));
+    checks.equal("K after step 10", after(9, 10), (Ok(9), record([7, 9], 1, 1), format!("{to_h36} P19")));
+    let no_h36 = "P1 P3 P10 C2 P13 P14 P16 H21 P19 P20 P21 P22 F1";
+    checks.equal("K with input 7, cells", after(7, 13), (Ok(7), record([7, 0], 0, 0), no_h36.to_string()));
+}
+
+/// 'K with two processes, both called'.
+fn two_processes(checks: &mut Checks) {
+    let calls = "call,0,0,5,0,0,0\ncall,1,0,9,0,0,0\n";
+    let commands = format!("{calls}{}{}wish,0\n{}{}look,0\n", steps(0, 2), steps(1, 5), steps(0, 10), steps(1, 3));
+    let printed = format!(
+        "call,0,taken\ncall,1,taken\n{}{}wish,0,taken\n{}step,0,exited,12\n{}step,1,done,7,0,0,0,8\nlook,0,9\n",
+        runs(0, 2),
+        runs(1, 5),
+        runs(0, 9),
+        runs(1, 2)
+    );
+    checks.session("K with two processes", &card_of(2, 100, 7, EXCHANGE), &commands, &printed);
+}
+
+/// The pieces about instructions: what a program run alone gives, and its steps.
+fn program_pieces(checks: &mut Checks) {
+    let mut alone = |name: &str, variables: &[u32], program: &[&str], outputs: &str, own_steps: usize| {
+        let values: String = variables.iter().map(|value| format!("var,{value}\n")).collect();
+        let body: String = program.iter().map(|line| format!("ins,{line}\n")).collect();
+        let card = format!("card,1,{},1,100\n{values}sheet,{}\n{body}", variables.len(), program.len());
+        let commands = format!("call,0,0,11,12,13,14\n{}", steps(0, own_steps));
+        let printed = format!("call,0,taken\n{}step,0,done,{outputs},{own_steps}\n", runs(0, own_steps - 1));
+        checks.session(name, &card, &commands, &printed);
+    };
+    alone("4,294,967,295 plus 1", &[0], &["2,0,4294967295,0", "2,1,1,0", "7,0,1,0", "11,0,0,0"], "0,0,0,0", 12);
+    alone("0 minus 1", &[0], &["2,1,1,0", "8,0,1,0", "11,0,0,0"], "4294967295,0,0,0", 12);
+    let many: Vec<u32> = (0..64).map(|variable| 100 + variable).collect();
+    alone("code 5 with 63 of 64", &many, &["2,0,63,0", "5,1,0,0", "11,0,1,0"], "163,0,0,0", 13);
+    alone("code 5 with 64 of 64", &many, &["2,0,64,0", "2,1,5,0", "5,1,0,0", "11,0,1,0"], "0,0,0,0", 12);
+    alone("code 6 with 64 of 64", &many, &["2,0,64,0", "6,0,0,0", "11,0,0,0"], "64,0,0,0", 12);
+    alone("skip 31 at the second of three", &[0], &["2,0,5,0", "9,0,0,31", "11,0,0,0"], "0,0,0,0", 12);
+    alone("no skip", &[0], &["2,0,5,0", "10,0,0,31", "11,0,0,0"], "5,0,0,0", 12);
+    alone("stop", &[0], &["1,0,3,0", "11,2,0,0", "12,0,0,0", "11,0,0,0"], "0,0,14,0", 12);
+    alone("write without read", &[7], &["2,0,9,0", "4,0,0,0"], "0,0,0,0", 14);
+    alone("altered and altered back", &[7], &["3,0,0,0", "4,0,1,0", "4,0,0,0"], "0,0,0,0", 13);
+}
+
+/// Rows 1 to 4 of 'Turned back', with their lines.
+fn card_refusals(checks: &mut Checks) {
+    let k = card_of(1, 100, 7, EXCHANGE);
+    let mut refused = |card: &str, number: u8, line: usize| {
+        checks.session(card, card, "look,0\n", &format!("card,refused,{number},{line}\n"));
+    };
+    refused("", 2, 1);
+    refused("\n", 2, 1);
+    refused("card,1,1,1,100", 2, 1);
+    refused("card,9,1,1,5", 2, 1);
+    refused("card,9,1,1,5\n", 3, 1);
+    refused("card,1,1,1,0\n", 3, 1);
+    refused("card,1,1,1,1000000000000000001\n", 3, 1);
+    refused("card,1,1,1,18446744073709551617\n", 3, 1);
+    refused("card,1,1,1,1000000000000000000000000000000000000001\n", 3, 1);
+    refused("card,1,1,1,100\n", 2, 2);
+    refused("card,1,1,1,100\nvar,07\n", 2, 2);
+    refused("card,1,1,1,100\nvar,4294967296\n", 3, 2);
+    refused("card,1,1,1,100\nvar,7\nsheet,33\n", 3, 3);
+    refused("card,1,1,1,100\nvar,7\nsheet,0\n", 3, 3);
+    refused("card,1,1,1,100\nvar,7\nsheet,1\nins,13,0,0,0\n", 4, 4);
+    refused("card,1,1,1,100\nvar,7\nsheet,1\nins,13,0,0\n", 2, 4);
+    refused("card,1,1,1,100\nvar,7\nsheet,1\nins,9,0,0,0\n", 4, 4);
+    refused("card,1,1,1,100\nvar,7\nsheet,1\nins,12,0,0,1\n", 4, 4);
+    refused("card,1,1,1,100\nvar,7\nsheet,1\nins,3,0,1,0\n", 4, 4);
+    refused("card,1,1,1,100\nvar,7\nsheet,1\nins,18446744073709551617,0,0,0\n", 4, 4);
+    refused("card,1,1,1,100\nvar,7\nsheet,1\nins,12,0,0,0", 2, 4);
+    refused(&format!("{k}\n"), 2, 8);
+    refused(&format!("{k}x"), 2, 8);
+    refused(&k.replace("var,7\n", "var,7\r\n"), 2, 2);
+}
+
+/// 'Proving pieces', the last item.
+fn card_sizes(checks: &mut Checks) {
+    let longest = card_text(&longest_card());
+    checks.equal("longest card", longest.len(), 6440);
+    checks.equal("longest card opens", open(&longest), Ok(longest_card()));
+    checks.equal("empty calls", expected(&longest, b""), Vec::new());
+    let printed = |text: Vec<u8>| String::from_utf8(expected(&text, b"look,0\n")).expect("ASCII");
+    let mut padded = longest.clone();
+    padded.resize(16_384, b'\n');
+    checks.equal("16,384 bytes", printed(padded.clone()), "card,refused,2,330\n".to_string());
+    padded.push(b'\n');
+    checks.equal("16,385 bytes", printed(padded), "card,refused,1,0\n".to_string());
+    let mut card = longest_card();
+    card.starting.push(0);
+    checks.equal("65 variables", printed(card_text(&card)), "card,refused,3,1\n".to_string());
+    let mut card = longest_card();
+    card.programs[0].push(Instruction { code: 12, a: 0, b: 0, c: 0 });
+    checks.equal("33 instructions", printed(card_text(&card)), "card,refused,3,66\n".to_string());
+}
+
+/// Rows 5 to 10 and misformed commands.
+fn command_refusals(checks: &mut Checks) {
+    let k = card_of(2, 5, 7, EXCHANGE);
+    checks.session(
+        "row 5",
+        &k,
+        "step,2\nwish,2\ncall,2,1,0,0,0,0\n",
+        "step,2,refused,5\nwish,2,refused,5\ncall,2,refused,5\n",
+    );
+    checks.session("row 6", &k, "call,0,1,0,0,0,0\n", "call,0,refused,6\n");
+    checks.session("row 7", &k, &"call,0,0,0,0,0,0\n".repeat(2), "call,0,taken\ncall,0,refused,7\n");
+    let both = "call,0,0,0,0,0,0\ncall,0,1,0,0,0,0\n";
+    checks.session("row 6 before 7", &k, both, "call,0,taken\ncall,0,refused,6\n");
+    checks.session("row 8", &k, "step,0\nwish,1\n", "step,0,refused,8\nwish,1,refused,8\n");
+    checks.session("row 9", &k, "look,1\nlook,4294967295\n", "look,1,refused,9\nlook,4294967295,refused,9\n");
+    let six = format!("call,0,0,0,0,0,0\n{}step,1\n", steps(0, 6));
+    let printed = format!("call,0,taken\n{}step,0,refused,10\nstep,1,refused,8\n", runs(0, 5));
+    checks.session("row 10", &k, &six, &printed);
+    let misformed = "\nlook,0\nlook,00\nlook,\nlook\nlook,0,\nlook,-1\nlook,+0\nlook,4294967296\nLook,0\nlook, 0\nlook,0\r\nread,0\nlook,0";
+    let printed: String =
+        (1..=14).map(|line| if line == 2 { "look,0,7\n".into() } else { format!("line,{line},refused,2\n") }).collect();
+    checks.session("misformed commands", &k, misformed, &printed);
+    let exact = "look,0\n".repeat(9362) + "\n\n";
+    checks.equal("65,536 bytes", expected(k.as_bytes(), exact.as_bytes()).len(), 9362 * 9 + 2 * 20);
+    checks.session("65,537 bytes", &k, &(exact.clone() + "\n"), "calls,refused,1\n");
+    checks.session("card before calls", "card\n", &(exact + "\n"), "card,refused,2,1\n");
+}
+
+// ---------------------------------------------------------------- faults met in drafts
+
+/// Plays a schedule on a card with two processes: a number is a step of that process, c a call, w an exit request.
+/// After each entry variable 0 is read. `wanted` gives the answers other than `taken` and `run`, `shown` the values read.
+fn schedule(checks: &mut Checks, name: &str, card: &str, entries: &str, wanted: &[&str], shown: &str) {
+    let command = |entry: &str| match entry.split_at(entry.len() - 1) {
+        ("c", process) => format!("call,{process},0,{},0,0,0\nlook,0\n", if process == "0" { 5 } else { 9 }),
+        ("w", process) => format!("wish,{process}\nlook,0\n"),
+        (_, process) => format!("step,{process}\nlook,0\n"),
+    };
+    let commands: String = entries.split(' ').map(command).collect();
+    let printed = String::from_utf8(expected(card.as_bytes(), commands.as_bytes())).expect("ASCII");
+    let (answers, values): (Vec<&str>, Vec<&str>) = printed.lines().partition(|line| !line.starts_with("look,0,"));
+    let answers: Vec<&str> =
+        answers.into_iter().filter(|line| !line.ends_with(",run") && !line.ends_with(",taken")).collect();
+    let values: String = values.iter().map(|line| &line["look,0,".len()..]).collect();
+    checks.equal(name, (answers, values.as_str()), (wanted.to_vec(), shown));
+}
+
+/// The value shown first so many times, the next so many times, and so on.
+fn values(counts: &[(char, usize)]) -> String {
+    counts.iter().map(|(value, count)| value.to_string().repeat(*count)).collect()
+}
+
+/// 'Faults we have met in drafts': the shortest schedules that show them, with the right answers.
+fn fault_schedules(checks: &mut Checks) {
+    let flip = &card_of(2, 1000, 0, FLIP);
+    let k = &card_of(2, 1000, 7, EXCHANGE);
+    // Process 0 helps 1 past H36; 1 gets its exit in at P6, and 0 finishes the operation at P20.
+    let exited = "c0 0 0 0 c1 1 1 0 0 0 0 0 0 w1 1 0 1 0 1 1 1 1 1";
+    schedule(checks, "exited after P6", flip, exited, &["step,1,done,0,0,0,0,9"], &values(&[('0', 17), ('1', 6)]));
+    // Process 1 reads at H21 a record that 0 wrote under the same number.
+    let equal = "c0 0 0 0 c1 1 1 0 0 0 0 0 0 1 1 1 1 1 1 1 1";
+    schedule(checks, "equal seq, flip", flip, equal, &["step,1,done,0,0,0,0,10"], &values(&[('0', 16), ('1', 5)]));
+    schedule(checks, "equal seq, K", k, equal, &["step,1,done,7,0,0,0,10"], &values(&[('7', 16), ('9', 5)]));
+    late_helper(checks, flip);
+    late_write(checks, flip);
+    // Process 0 alone steps on; number 1 gives the first turn to 1, number 2 to 0.
+    let first = format!("c0 c1 0 0 1 1{}", " 0".repeat(23));
+    let shown = values(&[('0', 6), ('0', 7), ('1', 11), ('0', 5)]);
+    schedule(checks, "seq mod p first", flip, &first, &["step,0,done,0,0,0,0,25"], &shown);
+}
+
+/// P17: process 0 holds gate number 1 when it meets the next announcement of 1.
+fn late_helper(checks: &mut Checks, flip: &str) {
+    let short = "c0 0 0 0 c1 1 1 0 0 0 1 1 1 1 1 1 1 1 1 c1 1 1 0 0 0";
+    schedule(checks, "P17", flip, short, &["step,1,done,0,0,0,0,11"], &values(&[('0', 14), ('1', 11)]));
+    let long = format!("{short}{}{}", " 1".repeat(23), " 0".repeat(4));
+    let answers = ["step,1,done,0,0,0,0,11", "step,1,done,0,0,0,0,25", "step,0,done,0,0,0,0,13"];
+    let shown = values(&[('0', 14), ('1', 11), ('1', 7), ('0', 11), ('1', 5), ('1', 4)]);
+    schedule(checks, "P17, to the end", flip, &long, &answers, &shown);
+}
+
+/// H36: process 0 writes late on a record that has come back to the values it read.
+fn late_write(checks: &mut Checks, flip: &str) {
+    let entries = format!("c0 0 0 0 c1 1 1{}{} c1{} 0 1", " 0".repeat(16), " 1".repeat(9), " 1".repeat(9));
+    let shown = values(&[('0', 7), ('0', 6), ('1', 10), ('1', 4), ('0', 5), ('0', 11), ('1', 1)]);
+    schedule(checks, "swap compares seq", flip, &entries, &["step,1,done,0,0,0,0,11"], &shown);
+}
+
+// ---------------------------------------------------------------- card and sequential run side by side
+
+/// The single-user run of document 01: plain words, each operation from start to stop.
+fn run_alone(words: &mut [u32], program: &[Instruction], inputs: [u32; 4]) -> [u32; 4] {
+    let (mut r, mut outputs, mut at) = ([0u32; 4], [0u32; 4], 0);
+    while let Some(&Instruction { code, a, b, c }) = program.get(at) {
+        at += 1;
+        match code {
+            1 => r[a] = inputs[b],
+            2 => r[a] = b as u32,
+            3 => r[a] = words[b],
+            4 => words[a] = r[b],
+            5 => r[a] = words.get(r[b] as usize).copied().unwrap_or(0),
+            6 => words.get_mut(r[a] as usize).into_iter().for_each(|word| *word = r[b]),
+            7 => r[a] = r[a].wrapping_add(r[b]),
+            8 => r[a] = r[a].wrapping_sub(r[b]),
+            9 => at += if r[a] == r[b] { c } else { 0 },
+            10 => at += if r[a] < r[b] { c } else { 0 },
+            11 => outputs[a] = r[b],
+            _ => break,
+        }
+    }
+    outputs
+}
+
+/// Demand 3 on the case of a seed: the words equal the values read after each entry, the outputs those of 'done'.
+fn side_by_side(seed: u64) -> Result<(), String> {
+    let case = case(seed);
+    let Ok(card) = open(case.card.as_deref().unwrap_or(&[])) else { return Ok(()) };
+    let mut words = card.starting.clone();
+    let mut latest = vec![(0, [0; 4]); card.processes];
+    let mut outputs = vec![[0; 4]; card.processes];
+    let mut machine = Machine::new(card);
+    for (place, line) in lines(case.calls.as_deref().unwrap_or(&[])).iter().enumerate() {
+        let before = flags(&machine);
+        let answer = enter(&mut machine, line, &mut latest);
+        for process in (0..before.len()).filter(|&at| before[at] != Flag::Done && flags(&machine)[at] == Flag::Done) {
+            let (program, inputs) = latest[process];
+            outputs[process] = run_alone(&mut words, &machine.card.programs[program], inputs);
+        }
+        let shown: Vec<u32> = (0..words.len()).map(|variable| machine.read(variable as u32).expect("there")).collect();
+        let agreed = answer.is_none_or(|(process, found)| found == outputs[process]);
+        if shown != words || !agreed {
+            return Err(format!("entry {}: shown {shown:?}, words {words:?}, outputs agree: {agreed}", place + 1));
+        }
+    }
+    Ok(())
+}
+
+fn flags(machine: &Machine) -> Vec<Flag> {
+    machine.cells.announcements.iter().map(|announcement| announcement.flag).collect()
+}
+
+/// Enters one command; keeps the latest taken call of each process; gives the outputs of a 'done' answer.
+fn enter(machine: &mut Machine, line: &Line, latest: &mut [(usize, [u32; 4])]) -> Option<(usize, [u32; 4])> {
+    match parse(line)? {
+        Command::Call { process, program, inputs } => {
+            if machine.call(process, program, inputs).is_ok() {
+                latest[process as usize] = (program as usize, inputs);
+            }
+            None
+        }
+        Command::RequestExit { process } => machine.request_exit(process).ok().and(None),
+        Command::Step { process } => match machine.step(process).ok()?.answer {
+            Answer::Done { outputs, .. } => Some((process as usize, outputs)),
+            _ => None,
+        },
+        Command::Read { .. } => None,
+    }
+}

@@ -1,0 +1,108 @@
+//! What the bench program prints (document 01, 'The bench program').
+
+use crate::coverage::Coverage;
+use crate::machine::{fields, lines, open, Answer, Line, Machine, WORD_END};
+
+/// At most this many bytes of commands.
+pub const CALLS_LIMIT: usize = 65_536;
+
+/// A well-formed command.
+#[derive(Clone, Copy, Debug, PartialEq, Eq)]
+pub enum Command {
+    Call { process: u32, program: u32, inputs: [u32; 4] },
+    RequestExit { process: u32 },
+    Step { process: u32 },
+    Read { variable: u32 },
+}
+
+/// Everything that the bench program prints for these two files.
+pub fn expected(card: &[u8], calls: &[u8]) -> Vec<u8> {
+    run(card, calls, &mut Coverage::default())
+}
+
+/// The same, and counts what was reached.
+pub fn run(card: &[u8], calls: &[u8], coverage: &mut Coverage) -> Vec<u8> {
+    let printed = match open(card) {
+        Err(refusal) => {
+            coverage.refused("card", refusal.number);
+            format!("card,refused,{},{}\n", refusal.number, refusal.line)
+        }
+        Ok(_) if calls.len() > CALLS_LIMIT => {
+            coverage.refused("calls", 1);
+            "calls,refused,1\n".to_string()
+        }
+        Ok(card) => answer_all(Machine::new(card), calls, coverage),
+    };
+    coverage.cases += 1;
+    coverage.lines += printed.lines().count() as u64;
+    printed.into_bytes()
+}
+
+fn answer_all(mut machine: Machine, calls: &[u8], coverage: &mut Coverage) -> String {
+    let mut printed = String::new();
+    for (place, line) in lines(calls).iter().enumerate() {
+        match parse(line) {
+            Some(command) => printed += &answer(&mut machine, command, coverage),
+            None => {
+                coverage.refused("line", 2);
+                printed += &format!("line,{},refused,2", place + 1);
+            }
+        }
+        printed.push('\n');
+    }
+    printed
+}
+
+/// A command with all its numbers below 4,294,967,296; none if it is misformed.
+pub fn parse(line: &Line) -> Option<Command> {
+    let words = |verb, count| {
+        let numbers = fields(line, verb, count)?;
+        numbers.iter().all(|&number| number < WORD_END).then(|| numbers.iter().map(|&n| n as u32).collect::<Vec<_>>())
+    };
+    if let Some(w) = words("call", 6) {
+        return Some(Command::Call { process: w[0], program: w[1], inputs: [w[2], w[3], w[4], w[5]] });
+    }
+    if let Some(w) = words("wish", 1) {
+        return Some(Command::RequestExit { process: w[0] });
+    }
+    if let Some(w) = words("step", 1) {
+        return Some(Command::Step { process: w[0] });
+    }
+    words("look", 1).map(|w| Command::Read { variable: w[0] })
+}
+
+/// The line printed for a command: the verb and first number, then the answer or the refusal.
+fn answer(machine: &mut Machine, command: Command, coverage: &mut Coverage) -> String {
+    let (verb, first, answer) = match command {
+        Command::Call { process, program, inputs } => {
+            ("call", process, machine.call(process, program, inputs).map(|()| coverage.answered("called", "taken")))
+        }
+        Command::RequestExit { process } => {
+            ("wish", process, machine.request_exit(process).map(|()| coverage.answered("requested", "taken")))
+        }
+        Command::Step { process } => ("step", process, step(machine, process, coverage)),
+        Command::Read { variable } => {
+            let value = machine.read(variable);
+            ("look", variable, value.map(|value| coverage.answered("value", value)))
+        }
+    };
+    match answer {
+        Ok(answer) => format!("{verb},{first},{answer}"),
+        Err(number) => {
+            coverage.refused(verb, number);
+            format!("{verb},{first},refused,{number}")
+        }
+    }
+}
+
+fn step(machine: &mut Machine, process: u32, coverage: &mut Coverage) -> Result<String, u8> {
+    let stepped = machine.step(process)?;
+    coverage.stepped(&stepped);
+    Ok(match stepped.answer {
+        Answer::Run => coverage.answered("run", "run"),
+        Answer::Done { outputs: [o0, o1, o2, o3], own_steps } => {
+            coverage.answered("done", format!("done,{o0},{o1},{o2},{o3},{own_steps}"))
+        }
+        Answer::Exited { own_steps } => coverage.answered("exited", format!("exited,{own_steps}")),
+    })
+}

@@ -1,0 +1,470 @@
+//! The card of document 01 as straightforward Rust, changed in place: the lines, calls and schedule of the program `steps_speed`.
+//! Usage: steps COUNT, and the shared cells are printed at the end.
+use std::hint::black_box;
+
+#[derive(Clone, Copy, PartialEq)]
+enum Holder {
+    Nobody,
+    Process(u8),
+}
+
+#[derive(Clone, Copy, PartialEq)]
+struct Gate {
+    holder: Holder,
+    seq: u64,
+}
+
+#[derive(Clone, Copy, PartialEq)]
+enum Flag {
+    Done,
+    Active,
+    Exit,
+}
+
+type Words = [u32; 4];
+
+#[derive(Clone, Copy, PartialEq)]
+struct Announcement {
+    program: u8,
+    flag: Flag,
+    seq: u64,
+    words: Words,
+}
+
+#[derive(Clone, Copy, PartialEq)]
+struct Record {
+    val: [u32; 2],
+    toggle: bool,
+    seq: u64,
+}
+
+#[derive(Clone, Copy)]
+#[allow(dead_code)]
+enum Instruction {
+    Input(u8, u8),
+    Constant(u8, u32),
+    Load(u8, u8),
+    Store(u8, u8),
+    LoadAt(u8, u8),
+    StoreAt(u8, u8),
+    Add(u8, u8),
+    Subtract(u8, u8),
+    SkipEqual(u8, u8, u8),
+    SkipLess(u8, u8, u8),
+    Output(u8, u8),
+    Stop,
+}
+
+#[derive(Clone, Copy, PartialEq)]
+enum Place {
+    Idle,
+    P1,
+    P3,
+    P5,
+    P7,
+    P10,
+    C2,
+    C4,
+    P13,
+    P14,
+    P16,
+    H21,
+    H36,
+    P19,
+    P20,
+    P21,
+    P22,
+    F1,
+    F3,
+}
+
+#[derive(Clone, Copy)]
+struct Item {
+    variable: u8,
+    value: u32,
+    cell: Record,
+}
+
+/// The local state of a process. The target is the nominee at P13, the variable at H21, the item at H36.
+#[derive(Clone)]
+struct Process {
+    place: Place,
+    target: u8,
+    program: u8,
+    inputs: Words,
+    exit: bool,
+    steps: u64,
+    gate: Gate,
+    copy: Announcement,
+    counter: u8,
+    registers: Words,
+    outputs: Words,
+    length: usize,
+    items: [Item; 32],
+}
+
+struct Card {
+    limit: u64,
+    steps: u64,
+    gate: Gate,
+    announcements: Vec<Announcement>,
+    records: Vec<Record>,
+    processes: Vec<Process>,
+    programs: Vec<Vec<Instruction>>,
+}
+
+enum Answer {
+    Taken,
+    Run,
+    Done(#[allow(dead_code)] Words, #[allow(dead_code)] u64),
+    Exited(#[allow(dead_code)] u64),
+    Refused(#[allow(dead_code)] u8),
+}
+
+fn swap<T: Copy + PartialEq>(cell: &mut T, expected: T, new: T) {
+    if *cell == expected {
+        *cell = new;
+    }
+}
+
+fn released(gate: Gate) -> Gate {
+    Gate { holder: Holder::Nobody, seq: gate.seq + 1 }
+}
+
+fn by_flag(flag: Flag, done: Place, active: Place, exit: Place) -> Place {
+    match flag {
+        Flag::Done => done,
+        Flag::Active => active,
+        Flag::Exit => exit,
+    }
+}
+
+impl Card {
+    fn open(processes: usize, starts: &[u32], programs: Vec<Vec<Instruction>>, limit: u64) -> Card {
+        let cell = Record { val: [0, 0], toggle: false, seq: 0 };
+        let announcement = Announcement { program: 0, flag: Flag::Done, seq: 0, words: [0; 4] };
+        let process = Process {
+            place: Place::Idle,
+            target: 0,
+            program: 0,
+            inputs: [0; 4],
+            exit: false,
+            steps: 0,
+            gate: Gate { holder: Holder::Nobody, seq: 0 },
+            copy: announcement,
+            counter: 0,
+            registers: [0; 4],
+            outputs: [0; 4],
+            length: 0,
+            items: [Item { variable: 0, value: 0, cell }; 32],
+        };
+        Card {
+            limit,
+            steps: 0,
+            gate: Gate { holder: Holder::Nobody, seq: 1 },
+            announcements: vec![announcement; processes],
+            records: starts.iter().map(|&start| Record { val: [start, 0], ..cell }).collect(),
+            processes: vec![process; processes],
+            programs,
+        }
+    }
+
+    fn call(&mut self, i: usize, program: usize, inputs: Words) -> Answer {
+        if i >= self.processes.len() {
+            return Answer::Refused(5);
+        }
+        if program >= self.programs.len() {
+            return Answer::Refused(6);
+        }
+        let process = &mut self.processes[i];
+        if process.place != Place::Idle {
+            return Answer::Refused(7);
+        }
+        process.place = Place::P1;
+        process.target = 0;
+        process.program = program as u8;
+        process.inputs = inputs;
+        process.exit = false;
+        process.steps = 0;
+        Answer::Taken
+    }
+
+    fn step(&mut self, i: usize) -> Answer {
+        if i >= self.processes.len() {
+            return Answer::Refused(5);
+        }
+        if self.processes[i].place == Place::Idle {
+            return Answer::Refused(8);
+        }
+        if self.limit <= self.steps {
+            return Answer::Refused(10);
+        }
+        self.access(i);
+        self.steps += 1;
+        let process = &mut self.processes[i];
+        process.steps += 1;
+        match (process.place, process.copy.flag) {
+            (Place::Idle, Flag::Exit) => Answer::Exited(process.steps),
+            (Place::Idle, _) => Answer::Done(process.copy.words, process.steps),
+            _ => Answer::Run,
+        }
+    }
+
+    /// One shared access, and the local work up to the next.
+    fn access(&mut self, i: usize) {
+        match self.processes[i].place {
+            Place::Idle => (),
+            Place::P1 => self.read_gate(i, Place::P3, Place::P3),
+            Place::P3 => self.announce(i),
+            Place::P5 if self.processes[i].exit => self.withdraw(i),
+            Place::P5 | Place::P10 => self.read_gate(i, Place::P16, Place::C2),
+            Place::P7 => self.read_own(i, Place::F1, Place::P10, Place::P10),
+            Place::C2 => self.read_first(i),
+            Place::C4 => self.read_own(i, Place::F1, Place::P13, Place::P13),
+            Place::P13 => self.nominate(i),
+            Place::P14 => self.read_gate(i, Place::P16, Place::P22),
+            Place::P16 => self.begin_help(i),
+            Place::H21 => self.read_record(i),
+            Place::H36 => self.write_record(i),
+            Place::P19 => self.finish(i, Flag::Active, Place::P20),
+            Place::P20 => self.finish(i, Flag::Exit, Place::P21),
+            Place::P21 => self.release(i, Place::P22),
+            Place::P22 => self.read_own(i, Place::F1, Place::P5, Place::Idle),
+            Place::F1 => self.read_last(i),
+            Place::F3 => self.release(i, Place::Idle),
+        }
+    }
+
+    fn read_gate(&mut self, i: usize, held: Place, free: Place) {
+        let process = &mut self.processes[i];
+        process.gate = self.gate;
+        process.place = if self.gate.holder == Holder::Nobody { free } else { held };
+    }
+
+    fn read_last(&mut self, i: usize) {
+        let process = &mut self.processes[i];
+        process.gate = self.gate;
+        process.place = if self.gate.holder == Holder::Process(i as u8) { Place::F3 } else { Place::Idle };
+    }
+
+    fn nominate(&mut self, i: usize) {
+        let process = &mut self.processes[i];
+        let held = Gate { holder: Holder::Process(process.target), seq: process.gate.seq };
+        swap(&mut self.gate, process.gate, held);
+        process.place = Place::P14;
+    }
+
+    fn release(&mut self, i: usize, next: Place) {
+        let process = &mut self.processes[i];
+        swap(&mut self.gate, process.gate, released(process.gate));
+        process.place = next;
+    }
+
+    fn announce(&mut self, i: usize) {
+        let process = &mut self.processes[i];
+        process.copy = Announcement {
+            program: process.program,
+            flag: Flag::Active,
+            seq: process.gate.seq,
+            words: process.inputs,
+        };
+        self.announcements[i] = process.copy;
+        process.place = Place::P5;
+    }
+
+    fn withdraw(&mut self, i: usize) {
+        let process = &mut self.processes[i];
+        let exit = Announcement { flag: Flag::Exit, words: process.inputs, ..process.copy };
+        swap(&mut self.announcements[i], process.copy, exit);
+        process.place = Place::P7;
+    }
+
+    fn read_own(&mut self, i: usize, done: Place, active: Place, exit: Place) {
+        let process = &mut self.processes[i];
+        process.copy = self.announcements[i];
+        process.target = i as u8;
+        process.place = by_flag(process.copy.flag, done, active, exit);
+    }
+
+    fn read_first(&mut self, i: usize) {
+        let count = self.processes.len() as u64;
+        let process = &mut self.processes[i];
+        process.target = (process.gate.seq % count) as u8;
+        process.copy = self.announcements[process.target as usize];
+        process.place = by_flag(process.copy.flag, Place::C4, Place::P13, Place::C4);
+    }
+
+    fn holder(&self, i: usize) -> usize {
+        match self.processes[i].gate.holder {
+            Holder::Nobody => 0,
+            Holder::Process(m) => m as usize,
+        }
+    }
+
+    fn begin_help(&mut self, i: usize) {
+        let read = self.announcements[self.holder(i)];
+        let process = &mut self.processes[i];
+        process.copy = read;
+        if read.flag == Flag::Done || process.gate.seq < read.seq {
+            process.place = Place::P21;
+            return;
+        }
+        process.counter = 0;
+        process.registers = [0; 4];
+        process.outputs = [0; 4];
+        process.length = 0;
+        process.simulate(&self.programs[read.program as usize], self.records.len());
+    }
+
+    fn read_record(&mut self, i: usize) {
+        let process = &mut self.processes[i];
+        let cell = self.records[process.target as usize];
+        if process.gate.seq < cell.seq {
+            process.place = Place::P19;
+            return;
+        }
+        let side = if cell.seq < process.gate.seq { cell.toggle } else { !cell.toggle };
+        process.items[process.length] = Item { variable: process.target, value: cell.val[side as usize], cell };
+        process.length += 1;
+        process.simulate(&self.programs[process.copy.program as usize], self.records.len());
+    }
+
+    fn write_record(&mut self, i: usize) {
+        let process = &mut self.processes[i];
+        let item = process.items[process.target as usize];
+        let mut new = Record { toggle: !item.cell.toggle, seq: process.gate.seq, ..item.cell };
+        new.val[new.toggle as usize] = item.value;
+        swap(&mut self.records[item.variable as usize], item.cell, new);
+        process.write_from(process.target as usize + 1);
+    }
+
+    fn finish(&mut self, i: usize, flag: Flag, next: Place) {
+        let holder = self.holder(i);
+        let process = &mut self.processes[i];
+        let expected = Announcement { flag, ..process.copy };
+        let done = Announcement { flag: Flag::Done, words: process.outputs, ..process.copy };
+        swap(&mut self.announcements[holder], expected, done);
+        process.place = next;
+    }
+}
+
+impl Process {
+    fn find(&self, variable: u8) -> Option<usize> {
+        self.items[..self.length].iter().position(|item| item.variable == variable)
+    }
+
+    /// The next write from an item on, or P19.
+    fn write_from(&mut self, from: usize) {
+        for k in from..self.length {
+            let item = &self.items[k];
+            if item.cell.seq < self.gate.seq && item.cell.val[item.cell.toggle as usize] != item.value {
+                self.place = Place::H36;
+                self.target = k as u8;
+                return;
+            }
+        }
+        self.place = Place::P19;
+        self.target = 0;
+    }
+
+    /// The program runs until it ends or the dictionary lacks a variable.
+    fn simulate(&mut self, program: &[Instruction], variables: usize) {
+        while let Some(&instruction) = program.get(self.counter as usize) {
+            let touched = self.touched(instruction, variables);
+            let place = touched.map(|variable| (variable, self.find(variable)));
+            if let Some((variable, None)) = place {
+                self.place = Place::H21;
+                self.target = variable;
+                return;
+            }
+            if !self.execute(instruction, place.and_then(|(_, at)| at)) {
+                break;
+            }
+        }
+        self.write_from(0);
+    }
+
+    /// The variable that an instruction reads or writes; a number of n or more touches nothing.
+    fn touched(&self, instruction: Instruction, variables: usize) -> Option<u8> {
+        let number = match instruction {
+            Instruction::Load(_, variable) | Instruction::Store(variable, _) => variable as u32,
+            Instruction::LoadAt(_, address) | Instruction::StoreAt(address, _) => self.registers[address as usize],
+            _ => return None,
+        };
+        ((number as usize) < variables).then_some(number as u8)
+    }
+
+    /// One instruction; false at a stop.
+    fn execute(&mut self, instruction: Instruction, place: Option<usize>) -> bool {
+        self.counter += 1;
+        let r = &mut self.registers;
+        match instruction {
+            Instruction::Input(a, b) => r[a as usize] = self.copy.words[b as usize],
+            Instruction::Constant(a, b) => r[a as usize] = b,
+            Instruction::Load(a, _) | Instruction::LoadAt(a, _) => {
+                r[a as usize] = place.map_or(0, |at| self.items[at].value)
+            }
+            Instruction::Store(_, b) | Instruction::StoreAt(_, b) => {
+                if let Some(at) = place {
+                    self.items[at].value = r[b as usize];
+                }
+            }
+            Instruction::Add(a, b) => r[a as usize] = r[a as usize].wrapping_add(r[b as usize]),
+            Instruction::Subtract(a, b) => r[a as usize] = r[a as usize].wrapping_sub(r[b as usize]),
+            Instruction::SkipEqual(a, b, c) if r[a as usize] == r[b as usize] => self.counter += c,
+            Instruction::SkipLess(a, b, c) if r[a as usize] < r[b as usize] => self.counter += c,
+            Instruction::SkipEqual(..) | Instruction::SkipLess(..) => (),
+            Instruction::Output(a, b) => self.outputs[a as usize] = r[b as usize],
+            Instruction::Stop => return false,
+        }
+        true
+    }
+}
+
+fn show_cells(card: &Card) {
+    let holder = match card.gate.holder {
+        Holder::Nobody => "none".to_string(),
+        Holder::Process(process) => process.to_string(),
+    };
+    println!("gate,{holder},{}", card.gate.seq);
+    for (process, a) in card.announcements.iter().enumerate() {
+        let flag = match a.flag {
+            Flag::Done => "done",
+            Flag::Active => "active",
+            Flag::Exit => "exit",
+        };
+        let words = a.words.map(|word| word.to_string()).join(",");
+        println!("announcement,{process},{},{},{flag},{words}", a.program, a.seq);
+    }
+    let record = card.records[0];
+    println!("record,0,{},{},{},{}", record.val[0], record.val[1], record.toggle as u8, record.seq);
+}
+
+/// Marsaglia's xorshift with shifts 13, 7 and 17.
+fn next_random(x: u64) -> u64 {
+    let a = x ^ (x << 13);
+    let b = a ^ (a >> 7);
+    b ^ (b << 17)
+}
+
+fn main() {
+    let count: u64 = std::env::args().nth(1).and_then(|word| word.parse().ok()).expect("usage: steps COUNT");
+    let program =
+        vec![Instruction::Input(0, 0), Instruction::Load(1, 0), Instruction::Store(0, 0), Instruction::Output(0, 1)];
+    let mut card = Card::open(black_box(8), black_box(&[7]), black_box(vec![program]), 1_000_000_000_000_000_000);
+    for process in 0..8 {
+        card.call(process, 0, [process as u32, 0, 0, 0]);
+    }
+    let mut random: u64 = 88_172_645_463_325_252;
+    for k in 0..count {
+        random = next_random(random);
+        let process = (random % 8) as usize;
+        match card.step(process) {
+            Answer::Run => (),
+            _ => {
+                card.call(process, 0, [k as u32, 0, 0, 0]);
+            }
+        }
+    }
+    show_cells(&card);
+}

@@ -38,7 +38,13 @@ element-write-after c = search needs
 
 returns : tie.Need-returns
 unfolding advance
-returns c = rw (← (c .before .before .before .before .access-of .ensures), ← (c .before .before .before .perform .ensures), (c .before .before .wrapping-add-u64 .ensures), (c .wrapping-add-u642 .ensures))
+returns c =
+    rw (
+      ← c .before .before .before .before .access-of .ensures,
+      ← c .before .before .before .perform .ensures,
+      c .before .before .wrapping-add-u64 .ensures,
+      c .wrapping-add-u642 .ensures,
+    )
 
 pub advance-spec : {M : Type 1} → statement M
 advance-spec =

@@ -27,10 +27,14 @@ returned-requires : tie.Need-returned-requires
 returned-requires c κs = search needs
 
 returns : tie.Need-returns
-returns c = rw (← (c .before .before .before .before .is-idle .ensures), (c .before .before .before .if1 .taken)) (c .returned .ensures)
+returns c =
+    rw (
+      ← c .before .before .before .before .is-idle .ensures,
+      c .before .before .before .if1 .taken,
+    ) (c .returned .ensures)
 
 returns-2 : tie.Need-returns-2
-returns-2 c = rw (← (c .before .is-idle .ensures), (c .if1 .left))
+returns-2 c = rw (← c .before .is-idle .ensures, c .if1 .left)
 
 pub answer-of-spec : {M : Type 1} → statement M
 answer-of-spec =

@@ -35,7 +35,15 @@ help-requires c κs = search needs
 
 returns : tie.Need-returns
 unfolding accessAnnouncement
-returns c = rw (← (c .before .before .before .before .before .before .holder-of .ensures), ← (c .before .before .before .before .before .announcement-at .ensures), ← (c .before .before .before .before .helps .ensures), (c .before .before .before .if1 .taken), ← (c .before .before .started .ensures), ← (c .before .empty .ensures)) (c .help .ensures)
+returns c =
+    rw (
+      ← c .before .before .before .before .before .before .holder-of .ensures,
+      ← c .before .before .before .before .before .announcement-at .ensures,
+      ← c .before .before .before .before .helps .ensures,
+      c .before .before .before .if1 .taken,
+      ← c .before .before .started .ensures,
+      ← c .before .empty .ensures,
+    ) (c .help .ensures)
 
 mul-task : tie.Need-mul-task
 mul-task c = search needs
@@ -51,7 +59,13 @@ element-set-from-after c = search needs
 
 returns-2 : tie.Need-returns-2
 unfolding accessAnnouncement
-returns-2 c = rw (← (c .before .before .before .before .holder-of .ensures), ← (c .before .before .before .announcement-at .ensures), ← (c .before .before .helps .ensures), (c .before .if1 .left))
+returns-2 c =
+    rw (
+      ← c .before .before .before .before .holder-of .ensures,
+      ← c .before .before .before .announcement-at .ensures,
+      ← c .before .before .helps .ensures,
+      c .before .if1 .left,
+    )
 
 pub begin-help-spec : {M : Type 1} → statement M
 begin-help-spec =

@@ -14,7 +14,7 @@ refused-requires c κs = search needs
 
 returns : tie.Need-returns
 unfolding call
-returns c = rw (← (c .before .before .is-below .ensures), (c .before .if1 .taken)) (c .refused .ensures)
+returns c = rw (← c .before .before .is-below .ensures, c .before .if1 .taken) (c .refused .ensures)
 
 is-below-requires-2 : tie.Need-is-below-requires-2
 is-below-requires-2 c κs = search needs
@@ -24,13 +24,20 @@ refused-requires-2 c κs = search needs
 
 returns-2 : tie.Need-returns-2
 unfolding call
-returns-2 c = rw (← (c .before .before .before .before .is-below .ensures), (c .before .before .before .if1 .left), ← (c .before .before .is-below2 .ensures), (c .before .if2 .taken)) (c .refused2 .ensures)
+returns-2 c =
+    rw (
+      ← c .before .before .before .before .is-below .ensures,
+      c .before .before .before .if1 .left,
+      ← c .before .before .is-below2 .ensures,
+      c .before .if2 .taken,
+    ) (c .refused2 .ensures)
 
 mul-task : tie.Need-mul-task
 mul-task c = search needs
 
 element-copy-out-task : tie.Need-element-copy-out-task
-element-copy-out-task c = laws.in-room _ _ _ (c .before .before .before .is-below .ensures) (c .before .before .if1 .left)
+element-copy-out-task c =
+    laws.in-room _ _ _ (c .before .before .before .is-below .ensures) (c .before .before .if1 .left)
 
 is-idle-requires : tie.Need-is-idle-requires
 is-idle-requires c κs = search needs
@@ -40,7 +47,15 @@ refused-requires-3 c κs = search needs
 
 returns-3 : tie.Need-returns-3
 unfolding call
-returns-3 c = rw (← (c .before .before .before .before .before .before .before .is-below .ensures), (c .before .before .before .before .before .before .if1 .left), ← (c .before .before .before .before .before .is-below2 .ensures), (c .before .before .before .before .if2 .left), ← (c .before .before .is-idle .ensures), (c .before .if3 .taken)) (c .refused3 .ensures)
+returns-3 c =
+    rw (
+      ← c .before .before .before .before .before .before .before .is-below .ensures,
+      c .before .before .before .before .before .before .if1 .left,
+      ← c .before .before .before .before .before .is-below2 .ensures,
+      c .before .before .before .before .if2 .left,
+      ← c .before .before .is-idle .ensures,
+      c .before .if3 .taken,
+    ) (c .refused3 .ensures)
 
 cast-begin : tie.Need-cast-begin
 cast-begin c =
@@ -48,11 +63,22 @@ cast-begin c =
     record { fits = omega arith }
 
 begin-requires : tie.Need-begin-requires
-begin-requires c κs = laws.in-room _ _ _ (c .before .before .before .before .before .before .is-below .ensures) (c .before .before .before .before .before .if1 .left)
+begin-requires c κs =
+    laws.in-room _ _ _ (c .before .before .before .before .before .before .is-below .ensures)
+    (c .before .before .before .before .before .if1 .left)
 
 returns-4 : tie.Need-returns-4
 unfolding call
-returns-4 c = rw (← (c .before .before .before .before .before .before .before .is-below .ensures), (c .before .before .before .before .before .before .if1 .left), ← (c .before .before .before .before .before .is-below2 .ensures), (c .before .before .before .before .if2 .left), ← (c .before .before .is-idle .ensures), (c .before .if3 .left), (c .begin .ensures))
+returns-4 c =
+    rw (
+      ← c .before .before .before .before .before .before .before .is-below .ensures,
+      c .before .before .before .before .before .before .if1 .left,
+      ← c .before .before .before .before .before .is-below2 .ensures,
+      c .before .before .before .before .if2 .left,
+      ← c .before .before .is-idle .ensures,
+      c .before .if3 .left,
+      c .begin .ensures,
+    )
 
 pub call-spec : {M : Type 1} → statement M
 call-spec =

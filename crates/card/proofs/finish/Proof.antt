@@ -35,7 +35,12 @@ replace-announcement-requires c κs = search needs
 
 returns : tie.Need-returns
 unfolding accessAnnouncement
-returns c = rw (← (c .before .holder-of .ensures), ← (c .before .before .before .flagged .ensures), ← (c .before .before .finished .ensures)) (c .replace-announcement .ensures)
+returns c =
+    rw (
+      ← c .before .holder-of .ensures,
+      ← c .before .before .before .flagged .ensures,
+      ← c .before .before .finished .ensures,
+    ) (c .replace-announcement .ensures)
 
 pub finish-spec : {M : Type 1} → statement M
 finish-spec =

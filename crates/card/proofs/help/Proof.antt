@@ -44,7 +44,12 @@ element-set-from-after c = search needs
 
 returns : tie.Need-returns
 unfolding help
-returns c = rw (← (c .before .before .before .before .program-at .ensures), ← (c .before .before .before .simulate .ensures), (c .after-pause .ensures))
+returns c =
+    rw (
+      ← c .before .before .before .before .program-at .ensures,
+      ← c .before .before .before .simulate .ensures,
+      c .after-pause .ensures,
+    )
 
 pub help-spec : {M : Type 1} → statement M
 help-spec =

@@ -18,7 +18,12 @@ returns : tie.Need-returns
 returns c = rw (c .enum-told .given .1)
 
 returns-2 : tie.Need-returns-2
-returns-2 c = rw ((c .before .before .before .before .holder .given .1), ← (c .before .announcement-at .ensures), ← (c .is-done .ensures))
+returns-2 c =
+    rw (
+      c .before .before .before .before .holder .given .1,
+      ← c .before .announcement-at .ensures,
+      ← c .is-done .ensures,
+    )
 
 pub is-pending-spec : {M : Type 1} → statement M
 is-pending-spec =

@@ -12,14 +12,14 @@ refused-requires c κs = search needs
 
 returns : tie.Need-returns
 unfolding read
-returns c = rw (← (c .before .before .is-below .ensures), (c .before .if1 .taken)) (c .refused .ensures)
+returns c = rw (← c .before .before .is-below .ensures, c .before .if1 .taken) (c .refused .ensures)
 
 value-of-requires : tie.Need-value-of-requires
 value-of-requires c κs = laws.in-room _ _ _ (c .before .is-below .ensures) (c .if1 .left)
 
 returns-2 : tie.Need-returns-2
 unfolding read
-returns-2 c = rw (← (c .before .before .is-below .ensures), (c .before .if1 .left), (c .value-of .ensures))
+returns-2 c = rw (← c .before .before .is-below .ensures, c .before .if1 .left, c .value-of .ensures)
 
 pub read-spec : {M : Type 1} → statement M
 read-spec =

@@ -32,7 +32,12 @@ element-set-from-after c = search needs
 
 returns : tie.Need-returns
 unfolding accessAnnouncement
-returns c = rw (← (c .before .before .before .first-choice .ensures), ← (c .before .announcement-at .ensures), (c .by-flag .ensures))
+returns c =
+    rw (
+      ← c .before .before .before .first-choice .ensures,
+      ← c .before .announcement-at .ensures,
+      c .by-flag .ensures,
+    )
 
 pub read-first-spec : {M : Type 1} → statement M
 read-first-spec =

@@ -30,7 +30,7 @@ element-set-from-after c = search needs
 
 returns : tie.Need-returns
 unfolding accessRecord
-returns c = rw (← (c .before .before .before .record-at .ensures), lt-ltb _ _ (c .if1 .taken))
+returns c = rw (← c .before .before .before .record-at .ensures, lt-ltb _ _ (c .if1 .taken))
 
 mul-simulation : tie.Need-mul-simulation
 mul-simulation c = search needs
@@ -55,7 +55,17 @@ help-requires c κs = search needs
 
 returns-2 : tie.Need-returns-2
 unfolding accessRecord
-returns-2 c = let e : length ((c .before .before .before .before .before .before .before .before .before .before .before .before .args .t1 .dictionaries)) ≡ 8 = simp length-map at ((c .before .before .before .before .before .before .before .before .before .before .before .before .good .0 .1 .1 .1 .1 .1 .1 .1 .1 .1 .1 .1 .1 .1 .1 .1 .1 .1 .1 .1 .0 .1 .0 .1)) in rw (← (c .before .before .before .before .before .before .before .before .record-at .ensures), le-ltb _ _ (c .before .before .before .before .before .if1 .left), ← laws.dictionary-at (c .before .before .before .before .before .before .before .before .before .before .before .before .args .t1) (c .before .before .before .before .before .before .before .before .before .before .before .before .args .i) e (c .before .before .before .before .before .before .before .before .before .before .before .before .pre), ← (c .before .before .item-of .ensures), ← (c .before .insert .ensures)) (c .help .ensures)
+returns-2 c =
+    let s = c .before .before .before .before .before .before .before .before .before .before .before .before in
+    let e : length (s .args .t1 .dictionaries) ≡ 8 =
+    simp length-map at (s .good .0 .1 .1 .1 .1 .1 .1 .1 .1 .1 .1 .1 .1 .1 .1 .1 .1 .1 .1 .1 .0 .1 .0 .1) in
+    rw (
+      ← c .before .before .before .before .before .before .before .before .record-at .ensures,
+      le-ltb _ _ (c .before .before .before .before .before .if1 .left),
+      ← laws.dictionary-at (s .args .t1) (s .args .i) e (s .pre),
+      ← c .before .before .item-of .ensures,
+      ← c .before .insert .ensures,
+    ) (c .help .ensures)
 
 pub read-record-spec : {M : Type 1} → statement M
 read-record-spec =

@@ -36,7 +36,13 @@ returns : tie.Need-returns
 returns c = rw (c .before .swap-announcement .ensures)
 
 returns-2 : tie.Need-returns-2
-returns-2 c = let e : length ((c .before .before .args .t1 .announcements)) ≡ 8 = simp length-map at (c .before .before .good .0 .1 .1 .1 .1 .1 .1 .1 .1 .1 .0 .1 .0 .1) in laws.no-announcement (c .before .before .args .t1) (c .before .before .args .i) (c .before .before .args .m) (c .before .before .args .expected) (c .before .before .args .new) (c .before .before .args .next) e (c .if1 .left)
+returns-2 c =
+    let s = c .before .before in
+    let e : length (s .args .t1 .announcements) ≡ 8 =
+    simp length-map at (s .good .0 .1 .1 .1 .1 .1 .1 .1 .1 .1 .0 .1 .0 .1) in
+    laws.no-announcement (s .args .t1) (s .args .i) (s .args .m)
+    (s .args .expected) (s .args .new) (s .args .next) e
+    (c .if1 .left)
 
 pub replace-announcement-spec : {M : Type 1} → statement M
 replace-announcement-spec =

@@ -12,7 +12,7 @@ refused-requires c κs = search needs
 
 returns : tie.Need-returns
 unfolding requestExit
-returns c = rw (← (c .before .before .is-below .ensures), (c .before .if1 .taken)) (c .refused .ensures)
+returns c = rw (← c .before .before .is-below .ensures, c .before .if1 .taken) (c .refused .ensures)
 
 mul-task : tie.Need-mul-task
 mul-task c = search needs
@@ -28,14 +28,27 @@ refused-requires-2 c κs = search needs
 
 returns-2 : tie.Need-returns-2
 unfolding requestExit
-returns-2 c = rw (← (c .before .before .before .before .before .is-below .ensures), (c .before .before .before .before .if1 .left), ← (c .before .before .is-idle .ensures), (c .before .if2 .taken)) (c .refused2 .ensures)
+returns-2 c =
+    rw (
+      ← c .before .before .before .before .before .is-below .ensures,
+      c .before .before .before .before .if1 .left,
+      ← c .before .before .is-idle .ensures,
+      c .before .if2 .taken,
+    ) (c .refused2 .ensures)
 
 element-write-after : tie.Need-element-write-after
-element-write-after c = laws.in-room _ _ _ (c .before .before .before .before .is-below .ensures) (c .before .before .before .if1 .left)
+element-write-after c =
+    laws.in-room _ _ _ (c .before .before .before .before .is-below .ensures) (c .before .before .before .if1 .left)
 
 returns-3 : tie.Need-returns-3
 unfolding requestExit
-returns-3 c = rw (← (c .before .before .before .before .is-below .ensures), (c .before .before .before .if1 .left), ← (c .before .is-idle .ensures), (c .if2 .left))
+returns-3 c =
+    rw (
+      ← c .before .before .before .before .is-below .ensures,
+      c .before .before .before .if1 .left,
+      ← c .before .is-idle .ensures,
+      c .if2 .left,
+    )
 
 pub request-exit-spec : {M : Type 1} → statement M
 request-exit-spec =

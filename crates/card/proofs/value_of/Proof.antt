@@ -23,11 +23,21 @@ current-requires c κs = search needs
 
 returns : tie.Need-returns
 unfolding valueOf
-returns c = rw (← c .before .before .before .is-pending .ensures, ← c .before .before .is-unfinished .ensures, c .before .if1 .taken) (c .previous .ensures)
+returns c =
+    rw (
+      ← c .before .before .before .is-pending .ensures,
+      ← c .before .before .is-unfinished .ensures,
+      c .before .if1 .taken,
+    ) (c .previous .ensures)
 
 returns-2 : tie.Need-returns-2
 unfolding valueOf
-returns-2 c = rw (← c .before .before .before .is-pending .ensures, ← c .before .before .is-unfinished .ensures, c .before .if1 .left) (c .current .ensures)
+returns-2 c =
+    rw (
+      ← c .before .before .before .is-pending .ensures,
+      ← c .before .before .is-unfinished .ensures,
+      c .before .if1 .left,
+    ) (c .current .ensures)
 
 pub value-of-spec : {M : Type 1} → statement M
 value-of-spec =

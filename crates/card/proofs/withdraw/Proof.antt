@@ -26,7 +26,7 @@ replace-announcement-requires c κs = search needs
 
 returns : tie.Need-returns
 unfolding accessAnnouncement
-returns c = rw (← (c .before .withdrawn .ensures)) (c .replace-announcement .ensures)
+returns c = rw (← c .before .withdrawn .ensures) (c .replace-announcement .ensures)
 
 pub withdraw-spec : {M : Type 1} → statement M
 withdraw-spec =

@@ -19,7 +19,11 @@ zeros-requires : tie.Need-zeros-requires
 zeros-requires c κs = search needs
 
 returns-2 : tie.Need-returns-2
-returns-2 c = let e : length (c .before .before .args .t1) ≡ 8 = search needs in laws.outside (c .before .before .args .t1) 8 (c .before .before .args .m) openAnnouncement e (c .before .if1 .left) (rw (c .zeros .ensures))
+returns-2 c =
+    let e : length (c .before .before .args .t1) ≡ 8 =
+    search needs in
+    laws.outside (c .before .before .args .t1) 8 (c .before .before .args .m) openAnnouncement e
+    (c .before .if1 .left) (rw (c .zeros .ensures))
 
 pub announcement-at-spec : {M : Type 1} → statement M
 announcement-at-spec =

@@ -19,7 +19,11 @@ no-item-requires : tie.Need-no-item-requires
 no-item-requires c κs = search needs
 
 returns-2 : tie.Need-returns-2
-returns-2 c = let e : length (c .before .before .args .t1 .items) ≡ 32 = simp length-map at (c .before .before .good .0 .1 .1 .1 .0 .1 .0 .1) in laws.outside (c .before .before .args .t1 .items) 32 (c .before .before .args .place) noItem e (c .before .if1 .left) (c .no-item .ensures)
+returns-2 c =
+    let e : length (c .before .before .args .t1 .items) ≡ 32 =
+    simp length-map at (c .before .before .good .0 .1 .1 .1 .0 .1 .0 .1) in
+    laws.outside (c .before .before .args .t1 .items) 32 (c .before .before .args .place) noItem e
+    (c .before .if1 .left) (c .no-item .ensures)
 
 pub item-at-spec : {M : Type 1} → statement M
 item-at-spec =

@@ -17,7 +17,10 @@ returns : tie.Need-returns
 returns c = laws.inside (c .before .before .args .t1) (c .before .before .args .k) _ _ (search needs)
 
 returns-2 : tie.Need-returns-2
-returns-2 c = let e : length (c .before .args .t1) ≡ 8 = search needs in laws.outside (c .before .args .t1) 8 (c .before .args .k) noProgram e (c .if1 .left) refl
+returns-2 c =
+    let e : length (c .before .args .t1) ≡ 8 =
+    search needs in
+    laws.outside (c .before .args .t1) 8 (c .before .args .k) noProgram e (c .if1 .left) refl
 
 pub program-at-spec : {M : Type 1} → statement M
 program-at-spec = tie.close (tie.spec mul-result array-copy-out-result returns returns-2)

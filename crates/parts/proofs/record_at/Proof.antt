@@ -19,7 +19,11 @@ open-record-requires : tie.Need-open-record-requires
 open-record-requires c κs = search needs
 
 returns-2 : tie.Need-returns-2
-returns-2 c = let e : length (c .before .before .args .t1) ≡ 64 = search needs in laws.outside (c .before .before .args .t1) 64 (c .before .before .args .v) (openRecord 0) e (c .before .if1 .left) (c .open-record .ensures)
+returns-2 c =
+    let e : length (c .before .before .args .t1) ≡ 64 =
+    search needs in
+    laws.outside (c .before .before .args .t1) 64 (c .before .before .args .v) (openRecord 0) e
+    (c .before .if1 .left) (c .open-record .ensures)
 
 pub record-at-spec : {M : Type 1} → statement M
 record-at-spec =

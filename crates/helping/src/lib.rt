@@ -1,5 +1,5 @@
-// Helping (lines H1 to H36 of the paper) as code: the dictionary, behind whose functions every access to it stands, and the
-// simulation of a program on it. It rests on the crates construction (types and definitions), cells and programs.
+// Helping (lines H1 to H36 of the paper) as code: the dictionary, which only this crate's functions touch, and the simulation of a
+// program on it. It rests on the crates construction (types and definitions), cells and programs.
 use construction::Dictionary;
 use construction::Effect;
 use construction::Item;

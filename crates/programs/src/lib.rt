@@ -3,7 +3,6 @@
 use construction::Effect;
 use construction::Instruction;
 use construction::Line;
-use construction::Program;
 use construction::Simulation;
 use construction::Words;
 ghost use mathlib.Core.Path.{_≡_};
@@ -189,13 +188,4 @@ pub fn instruction_at(length: u8, counter: u8, line: Line) -> Instruction
         }
     }
     Instruction::Stop
-}
-
-// The instruction at a place of a program. A loop over a program reads its line itself, so that no program is copied.
-pub fn fetch(program: Program, counter: u8) -> Instruction
-    ensures { λ r. ⌜ r ≡ fetch program counter ⌝ }
-{
-    let at = (counter % 32) as usize;
-    let line = program.lines[at];
-    instruction_at(program.length, counter, line)
 }

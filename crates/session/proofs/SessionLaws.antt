@@ -379,3 +379,26 @@ starts {card} {calls} {b} {o} {v} {r} {z} e f g =
           ∙ ap (λ (x : List ℕ). x ++ linesText calls (beginning card calls .state)) (sym (put-front (q .put) (q .short) l))
           ∙ ap (λ (s : State). take (r .length) z ++ linesText calls s) (sym (q .state));
     }
+
+-- ---- what a caller needs of a buffer that was printed into: the printed bytes stand in it, and the session after them
+count-is : (n : ℕ) (z : List ℕ) → n ≤ length z → n ≡ length (take n z)
+count-is n z h = let e = length-take n z in omega arith
+
+module _ {t : List ℕ} {s : State} {b : List ℕ} {r : Printed} {z : List ℕ} (p : Prints t s b r z) where
+  pub prints-count : r .length ≡ length (take (r .length) z)
+  unfolding printedInto
+  prints-count =
+      let g = fitting t s (length b) in
+      let e : length z ≡ length b = ap length (p .bytes) ∙ length-sets b 0 (g .text ++ firstLine (g .state) (commands t (g .state .at))) in
+      let h = p .within in
+      count-is (r .length) z (omega arith)
+
+  pub prints-state : {n : ℕ} → n ≡ length b → r .state ≡ fitting t s n .state
+  unfolding printed
+  prints-state e = rw e (ap (λ (x : Printed). x .state) (p .answer))
+
+pub starts-count : {card calls b : List ℕ} {r : Printed} {z : List ℕ} → Starts card calls b r z → longest ≤ length b → r .length ≡ length (take (r .length) z)
+starts-count {card} {calls} {b} {r} {z} p h =
+    let e : length z ≡ length b = ap length (p .begins .put .bytes) ∙ length-sets b 0 (beginning card calls .text) in
+    let l = p .begins .short in
+    count-is (r .length) z (omega arith)

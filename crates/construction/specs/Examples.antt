@@ -74,8 +74,8 @@ exit i = Entry.Exit i ∷ []
 abbrev pub steps : ℕ → ℕ → List Entry
 steps i n = replicate n (Entry.Step i)
 
-abbrev pub look : List Entry
-look = Entry.Read 0 ∷ []
+abbrev pub readFirst : List Entry
+readFirst = Entry.Read 0 ∷ []
 
 abbrev pub taken : List Answer
 taken = Answer.Taken ∷ []
@@ -117,7 +117,7 @@ abbrev pub listing : Row
 listing =
     record {
       text = cardK;
-      entries = look ++ (call 0 (one 9) ++ (steps 0 14 ++ (look ++ steps 0 1)));
+      entries = readFirst ++ (call 0 (one 9) ++ (steps 0 14 ++ (readFirst ++ steps 0 1)));
       answers = shown 7 ++ (taken ++ (runs 13 ++ (done (one 7) 14 ++ (shown 9 ++ refused NotBusy))));
       gate = record { holder = Nobody; seq = 2 };
       announcements = announced Done 1 7 ∷ [];
@@ -130,7 +130,7 @@ abbrev pub afterNine : Row
 afterNine =
     record {
       text = cardK;
-      entries = call 0 (one 9) ++ (steps 0 9 ++ look);
+      entries = call 0 (one 9) ++ (steps 0 9 ++ readFirst);
       answers = taken ++ (runs 9 ++ shown 7);
       gate = record { holder = Process 0; seq = 1 };
       announcements = announced Active 1 9 ∷ [];
@@ -143,7 +143,7 @@ abbrev pub afterTen : Row
 afterTen =
     record {
       text = cardK;
-      entries = call 0 (one 9) ++ (steps 0 10 ++ look);
+      entries = call 0 (one 9) ++ (steps 0 10 ++ readFirst);
       answers = taken ++ (runs 10 ++ shown 9);
       gate = record { holder = Process 0; seq = 1 };
       announcements = announced Done 1 7 ∷ [];
@@ -182,7 +182,7 @@ abbrev pub twoProcesses : Row
 twoProcesses =
     record {
       text = cardK2;
-      entries = call 0 (one 5) ++ (call 1 (one 9) ++ (steps 0 2 ++ (steps 1 5 ++ (exit 0 ++ (steps 0 10 ++ (steps 1 3 ++ look))))));
+      entries = call 0 (one 5) ++ (call 1 (one 9) ++ (steps 0 2 ++ (steps 1 5 ++ (exit 0 ++ (steps 0 10 ++ (steps 1 3 ++ readFirst))))));
       answers = taken ++ (taken ++ (runs 7 ++ (taken ++ (runs 9 ++ (exited 12 ++ (runs 2 ++ (done (one 7) 8 ++ shown 9)))))));
       gate = record { holder = Nobody; seq = 2 };
       announcements = announced Exit 1 5 ∷ announced Done 1 7 ∷ [];
@@ -195,7 +195,7 @@ abbrev pub limited : Row
 limited =
     record {
       text = bytes "card,1,1,1,13\n" ++ bodyK;
-      entries = call 0 (one 9) ++ (steps 0 14 ++ look);
+      entries = call 0 (one 9) ++ (steps 0 14 ++ readFirst);
       answers = taken ++ (runs 13 ++ (refused LimitReached ++ shown 9));
       gate = record { holder = Nobody; seq = 2 };
       announcements = announced Done 1 7 ∷ [];
@@ -278,7 +278,7 @@ abbrev pub turnOfOther : Row
 turnOfOther =
     record {
       text = cardK2;
-      entries = call 1 (one 9) ++ (call 0 (one 5) ++ (steps 1 2 ++ (steps 0 25 ++ look)));
+      entries = call 1 (one 9) ++ (call 0 (one 5) ++ (steps 1 2 ++ (steps 0 25 ++ readFirst)));
       answers = taken ++ (taken ++ (runs 26 ++ (done (one 9) 25 ++ shown 5)));
       gate = record { holder = Nobody; seq = 3 };
       announcements = announced Done 1 9 ∷ announced Done 1 7 ∷ [];
@@ -311,7 +311,7 @@ abbrev pub earlyExit : Row
 earlyExit =
     record {
       text = cardFlip;
-      entries = call 0 (one 0) ++ (steps 0 3 ++ (call 1 (one 0) ++ (steps 1 2 ++ (steps 0 6 ++ (exit 1 ++ (steps 1 1 ++ (steps 0 1 ++ (steps 1 1 ++ (steps 0 1 ++ look)))))))));
+      entries = call 0 (one 0) ++ (steps 0 3 ++ (call 1 (one 0) ++ (steps 1 2 ++ (steps 0 6 ++ (exit 1 ++ (steps 1 1 ++ (steps 0 1 ++ (steps 1 1 ++ (steps 0 1 ++ readFirst)))))))));
       answers = taken ++ (runs 3 ++ (taken ++ (runs 8 ++ (taken ++ (runs 4 ++ shown 1)))));
       gate = record { holder = Process 1; seq = 1 };
       announcements = announced Active 1 0 ∷ announced Done 1 0 ∷ [];
@@ -337,7 +337,7 @@ abbrev pub lateSwap : Row
 lateSwap =
     record {
       text = cardFlip;
-      entries = call 0 (one 0) ++ (steps 0 3 ++ (call 1 (one 0) ++ (steps 1 2 ++ (steps 0 16 ++ (steps 1 9 ++ (call 1 (one 0) ++ (steps 1 9 ++ (steps 0 1 ++ (steps 1 1 ++ look)))))))));
+      entries = call 0 (one 0) ++ (steps 0 3 ++ (call 1 (one 0) ++ (steps 1 2 ++ (steps 0 16 ++ (steps 1 9 ++ (call 1 (one 0) ++ (steps 1 9 ++ (steps 0 1 ++ (steps 1 1 ++ readFirst)))))))));
       answers = taken ++ (runs 3 ++ (taken ++ (runs 26 ++ (done (one 0) 11 ++ (taken ++ (runs 11 ++ shown 1))))));
       gate = record { holder = Process 1; seq = 3 };
       announcements = announced Done 1 0 ∷ announced Done 3 0 ∷ [];

@@ -52,9 +52,7 @@ returns-3 c =
     ) (c .refused3 .ensures)
 
 advance-requires : tie.Need-advance-requires
-advance-requires c κs =
-    laws.in-room _ _ _ (c .before .before .before .before .before .is-below .ensures)
-    (c .before .before .before .before .if1 .left)
+advance-requires c κs = search needs
 
 answer-of-requires : tie.Need-answer-of-requires
 answer-of-requires c κs =

@@ -3,10 +3,16 @@
 
     tests/mutation/mutate.py CRATE [MOST]
 
-Each change alters one token of the code (a constant, a comparison, an operator, a variant, a truth value; never a
-contract, a comment or a type) in a copy of the repository, and `rt check` asks the prover. A change that is still
-proved either has no effect or shows a contract that leaves something open: it is printed for a person to judge.
-With MOST, an even sample of that many changes is tried. Not part of the gate.
+Each change alters one token of the code (a constant, a byte, a comparison, an operator, a truth value, a variant, two operands or
+arguments swapped; never a contract, a comment or a type) in a copy of the repository, and the prover is asked. The verdicts:
+
+    refused        a fact that the contract asks for no longer holds
+    reshaped       the proof names parts that the changed code lacks, which shows nothing of the contract
+    invalid        the compiler's front end refuses the change
+    still proved   the change has no effect, or the contract leaves something open: printed for a person to judge
+
+With MOST, an even sample of that many changes is tried. The edit loop (`rt dev`) asks first; what it still proves is checked again from
+the crate's start (`rt check`). Not part of the gate.
 """
 import os
 import pathlib
@@ -20,8 +26,11 @@ import threading
 
 ROOT = pathlib.Path(__file__).resolve().parents[2]
 WORKERS = os.cpu_count() or 1
+VERDICTS = ("refused", "reshaped", "invalid", "still proved")
 
-SWAPS = {"<": "<=", "<=": "<", "==": "!=", "!=": "==", "+": "-", "-": "+", "true": "false", "false": "true"}
+SWAPS = {"<": "<=", "<=": "<", "==": "!=", "!=": "==", "+": "-", "-": "+", "&&": "||", "||": "&&", "true": "false", "false": "true"}
+OPERAND = r"[a-z_][\w.]*(?:\[[\w.]+\])?"
+VARIANT = r"\b([A-Z]\w*)::([A-Z]\w*)\b(?!\s*[({])"
 
 
 def code_lines(text):
@@ -30,7 +39,7 @@ def code_lines(text):
     for number, line in enumerate(text.splitlines()):
         stripped = line.strip()
         if depth == 0:
-            inside = bool(re.match(r"(pub )?fn ", stripped)) or (inside and stripped != "")
+            inside = bool(re.match(r"(pub )?(pub\(crate\) )?fn ", stripped)) or (inside and stripped != "")
         body = inside and depth > 0 and not stripped.startswith(("//", "requires", "ensures", "⌜"))
         if body:
             yield number, line
@@ -40,24 +49,41 @@ def code_lines(text):
 def variants(text):
     """The variants without data of each enum that the source names, as Enum::Variant."""
     found = {}
-    for enum, variant in re.findall(r"\b([A-Z]\w*)::([A-Z]\w*)\b(?!\s*[({])", text):
+    for enum, variant in re.findall(VARIANT, text):
         found.setdefault(enum, set()).add(variant)
     return {enum: sorted(names) for enum, names in found.items()}
 
 
+def innermost(start):
+    """The bracket that is open at the end of a line's start."""
+    depth = 0
+    for char in reversed(start):
+        depth += (char in ")]}") - (char in "([{")
+        if depth < 0:
+            return char
+    return ""
+
+
 def changes(line, enums):
     """Every changed form of a line, one token at a time."""
-    for match in re.finditer(r"(?<![\w.])\d+(?![\w.])", line):
+    for match in re.finditer(r"(?<![\w.'])\d+(?![\w.'])", line):
         yield match, str(int(match.group()) + 1)
-    for match in re.finditer(r"(?<=[\w)\]] )(<=|<|==|!=|\+|-)(?= [\w(])", line):
+    for match in re.finditer(r"(?<=b')[^\\'](?=')", line):
+        yield match, chr(ord(match.group()) + 1)
+    for match in re.finditer(r"(?<=[\w)\]] )(<=|<|==|!=|\+|-|&&|\|\|)(?= [\w(!])", line):
         yield match, SWAPS[match.group()]
     for match in re.finditer(r"\b(true|false)\b", line):
         yield match, SWAPS[match.group()]
-    for match in re.finditer(r"\b([A-Z]\w*)::([A-Z]\w*)\b(?!\s*[({])", line):
+    for match in re.finditer(VARIANT, line):
         names = enums.get(match.group(1), [])
         if len(names) > 1:
             other = names[(names.index(match.group(2)) + 1) % len(names)]
             yield match, f"{match.group(1)}::{other}"
+    for match in re.finditer(rf"(?<![\w.])({OPERAND}) (-|<|<=|%) ({OPERAND})(?![\w.(\[']|::)", line):
+        yield match, f"{match.group(3)} {match.group(2)} {match.group(1)}"
+    for match in re.finditer(rf"(?<=[(\s])({OPERAND}), ({OPERAND})(?=[,)])", line):
+        if match.group(1) != match.group(2) and innermost(line[: match.start()]) == "(":
+            yield match, f"{match.group(2)}, {match.group(1)}"
 
 
 def all_changes(crate):
@@ -71,8 +97,21 @@ def all_changes(crate):
                 yield path.relative_to(ROOT), number, line, line[: match.start()] + new + line[match.end():]
 
 
+def ask(copy, command, crate):
+    """The verdict of one command of the toolchain."""
+    answer = subprocess.run(["rt", command, crate], cwd=copy, capture_output=True, text=True)
+    output = answer.stdout + answer.stderr
+    if answer.returncode == 0:
+        return "still proved"
+    if "logic=not-proved" not in output:
+        return "invalid"
+    errors = [line for line in output.splitlines() if "error:" in line or "no proof of" in line or "does not close" in line]
+    facts = [line for line in errors if " has no " not in line and "was not admitted" not in line]
+    return "refused" if facts else "reshaped"
+
+
 def judge(copy, crate, change):
-    """Whether the prover refuses a change; 'invalid' where it does not compile."""
+    """What the prover says of a change."""
     file, number, before, after = change
     target = copy / file
     text = target.read_text()
@@ -80,18 +119,19 @@ def judge(copy, crate, change):
     assert lines[number] == before
     lines[number] = after
     target.write_text("\n".join(lines))
-    answer = subprocess.run(["rt", "check", crate], cwd=copy, capture_output=True, text=True)
+    verdict = ask(copy, "dev", crate)
+    if verdict == "still proved":
+        verdict = ask(copy, "check", crate)
     target.write_text(text)
-    output = answer.stdout + answer.stderr
-    if answer.returncode == 0:
-        return "still proved"
-    return "refused" if "logic=not-proved" in output else "invalid"
+    return verdict
 
 
 def work(scratch, crate, jobs, verdicts):
     """One copy of the repository, and changes until none is left."""
     copy = pathlib.Path(tempfile.mkdtemp(dir=scratch)) / "repository"
     shutil.copytree(ROOT, copy, ignore=shutil.ignore_patterns(".git"))
+    if ask(copy, "dev", crate) != "still proved":
+        sys.exit(f"{crate} is not proved as it stands")
     while True:
         try:
             index, change = jobs.get_nowait()
@@ -117,11 +157,11 @@ def main():
             worker.start()
         for worker in workers:
             worker.join()
-    count = {verdict: list(verdicts.values()).count(verdict) for verdict in ("refused", "invalid", "still proved")}
-    print(f"{crate}: {len(every)} changes found, {len(chosen)} tried: " + ", ".join(f"{n} {v}" for v, n in count.items()))
+    counts = ", ".join(f"{list(verdicts.values()).count(verdict)} {verdict}" for verdict in VERDICTS)
+    print(f"{crate}: {len(every)} changes found, {len(chosen)} tried: {counts}")
     for index, (file, number, before, after) in enumerate(chosen):
-        if verdicts[index] == "still proved":
-            print(f"  still proved: {file}:{number + 1}: {before.strip()}  ->  {after.strip()}")
+        if verdicts.get(index) in ("still proved", "reshaped"):
+            print(f"  {verdicts[index]}: {file}:{number + 1}: {before.strip()}  ->  {after.strip()}")
 
 
 if __name__ == "__main__":

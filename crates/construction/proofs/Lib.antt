@@ -1,7 +1,7 @@
 pub mod Examples
 pub mod Basics
 pub mod Tests
-pub mod RequestLaws
+pub mod Refusals
 pub mod SequentialLaws
 pub mod DictionaryLaws
 pub mod Touching

@@ -1,7 +1,10 @@
 -- The numbers and values of every answer, as document 01 gives them: 'a definition gives this paper's number and values for every case of the enum'.
 use Prim.Native.Nat.{ℕ}
+use mathlib.Core.Path.{_≡_}
 use mathlib.Core.List.{List, [], _∷_}
+use Rattle.construction.specs.declared.Card.{Card}
 use Rattle.construction.specs.declared.Answer.{Answer}
+use Rattle.construction.specs.declared.Answered.{Answered}
 use Rattle.construction.specs.declared.Verdict.{Verdict}
 use Rattle.construction.specs.declared.Written.{Written}
 use Rattle.construction.specs.declared.Refusal.{Refusal}
@@ -39,3 +42,8 @@ verdictValues (Verdict.Refused r line) = numberOf r ∷ line ∷ []
 unfoldable pub writtenValues : Written → List ℕ
 writtenValues (Written.Bytes n) = n ∷ []
 writtenValues (Written.Refused r) = numberOf r ∷ []
+
+-- a request on the card c is refused with a number: 'Elsewhere the card and all lent cells and bytes remain as they were'
+pub record Refuses (c : Card) (r : Answered) (number : ℕ) : Type 0 where
+  pub refusal : valuesOf (r .answer) ≡ number ∷ []
+  pub kept : r .card ≡ c

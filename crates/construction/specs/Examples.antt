@@ -1,5 +1,6 @@
 -- The worked pieces of document 01 ('Proving pieces', those marked *, and card K's listing), and the schedules of 'Faults we have met in drafts',
--- as a table: a card text, entries, and what is to be seen. The theorem over the table is proofs/Examples.
+-- as a table: a card text, entries, and what is to be seen. A second table has the small examples of 'Turned back'.
+-- The theorems over the tables are in proofs/Examples.
 use Prim.Native.Nat.{ℕ, zero, suc}
 use Prim.Native.Char.{code}
 use Prim.Native.String.{String}
@@ -19,7 +20,9 @@ use Rattle.construction.specs.declared.Holder.the-variants.{Nobody, Proc
 use Rattle.construction.specs.declared.Refusal.{Refusal}
 use Rattle.construction.specs.declared.Refusal.the-variants.{NotBusy, LimitReached}
 use Rattle.construction.specs.Cells.{openRecord}
+use Rattle.construction.specs.Answers.{verdictValues, writtenValues, Refuses}
 use Rattle.construction.specs.Opening.{opened}
+use Rattle.construction.specs.Writing.{written}
 use Rattle.construction.specs.History.{Entry, act}
 
 -- the bytes of a text
@@ -348,3 +351,47 @@ lateSwap =
 abbrev pub rows : List Row
 rows =
     listing ∷ afterNine ∷ afterTen ∷ sameInput ∷ exitRequested ∷ twoProcesses ∷ limited ∷ wrapped ∷ indirect ∷ indirectPast ∷ skipPast ∷ turnOfOther ∷ equalSeq ∷ earlyExit ∷ lateMark ∷ lateSwap ∷ []
+
+-- 'Turned back', column 'small example'. Rows 2 to 4: a text, and the number and line that it is refused with
+pub record RefusedText : Type 0 where
+  pub text : List ℕ
+  pub number : ℕ
+  pub line : ℕ
+
+abbrev pub AllTextsRefused : List RefusedText → Type 0
+AllTextsRefused [] = Unit
+AllTextsRefused (r ∷ rs) = (verdictValues (opened (r .text) .verdict) ≡ r .number ∷ r .line ∷ []) × AllTextsRefused rs
+
+abbrev pub refusedTexts : List RefusedText
+refusedTexts =
+    record { text = bytes "card,1,1,1,5\nvar,07\nsheet,1\nins,12,0,0,0\n"; number = 2; line = 2 }
+    ∷ record { text = bytes "card,9,1,1,5\nvar,7\nsheet,1\nins,12,0,0,0\n"; number = 3; line = 1 }
+    ∷ record { text = bytes "card,1,1,1,5\nvar,7\nsheet,1\nins,13,0,0,0\n"; number = 4; line = 4 }
+    ∷ []
+
+-- rows 5 to 10: a request that is refused after a list of entries
+pub record RefusedEntry : Type 0 where
+  pub text : List ℕ
+  pub entries : List Entry
+  pub entry : Entry
+  pub number : ℕ
+
+abbrev pub AllEntriesRefused : List RefusedEntry → Type 0
+AllEntriesRefused [] = Unit
+AllEntriesRefused (r ∷ rs) =
+    let c = cardAfter (opened (r .text) .card) (r .entries) in
+    Refuses c (act c (r .entry)) (r .number) × AllEntriesRefused rs
+
+abbrev pub refusedEntries : List RefusedEntry
+refusedEntries =
+    record { text = cardK2; entries = []; entry = Entry.Step 2; number = 5 }
+    ∷ record { text = cardK; entries = []; entry = Entry.Call 0 1 (one 9); number = 6 }
+    ∷ record { text = cardK; entries = call 0 (one 9); entry = Entry.Call 0 0 (one 9); number = 7 }
+    ∷ record { text = cardK; entries = []; entry = Entry.Step 0; number = 8 }
+    ∷ record { text = cardK; entries = []; entry = Entry.Read 1; number = 9 }
+    ∷ record { text = bytes "card,1,1,1,5\n" ++ bodyK; entries = call 0 (one 9) ++ steps 0 5; entry = Entry.Step 0; number = 10 }
+    ∷ []
+
+-- row 11: a lent buffer of 0 bytes
+abbrev pub BufferRefused : Type 0
+BufferRefused = writtenValues (written (opened cardK .card) []) ≡ 11 ∷ []

@@ -1,11 +1,12 @@
--- The refusals of call, exit request, step and read (document 01, 'Turned back', rows 5 to 10): each is given when its condition holds and
--- no lower one of the same request does; otherwise the request is taken. A refused request changes nothing.
+-- The table of 'Turned back' (document 01): each refusal of a request is given, by its number and with the card as it was, when its condition
+-- holds and no lower one of the same request does; otherwise the request is taken. Rows 1 and 11 likewise, for a text and for a lent buffer.
 use Prim.Native.Nat.{ℕ, _<_, _≤_}
 use mathlib.Core.Path.{_≡_, refl}
 use mathlib.Core.Bool.{true, false}
-use mathlib.Core.List.{[], _∷_}
+use mathlib.Core.List.{List, [], _∷_}
+use lib.ListN.{length}
 use native.Mathlib.Omega.{arith}
-use borrow.Author.Tests.{lt-ltb, le-ltb}
+use borrow.Author.Tests.{lt-ltb, le-ltb, le-leb, lt-leb}
 use Rattle.construction.specs.declared.Words.{Words}
 use Rattle.construction.specs.declared.Announcement.{Announcement}
 use Rattle.construction.specs.declared.Flag.{Flag}
@@ -15,26 +16,32 @@ use Rattle.construction.specs.declared.Answer.{Answer}
 use Rattle.construction.specs.declared.Answered.{Answered}
 use Rattle.construction.specs.declared.Refusal.{Refusal}
 use Rattle.construction.specs.declared.Refusal.the-variants.{NoProcess, NoProgram, Busy, NotBusy, NoPlace, LimitReached}
-use Rattle.construction.specs.Answers.{numberOf, valuesOf}
+use Rattle.construction.specs.Answers.{numberOf, valuesOf, verdictValues, writtenValues, Refuses}
 use Rattle.construction.specs.Machine.{advance}
 use Rattle.construction.specs.Parts.{copyAt, countAt, withExit}
 use Rattle.construction.specs.Requests.{isProcess, isProgram, isVariable, isBusy, refused, begun, call, requestExit, returned, answerOf, step, valueOf, read}
+use Rattle.construction.specs.Opening.{readCard, opened}
+use Rattle.construction.specs.Writing.{textOf, written, writtenInto}
 use Rattle.construction.proofs.Basics.{on-test}
 use Rattle.construction.proofs.Entries.{on-call, on-exit, on-step, on-read}
 
+-- a refused request gives the number of its refusal and the card as it was
+refuses : (c : Card) (r : Answered) (why : Refusal) → r ≡ refused c why → Refuses c r (numberOf why)
+unfolding valuesOf
+refuses c r why e = rw e (record { refusal = refl; kept = refl })
+
 module _ (c : Card) (i k : ℕ) (inputs : Words) where
-  pub call-no-process : isProcess c i ≡ false → call c i k inputs ≡ refused c NoProcess
-  unfolding call
-  call-no-process p = rw p
+  pub call-no-process : isProcess c i ≡ false → Refuses c (call c i k inputs) 5
+  unfolding call numberOf
+  call-no-process p = refuses c (call c i k inputs) NoProcess (rw p)
 
-  pub call-no-program : isProcess c i ≡ true → isProgram c k ≡ false → call c i k inputs ≡ refused c NoProgram
-  unfolding call
-  call-no-program p q = rw (p, q)
+  pub call-no-program : isProcess c i ≡ true → isProgram c k ≡ false → Refuses c (call c i k inputs) 6
+  unfolding call numberOf
+  call-no-program p q = refuses c (call c i k inputs) NoProgram (rw (p, q))
 
-  pub call-busy :
-      isProcess c i ≡ true → isProgram c k ≡ true → isBusy c i ≡ true → call c i k inputs ≡ refused c Busy
-  unfolding call
-  call-busy p q b = rw (p, q, b)
+  pub call-busy : isProcess c i ≡ true → isProgram c k ≡ true → isBusy c i ≡ true → Refuses c (call c i k inputs) 7
+  unfolding call numberOf
+  call-busy p q b = refuses c (call c i k inputs) Busy (rw (p, q, b))
 
   pub call-taken :
       isProcess c i ≡ true → isProgram c k ≡ true → isBusy c i ≡ false →
@@ -43,30 +50,30 @@ module _ (c : Card) (i k : ℕ) (inputs : Words) where
   call-taken p q b = rw (p, q, b)
 
 module _ (c : Card) (i : ℕ) where
-  pub exit-no-process : isProcess c i ≡ false → requestExit c i ≡ refused c NoProcess
-  unfolding requestExit
-  exit-no-process p = rw p
+  pub exit-no-process : isProcess c i ≡ false → Refuses c (requestExit c i) 5
+  unfolding requestExit numberOf
+  exit-no-process p = refuses c (requestExit c i) NoProcess (rw p)
 
-  pub exit-not-busy : isProcess c i ≡ true → isBusy c i ≡ false → requestExit c i ≡ refused c NotBusy
-  unfolding requestExit
-  exit-not-busy p b = rw (p, b)
+  pub exit-not-busy : isProcess c i ≡ true → isBusy c i ≡ false → Refuses c (requestExit c i) 8
+  unfolding requestExit numberOf
+  exit-not-busy p b = refuses c (requestExit c i) NotBusy (rw (p, b))
 
   pub exit-taken :
       isProcess c i ≡ true → isBusy c i ≡ true → requestExit c i ≡ record { card = withExit c i true; answer = Answer.Taken }
   unfolding requestExit
   exit-taken p b = rw (p, b)
 
-  pub step-no-process : isProcess c i ≡ false → step c i ≡ refused c NoProcess
-  unfolding step
-  step-no-process p = rw p
+  pub step-no-process : isProcess c i ≡ false → Refuses c (step c i) 5
+  unfolding step numberOf
+  step-no-process p = refuses c (step c i) NoProcess (rw p)
 
-  pub step-not-busy : isProcess c i ≡ true → isBusy c i ≡ false → step c i ≡ refused c NotBusy
-  unfolding step
-  step-not-busy p b = rw (p, b)
+  pub step-not-busy : isProcess c i ≡ true → isBusy c i ≡ false → Refuses c (step c i) 8
+  unfolding step numberOf
+  step-not-busy p b = refuses c (step c i) NotBusy (rw (p, b))
 
-  pub step-limit : isProcess c i ≡ true → isBusy c i ≡ true → c .limit ≤ c .steps → step c i ≡ refused c LimitReached
-  unfolding step
-  step-limit p b l = rw (p, b, le-ltb _ _ l)
+  pub step-limit : isProcess c i ≡ true → isBusy c i ≡ true → c .limit ≤ c .steps → Refuses c (step c i) 10
+  unfolding step numberOf
+  step-limit p b l = refuses c (step c i) LimitReached (rw (p, b, le-ltb _ _ l))
 
   pub step-accepted :
       isProcess c i ≡ true → isBusy c i ≡ true → c .steps < c .limit →
@@ -74,24 +81,30 @@ module _ (c : Card) (i : ℕ) where
   unfolding step
   step-accepted p b l = rw (p, b, lt-ltb _ _ l)
 
-  pub read-no-place : isVariable c i ≡ false → read c i ≡ refused c NoPlace
-  unfolding read
-  read-no-place p = rw p
+  pub read-no-place : isVariable c i ≡ false → Refuses c (read c i) 9
+  unfolding read numberOf
+  read-no-place p = refuses c (read c i) NoPlace (rw p)
 
   pub read-value : isVariable c i ≡ true → read c i ≡ record { card = c; answer = Answer.Value (valueOf c i) }
   unfolding read
   read-value p = rw p
 
--- the numbers that these refusals are printed with
-pub numbers :
-    (valuesOf (Answer.Refused NoProcess) ≡ 5 ∷ [])
-    × (valuesOf (Answer.Refused NoProgram) ≡ 6 ∷ [])
-    × (valuesOf (Answer.Refused Busy) ≡ 7 ∷ [])
-    × (valuesOf (Answer.Refused NotBusy) ≡ 8 ∷ [])
-    × (valuesOf (Answer.Refused NoPlace) ≡ 9 ∷ [])
-    × (valuesOf (Answer.Refused LimitReached) ≡ 10 ∷ [])
-unfolding valuesOf numberOf
-numbers = (refl, refl, refl, refl, refl, refl)
+-- row 1, at line 0
+pub text-too-long : (t : List ℕ) → 16384 < length t → verdictValues (opened t .verdict) ≡ 1 ∷ 0 ∷ []
+unfolding opened readCard verdictValues numberOf
+text-too-long t l = rw (lt-ltb 16384 (length t) l)
+
+-- row 11, and the length else
+pub write-short :
+    (c : Card) (b : List ℕ) → length b < length (textOf c) →
+    (writtenValues (written c b) ≡ 11 ∷ []) × (writtenInto c b ≡ b)
+unfolding written writtenInto writtenValues numberOf
+write-short c b l = (rw (lt-leb _ _ l), rw (lt-leb _ _ l))
+
+pub write-fits :
+    (c : Card) (b : List ℕ) → length (textOf c) ≤ length b → writtenValues (written c b) ≡ length (textOf c) ∷ []
+unfolding written writtenValues
+write-fits c b l = rw (le-leb _ _ l)
 
 -- 'Elsewhere the card .. remain[s] as [it was]': an answer that refuses comes with the same card
 pub record Kept (c : Card) (r : Answered) : Type 0 where

@@ -62,9 +62,9 @@ module _ {c : Card} {w : World} {i : ℕ} (B : Before c w i) where
   pub at-P3 : L P3 → Acted c W i (accessAnnouncement AnnouncementAccess.Announce c i)
   unfolding accessAnnouncement
   at-P3 q =
-      let a : Announcement = announced c i in
-      let z : getD (set (c .announcements) i (announced c i)) i openAnnouncement ≡ announced c i =
-      set-is i (announced c i) (B .inside) in
+      let a : Announcement = announced (operationAt c i) (heldAt c i) in
+      let z : getD (set (c .announcements) i (announced (operationAt c i) (heldAt c i))) i openAnnouncement ≡ announced (operationAt c i) (heldAt c i) =
+      set-is i (announced (operationAt c i) (heldAt c i)) (B .inside) in
       record {
         after = announcing W i a;
         move = announce a (B .inside) (q .0) refl (q .1) (q .2) (q .3);
@@ -189,7 +189,7 @@ module _ {c : Card} {w : World} {i : ℕ} (B : Before c w i) where
       on-test (λ a. Acted c W i (swapped i a P7)) (sameAnnouncement (announcementAt c i) (copyAt c i)) won
       (λ _. lost i P7 (q .0))
     where
-      won : sameAnnouncement (announcementAt c i) (copyAt c i) ≡ true → Acted c W i (swapped i (withdrawn c i) P7)
+      won : sameAnnouncement (announcementAt c i) (copyAt c i) ≡ true → Acted c W i (swapped i (withdrawn (copyAt c i) (operationAt c i)) P7)
       won e =
           let z = sameAnnouncement-true (announcementAt c i) (copyAt c i) e in
           let fa : announcementAt c i .flag ≡ Active = ap (λ (r : Announcement). r .flag) z ∙ q .1 in
@@ -206,7 +206,7 @@ module _ {c : Card} {w : World} {i : ℕ} (B : Before c w i) where
             records-is = refl;
             calls-is = refl;
             local = _;
-            updated = swapped-updated i (withdrawn c i) P7;
+            updated = swapped-updated i (withdrawn (copyAt c i) (operationAt c i)) P7;
             tidy = B .tidy;
             loc = record {
               own = record {
@@ -228,7 +228,7 @@ module _ {c : Card} {w : World} {i : ℕ} (B : Before c w i) where
         announcementAt c helped ≡ flagged (copyAt c i) f →
         (Move F i W (ending F W helped) → Change i (viewOf W i) (viewOf (ending F W helped) i) →
         Loc F (ending F W helped) i (atTask (localAt c i) (goTo (taskAt c i) l))) →
-        Acted c W i (swapped helped (finished c i) l)
+        Acted c W i (swapped helped (finished (copyAt c i) (simulationAt c i)) l)
     ends z loc =
         let nd : announcementAt c helped .flag ≢ Done = λ d. nf (sym (ap (λ (r : Announcement). r .flag) z) ∙ d) in
         let zq : announcementAt c helped .seq ≡ copyAt c i .seq = ap (λ (r : Announcement). r .seq) z in
@@ -251,7 +251,7 @@ module _ {c : Card} {w : World} {i : ℕ} (B : Before c w i) where
           records-is = refl;
           calls-is = refl;
           local = _;
-          updated = swapped-updated helped (finished c i) l;
+          updated = swapped-updated helped (finished (copyAt c i) (simulationAt c i)) l;
           tidy = B .tidy;
           loc = loc M (end-change (B .good) helped i (helper .inside) (still .0) nd);
         }

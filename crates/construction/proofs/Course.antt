@@ -22,7 +22,7 @@ use Rattle.construction.specs.declared.RecordAccess.{RecordAccess}
 use Rattle.construction.specs.Cells.{openAnnouncement, sameAnnouncement, swapAnnouncement}
 use Rattle.construction.specs.Instructions.{started}
 use Rattle.construction.specs.Dictionary.{empty}
-use Rattle.construction.specs.Parts.{announcementAt, recordAt, taskAt, exitAt, heldAt, withCopy}
+use Rattle.construction.specs.Parts.{announcementAt, recordAt, taskAt, operationAt, exitAt, heldAt, copyAt, simulationAt, withCopy}
 use Rattle.construction.specs.Machine.{accessOf, holderOf, accessGate, withdrawn, finished, help, helps, accessAnnouncement, accessRecord, perform, advance}
 use Rattle.construction.specs.Requests.{isIdle}
 use Rattle.construction.proofs.Basics.{on-test, true-false}
@@ -77,11 +77,11 @@ own-active done active exit c i h = h
 finish-active : (flag : Flag) (next : Place) (c : Card) (i : ℕ) → Before c i (perform (Access.Announcement (AnnouncementAccess.Finish flag next)) c i)
 unfolding perform accessAnnouncement
 finish-active flag next c i =
-    set-active (c .announcements) (holderOf (heldAt c i .holder)) i _ (swap-active _ _ (finished c i) done-not-active)
+    set-active (c .announcements) (holderOf (heldAt c i .holder)) i _ (swap-active _ _ (finished (copyAt c i) (simulationAt c i)) done-not-active)
 
 withdraw-active : (c : Card) (i : ℕ) → Before c i (perform (Access.Announcement AnnouncementAccess.Withdraw) c i)
 unfolding perform accessAnnouncement
-withdraw-active c i = set-active (c .announcements) i i _ (swap-active _ _ (withdrawn c i) exit-not-active)
+withdraw-active c i = set-active (c .announcements) i i _ (swap-active _ _ (withdrawn (copyAt c i) (operationAt c i)) exit-not-active)
 
 first-active : (c : Card) (i : ℕ) → Before c i (perform (Access.Announcement AnnouncementAccess.ReadFirst) c i)
 unfolding perform accessAnnouncement

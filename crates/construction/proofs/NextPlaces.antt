@@ -27,7 +27,7 @@ use Rattle.construction.specs.Cells.{openAnnouncement, sameHolder}
 use Rattle.construction.specs.Dictionary.{empty, noted, nextWrite}
 use Rattle.construction.specs.Instructions.{started}
 use Rattle.construction.specs.Helping.{simulate}
-use Rattle.construction.specs.Parts.{idleTask, announcementAt, recordAt, taskAt, exitAt, heldAt, copyAt, dictionaryAt, programOf, withCopy}
+use Rattle.construction.specs.Parts.{idleTask, announcementAt, recordAt, taskAt, operationAt, exitAt, heldAt, copyAt, dictionaryAt, programOf, withCopy}
 use Rattle.construction.specs.Machine.{byHolder, byFlag, holderOf, firstChoice, helps, help, writeFrom, afterPause, announced, accessOf, accessGate, accessAnnouncement, accessRecord, perform, advance}
 use Rattle.construction.proofs.Basics.{on-test, true-false}
 use Rattle.construction.proofs.Answers.{isAnnounced}
@@ -160,6 +160,6 @@ module _ (c : Card) (i : ℕ) (lt : i < length (c .tasks)) where
   unfolding advance perform accessOf
   P3-next e = rw e (announcement-leads (λ l. l ≡ P5) c i lt AnnouncementAccess.Announce refl)
 
-  pub P3-active : i < length (c .announcements) → taskAt c i .place ≡ P3 → announcementAt (advance c i) i ≡ announced c i
+  pub P3-active : i < length (c .announcements) → taskAt c i .place ≡ P3 → announcementAt (advance c i) i ≡ announced (operationAt c i) (heldAt c i)
   unfolding advance perform accessOf accessAnnouncement
-  P3-active h e = rw e (getD-set-same (c .announcements) i (announced c i) openAnnouncement h)
+  P3-active h e = rw e (getD-set-same (c .announcements) i (announced (operationAt c i) (heldAt c i)) openAnnouncement h)

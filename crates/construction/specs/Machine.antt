@@ -6,6 +6,7 @@ use lib.ListN.{length, getD}
 use Rattle.construction.specs.declared.Gate.{Gate}
 use Rattle.construction.specs.declared.Announcement.{Announcement}
 use Rattle.construction.specs.declared.Task.{Task}
+use Rattle.construction.specs.declared.Operation.{Operation}
 use Rattle.construction.specs.declared.Item.{Item}
 use Rattle.construction.specs.declared.Dictionary.{Dictionary}
 use Rattle.construction.specs.declared.Simulation.{Simulation}
@@ -72,6 +73,14 @@ abbrev pub holderOf : Holder → ℕ
 holderOf Nobody = 0
 holderOf (Process m) = m
 
+-- lines F2 and F4: a process that holds the gate releases it, any other returns
+abbrev pub afterLast : Holder → ℕ → Place
+afterLast h i = cond (sameHolder h (Process i)) F3 Idle
+
+-- line P13: the gate of a nominee
+abbrev pub nominated : Gate → ℕ → Gate
+nominated g m = record { holder = Process m; seq = g .seq }
+
 -- line C1: the process whose turn it is, seq mod p
 unfoldable pub firstChoice : ℕ → ℕ → ℕ
 firstChoice seq p = cond (ltb 0 p) (seq % p) 0
@@ -89,36 +98,27 @@ unfoldable pub accessGate : GateAccess → Card → ℕ → Card
 -- lines P1, P10, P14
 accessGate (GateAccess.Read held free) c i = readGate c i (byHolder (c .gate .holder) held free)
 -- lines F1, F2, F4
-accessGate GateAccess.ReadLast c i = readGate c i (cond (sameHolder (c .gate .holder) (Process i)) F3 Idle)
+accessGate GateAccess.ReadLast c i = readGate c i (afterLast (c .gate .holder) i)
 -- line P13
-accessGate GateAccess.Nominate c i =
-    replaceGate c i (record { holder = Process (taskAt c i .target); seq = heldAt c i .seq }) P14
+accessGate GateAccess.Nominate c i = replaceGate c i (nominated (heldAt c i) (taskAt c i .target)) P14
 -- lines P21 and F3
 accessGate (GateAccess.Release next) c i = replaceGate c i (released (heldAt c i)) next
 
--- line P2: what process i announces
-abbrev pub announced : Card → ℕ → Announcement
-announced c i =
-    record {
-      program = operationAt c i .program;
-      flag = Active;
-      seq = heldAt c i .seq;
-      words = operationAt c i .inputs;
-    }
+-- line P2: what a process announces that was called with an operation and read a gate
+abbrev pub announced : Operation → Gate → Announcement
+announced o g = record { program = o .program; flag = Active; seq = g .seq; words = o .inputs }
 
--- an announcement with another flag, and with other words
+-- an announcement with another flag
 abbrev pub flagged : Announcement → Flag → Announcement
 flagged a f = record { program = a .program; flag = f; seq = a .seq; words = a .words }
 
--- line P6: an announcement that asks to exit, with the inputs of the call
-abbrev pub withdrawn : Card → ℕ → Announcement
-withdrawn c i =
-    record { program = copyAt c i .program; flag = Exit; seq = copyAt c i .seq; words = operationAt c i .inputs }
+-- line P6: the announcement last read, asking to exit, with the inputs of the call
+abbrev pub withdrawn : Announcement → Operation → Announcement
+withdrawn a o = record { program = a .program; flag = Exit; seq = a .seq; words = o .inputs }
 
--- lines P19 and P20: done, with the outputs
-abbrev pub finished : Card → ℕ → Announcement
-finished c i =
-    record { program = copyAt c i .program; flag = Done; seq = copyAt c i .seq; words = simulationAt c i .outputs }
+-- lines P19 and P20: the announcement last read, done, with the outputs
+abbrev pub finished : Announcement → Simulation → Announcement
+finished a s = record { program = a .program; flag = Done; seq = a .seq; words = s .outputs }
 
 -- announcement m is swapped from one to another, and process i goes on at a place
 abbrev pub replaceAnnouncement : Card → ℕ → ℕ → Announcement → Announcement → Place → Card
@@ -156,9 +156,10 @@ helps a number = not (isDone (a .flag)) && leb (a .seq) number
 unfoldable pub accessAnnouncement : AnnouncementAccess → Card → ℕ → Card
 -- lines P2, P3
 accessAnnouncement AnnouncementAccess.Announce c i =
-    withTask (withCopy (withAnnouncement c i (announced c i)) i (announced c i)) i (goTo (taskAt c i) P5)
+    let a = announced (operationAt c i) (heldAt c i) in
+    withTask (withCopy (withAnnouncement c i a) i a) i (goTo (taskAt c i) P5)
 -- line P6
-accessAnnouncement AnnouncementAccess.Withdraw c i = replaceAnnouncement c i i (copyAt c i) (withdrawn c i) P7
+accessAnnouncement AnnouncementAccess.Withdraw c i = replaceAnnouncement c i i (copyAt c i) (withdrawn (copyAt c i) (operationAt c i)) P7
 -- lines P7, C4 with C6, P22
 accessAnnouncement (AnnouncementAccess.ReadOwn done active exit) c i =
     withTask (withCopy c i (announcementAt c i)) i
@@ -176,7 +177,8 @@ accessAnnouncement AnnouncementAccess.Help c i =
     (withTask (withCopy c i a) i (goTo (taskAt c i) P21))
 -- lines P19, P20
 accessAnnouncement (AnnouncementAccess.Finish flag next) c i =
-    replaceAnnouncement c i (holderOf (heldAt c i .holder)) (flagged (copyAt c i) flag) (finished c i) next
+    replaceAnnouncement c i (holderOf (heldAt c i .holder)) (flagged (copyAt c i) flag)
+    (finished (copyAt c i) (simulationAt c i)) next
 
 -- the item that H36 writes
 abbrev pub writtenItem : Card → ℕ → Item

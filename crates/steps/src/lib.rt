@@ -18,9 +18,8 @@ use construction::Task;
 ghost use mathlib.Core.Path.{_≡_};
 ghost use Prim.Native.Nat.{suc};
 ghost use Rattle.construction.specs.Machine.{accessOf, byHolder, byFlag, holderOf, firstChoice, helps, flagged};
-ghost use Rattle.construction.specs.Machine.{writeFrom, afterPause};
+ghost use Rattle.construction.specs.Machine.{announced, withdrawn, finished, nominated, afterLast, writeFrom, afterPause};
 ghost use Rattle.construction.specs.Requests.{isIdle, returned};
-ghost use Rattle.steps.specs.Pieces.{announcing, withdrawing, finishing, nominating, afterLast};
 
 // Lines P1, P10 and P14: the gate is read.
 fn read_gate(held: Place, free: Place) -> Access
@@ -150,7 +149,7 @@ pub fn helps(announcement: Announcement, number: u64) -> bool
 
 // Line P13: the gate that a nomination stores.
 pub fn nominated(gate: Gate, nominee: u8) -> Gate
-    ensures { λ r. ⌜ r ≡ nominating gate nominee ⌝ }
+    ensures { λ r. ⌜ r ≡ nominated gate nominee ⌝ }
 {
     Gate {
         holder: Holder::Process(nominee),
@@ -173,7 +172,7 @@ pub fn flagged(announcement: Announcement, flag: Flag) -> Announcement
 
 // Line P2: what a process announces.
 pub fn announced(operation: Operation, gate: Gate) -> Announcement
-    ensures { λ r. ⌜ r ≡ announcing operation gate ⌝ }
+    ensures { λ r. ⌜ r ≡ announced operation gate ⌝ }
 {
     let words = operation.inputs;
     Announcement {
@@ -186,7 +185,7 @@ pub fn announced(operation: Operation, gate: Gate) -> Announcement
 
 // Line P6: what a process announces that asks to exit.
 pub fn withdrawn(copy: Announcement, operation: Operation) -> Announcement
-    ensures { λ r. ⌜ r ≡ withdrawing copy operation ⌝ }
+    ensures { λ r. ⌜ r ≡ withdrawn copy operation ⌝ }
 {
     let words = operation.inputs;
     Announcement {
@@ -199,7 +198,7 @@ pub fn withdrawn(copy: Announcement, operation: Operation) -> Announcement
 
 // Lines P19 and P20: what a helper makes of the announcement that it helped.
 pub fn finished(copy: Announcement, simulation: Simulation) -> Announcement
-    ensures { λ r. ⌜ r ≡ finishing copy simulation ⌝ }
+    ensures { λ r. ⌜ r ≡ finished copy simulation ⌝ }
 {
     let words = simulation.outputs;
     Announcement {

@@ -21,7 +21,7 @@ use Rattle.construction.specs.declared.AnnouncementAccess.{AnnouncementA
 use Rattle.construction.specs.Cells.{openAnnouncement, sameAnnouncement, swapAnnouncement}
 use Rattle.construction.specs.Parts.{announcementAt, recordAt, taskAt, operationAt, heldAt, copyAt, simulationAt, withAnnouncement, withTask}
 use Rattle.construction.specs.Machine.{goTo, byFlag, holderOf, firstChoice, announced, flagged, withdrawn, finished, accessAnnouncement}
-use Rattle.construction.proofs.Basics.{on-test, sameAnnouncement-true, sameAnnouncement-false, active-not-done, active-not-exit, exit-not-done}
+use Rattle.construction.proofs.Basics.{on-test, sameAnnouncement-true, sameAnnouncement-false, active-not-done, active-not-exit, exit-not-done, else-done}
 use Rattle.construction.proofs.World.{Fixed, endingIn, World, announcementIn, roundIn, wordAt, operationOf, announcing, leaving, ending, Move}
 use Rattle.construction.proofs.World.Move.{announce, leave, end}
 use Rattle.construction.proofs.Claims.{viewOf, Change, end-change}
@@ -32,12 +32,6 @@ use Rattle.construction.proofs.Acting.{worldOf, Before, Acted, place-fi
 announcement-path :
     {a b : Announcement} → a .program ≡ b .program → a .flag ≡ b .flag → a .seq ≡ b .seq → a .words ≡ b .words → a ≡ b
 announcement-path e f g h = λ i. record { program = e i; flag = f i; seq = g i; words = h i }
-
--- what is neither active nor exit is done
-flag-done : (f : Flag) → f ≢ Active → f ≢ Exit → f ≡ Done
-flag-done Done a b = refl
-flag-done Active a b = absurd (a refl)
-flag-done Exit a b = absurd (b refl)
 
 -- line C1 names a process
 first-inside : (s p i : ℕ) → i < p → firstChoice s p < p
@@ -80,7 +74,7 @@ module _ {c : Card} {w : World} {i : ℕ} (B : Before c w i) where
         loc = (
           record {
             own = record {
-              out = λ d. absurd (active-not-done _ (ap (λ (r : Announcement). r .flag) z) d);
+              out = λ d. absurd (active-not-done (ap (λ (r : Announcement). r .flag) z) d);
               op = λ _. ap operationOf z ∙ q .1;
             };
             called = q .1;
@@ -117,8 +111,8 @@ module _ {c : Card} {w : World} {i : ℕ} (B : Before c w i) where
 
   read-C4 : (f : Flag) → announcementAt c i .flag ≡ f → L C4 → Loc F W i (read (byFlag f F1 P13 P13))
   read-C4 Done e q = answered e (q .0)
-  read-C4 Active e q = self (λ d. active-not-done _ e d) q
-  read-C4 Exit e q = self (λ d. exit-not-done _ e d) q
+  read-C4 Active e q = self (active-not-done e) q
+  read-C4 Exit e q = self (exit-not-done e) q
 
   pub at-C4 : L C4 → Acted c W i (accessAnnouncement (AnnouncementAccess.ReadOwn F1 P13 P13) c i)
   unfolding accessAnnouncement
@@ -129,10 +123,10 @@ module _ {c : Card} {w : World} {i : ℕ} (B : Before c w i) where
   read-P22 Active e q = (
     q .0,
     e,
-    ap (λ (r : Operation). r .inputs) (q .0 .own .op (λ d. active-not-done _ e d) ∙ sym (q .0 .called)),
+    ap (λ (r : Operation). r .inputs) (q .0 .own .op (active-not-done e) ∙ sym (q .0 .called)),
   )
   read-P22 Exit e q = (
-    record { not-active = λ a. active-not-exit _ a e; free-of = q .1 .free-of e; late = q .1 .late },
+    record { not-active = λ a. active-not-exit a e; free-of = q .1 .free-of e; late = q .1 .late },
     record { same = refl; out = q .0 .own .out },
   )
 
@@ -151,9 +145,9 @@ module _ {c : Card} {w : World} {i : ℕ} (B : Before c w i) where
     record {
       below = q .2;
       fit = λ _ _. record {
-        alive = λ d. active-not-done _ e d;
+        alive = active-not-done e;
         op = B .good .active-operation m e;
-        right = inr (λ x. absurd (active-not-exit _ e x));
+        right = inr (λ x. absurd (active-not-exit e x));
       };
     },
     q .3,
@@ -210,8 +204,8 @@ module _ {c : Card} {w : World} {i : ℕ} (B : Before c w i) where
             tidy = B .tidy;
             loc = record {
               own = record {
-                out = λ d. absurd (exit-not-done _ (ap (λ (r : Announcement). r .flag) y) d);
-                op = λ _. ap operationOf y ∙ q .0 .own .op (λ d. active-not-done _ fa d);
+                out = λ d. absurd (exit-not-done (ap (λ (r : Announcement). r .flag) y) d);
+                op = λ _. ap operationOf y ∙ q .0 .own .op (active-not-done fa);
               };
               called = q .0 .called;
             };
@@ -273,27 +267,21 @@ module _ {c : Card} {w : World} {i : ℕ} (B : Before c w i) where
   at-P19 q =
       on-test (λ a. Acted c W i (swapped helped a P20))
       (sameAnnouncement (announcementAt c helped) (flagged (copyAt c i) Active))
-      (λ e. ends P20 Active na (q .0) (q .1) (q .2) (sameAnnouncement-true _ _ e) (λ M C. (
+      (λ e. ends P20 Active (active-not-done refl) (q .0) (q .1) (q .2) (sameAnnouncement-true _ _ e) (λ M C. (
         helper-stays (B .good) M C (q .0),
         plan-stays (B .good) M (heldAt c i) (copyAt c i) (q .0 .seen) (q .1),
         ready-stays (B .good) M (heldAt c i .seq) (q .1 .number) (q .1 .below) (simulationAt c i .outputs) (q .2),
-        record { isnt = λ _ _ a. active-not-done _ a (is-done helped (q .0 .inside)) },
+        record { isnt = λ _ _ a. active-not-done a (is-done helped (q .0 .inside)) },
       )))
       (λ e. lost helped P20
-      (q .0, q .1, q .2, record { isnt = missed P20 Active na (q .0) (q .1) (q .2) e }))
-    where
-      na : Active ≢ Done
-      na d = active-not-done Active refl d
+      (q .0, q .1, q .2, record { isnt = missed P20 Active (active-not-done refl) (q .0) (q .1) (q .2) e }))
 
   pub at-P20 : L P20 → Acted c W i (accessAnnouncement (AnnouncementAccess.Finish Exit P21) c i)
   unfolding accessAnnouncement swapAnnouncement
   at-P20 q =
       on-test (λ a. Acted c W i (swapped helped a P21))
       (sameAnnouncement (announcementAt c helped) (flagged (copyAt c i) Exit))
-      (λ e. ends P21 Exit ne (q .0) (q .1) (q .2) (sameAnnouncement-true _ _ e)
+      (λ e. ends P21 Exit (exit-not-done refl) (q .0) (q .1) (q .2) (sameAnnouncement-true _ _ e)
       (λ M C. (helper-stays (B .good) M C (q .0), record { over = λ _ _. is-done helped (q .0 .inside) })))
       (λ e. lost helped P21
-      (q .0, record { over = λ h z. flag-done _ (q .3 .isnt h z) (missed P21 Exit ne (q .0) (q .1) (q .2) e h z) }))
-    where
-      ne : Exit ≢ Done
-      ne d = exit-not-done Exit refl d
+      (q .0, record { over = λ h z. else-done _ (q .3 .isnt h z) (missed P21 Exit (exit-not-done refl) (q .0) (q .1) (q .2) e h z) }))

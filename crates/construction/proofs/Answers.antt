@@ -53,8 +53,8 @@ module _ (c : Card) (w : World) (I : Inv c w) (v : ℕ) (vl : v < c .variables) 
       (m : ℕ) → Phase (Process m) W → (f : Flag) → announcementAt c m .flag ≡ f →
       shown (not (isDone f)) ≡ wordAt (w .words) v
   by-flag m ph Done e = good .recorded .words-are v vl (omega (arith, ph .1 e, ph .0))
-  by-flag m ph Active e = under-way m ph (λ d. active-not-done _ e d)
-  by-flag m ph Exit e = under-way m ph (λ d. exit-not-done _ e d)
+  by-flag m ph Active e = under-way m ph (active-not-done e)
+  by-flag m ph Exit e = under-way m ph (exit-not-done e)
 
   by-holder : (h : Holder) → Phase h W → shown (isPending c h) ≡ wordAt (w .words) v
   by-holder Nobody ph = good .recorded .words-are v vl (omega (arith, ph .0, ph .1))

@@ -6,9 +6,8 @@ use mathlib.Core.Logic.{_≢_, _⊎_, inl, inr}
 use mathlib.Core.List.{List, [], _∷_}
 use lib.ListN.{getD, set}
 use lib.Dec.{ltb}
-use native.Mathlib.Omega.{arith}
 use Rattle.construction.specs.declared.Flag.{Flag}
-use Rattle.construction.specs.declared.Flag.the-variants.{Done, Active, Exit}
+use Rattle.construction.specs.declared.Flag.the-variants.{Active}
 use Rattle.construction.specs.declared.Announcement.{Announcement}
 use Rattle.construction.specs.declared.Card.{Card}
 use Rattle.construction.specs.declared.Simulation.{Simulation}
@@ -25,7 +24,7 @@ use Rattle.construction.specs.Dictionary.{empty}
 use Rattle.construction.specs.Parts.{announcementAt, recordAt, taskAt, exitAt, heldAt, withCopy}
 use Rattle.construction.specs.Machine.{accessOf, holderOf, accessGate, withdrawn, finished, help, helps, accessAnnouncement, accessRecord, perform, advance}
 use Rattle.construction.specs.Requests.{isIdle}
-use Rattle.construction.proofs.Basics.{on-test, true-false}
+use Rattle.construction.proofs.Basics.{on-test, true-false, active-not-done, active-not-exit}
 use Rattle.construction.proofs.Answers.{isAnnounced}
 
 -- a flag that is active after was active before
@@ -46,12 +45,6 @@ swap-active :
 unfolding swapAnnouncement
 swap-active cell expected new ne =
     on-test (λ (x : Announcement). x .flag ≡ Active → cell .flag ≡ Active) (sameAnnouncement cell expected) (λ _ h. absurd (ne h)) (λ _ h. h)
-
-done-not-active : Done ≢ Active
-done-not-active e = let z : _≡_ {A = ℕ} 0 1 = cc in omega arith
-
-exit-not-active : Exit ≢ Active
-exit-not-active e = let z : _≡_ {A = ℕ} 0 1 = cc in omega arith
 
 gate-active : (a : GateAccess) (c : Card) (i : ℕ) → Before c i (perform (Access.Gate a) c i)
 unfolding perform accessGate
@@ -77,11 +70,11 @@ own-active done active exit c i h = h
 finish-active : (flag : Flag) (next : Place) (c : Card) (i : ℕ) → Before c i (perform (Access.Announcement (AnnouncementAccess.Finish flag next)) c i)
 unfolding perform accessAnnouncement
 finish-active flag next c i =
-    set-active (c .announcements) (holderOf (heldAt c i .holder)) i _ (swap-active _ _ (finished c i) done-not-active)
+    set-active (c .announcements) (holderOf (heldAt c i .holder)) i _ (swap-active _ _ (finished c i) (λ e. active-not-done e refl))
 
 withdraw-active : (c : Card) (i : ℕ) → Before c i (perform (Access.Announcement AnnouncementAccess.Withdraw) c i)
 unfolding perform accessAnnouncement
-withdraw-active c i = set-active (c .announcements) i i _ (swap-active _ _ (withdrawn c i) exit-not-active)
+withdraw-active c i = set-active (c .announcements) i i _ (swap-active _ _ (withdrawn c i) (λ e. active-not-exit e refl))
 
 first-active : (c : Card) (i : ℕ) → Before c i (perform (Access.Announcement AnnouncementAccess.ReadFirst) c i)
 unfolding perform accessAnnouncement

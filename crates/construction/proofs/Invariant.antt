@@ -9,7 +9,7 @@ use native.Mathlib.Decide.{ℕ-discrete}
 use lib.ListN.{length, getD, set, take, replicate, length-set, length-replicate, length-map, List·getD-map}
 use lib.Seq.{getD-set-same, getD-set-other, getD-take, length-take-le}
 use lib.Dec.{ltb}
-use borrow.Author.Tests.{ltb-true}
+use borrow.Author.Tests.{ltb-true, not-true, not-false}
 use Rattle.construction.specs.declared.Gate.{Gate}
 use Rattle.construction.specs.declared.Announcement.{Announcement}
 use Rattle.construction.specs.declared.Words.{Words}
@@ -27,8 +27,7 @@ use Rattle.construction.specs.Parts.{idleTask, noOperation, taskAt, exit
 use Rattle.construction.specs.Machine.{accessOf, perform, counted, advance}
 use Rattle.construction.specs.Requests.{isProcess, isIdle, isBusy, begun}
 use Rattle.construction.specs.Opening.{fresh}
-use Rattle.construction.proofs.Basics.{on-set, and-true, active-not-done, exit-not-done, never}
-use Rattle.construction.proofs.Tests.{not-true, not-false}
+use Rattle.construction.proofs.Basics.{on-set, and-true, active-not-done, exit-not-done, nobody-process}
 use Rattle.construction.proofs.SequentialLaws.{Short}
 use Rattle.construction.proofs.World.{Fixed, World, Good, asking, Quiet, Move}
 use Rattle.construction.proofs.World.Move.{ask}
@@ -331,8 +330,8 @@ module _ (x : Contents) (few : x .processes ≤ 8) (narrow : x .variables ≤ 64
     bound-below = λ m. rw (all-same {A = ℕ} 8 m 0) (omega arith);
     announcement-below = λ m. rw (all-same 8 m openAnnouncement) (omega arith);
     fresh = λ m e. absurd (e (open-flag m));
-    inside = λ m e. absurd (never e);
-    active-operation = λ m e. absurd (active-not-done _ e (open-flag m));
+    inside = λ m e. absurd (nobody-process refl e);
+    active-operation = λ m e. absurd (active-not-done e (open-flag m));
     phase = (refl, refl);
     recorded = record {
       below = λ v. rw (open-record v) (omega arith);
@@ -361,9 +360,9 @@ module _ (x : Contents) (few : x .processes ≤ 8) (narrow : x .variables ≤ 64
     locs = λ j h. subst (λ (l : Place). LocAt l (fixedOf (fresh x)) (firstWorld x) j (localAt (fresh x) j))
         (sym (ap (λ (t : Task). t .place) (all-same 8 j idleTask))) (
           record {
-            not-active = λ a. active-not-done _ a (open-flag j);
-            free-of = never;
-            late = λ l. absurd (exit-not-done _ l (open-flag j));
+            not-active = λ a. active-not-done a (open-flag j);
+            free-of = nobody-process refl;
+            late = λ l. absurd (exit-not-done l (open-flag j));
           },
           record {
             same = refl;

@@ -18,7 +18,7 @@ use Rattle.construction.specs.Cells.{openAnnouncement, openRecord, curre
 use Rattle.construction.specs.Instructions.{started}
 use Rattle.construction.specs.Sequential.{sequential}
 use Rattle.construction.specs.Parts.{noOperation}
-use Rattle.construction.proofs.Basics.{on-set, active-not-done, active-not-exit, exit-not-done, never, process-same, done?}
+use Rattle.construction.proofs.Basics.{on-set, active-not-done, active-not-exit, exit-not-done, nobody-process, process-same, done-or-not}
 use Rattle.construction.proofs.SequentialLaws.{run-length}
 use Rattle.construction.proofs.World.{Fixed, Round, noRound, endingOf, endingIn, programIn, World, announcementIn, recordIn, leftIn, callIn, roundIn, wordAt, operationOf, doneWith, Pending, Phase, Good, asking, announcing, leaving, taking, writing, ending, freeing, Quiet, Move}
 use Rattle.construction.proofs.World.Move.{stay, ask, announce, leave, take, write, end, free}
@@ -135,9 +135,9 @@ module _ {F : Fixed} {w : World} (G : Good F w) where
   phase-leave i lt fa (Process m) ph = (
     ph .0,
     announcements-set (λ r. r .flag ≡ Done → w .count ≡ suc (w .gate .seq)) i m _ lt
-        (λ _ q. absurd (exit-not-done _ refl q)) (λ _. ph .1),
+        (λ _ q. absurd (exit-not-done refl q)) (λ _. ph .1),
     announcements-set (λ r. r .flag ≢ Done → Pending (leaving w i) m) i m _ lt
-        (λ e _. busy (ph .2 (λ d. active-not-done _ fa (rw e at d)))) (λ _ d. busy (ph .2 d)),
+        (λ e _. busy (ph .2 (λ d. active-not-done fa (rw e at d)))) (λ _ d. busy (ph .2 d)),
   )
     where
       busy : Pending w m → Pending (leaving w i) m
@@ -169,11 +169,11 @@ module _ {F : Fixed} {w : World} (G : Good F w) where
         announcements-set (λ r. r .seq ≤ w .gate .seq) i m _ lt (λ _. G .announcement-below i) (λ _. G .announcement-below m);
     fresh = λ m.
         announcements-set (λ r. r .flag ≢ Done → leftIn w m < r .seq) i m _ lt
-        (λ e _. rw e (G .fresh i (λ d. active-not-done _ fa d))) (λ _. G .fresh m);
+        (λ e _. rw e (G .fresh i (active-not-done fa))) (λ _. G .fresh m);
     inside = G .inside;
     active-operation = λ m.
         announcements-set (λ r. r .flag ≡ Active → operationOf r ≡ callIn w m) i m _ lt
-        (λ _ q. absurd (active-not-exit _ q refl)) (λ _. G .active-operation m);
+        (λ _ q. absurd (active-not-exit q refl)) (λ _. G .active-operation m);
     phase = phase-leave i lt fa (w .gate .holder) (G .phase);
     recorded = G .recorded;
   }
@@ -331,7 +331,7 @@ module _ {F : Fixed} {w : World} (G : Good F w) where
         inside = G .inside;
         active-operation = λ j.
             announcements-set (λ r. r .flag ≡ Active → operationOf r ≡ callIn w j) m j a lt
-            (λ _ q. absurd (active-not-done _ q refl)) (λ _. G .active-operation j);
+            (λ _ q. absurd (active-not-done q refl)) (λ _. G .active-operation j);
         phase = subst (λ (h : Holder). Phase h (ending F w m)) (sym hm) (
           many,
           λ _. omega arith,
@@ -376,7 +376,7 @@ module _ {F : Fixed} {w : World} (G : Good F w) where
         bound-below = λ j. omega (arith, G .bound-below j);
         announcement-below = λ j. omega (arith, G .announcement-below j);
         fresh = λ j q. set-left (λ b. b < announcementIn w j .seq) j (λ e. absurd (q (rw e d))) (λ _. G .fresh j q);
-        inside = λ j e. absurd (never e);
+        inside = λ j e. absurd (nobody-process refl e);
         active-operation = G .active-operation;
         phase = (omega arith, omega arith);
         recorded = G .recorded;
@@ -422,4 +422,4 @@ rounds-few (Process m) w ph = omega arith
 pub count-many : (h : Holder) (w : World) → Phase h w → w .gate .seq ≤ w .count
 count-many Nobody w ph = omega arith
 count-many (Process m) w ph =
-    ⊎-elim (λ d. omega (arith, ph .1 d)) (λ d. omega (arith, ph .2 d .counted)) (done? (announcementIn w m .flag))
+    ⊎-elim (λ d. omega (arith, ph .1 d)) (λ d. omega (arith, ph .2 d .counted)) (done-or-not (announcementIn w m .flag))

@@ -1,6 +1,5 @@
 pub mod Examples
 pub mod Basics
-pub mod Tests
 pub mod RequestLaws
 pub mod SequentialLaws
 pub mod DictionaryLaws

@@ -22,7 +22,7 @@ use Rattle.construction.specs.Sequential.{Ending, sequential, commit, pa
 use Rattle.construction.specs.Instructions.{noProgram}
 use Rattle.construction.specs.Parts.{noOperation}
 use Rattle.construction.specs.History.{Invocation, Notes, hasCalled, latest, latestCall, turned, benchRun, finishedOne, withReturn, times, outputsOf, hasReturned, Numbered, Agrees, AllAgree, UnderWay}
-use Rattle.construction.proofs.Basics.{on-set, true-or-false, true-false}
+use Rattle.construction.proofs.Basics.{on-set, true-or-false, true-false, ne-isDone}
 use Rattle.construction.proofs.NotesLaws.{on-equal, chosen, passed, latest-below, latest-apart, agree-longer, turns, turned-same, turned-not, turned-one}
 use Rattle.construction.proofs.World.{Fixed, World, announcementIn, callIn, outputsIn, endingIn, doneWith, Good, asking, ending, Move}
 use Rattle.construction.proofs.World.Move.{stay, ask, announce, leave, take, write, end, free}
@@ -76,11 +76,6 @@ pub record Ends (F : Fixed) (w v : World) : Type 0 where
   pub held : w .gate .holder ≡ Process process
   pub undone : announcementIn w process .flag ≢ Done
   pub becomes : v ≡ ending F w process
-
-not-done : (f : Flag) → f ≢ Done → isDone f ≡ false
-not-done Done h = absurd (h refl)
-not-done Active h = refl
-not-done Exit h = refl
 
 turns-active : (f : Flag) → turns f Active ≡ false
 turns-active Done = refl
@@ -136,7 +131,7 @@ pub turned-ends : {F : Fixed} {w v : World} → Good F w → (E : Ends F w v) �
 turned-ends {F} {w} G E =
     rw (E .becomes)
     (turned-one 0 (w .announcements) (E .process) _ (omega (arith, G .size-announcements, G .few, E .inside))
-    (rw (not-done _ (E .undone)) refl) ∙ rw zero-add)
+    (rw (ne-isDone _ (E .undone)) refl) ∙ rw zero-add)
 
 -- a move that finishes nothing
 own-calm :
@@ -211,7 +206,7 @@ module _
         early = λ t. absurd (true-false true refl t);
         pending = λ z. absurd (true-false true refl (ap (λ (x : Announcement). isDone (x .flag)) (sym here) ∙ z));
         over = λ t z. (
-          chosen (latest (s .operations) m) _ _ (times (latest (s .operations) m) (s .order)) refl ∙ ap suc (O .pending (not-done _ undone)),
+          chosen (latest (s .operations) m) _ _ (times (latest (s .operations) m) (s .order)) refl ∙ ap suc (O .pending (ne-isDone _ undone)),
           chosen (latest (s .operations) m) _ _ (outputsOf (latest (s .operations) m) (s .order)) refl ∙ (ap (λ (e : Ending). e .outputs) same-run ∙ sym out),
         );
       }
@@ -232,7 +227,7 @@ module _
         agree = agree-longer _ (s .order) (s .returns) (O .unreturned) (T .agree);
         once = λ k.
             on-equal (λ b. cond b (suc (times k (s .order))) (times k (s .order)) ≤ 1) (latest (s .operations) m) k
-            (λ e. let z : times k (s .order) ≡ 0 = rw (← e) (O .pending (not-done _ undone)) in omega arith) (λ _. T .once k);
+            (λ e. let z : times k (s .order) ≡ 0 = rw (← e) (O .pending (ne-isDone _ undone)) in omega arith) (λ _. T .once k);
         known = λ k h.
             let far : latest (s .operations) m ≢ k = λ e. omega (arith, latest-below (s .operations) m (O .asked)) in
             passed _ _ _ _ far ∙ T .known k h;

@@ -4,7 +4,6 @@ use Prim.Native.Nat.{ℕ, _<_, _≤_}
 use mathlib.Core.Path.{_≡_, refl}
 use mathlib.Core.Bool.{true, false}
 use mathlib.Core.List.{[], _∷_}
-use native.Mathlib.Omega.{arith}
 use borrow.Author.Tests.{lt-ltb, le-ltb}
 use Rattle.construction.specs.declared.Words.{Words}
 use Rattle.construction.specs.declared.Announcement.{Announcement}
@@ -19,7 +18,7 @@ use Rattle.construction.specs.Answers.{numberOf, valuesOf}
 use Rattle.construction.specs.Machine.{advance}
 use Rattle.construction.specs.Parts.{copyAt, countAt, withExit}
 use Rattle.construction.specs.Requests.{isProcess, isProgram, isVariable, isBusy, refused, begun, call, requestExit, returned, answerOf, step, valueOf, read}
-use Rattle.construction.proofs.Basics.{on-test}
+use Rattle.construction.proofs.Basics.{on-test, clash}
 use Rattle.construction.proofs.Entries.{on-call, on-exit, on-step, on-read}
 
 module _ (c : Card) (i k : ℕ) (inputs : Words) where
@@ -105,17 +104,17 @@ other c d a h = record { kept = λ why e. absurd (h why e) }
 
 -- an answer that is no refusal
 taken : (why : Refusal) → Answer.Taken ≡ Answer.Refused why → ⊥
-taken why e = let z : _≡_ {A = ℕ} 0 1 = cc in omega arith
+taken why e = clash (cc)
 
 returns : (a : Announcement) (f : Flag) (k : ℕ) (why : Refusal) → returned a f k ≡ Answer.Refused why → ⊥
-returns a Done k why e = let z : _≡_ {A = ℕ} 0 1 = cc in omega arith
-returns a Active k why e = let z : _≡_ {A = ℕ} 0 1 = cc in omega arith
-returns a Exit k why e = let z : _≡_ {A = ℕ} 0 1 = cc in omega arith
+returns a Done k why e = clash (cc)
+returns a Active k why e = clash (cc)
+returns a Exit k why e = clash (cc)
 
 accepted : (c : Card) (i : ℕ) (why : Refusal) → answerOf c i ≡ Answer.Refused why → ⊥
 accepted c i why =
     on-test (λ (a : Answer). a ≡ Answer.Refused why → ⊥) (isBusy c i)
-    (λ _ e. let z : _≡_ {A = ℕ} 0 1 = cc in omega arith)
+    (λ _ e. clash (cc))
     (λ _. returns (copyAt c i) (copyAt c i .flag) (countAt c i) why)
 
 pub call-kept : (c : Card) (i k : ℕ) (inputs : Words) → Kept c (call c i k inputs)

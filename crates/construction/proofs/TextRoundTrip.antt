@@ -8,7 +8,7 @@ use lib.ListN.{getD, drop, length, replicate, length-set, length-replicate}
 use lib.Seq.{drop-length, getD-set-same, getD-set-other}
 use native.Mathlib.Omega.{arith}
 use borrow.Author.Tests.{ne-eqb, eqb-true}
-use Rattle.grammar.proofs.Cases.{on-test, and-true, clash}
+use Rattle.construction.proofs.Basics.{on-test, and-true, clash}
 use Rattle.grammar.proofs.Bytes.{word-text}
 use Rattle.grammar.proofs.RoundTrip.{Small, field-text, four-text}
 use Rattle.construction.specs.declared.CardLine.{CardLine}

@@ -1,11 +1,11 @@
 -- Case splits on a test and on a place of a list; what the tests of cells and flags say; flags and holders told apart.
-use Prim.Native.Nat.{ℕ, _<_}
+use Prim.Native.Nat.{ℕ, zero, suc, _<_}
 use mathlib.Core.Path.{_≡_, refl, sym, ap}
 use mathlib.Core.Bool.{Bool, true, false, cond, _&&_}
 use mathlib.Core.Logic.{_≢_, _⊎_, inl, inr}
 use mathlib.Core.List.{List}
 use native.Mathlib.Decide.{ℕ-discrete}
-use lib.ListN.{length, getD, set}
+use lib.ListN.{length, getD, set, replicate}
 use lib.Seq.{getD-set-same, getD-set-other}
 use lib.Dec.{eqb}
 use borrow.Author.Tests.{eqb-true, eq-eqb}
@@ -47,6 +47,12 @@ on-set P l i j a d h same other = go (ℕ-discrete j i)
     go : Dec (j ≡ i) → P (getD (set l i a) j d)
     go (yes e) = rw e (rw getD-set-same (same e))
     go (no n) = rw getD-set-other (other n)
+
+-- a list of the same, its default too
+pub getD-replicate-same : {A : Type 0} (n i : ℕ) (a : A) → getD (replicate n a) i a ≡ a
+getD-replicate-same zero i a = refl
+getD-replicate-same (suc n) zero a = refl
+getD-replicate-same (suc n) (suc i) a = getD-replicate-same n i a
 
 -- equality of the parts of a cell
 pub sameHolder-true : (a b : Holder) → sameHolder a b ≡ true → a ≡ b

@@ -52,9 +52,9 @@ paused-tidy :
     (F : Fixed) (w : World) (s : ℕ) (a : Announcement) (p : Pause) (l : Simulation) (d : Dictionary) →
     PausedAt (F .variables) (programFor F s a) (a .words) (roundIn w s .words) (endingIn F w s) (Noted F w s) p l d →
     Tidy d
-paused-tidy F w s a Ended l d q = record { short = q .room .small; full = q .room .array; keyed = q .keyed }
+paused-tidy F w s a Ended l d q = record { short = q .room .small; keyed = q .keyed }
 paused-tidy F w s a (Lacks v) l d q =
-    record { short = q .core .room .small; full = q .core .room .array; keyed = q .core .keyed }
+    record { short = q .core .room .small; keyed = q .core .keyed }
 
 module _ {c : Card} {w : World} {i : ℕ} (B : Before c w i) where
   abbrev W : World

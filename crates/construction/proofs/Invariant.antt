@@ -1,5 +1,5 @@
 -- The invariant of a card beside a world, and that fresh cards have it and every taken call, exit request and step keeps it.
-use Prim.Native.Nat.{ℕ, zero, suc, _+_, _≤_, _<_, _%_}
+use Prim.Native.Nat.{ℕ, suc, _+_, _≤_, _<_, _%_}
 use mathlib.Core.Path.{_≡_, refl, sym, subst, ap, _∙_}
 use mathlib.Core.Bool.{Bool, true, false}
 use mathlib.Core.Logic.{_≢_}
@@ -8,8 +8,7 @@ use native.Mathlib.Omega.{arith}
 use native.Mathlib.Decide.{ℕ-discrete}
 use lib.ListN.{length, getD, set, take, replicate, length-set, length-replicate, length-map, List·getD-map}
 use lib.Seq.{getD-set-same, getD-set-other, getD-take, length-take-le}
-use lib.Dec.{ltb}
-use borrow.Author.Tests.{ltb-true, not-true, not-false}
+use borrow.Author.Tests.{not-true, not-false}
 use Rattle.construction.specs.declared.Gate.{Gate}
 use Rattle.construction.specs.declared.Announcement.{Announcement}
 use Rattle.construction.specs.declared.Words.{Words}
@@ -22,12 +21,12 @@ use Rattle.construction.specs.declared.Place.{Place}
 use Rattle.construction.specs.declared.Place.the-variants.{Idle, P1, P3, P5, P7, P10, C2, C4, P13, P14, P16, H21, H36, P19, P20, P21, P22, F1, F3}
 use Rattle.construction.specs.Cells.{zeros, openAnnouncement, openRecord, current}
 use Rattle.construction.specs.Instructions.{noProgram}
-use Rattle.construction.specs.Dictionary.{noItem, empty}
+use Rattle.construction.specs.Dictionary.{empty}
 use Rattle.construction.specs.Parts.{idleTask, noOperation, taskAt, exitAt, countAt, dictionaryAt, withExit}
 use Rattle.construction.specs.Machine.{accessOf, perform, counted, advance}
-use Rattle.construction.specs.Requests.{isProcess, isIdle, isBusy, begun}
+use Rattle.construction.specs.Requests.{isIdle, isBusy, begun}
 use Rattle.construction.specs.Opening.{fresh}
-use Rattle.construction.proofs.Basics.{on-set, and-true, active-not-done, exit-not-done, nobody-process}
+use Rattle.construction.proofs.Basics.{on-set, getD-replicate-same, active-not-done, exit-not-done, nobody-process}
 use Rattle.construction.proofs.SequentialLaws.{Short}
 use Rattle.construction.proofs.World.{Fixed, World, Good, asking, Quiet, Move}
 use Rattle.construction.proofs.World.Move.{ask}
@@ -92,23 +91,19 @@ module _ {c : Card} {w : World} {i : ℕ} (I : Inv c w) {u : World} (M : Move (f
           (subst (λ (l : Local). Tidy (l .dictionary)) (sym here) tidy)
       at-dictionary j (no ne) = subst (λ (l : Local). Tidy (l .dictionary)) (sym (elsewhere j ne)) (I .tidy j)
 
-inside : (c : Card) (i : ℕ) → isProcess c i ≡ true → i < c .processes
-inside c i e = ltb-true i (c .processes) (and-true (ltb i (c .processes)) _ e .0)
-
 pub record Stepped (c : Card) (w : World) (i : ℕ) : Type 0 where
   pub after : World
   pub move : Move (fixedOf c) i w after
   pub inv : Inv (advance c i) after
   pub calls-is : after .calls ≡ w .calls
-  pub fixed-is : fixedOf (advance c i) ≡ fixedOf c
   pub elsewhere : (j : ℕ) → j ≢ i → localAt (advance c i) j ≡ localAt c j
 
 -- a step that is accepted
 pub inv-step :
     (c : Card) (w : World) (i : ℕ) →
-    Inv c w → isProcess c i ≡ true → isBusy c i ≡ true → c .steps < c .limit → Stepped c w i
+    Inv c w → i < c .processes → isBusy c i ≡ true → c .steps < c .limit → Stepped c w i
 unfolding advance
-inv-step c w i I p b h = record {
+inv-step c w i I lt b h = record {
   after = A .after;
   move = M;
   inv = moved I M (counted v i) (A .local)
@@ -130,15 +125,11 @@ inv-step c w i I p b h = record {
       (rw steps (omega arith))
       (λ j. rw steps (counts j));
   calls-is = A .calls-is;
-  fixed-is = A .updated .fixed-is;
   elsewhere = A .updated .elsewhere;
 }
   where
     v : Card
     v = perform (accessOf (taskAt c i .place) (exitAt c i)) c i
-
-    lt : i < c .processes
-    lt = inside c i p
 
     B : Before c w i
     B = record {
@@ -200,16 +191,16 @@ at-rest {c} {w} I i lt b =
 abbrev pub called : ℕ → Words → Operation
 called k inputs = record { program = k; inputs = inputs }
 
-pub call-move :
-    (c : Card) (w : World) (i k : ℕ) (inputs : Words) → Inv c w → isProcess c i ≡ true → isBusy c i ≡ false →
+call-move :
+    (c : Card) (w : World) (i k : ℕ) (inputs : Words) → Inv c w → i < c .processes → isBusy c i ≡ false →
     Move (fixedOf c) i w (asking w i (called k inputs))
-call-move c w i k inputs I p b = ask (called k inputs) (inside c i p) (at-rest I i (inside c i p) b .0)
+call-move c w i k inputs I lt b = ask (called k inputs) lt (at-rest I i lt b .0)
 
 pub inv-call :
-    (c : Card) (w : World) (i k : ℕ) (inputs : Words) → Inv c w → isProcess c i ≡ true → isBusy c i ≡ false →
+    (c : Card) (w : World) (i k : ℕ) (inputs : Words) → Inv c w → i < c .processes → isBusy c i ≡ false →
     Inv (begun c i k inputs) (asking w i (called k inputs))
-inv-call c w i k inputs I p b =
-    moved I (call-move c w i k inputs I p b) (begun c i k inputs)
+inv-call c w i k inputs I lt b =
+    moved I (call-move c w i k inputs I lt b) (begun c i k inputs)
     (record {
       place = P1;
       target = 0;
@@ -261,10 +252,10 @@ inv-call c w i k inputs I p b =
     Z = I .sizes
 
     few : i < 8
-    few = omega (arith, inside c i p, I .good .few)
+    few = omega (arith, I .good .few)
 
     Q : Quiet w i
-    Q = at-rest I i (inside c i p) b .0
+    Q = at-rest I i lt b .0
 
 -- an exit request that is taken: no process knows of its own
 pub inv-exit : (c : Card) (w : World) (i : ℕ) (b : Bool) → Inv c w → Inv (withExit c i b) w
@@ -296,15 +287,10 @@ firstWorld x =
       count = 1;
     }
 
-all-same : {A : Type 0} (n i : ℕ) (a : A) → getD (replicate n a) i a ≡ a
-all-same zero i a = refl
-all-same (suc n) zero a = refl
-all-same (suc n) (suc i) a = all-same n i a
-
 module _ (x : Contents) (few : x .processes ≤ 8) (narrow : x .variables ≤ 64) (capped : x .limit ≤ 1000000000000000000)
     (many : length (x .starts) ≡ 64) (short : (k : ℕ) → Short (getD (x .code) k noProgram)) where
   open-flag : (m : ℕ) → getD (replicate 8 openAnnouncement) m openAnnouncement .flag ≡ Done
-  open-flag m = ap (λ (a : Announcement). a .flag) (all-same 8 m openAnnouncement)
+  open-flag m = ap (λ (a : Announcement). a .flag) (getD-replicate-same 8 m openAnnouncement)
 
   open-record : (v : ℕ) → getD (map openRecord (x .starts)) v (openRecord 0) ≡ openRecord (getD (x .starts) v 0)
   open-record v = List·getD-map openRecord (x .starts) v 0
@@ -326,9 +312,9 @@ module _ (x : Contents) (few : x .processes ≤ 8) (narrow : x .variables ≤ 64
     size-bound = length-replicate {A = ℕ} 8 0;
     size-words = open-words;
     size-round = λ s l. let z : s ≡ 0 = omega arith in rw z open-words;
-    left-below = λ m. rw (all-same {A = ℕ} 8 m 0) (omega arith);
-    bound-below = λ m. rw (all-same {A = ℕ} 8 m 0) (omega arith);
-    announcement-below = λ m. rw (all-same 8 m openAnnouncement) (omega arith);
+    left-below = λ m. rw (getD-replicate-same {A = ℕ} 8 m 0) (omega arith);
+    bound-below = λ m. rw (getD-replicate-same {A = ℕ} 8 m 0) (omega arith);
+    announcement-below = λ m. rw (getD-replicate-same 8 m openAnnouncement) (omega arith);
     fresh = λ m e. absurd (e (open-flag m));
     inside = λ m e. absurd (nobody-process refl e);
     active-operation = λ m e. absurd (active-not-done e (open-flag m));
@@ -358,7 +344,7 @@ module _ (x : Contents) (few : x .processes ≤ 8) (narrow : x .variables ≤ 64
       dictionaries = refl;
     };
     locs = λ j h. subst (λ (l : Place). LocAt l (fixedOf (fresh x)) (firstWorld x) j (localAt (fresh x) j))
-        (sym (ap (λ (t : Task). t .place) (all-same 8 j idleTask))) (
+        (sym (ap (λ (t : Task). t .place) (getD-replicate-same 8 j idleTask))) (
           record {
             not-active = λ a. active-not-done a (open-flag j);
             free-of = nobody-process refl;
@@ -367,14 +353,14 @@ module _ (x : Contents) (few : x .processes ≤ 8) (narrow : x .variables ≤ 64
           record {
             same = refl;
             out = λ _.
-                ap (λ (a : Announcement). a .words) (all-same 8 j openAnnouncement) ∙ sym (all-same 8 j zeros);
+                ap (λ (a : Announcement). a .words) (getD-replicate-same 8 j openAnnouncement) ∙ sym (getD-replicate-same 8 j zeros);
           },
         );
     tidy = λ j.
-        subst Tidy (sym (all-same 8 j empty))
-        (record { short = omega arith; full = length-replicate 32 noItem; keyed = tt });
+        subst Tidy (sym (getD-replicate-same 8 j empty))
+        (record { short = omega arith; keyed = tt });
     numbered = omega arith;
     limited = omega arith;
     capped = capped;
-    counts = λ j. rw (all-same {A = ℕ} 8 j 0) (omega arith);
+    counts = λ j. rw (getD-replicate-same {A = ℕ} 8 j 0) (omega arith);
   }

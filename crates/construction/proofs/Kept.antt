@@ -2,10 +2,10 @@
 use Prim.Native.Nat.{ℕ, suc, _+_, _≤_, _<_}
 use mathlib.Core.Path.{_≡_, refl, sym, subst, ap, _∙_}
 use mathlib.Core.Bool.{Bool, true, false, cond, not}
-use mathlib.Core.Logic.{_≢_, _⊎_, inl, inr, ⊎-elim}
+use mathlib.Core.Logic.{_≢_, _⊎_, ⊎-elim}
 use mathlib.Core.List.{[], _∷_}
 use native.Mathlib.Omega.{arith}
-use native.Mathlib.Decide.{ℕ-discrete}
+use native.Mathlib.Nat.{eq-or-lt-of-le}
 use lib.ListN.{length, getD, set, length-set, length-append, List·getD-append}
 use lib.Seq.{getD-set-other, getD-at}
 use Rattle.construction.specs.declared.Announcement.{Announcement}
@@ -42,13 +42,6 @@ previous-rewritten r x s = go (r .toggle)
     go : (b : Bool) → cond (not b) (cond b x (r .val0)) (cond b (r .val1) x) ≡ cond b (r .val1) (r .val0)
     go true = refl
     go false = refl
-
-pub below-or : (n s : ℕ) → s < suc n → (s < n) ⊎ (s ≡ n)
-below-or n s h = go (ℕ-discrete s n)
-  where
-    go : Dec (s ≡ n) → (s < n) ⊎ (s ≡ n)
-    go (yes e) = inr e
-    go (no ne) = inl (omega arith)
 
 module _ {F : Fixed} {w : World} (G : Good F w) where
   -- after announcement i was set to a: by cases on whose is meant
@@ -189,8 +182,8 @@ module _ {F : Fixed} {w : World} (G : Good F w) where
   latest m s e = getD-at (w .rounds) (page m) [] noRound s (sym e)
 
   -- a number below the longer list is below the list, or the last
-  split-last : (m s : ℕ) → s < length (taking w m .rounds) → (s < length (w .rounds)) ⊎ (s ≡ length (w .rounds))
-  split-last m s lt = below-or (length (w .rounds)) s (omega (arith, simp length-append at lt))
+  split-last : (m s : ℕ) → s < length (taking w m .rounds) → (s ≡ length (w .rounds)) ⊎ (s < length (w .rounds))
+  split-last m s lt = eq-or-lt-of-le (omega (arith, simp length-append at lt))
 
   good-take :
       (m : ℕ) → m < F .processes → w .gate .holder ≡ Nobody → announcementIn w m .flag ≢ Done →
@@ -211,7 +204,7 @@ module _ {F : Fixed} {w : World} (G : Good F w) where
         size-bound = G .size-bound;
         size-words = G .size-words;
         size-round = λ s sl.
-            ⊎-elim (λ l. rw (earlier m s l) (G .size-round s l)) (λ e. rw (latest m s e) (G .size-words)) (split-last m s sl);
+            ⊎-elim (λ e. rw (latest m s e) (G .size-words)) (λ l. rw (earlier m s l) (G .size-round s l)) (split-last m s sl);
         left-below = G .left-below;
         bound-below = G .bound-below;
         announcement-below = G .announcement-below;
@@ -226,8 +219,8 @@ module _ {F : Fixed} {w : World} (G : Good F w) where
         recorded = record {
           below = λ v. omega (arith, R .below v);
           old = λ s v sl vl h.
-              ⊎-elim (λ l. rw (earlier m s l) (R .old s v l vl h))
-              (λ e. rw (latest m s e) (R .words-are v vl (omega arith))) (split-last m s sl);
+              ⊎-elim (λ e. rw (latest m s e) (R .words-are v vl (omega arith)))
+              (λ l. rw (earlier m s l) (R .old s v l vl h)) (split-last m s sl);
           same = λ v vl z. rw (earlier m (recordIn w v .seq) (R .below v)) (R .same v vl z);
           settled = λ s v sl vl h. rw (earlier m s (omega arith)) (R .settled s v sl vl h);
           words-are = λ v vl e. absurd (omega arith);
@@ -342,12 +335,12 @@ module _ {F : Fixed} {w : World} (G : Good F w) where
           old = R .old;
           same = R .same;
           settled = λ s v sl vl h.
-              ⊎-elim (λ l. R .settled s v (omega arith) vl h) (λ e. rw e (all v vl (rw e at h)))
-              (below-or (w .gate .seq) s (omega arith));
+              ⊎-elim (λ (e : s ≡ w .gate .seq). rw e (all v vl (rw e at h))) (λ l. R .settled s v (omega arith) vl h)
+              (eq-or-lt-of-le (omega arith));
           words-are = λ v vl e.
-              ⊎-elim (λ l. R .old (w .gate .seq) v (omega arith) vl l ∙ sym (all v vl l))
-              (λ l. let z = R .same v vl (omega (arith, G .left-below m)) .1 in rw l at z)
-              (below-or (w .gate .seq) (recordIn w v .seq) (omega (arith, R .below v)));
+              ⊎-elim (λ (l : recordIn w v .seq ≡ w .gate .seq). let z = R .same v vl (omega (arith, G .left-below m)) .1 in rw l at z)
+              (λ l. R .old (w .gate .seq) v (omega arith) vl l ∙ sym (all v vl l))
+              (eq-or-lt-of-le (omega (arith, R .below v)));
         };
       }
 

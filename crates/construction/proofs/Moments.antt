@@ -7,8 +7,7 @@ use mathlib.Core.List.{List, [], _∷_}
 use native.Mathlib.Omega.{arith}
 use lib.ListN.{length, getD}
 use lib.Seq.{getD-set-same, getD-set-other}
-use lib.Dec.{ltb}
-use borrow.Author.Tests.{ltb-true, lt-ltb}
+use borrow.Author.Tests.{lt-ltb}
 use Rattle.construction.specs.declared.Flag.{Flag}
 use Rattle.construction.specs.declared.Flag.the-variants.{Done, Active, Exit}
 use Rattle.construction.specs.declared.Words.{Words}
@@ -25,9 +24,9 @@ use Rattle.construction.specs.declared.Place.the-variants.{P1, P3, P5}
 use Rattle.construction.specs.Cells.{isDone, openAnnouncement}
 use Rattle.construction.specs.Parts.{idleTask, taskAt, withExit}
 use Rattle.construction.specs.Machine.{advance}
-use Rattle.construction.specs.Requests.{isProcess, isVariable, isIdle, isBusy, refused, begun as cardBegun, answerOf, read}
+use Rattle.construction.specs.Requests.{isVariable, isIdle, isBusy, refused, begun as cardBegun, answerOf, read}
 use Rattle.construction.specs.History.{Entry, act, Invocation, Notes, turned, finishing, finished, begun, withReturn, ended, noted, Moment, observe, FinishesOne, FinishesAtMostOne}
-use Rattle.construction.proofs.Basics.{true-or-false, true-false, cond-true, cond-false, and-true}
+use Rattle.construction.proofs.Basics.{true-or-false, true-false, cond-true, cond-false}
 use Rattle.construction.proofs.NotesLaws.{turned-same}
 use Rattle.construction.proofs.TextKept.{contentsOf, advance-kept}
 use Rattle.construction.proofs.Outcomes.{Outcome, outcome}
@@ -100,17 +99,13 @@ module _ (o : Card) (m : Moment) (O : Consistent o m) where
       subst (λ (n : Notes). Consistent o (record { card = withExit c i true; notes = n })) (sym (nothing-finished (withExit c i true) refl))
       (record { world = w; inv = inv-exit c w i true (O .inv); tracks = O .tracks; text = O .text })
 
-  inside : (i : ℕ) → isProcess c i ≡ true → i < c .processes
-  inside i e = ltb-true i (c .processes) (and-true (ltb i (c .processes)) _ e .0)
-
   -- a call
   call-kept :
-      (i k : ℕ) (inputs : Words) → isProcess c i ≡ true → isBusy c i ≡ false →
+      (i k : ℕ) (inputs : Words) → i < c .processes → isBusy c i ≡ false →
       Consistent o (after o m (Entry.Call i k inputs) (record { card = cardBegun c i k inputs; answer = Answer.Taken }))
-  call-kept i k inputs e f =
+  call-kept i k inputs lt f =
       let x : Invocation = record { process = i; program = k; inputs = inputs } in
       let d = cardBegun c i k inputs in
-      let lt = inside i e in
       let others : (j : ℕ) → j ≢ i → (busyIn d j ≡ busyIn c j) × (announcedIn d j ≡ announcedIn c j) =
       λ j ne. rw (getD-set-other (c .tasks) i j (record { place = P1; target = 0 }) idleTask ne) (refl, refl) in
       let here : taskAt d i ≡ record { place = P1; target = 0 } =
@@ -118,18 +113,18 @@ module _ (o : Card) (m : Moment) (O : Consistent o m) where
       subst (λ (n : Notes). Consistent o (record { card = d; notes = begun n x Answer.Taken })) (sym (nothing-finished d refl))
       (record {
         world = asking w i (requestOf x);
-        inv = inv-call c w i k inputs (O .inv) e f;
+        inv = inv-call c w i k inputs (O .inv) lt f;
         tracks = tracks-called i x (O .inv .good) lt refl others (ap (λ (t : Task). isAnnounced (t .place)) here) (O .tracks);
         text = O .text;
       })
 
   -- an accepted step of process i
-  module _ (i : ℕ) (e : isProcess c i ≡ true) (b : isBusy c i ≡ true) (l : c .steps < c .limit) where
+  module _ (i : ℕ) (lt : i < c .processes) (b : isBusy c i ≡ true) (l : c .steps < c .limit) where
     abbrev d : Card
     d = advance c i
 
     S : Stepped c w i
-    S = inv-step c w i (O .inv) e b l
+    S = inv-step c w i (O .inv) lt b l
 
     abbrev noticed : Notes
     noticed = finished o (c .gate .seq) (finishing c d) s
@@ -196,17 +191,17 @@ module _ (o : Card) (m : Moment) (O : Consistent o m) where
 
     -- the operation of i itself
     own-moved : Own (announcedIn c i) (S .after) noticed i
-    own-moved = moved .own i (subst (λ (n : ℕ). i < n) processes-is (inside i e)) b
+    own-moved = moved .own i (subst (λ (n : ℕ). i < n) processes-is lt) b
 
     stage : (own-place ≡ P1) ⊎ (own-place ≡ P3) ⊎ (isAnnounced own-place ≡ true)
     stage = stage-of own-place b
 
     has-task : i < length (c .tasks)
-    has-task = omega (arith, O .inv .sizes .tasks, O .inv .good .few, inside i e)
+    has-task = omega (arith, O .inv .sizes .tasks, O .inv .good .few)
 
     has-announcement : i < length (c .announcements)
     has-announcement =
-        omega (arith, O .inv .good .size-announcements, ap length (announcements-is (O .inv)), O .inv .good .few, inside i e)
+        omega (arith, O .inv .good .size-announcements, ap length (announcements-is (O .inv)), O .inv .good .few)
 
     at-P1 : own-place ≡ P1 → next-place ≡ P3
     at-P1 h = P1-next c i has-task h
@@ -261,7 +256,7 @@ module _ (o : Card) (m : Moment) (O : Consistent o m) where
         ⊎-elim
         (λ z. subst (λ (a : Answer). Follows o d (S .after) (ended noticed i a)) (sym (z .1)) (ended-done idle (z .0) _))
         (λ z. subst (λ (a : Answer). Follows o d (S .after) (ended noticed i a)) (sym (z .1)) (ended-exited idle (z .0) _))
-        (answer-is (S .inv) i (subst (λ (x : Contents). i < x .processes) (sym (advance-kept c i)) (inside i e)) idle))
+        (answer-is (S .inv) i (subst (λ (x : Contents). i < x .processes) (sym (advance-kept c i)) lt) idle))
         (true-or-false (isBusy d i))
 
     step-kept : Consistent o (after o m (Entry.Step i) (record { card = d; answer = answerOf d i }))
@@ -283,7 +278,7 @@ module _ (o : Card) (m : Moment) (O : Consistent o m) where
   abbrev AtMostOne : Entry → Answered → Type 0
   AtMostOne e r = (finishing c (r .card) ≡ []) ⊎ (act c e ≡ r → FinishesOne m e)
 
-  step-finishes : (i : ℕ) → isProcess c i ≡ true → isBusy c i ≡ true → c .steps < c .limit →
+  step-finishes : (i : ℕ) → i < c .processes → isBusy c i ≡ true → c .steps < c .limit →
       AtMostOne (Entry.Step i) (record { card = advance c i; answer = answerOf (advance c i) i })
   step-finishes i p b l =
       ⊎-elim (λ C. inl (finishing-is i p b l ∙ C .none))

@@ -23,7 +23,7 @@ use Rattle.construction.specs.declared.Refusal.{Refusal}
 use Rattle.construction.specs.Instructions.{inRange, noProgram}
 use Rattle.construction.specs.Lines.{cardWord, cardFits, judgeCard, cardLine, varLine, sheetLine, insLine}
 use Rattle.construction.specs.Opening.{noContents, refusedAt, programRefusedAt, withLine, nextIns, insFrom, programAfter, readProgram, withProgram, nextProgram, programsFrom, withStart, nextVar, varsFrom, ifAccepted, atEnd, thenPrograms, afterCard, readCard}
-use Rattle.construction.proofs.Basics.{on-test, and-true}
+use Rattle.construction.proofs.Basics.{on-test, and-true, getD-replicate-same}
 
 -- the bounds of a card's contents
 pub record Bounded (x : Contents) : Type 0 where
@@ -59,12 +59,6 @@ program-lines n t at line = go (sheetLine t at)
     go (SheetLine.Length m i) = ins-lines n t m 0 _ refl
     go (SheetLine.Refused why) = refl
 
--- a list of the same, its default too
-pub getD-same : {A : Type 0} (n i : ℕ) (a : A) → getD (replicate n a) i a ≡ a
-getD-same zero i a = refl
-getD-same (suc n) zero a = refl
-getD-same (suc n) (suc i) a = getD-same n i a
-
 -- the bounds hold at the first line and after each later one
 empty-bounded : Bounded noContents
 empty-bounded =
@@ -74,7 +68,7 @@ empty-bounded =
       limit = omega arith;
       starts = refl;
       code = refl;
-      lines = λ k. rw (getD-same 8 k noProgram);
+      lines = λ k. rw (getD-replicate-same 8 k noProgram);
     }
 
 on-var :

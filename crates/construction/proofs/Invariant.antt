@@ -18,13 +18,13 @@ use Rattle.construction.specs.declared.Card.{Card}
 use Rattle.construction.specs.declared.Contents.{Contents}
 use Rattle.construction.specs.declared.Flag.the-variants.{Done}
 use Rattle.construction.specs.declared.Place.{Place}
-use Rattle.construction.specs.declared.Place.the-variants.{Idle, P1, P3, P5, P7, P10, C2, C4, P13, P14, P16, H21, H36, P19, P20, P21, P22, F1, F3}
+use Rattle.construction.specs.declared.Place.the-variants.{Idle, P1}
 use Rattle.construction.specs.Cells.{zeros, openAnnouncement, openRecord, current}
 use Rattle.construction.specs.Instructions.{noProgram}
 use Rattle.construction.specs.Dictionary.{empty}
 use Rattle.construction.specs.Parts.{idleTask, noOperation, taskAt, exitAt, countAt, dictionaryAt, withExit}
 use Rattle.construction.specs.Machine.{accessOf, perform, counted, advance}
-use Rattle.construction.specs.Requests.{isIdle, isBusy, begun}
+use Rattle.construction.specs.Requests.{isBusy, begun}
 use Rattle.construction.specs.Opening.{fresh}
 use Rattle.construction.proofs.Basics.{on-set, getD-replicate-same, active-not-done, exit-not-done, nobody-process}
 use Rattle.construction.proofs.SequentialLaws.{Short}
@@ -33,6 +33,7 @@ use Rattle.construction.proofs.World.Move.{ask}
 use Rattle.construction.proofs.Kept.{good-move, seq-move}
 use Rattle.construction.proofs.Locals.{Local, localAt, fixedOf, Sizes}
 use Rattle.construction.proofs.Places.{LocAt, Loc, loc-stays}
+use Rattle.construction.proofs.Stages.{stage, is-idle}
 use Rattle.construction.proofs.Acting.{worldOf, Tidy, Before, Acted}
 use Rattle.construction.proofs.Steps.{at-place}
 
@@ -159,33 +160,12 @@ inv-step c w i I lt b h = record {
         (λ _. rw (A .updated .counts-is) (omega (arith, I .counts i, I .capped)))
         (λ _. rw (A .updated .counts-is) (omega (arith, I .counts j)))
 
-is-idle : (l : Place) → isIdle l ≡ true → l ≡ Idle
-is-idle Idle e = refl
-is-idle P1 e = cc
-is-idle P3 e = cc
-is-idle P5 e = cc
-is-idle P7 e = cc
-is-idle P10 e = cc
-is-idle C2 e = cc
-is-idle C4 e = cc
-is-idle P13 e = cc
-is-idle P14 e = cc
-is-idle P16 e = cc
-is-idle H21 e = cc
-is-idle H36 e = cc
-is-idle P19 e = cc
-is-idle P20 e = cc
-is-idle P21 e = cc
-is-idle P22 e = cc
-is-idle F1 e = cc
-is-idle F3 e = cc
-
 -- what is known of a process that has no operation under way
 pub at-rest :
     {c : Card} {w : World} (I : Inv c w) (i : ℕ) →
     i < c .processes → isBusy c i ≡ false → LocAt Idle (fixedOf c) w i (localAt c i)
 at-rest {c} {w} I i lt b =
-    subst (λ (l : Place). LocAt l (fixedOf c) w i (localAt c i)) (is-idle (taskAt c i .place) (not-false _ b)) (I .locs i lt)
+    subst (λ (l : Place). LocAt l (fixedOf c) w i (localAt c i)) (is-idle (stage (taskAt c i .place)) (not-false _ b)) (I .locs i lt)
 
 -- a call that is taken
 abbrev pub called : ℕ → Words → Operation

@@ -10,6 +10,7 @@ pub mod Kept
 pub mod Claims
 pub mod Locals
 pub mod Places
+pub mod Stages
 pub mod Writes
 pub mod Acting
 pub mod GateSteps

@@ -32,10 +32,11 @@ use Rattle.construction.proofs.TextKept.{contentsOf, advance-kept}
 use Rattle.construction.proofs.Outcomes.{Outcome, outcome}
 use Rattle.construction.proofs.World.{World, announcementIn, outputsIn, ending, asking}
 use Rattle.construction.proofs.Locals.{Local, fixedOf}
+use Rattle.construction.proofs.Stages.{isAnnounced, stage, announced-busy, busy-stage}
 use Rattle.construction.proofs.Invariant.{Inv, Stepped, gate-is, announcements-is, inv-call, inv-exit, inv-step}
-use Rattle.construction.proofs.Answers.{read-is, answer-is, isAnnounced, holder-announced}
+use Rattle.construction.proofs.Answers.{read-is, answer-is, holder-announced}
 use Rattle.construction.proofs.NextPlaces.{P1-next, P3-next, P3-active, announced-next}
-use Rattle.construction.proofs.Course.{active-before, announced-busy, stage-of}
+use Rattle.construction.proofs.Course.{active-before}
 use Rattle.construction.proofs.Observed.{requestOf, Own, Tracks, under-way, Calm, Ends, kind-of, turned-ends, tracks-calm, tracks-finished, own-next, tracks-place, tracks-called, tracks-returned}
 
 -- the processes of a card that have an operation under way, and those that have announced it
@@ -151,7 +152,7 @@ module _ (o : Card) (m : Moment) (O : Consistent o m) where
       ends-own =
           subst (λ (a : Bool). Own a w s (E .process)) ends-announced
           (O .tracks .own (E .process) (subst (λ (n : ℕ). E .process < n) processes-is (E .inside))
-          (announced-busy (taskAt c (E .process) .place) ends-announced))
+          (announced-busy (stage (taskAt c (E .process) .place)) ends-announced))
 
       ends-one : finishing c d ≡ E .process ∷ []
       ends-one = finishing-is ∙ turned-ends (O .inv .good) E
@@ -193,8 +194,8 @@ module _ (o : Card) (m : Moment) (O : Consistent o m) where
     own-moved : Own (announcedIn c i) (S .after) noticed i
     own-moved = moved .own i (subst (λ (n : ℕ). i < n) processes-is lt) b
 
-    stage : (own-place ≡ P1) ⊎ (own-place ≡ P3) ⊎ (isAnnounced own-place ≡ true)
-    stage = stage-of own-place b
+    own-stage : (own-place ≡ P1) ⊎ (own-place ≡ P3) ⊎ (isAnnounced own-place ≡ true)
+    own-stage = busy-stage (stage own-place) b
 
     has-task : i < length (c .tasks)
     has-task = omega (arith, O .inv .sizes .tasks, O .inv .good .few)
@@ -215,7 +216,7 @@ module _ (o : Card) (m : Moment) (O : Consistent o m) where
         ⊎-elim (λ z. ap isAnnounced z)
         (⊎-elim (λ z. ap isAnnounced z)
         (λ t. ⊎-elim (λ z. absurd (true-false _ z h)) (λ z. absurd (true-false _ busy (ap (λ (l : Place). not (isIdle l)) z)))
-        (announced-next c i has-task t))) stage
+        (announced-next c i has-task t))) own-stage
 
     -- it was announced before, or is active now
     newly : isAnnounced next-place ≡ true → (isAnnounced own-place ≡ true) ⊎ (announcementIn (S .after) i .flag ≡ Active)
@@ -225,13 +226,13 @@ module _ (o : Card) (m : Moment) (O : Consistent o m) where
         (λ z. inr
         (ap (λ (x : List Announcement). getD x i openAnnouncement .flag) (sym (announcements-is (S .inv)))
         ∙ ap (λ (a : Announcement). a .flag) (P3-active c i has-task has-announcement z)))
-        inl) stage
+        inl) own-stage
 
     -- one that returns was announced
     returning : isBusy d i ≡ false → isAnnounced own-place ≡ true
     returning idle =
         ⊎-elim (λ z. absurd (true-false _ (ap (λ (l : Place). not (isIdle l)) (at-P1 z)) idle))
-        (⊎-elim (λ z. absurd (true-false _ (ap (λ (l : Place). not (isIdle l)) (at-P3 z)) idle)) (λ z. z)) stage
+        (⊎-elim (λ z. absurd (true-false _ (ap (λ (l : Place). not (isIdle l)) (at-P3 z)) idle)) (λ z. z)) own-stage
 
     text-moved : contentsOf d ≡ contentsOf o
     text-moved = advance-kept c i ∙ O .text

@@ -59,7 +59,7 @@ pub record Acted (c : Card) (w : World) (i : ℕ) (v : Card) : Type 0 where
 
 module _ {c : Card} {w : World} {i : ℕ} (B : Before c w i) where
   pub place-fits : i < 8
-  place-fits = omega (arith, B .good .few, B .inside)
+  place-fits = omega (arith, B .good .fits .few, B .inside)
 
   pub untouched : Updated c i c (localAt c i)
   untouched = unchanged c i (B .sizes)

@@ -51,7 +51,7 @@ module _ {c : Card} {w : World} {i : ℕ} (B : Before c w i) where
   -- the announcement of m after it was set
   set-is : (m : ℕ) (a : Announcement) → m < c .processes → getD (set (c .announcements) m a) m openAnnouncement ≡ a
   set-is m a lt =
-      getD-set-same (c .announcements) m a openAnnouncement (omega (arith, B .good .few, B .good .size-announcements))
+      getD-set-same (c .announcements) m a openAnnouncement (omega (arith, B .good .fits .few, B .good .lengths .announcements))
 
   pub at-P3 : L P3 → Acted c W i (accessAnnouncement AnnouncementAccess.Announce c i)
   unfolding accessAnnouncement

@@ -82,7 +82,7 @@ module _ {c : Card} {w : World} {i : ℕ} (B : Before c w i) where
       let x : Simulated = simulate (c .variables) (programOf c (a .program) s) (a .words) l d in
       let q =
       simulates (c .variables) (programFor F s a) (a .words) (roundIn W s .words) (endingIn F W s) (Noted F W s)
-      (B .good .short (a .program) s)
+      (B .good .fits .short (a .program) s)
       (λ e y p. record { inside = p .inside; base = p .base; kept = p .kept }) l d core in
       keeps B (task-updated (simulation-updated U (place-fits B) (x .simulation) (x .dictionary)) (place-fits B) _) g n r
       (paused-tidy F W s a (x .pause) (x .simulation) (x .dictionary) q)

@@ -6,7 +6,7 @@ use mathlib.Core.Logic.{_≢_}
 use mathlib.Core.List.{[], _∷_, map}
 use native.Mathlib.Omega.{arith}
 use native.Mathlib.Decide.{ℕ-discrete}
-use lib.ListN.{length, getD, set, take, replicate, length-set, length-replicate, length-map, List·getD-map}
+use lib.ListN.{length, getD, set, take, replicate, length-set, length-map, List·getD-map}
 use lib.Seq.{getD-set-same, getD-set-other, getD-take, length-take-le}
 use borrow.Author.Tests.{not-true, not-false}
 use Rattle.construction.specs.declared.Gate.{Gate}
@@ -156,7 +156,7 @@ inv-step c w i I lt b h = record {
     steps = rw (A .updated .steps-is) (omega (arith, I .capped))
 
     counts : (j : ℕ) → countAt (counted v i) j ≤ suc (c .steps)
-    counts j = on-set (λ n. n ≤ suc (c .steps)) (v .counts) i j _ 0 (omega (arith, Z .counts, I .good .few, lt))
+    counts j = on-set (λ n. n ≤ suc (c .steps)) (v .counts) i j _ 0 (omega (arith, Z .counts, I .good .fits .few, lt))
         (λ _. rw (A .updated .counts-is) (omega (arith, I .counts i, I .capped)))
         (λ _. rw (A .updated .counts-is) (omega (arith, I .counts j)))
 
@@ -218,7 +218,7 @@ inv-call c w i k inputs I lt b =
     ))
     refl (
       record { not-active = Q .not-active; free-of = Q .free-of; late = Q .late },
-      sym (getD-set-same (w .calls) i (called k inputs) noOperation (omega (arith, few, I .good .size-calls))),
+      sym (getD-set-same (w .calls) i (called k inputs) noOperation (omega (arith, few, I .good .lengths .calls))),
     )
     (I .tidy i) (subst (λ (g : Gate). g .seq ≤ suc (c .steps)) (gate-is I) (I .numbered)) (I .limited)
     (λ j.
@@ -232,7 +232,7 @@ inv-call c w i k inputs I lt b =
     Z = I .sizes
 
     few : i < 8
-    few = omega (arith, I .good .few)
+    few = omega (arith, I .good .fits .few)
 
     Q : Quiet w i
     Q = at-rest I i lt b .0
@@ -281,15 +281,15 @@ module _ (x : Contents) (few : x .processes ≤ 8) (narrow : x .variables ≤ 64
   good-fresh : Good (fixedOf (fresh x)) (firstWorld x)
   unfolding fresh current
   good-fresh = record {
-    few = few;
-    narrow = narrow;
-    short = λ k number. short k;
-    size-announcements = length-replicate 8 openAnnouncement;
-    size-records = length-map (x .starts) openRecord ∙ many;
-    size-calls = length-replicate 8 noOperation;
-    size-outs = length-replicate 8 zeros;
-    size-left = length-replicate {A = ℕ} 8 0;
-    size-bound = length-replicate {A = ℕ} 8 0;
+    fits = record { few = few; narrow = narrow; short = λ k number. short k };
+    lengths = record {
+      announcements = refl;
+      records = length-map (x .starts) openRecord ∙ many;
+      calls = refl;
+      outs = refl;
+      left = refl;
+      bound = refl;
+    };
     size-words = open-words;
     size-round = λ s l. let z : s ≡ 0 = omega arith in rw z open-words;
     left-below = λ m. rw (getD-replicate-same {A = ℕ} 8 m 0) (omega arith);

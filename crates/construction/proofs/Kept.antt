@@ -59,15 +59,8 @@ module _ {F : Fixed} {w : World} (G : Good F w) where
 
   good-ask : (i : ℕ) (q : Operation) → i < F .processes → Quiet w i → Good F (asking w i q)
   good-ask i q lt Q = record {
-    few = G .few;
-    narrow = G .narrow;
-    short = G .short;
-    size-announcements = G .size-announcements;
-    size-records = G .size-records;
-    size-calls = rw length-set (G .size-calls);
-    size-outs = G .size-outs;
-    size-left = G .size-left;
-    size-bound = G .size-bound;
+    fits = G .fits;
+    lengths = rw length-set (G .lengths);
     size-words = G .size-words;
     size-round = G .size-round;
     left-below = G .left-below;
@@ -97,15 +90,8 @@ module _ {F : Fixed} {w : World} (G : Good F w) where
       (i : ℕ) (a : Announcement) → i < F .processes → Quiet w i → a .flag ≡ Active → operationOf a ≡ callIn w i →
       leftIn w i < a .seq → a .seq ≤ w .gate .seq → Good F (announcing w i a)
   good-announce i a lt Q fa op l b = record {
-    few = G .few;
-    narrow = G .narrow;
-    short = G .short;
-    size-announcements = rw length-set (G .size-announcements);
-    size-records = G .size-records;
-    size-calls = G .size-calls;
-    size-outs = G .size-outs;
-    size-left = G .size-left;
-    size-bound = G .size-bound;
+    fits = G .fits;
+    lengths = rw length-set (G .lengths);
     size-words = G .size-words;
     size-round = G .size-round;
     left-below = G .left-below;
@@ -143,15 +129,8 @@ module _ {F : Fixed} {w : World} (G : Good F w) where
 
   good-leave : (i : ℕ) → i < F .processes → announcementIn w i .flag ≡ Active → Good F (leaving w i)
   good-leave i lt fa = record {
-    few = G .few;
-    narrow = G .narrow;
-    short = G .short;
-    size-announcements = rw length-set (G .size-announcements);
-    size-records = G .size-records;
-    size-calls = G .size-calls;
-    size-outs = G .size-outs;
-    size-left = G .size-left;
-    size-bound = rw length-set (G .size-bound);
+    fits = G .fits;
+    lengths = simp length-set (G .lengths);
     size-words = G .size-words;
     size-round = G .size-round;
     left-below = G .left-below;
@@ -193,15 +172,8 @@ module _ {F : Fixed} {w : World} (G : Good F w) where
       let ph : Phase Nobody w = subst (λ (h : Holder). Phase h w) hn (G .phase) in
       let more : length (taking w m .rounds) ≡ suc (length (w .rounds)) = rw length-append (omega arith) in
       record {
-        few = G .few;
-        narrow = G .narrow;
-        short = G .short;
-        size-announcements = G .size-announcements;
-        size-records = G .size-records;
-        size-calls = G .size-calls;
-        size-outs = G .size-outs;
-        size-left = G .size-left;
-        size-bound = G .size-bound;
+        fits = G .fits;
+        lengths = G .lengths;
         size-words = G .size-words;
         size-round = λ s sl.
             ⊎-elim (λ e. rw (latest m s e) (G .size-words)) (λ l. rw (earlier m s l) (G .size-round s l)) (split-last m s sl);
@@ -250,15 +222,8 @@ module _ {F : Fixed} {w : World} (G : Good F w) where
       (u ≢ v → P (recordIn w u)) → P (recordIn (writing w v x) u) =
       λ P u. on-set P (w .records) v u (rewritten (recordIn w v) x (w .gate .seq)) (openRecord 0) (omega arith) in
       record {
-        few = G .few;
-        narrow = G .narrow;
-        short = G .short;
-        size-announcements = G .size-announcements;
-        size-records = rw length-set (G .size-records);
-        size-calls = G .size-calls;
-        size-outs = G .size-outs;
-        size-left = G .size-left;
-        size-bound = G .size-bound;
+        fits = G .fits;
+        lengths = rw length-set (G .lengths);
         size-words = G .size-words;
         size-round = G .size-round;
         left-below = G .left-below;
@@ -303,15 +268,8 @@ module _ {F : Fixed} {w : World} (G : Good F w) where
       let counted : w .count ≡ w .gate .seq = B .counted in
       let a : Announcement = doneWith (announcementIn w m) (endingIn F w (w .gate .seq) .outputs) in
       record {
-        few = G .few;
-        narrow = G .narrow;
-        short = G .short;
-        size-announcements = rw length-set (G .size-announcements);
-        size-records = G .size-records;
-        size-calls = G .size-calls;
-        size-outs = rw length-set (G .size-outs);
-        size-left = G .size-left;
-        size-bound = G .size-bound;
+        fits = G .fits;
+        lengths = simp length-set (G .lengths);
         size-words =
             ending-length F (w .gate .seq) (roundIn w (w .gate .seq)) ∙ G .size-round (w .gate .seq) (omega arith);
         size-round = G .size-round;
@@ -354,15 +312,8 @@ module _ {F : Fixed} {w : World} (G : Good F w) where
       (P : ℕ → Type 0) (j : ℕ) → (j ≡ m → P (w .gate .seq)) → (j ≢ m → P (leftIn w j)) → P (leftIn (freeing w m) j) =
       λ P j. on-set P (w .left) m j (w .gate .seq) 0 (omega arith) in
       record {
-        few = G .few;
-        narrow = G .narrow;
-        short = G .short;
-        size-announcements = G .size-announcements;
-        size-records = G .size-records;
-        size-calls = G .size-calls;
-        size-outs = G .size-outs;
-        size-left = rw length-set (G .size-left);
-        size-bound = G .size-bound;
+        fits = G .fits;
+        lengths = rw length-set (G .lengths);
         size-words = G .size-words;
         size-round = G .size-round;
         left-below = λ j. set-left (λ b. b < w .gate .seq + 1) j (λ _. omega arith) (λ _. omega (arith, G .left-below j));

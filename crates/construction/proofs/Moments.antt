@@ -110,7 +110,7 @@ module _ (o : Card) (m : Moment) (O : Consistent o m) where
       let others : (j : ℕ) → j ≢ i → (busyIn d j ≡ busyIn c j) × (announcedIn d j ≡ announcedIn c j) =
       λ j ne. rw (getD-set-other (c .tasks) i j (record { place = P1; target = 0 }) idleTask ne) (refl, refl) in
       let here : taskAt d i ≡ record { place = P1; target = 0 } =
-      getD-set-same (c .tasks) i _ idleTask (omega (arith, O .inv .sizes .tasks, O .inv .good .few)) in
+      getD-set-same (c .tasks) i _ idleTask (omega (arith, O .inv .sizes .tasks, O .inv .good .fits .few)) in
       subst (λ (n : Notes). Consistent o (record { card = d; notes = begun n x Answer.Taken })) (sym (nothing-finished d refl))
       (record {
         world = asking w i (requestOf x);
@@ -198,11 +198,11 @@ module _ (o : Card) (m : Moment) (O : Consistent o m) where
     own-stage = busy-stage (stage own-place) b
 
     has-task : i < length (c .tasks)
-    has-task = omega (arith, O .inv .sizes .tasks, O .inv .good .few)
+    has-task = omega (arith, O .inv .sizes .tasks, O .inv .good .fits .few)
 
     has-announcement : i < length (c .announcements)
     has-announcement =
-        omega (arith, O .inv .good .size-announcements, ap length (announcements-is (O .inv)), O .inv .good .few)
+        omega (arith, O .inv .good .lengths .announcements, ap length (announcements-is (O .inv)), O .inv .good .fits .few)
 
     at-P1 : own-place ≡ P1 → next-place ≡ P3
     at-P1 h = P1-next c i has-task h
@@ -306,7 +306,7 @@ pub read-shown : (o : Card) (m : Moment) → Consistent o m → (v : ℕ) → v 
 unfolding read
 read-shown o m O v l =
     let inside : v < m .card .variables = subst (λ (x : Contents). v < x .variables) (sym (O .text)) l in
-    let there : isVariable (m .card) v ≡ true = rw (lt-ltb v (m .card .variables) inside) (lt-ltb v 64 (omega (arith, O .inv .good .narrow))) in
+    let there : isVariable (m .card) v ≡ true = rw (lt-ltb v (m .card .variables) inside) (lt-ltb v 64 (omega (arith, O .inv .good .fits .narrow))) in
     cond-false (not (isVariable (m .card) v)) _ _ (ap not there)
     ∙ ap (λ (x : ℕ). record { card = m .card; answer = Answer.Value x })
     (read-is (m .card) (O .world) (O .inv) v inside ∙ ap (λ (ws : List ℕ). getD ws v 0) (sym (O .tracks .words)))

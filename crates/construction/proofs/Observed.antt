@@ -102,7 +102,7 @@ pub kind-of :
 kind-of F i announced w v G stay only = inl (calm-same announced w v refl refl refl refl)
 kind-of F i announced w v G (ask q lt Q) only = inl (calm-same announced w v refl refl refl refl)
 kind-of F i announced w v G (announce a lt Q fa op l b) only =
-    let size : i < length (w .announcements) = omega (arith, G .size-announcements, G .few) in
+    let size : i < length (w .announcements) = omega (arith, G .lengths .announcements, G .fits .few) in
     let here : announcementIn v i ≡ a = getD-set-same (w .announcements) i a openAnnouncement size in
     inl (record {
       none = turned-not 0 (w .announcements) i a (rw fa (turns-active (announcementIn w i .flag)));
@@ -113,7 +113,7 @@ kind-of F i announced w v G (announce a lt Q fa op l b) only =
           (λ e. absurd (Q .not-active (only (rw (← e) t) (rw here fa)))) (λ ne. refl);
     })
 kind-of F i announced w v G (leave lt fa) only =
-    let size : i < length (w .announcements) = omega (arith, G .size-announcements, G .few) in
+    let size : i < length (w .announcements) = omega (arith, G .lengths .announcements, G .fits .few) in
     inl (record {
       none = turned-not 0 (w .announcements) i _ (rw fa refl);
       words = refl;
@@ -130,7 +130,7 @@ kind-of F i announced w v G (free m lt hm d) only = inl (calm-same announced w v
 pub turned-ends : {F : Fixed} {w v : World} → Good F w → (E : Ends F w v) → turned 0 (w .announcements) (v .announcements) ≡ E .process ∷ []
 turned-ends {F} {w} G E =
     rw (E .becomes)
-    (turned-one 0 (w .announcements) (E .process) _ (omega (arith, G .size-announcements, G .few, E .inside))
+    (turned-one 0 (w .announcements) (E .process) _ (omega (arith, G .lengths .announcements, G .fits .few, E .inside))
     (rw (ne-isDone _ (E .undone)) refl) ∙ rw zero-add)
 
 -- a move that finishes nothing
@@ -178,7 +178,7 @@ module _
   number-is = sym (T .count ∙ ends-now G m held undone .0)
 
   size : m < 8
-  size = omega (arith, G .few)
+  size = omega (arith, G .fits .few)
 
   own-ended : (j : ℕ) → j ≢ m → {a : Bool} → Own a w s j → Own a (ending F w m) (finishedOne o (w .gate .seq) m s) j
   unfolding times outputsOf
@@ -212,10 +212,10 @@ module _
       }
     where
       here : announcementIn (ending F w m) m ≡ doneWith (announcementIn w m) (endingIn F w (w .gate .seq) .outputs)
-      here = getD-set-same (w .announcements) m _ openAnnouncement (omega (arith, size, G .size-announcements))
+      here = getD-set-same (w .announcements) m _ openAnnouncement (omega (arith, size, G .lengths .announcements))
 
       out : outputsIn (ending F w m) m ≡ endingIn F w (w .gate .seq) .outputs
-      out = getD-set-same (w .outs) m _ zeros (omega (arith, size, G .size-outs))
+      out = getD-set-same (w .outs) m _ zeros (omega (arith, size, G .lengths .outs))
 
   pub tracks-finished : announced m ≡ true → Tracks p busy announced (ending F w m) (finishedOne o (w .gate .seq) m s)
   unfolding times commit
@@ -301,7 +301,7 @@ tracks-called {F} {p} {busy} {announced} {busy′} {announced′} {w} {s} i x G 
         Own (announced′ j) (asking w i (requestOf x)) (record { operations = x ∷ s .operations; order = s .order; returns = s .returns; words = s .words }) j
     one j (yes z) l b =
         let new : callIn (asking w i (requestOf x)) i ≡ requestOf x =
-        getD-set-same (w .calls) i (requestOf x) noOperation (omega (arith, G .size-calls, G .few)) in
+        getD-set-same (w .calls) i (requestOf x) noOperation (omega (arith, G .lengths .calls, G .fits .few)) in
         let q : x .process ≡ j = e ∙ sym z in
         let none : times (latest (x ∷ s .operations) j) (s .order) ≡ 0 = rw (chosen (x .process) j (length (s .operations)) (latest (s .operations) j) q) (T .known (length (s .operations)) (omega arith)) in
         record {

@@ -142,7 +142,7 @@ module _ {c : Card} {w : World} {i : ℕ} (B : Before c w i) (q : LocAt H36 (fix
     written : Fine (writing W v (item .value)) s item
     unfolding rewritten
     written =
-        let fits : v < length (c .records) = omega (arith, B .good .size-records, B .good .narrow, known .inside) in
+        let fits : v < length (c .records) = omega (arith, B .good .lengths .records, B .good .fits .narrow, known .inside) in
         record {
           fine = inl (rw (getD-set-same (c .records) v (rewritten (recordAt c v) (item .value) (c .gate .seq)) (openRecord 0) fits)
               (omega (arith, held .1)));

@@ -21,17 +21,13 @@ use Rattle.construction.specs.declared.AnnouncementAccess.{AnnouncementA
 use Rattle.construction.specs.Cells.{openAnnouncement, sameAnnouncement, swapAnnouncement}
 use Rattle.construction.specs.Parts.{announcementAt, recordAt, taskAt, operationAt, heldAt, copyAt, simulationAt, withAnnouncement, withTask}
 use Rattle.construction.specs.Machine.{goTo, byFlag, holderOf, firstChoice, announced, flagged, withdrawn, finished, accessAnnouncement}
-use Rattle.construction.proofs.Basics.{on-test, sameAnnouncement-true, sameAnnouncement-false, active-not-done, active-not-exit, exit-not-done, else-done}
+use Rattle.construction.proofs.Basics.{on-test, announcement-path, sameAnnouncement-true, sameAnnouncement-false, active-not-done, active-not-exit, exit-not-done, else-done}
 use Rattle.construction.proofs.World.{Fixed, endingIn, World, announcementIn, roundIn, wordAt, operationOf, announcing, leaving, ending, Move}
 use Rattle.construction.proofs.World.Move.{announce, leave, end}
 use Rattle.construction.proofs.Claims.{viewOf, Change, end-change}
 use Rattle.construction.proofs.Locals.{Local, localAt, atTask, atCopy, fixedOf, Updated, announcement-updated, copy-updated, task-updated}
 use Rattle.construction.proofs.Places.{Mine, Helper, Plan, Ready, LocAt, Loc, helper-stays, plan-stays, ready-stays}
 use Rattle.construction.proofs.Acting.{worldOf, Before, Acted, place-fits, untouched, keeps, reads-announcement}
-
-announcement-path :
-    {a b : Announcement} → a .program ≡ b .program → a .flag ≡ b .flag → a .seq ≡ b .seq → a .words ≡ b .words → a ≡ b
-announcement-path e f g h = λ i. record { program = e i; flag = f i; seq = g i; words = h i }
 
 -- line C1 names a process
 first-inside : (s p i : ℕ) → i < p → firstChoice s p < p

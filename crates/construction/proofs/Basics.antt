@@ -111,16 +111,20 @@ unfolding sameWords
 sameWords-refl a = rw (eqb-refl (a .w0), eqb-refl (a .w1), eqb-refl (a .w2)) (eqb-refl (a .w3))
 
 -- equality of whole cells
+pub gate-path : {a b : Gate} → a .holder ≡ b .holder → a .seq ≡ b .seq → a ≡ b
+gate-path e f = λ i. record { holder = e i; seq = f i }
+
+pub announcement-path :
+    {a b : Announcement} → a .program ≡ b .program → a .flag ≡ b .flag → a .seq ≡ b .seq → a .words ≡ b .words → a ≡ b
+announcement-path e f g h = λ i. record { program = e i; flag = f i; seq = g i; words = h i }
+
 pub sameGate-true : (a b : Gate) → sameGate a b ≡ true → a ≡ b
 unfolding sameGate
 sameGate-true a b e =
     let h = and-true (sameHolder (a .holder) (b .holder)) _ e in
-    λ i. record {
-      holder = sameHolder-true (a .holder) (b .holder) (h .0) i;
-      seq = eqb-true (a .seq) (b .seq) (h .1) i;
-    }
+    gate-path (sameHolder-true _ _ (h .0)) (eqb-true _ _ (h .1))
 
-pub sameGate-refl : (a : Gate) → sameGate a a ≡ true
+sameGate-refl : (a : Gate) → sameGate a a ≡ true
 unfolding sameGate
 sameGate-refl a = rw sameHolder-refl (eqb-refl (a .seq))
 
@@ -133,14 +137,9 @@ sameAnnouncement-true a b e =
     let h = and-true (eqb (a .program) (b .program)) _ e in
     let k = and-true (eqb (a .seq) (b .seq)) _ (h .1) in
     let l = and-true (sameFlag (a .flag) (b .flag)) _ (k .1) in
-    λ i. record {
-      program = eqb-true (a .program) (b .program) (h .0) i;
-      flag = sameFlag-true (a .flag) (b .flag) (l .0) i;
-      seq = eqb-true (a .seq) (b .seq) (k .0) i;
-      words = sameWords-true (a .words) (b .words) (l .1) i;
-    }
+    announcement-path (eqb-true _ _ (h .0)) (sameFlag-true _ _ (l .0)) (eqb-true _ _ (k .0)) (sameWords-true _ _ (l .1))
 
-pub sameAnnouncement-refl : (a : Announcement) → sameAnnouncement a a ≡ true
+sameAnnouncement-refl : (a : Announcement) → sameAnnouncement a a ≡ true
 unfolding sameAnnouncement
 sameAnnouncement-refl a = rw (eqb-refl (a .program), eqb-refl (a .seq), sameFlag-refl) (sameWords-refl (a .words))
 
@@ -160,7 +159,7 @@ sameRecord-true a b e =
       seq = eqb-true (a .seq) (b .seq) (l .1) i;
     }
 
-pub sameRecord-refl : (a : Record) → sameRecord a a ≡ true
+sameRecord-refl : (a : Record) → sameRecord a a ≡ true
 unfolding sameRecord
 sameRecord-refl a = rw (eqb-refl (a .val0), eqb-refl (a .val1), sameBool-refl) (eqb-refl (a .seq))
 

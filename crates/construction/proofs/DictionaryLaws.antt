@@ -1,7 +1,7 @@
 -- The dictionary as a list of items: look-up, an item with another value, one item more, and the items to write.
 use Prim.Native.Nat.{ℕ, zero, suc, _+_, _-_, _≤_, _<_}
 use mathlib.Core.Path.{_≡_, refl, sym, ap, _∙_}
-use mathlib.Core.Bool.{Bool, true, false, cond}
+use mathlib.Core.Bool.{Bool, true, false, cond, false≢true}
 use mathlib.Core.Logic.{_≢_, ⊎-elim}
 use mathlib.Core.List.{List, [], _∷_, _++_}
 use native.Mathlib.Omega.{arith}
@@ -160,7 +160,7 @@ pub at-position :
     hasIn b v ≡ true →
     (getD b (position b v) noItem .variable ≡ v) × (valueIn b v d ≡ getD b (position b v) noItem .value)
 unfolding position hasIn valueIn
-at-position [] v d h = absurd (true-false false h refl)
+at-position [] v d h = absurd (false≢true h)
 at-position (x ∷ b) v d h =
     ⊎-elim
     (λ (t : eqb (x .variable) v ≡ true). rw t (eqb-true _ _ t, refl))

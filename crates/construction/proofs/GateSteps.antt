@@ -18,16 +18,13 @@ use Rattle.construction.specs.declared.GateAccess.{GateAccess}
 use Rattle.construction.specs.Cells.{sameHolder, sameGate, swapGate, released}
 use Rattle.construction.specs.Parts.{announcementAt, taskAt, operationAt, heldAt, withGate, withTask}
 use Rattle.construction.specs.Machine.{goTo, byHolder, holderOf, readGate, accessGate}
-use Rattle.construction.proofs.Basics.{on-test, true-false, sameGate-true, sameGate-false, sameHolder-true, sameHolder-refl, nobody-process, active-not-done, exit-not-done}
+use Rattle.construction.proofs.Basics.{on-test, true-false, gate-path, sameGate-true, sameGate-false, sameHolder-true, sameHolder-refl, nobody-process, active-not-done, exit-not-done}
 use Rattle.construction.proofs.World.{Fixed, World, leftIn, taking, freeing, Quiet}
 use Rattle.construction.proofs.World.Move.{take, free}
 use Rattle.construction.proofs.Claims.{View, viewOf, gated, Limit, Returning, Rested, Eligible}
 use Rattle.construction.proofs.Locals.{Local, localAt, atTask, atGate, fixedOf, Updated, gate-updated, task-updated}
 use Rattle.construction.proofs.Places.{Mine, Helper, LocAt, Loc}
 use Rattle.construction.proofs.Acting.{worldOf, Before, Acted, place-fits, untouched, keeps, reads-gate}
-
-gate-path : {a b : Gate} → a .holder ≡ b .holder → a .seq ≡ b .seq → a ≡ b
-gate-path e q = λ i. record { holder = e i; seq = q i }
 
 -- what is known of an operation at its return
 rests :

@@ -151,14 +151,14 @@ module _ {F : Fixed} {w : World} (G : Good F w) where
   }
 
   -- one round more: the earlier ones are as before
-  abbrev page : ℕ → Round
-  page m = record { words = w .words; call = callIn w m }
+  abbrev newRound : ℕ → Round
+  newRound m = record { words = w .words; call = callIn w m }
 
   earlier : (m s : ℕ) → s < length (w .rounds) → roundIn (taking w m) s ≡ roundIn w s
-  earlier m s lt = List·getD-append (w .rounds) (page m ∷ []) noRound s lt
+  earlier m s lt = List·getD-append (w .rounds) (newRound m ∷ []) noRound s lt
 
-  latest : (m s : ℕ) → s ≡ length (w .rounds) → roundIn (taking w m) s ≡ page m
-  latest m s e = getD-at (w .rounds) (page m) [] noRound s (sym e)
+  latest : (m s : ℕ) → s ≡ length (w .rounds) → roundIn (taking w m) s ≡ newRound m
+  latest m s e = getD-at (w .rounds) (newRound m) [] noRound s (sym e)
 
   -- a number below the longer list is below the list, or the last
   split-last : (m s : ℕ) → s < length (taking w m .rounds) → (s ≡ length (w .rounds)) ⊎ (s < length (w .rounds))

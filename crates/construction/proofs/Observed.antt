@@ -1,7 +1,7 @@
 -- What the observer's notes have to do with the world: how each move keeps it, and how a call and a return do.
 use Prim.Native.Nat.{ℕ, suc, _≤_, _<_}
 use mathlib.Core.Path.{_≡_, refl, sym, subst, ap, _∙_}
-use mathlib.Core.Bool.{Bool, true, false, cond}
+use mathlib.Core.Bool.{Bool, true, false, cond, true≢false}
 use mathlib.Core.Logic.{_≢_, _⊎_, inl, inr, ⊎-elim}
 use mathlib.Core.List.{List, [], _∷_}
 use native.Mathlib.Omega.{arith}
@@ -203,8 +203,8 @@ module _
         asked = O .asked;
         request = O .request;
         unreturned = O .unreturned;
-        early = λ t. absurd (true-false true refl t);
-        pending = λ z. absurd (true-false true refl (ap (λ (x : Announcement). isDone (x .flag)) (sym here) ∙ z));
+        early = λ t. absurd (true≢false t);
+        pending = λ z. absurd (true≢false (ap (λ (x : Announcement). isDone (x .flag)) (sym here) ∙ z));
         over = λ t z. (
           chosen (latest (s .operations) m) _ _ (times (latest (s .operations) m) (s .order)) refl ∙ ap suc (O .pending (ne-isDone _ undone)),
           chosen (latest (s .operations) m) _ _ (outputsOf (latest (s .operations) m) (s .order)) refl ∙ (ap (λ (e : Ending). e .outputs) same-run ∙ sym out),

@@ -113,11 +113,8 @@ module _ (n : ℕ) (x : Encoded) (h : n ≤ 256) (y : Instruction) where
       x .code ≡ j → ltb (x .a) A && (ltb (x .b) B && eqb (x .c) 0) ≡ true → z ≡ y → Decodes x y
   pair j A B z u v w t p q e =
       let b = pair-true (x .a) (x .b) (x .c) A B q in
-      let q₁ = and-true (ltb (x .a) A) (ltb (x .b) B && eqb (x .c) 0) q in
-      let q₂ = and-true (ltb (x .b) B) (eqb (x .c) 0) (q₁ .1) in
-      let hc : x .c ≡ 0 = eqb-true (x .c) 0 (q₂ .1) in
       record {
-        back = ap encode (sym e) ∙ t ∙ numbers j 0 p hc;
+        back = ap encode (sym e) ∙ t ∙ numbers j 0 p (b .2);
         small = record { small-a = omega arith; small-b = omega arith; small-c = omega arith; small-d = omega arith };
       }
 
@@ -134,8 +131,8 @@ module _ (n : ℕ) (x : Encoded) (h : n ≤ 256) (y : Instruction) where
   stop : x .code ≡ 12 → eqb (x .a) 0 && (eqb (x .b) 0 && eqb (x .c) 0) ≡ true → Instruction.Stop ≡ y → Decodes x y
   unfolding encode
   stop p q e =
-      let q₁ = and-true (eqb (x .a) 0) (eqb (x .b) 0 && eqb (x .c) 0) q in
-      let q₂ = and-true (eqb (x .b) 0) (eqb (x .c) 0) (q₁ .1) in
+      let q₁ = and-true (eqb (x .a) 0) _ q in
+      let q₂ = and-true (eqb (x .b) 0) _ (q₁ .1) in
       let ha : x .a ≡ 0 = eqb-true (x .a) 0 (q₁ .0) in
       let hb : x .b ≡ 0 = eqb-true (x .b) 0 (q₂ .0) in
       let hc : x .c ≡ 0 = eqb-true (x .c) 0 (q₂ .1) in

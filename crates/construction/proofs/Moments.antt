@@ -115,7 +115,7 @@ module _ (o : Card) (m : Moment) (O : Consistent o m) where
       (record {
         world = asking w i (requestOf x);
         inv = inv-call c w i k inputs (O .inv) lt f;
-        tracks = tracks-called i x (O .inv .good) lt refl others (ap (λ (t : Task). isAnnounced (t .place)) here) (O .tracks);
+        tracks = tracks-called i others (O .tracks) x (O .inv .good) lt refl (ap (λ (t : Task). isAnnounced (t .place)) here);
         text = O .text;
       })
 
@@ -238,17 +238,17 @@ module _ (o : Card) (m : Moment) (O : Consistent o m) where
     text-moved = advance-kept c i ∙ O .text
 
     running : isBusy d i ≡ true → Follows o d (S .after) noticed
-    running busy = tracks-place i others (λ _ _. own-next (unannounced busy) newly own-moved) moved
+    running busy = tracks-place i others moved (λ _. own-next (unannounced busy) newly own-moved)
 
     ended-done :
         isBusy d i ≡ false → announcementIn (S .after) i .flag ≡ Done → (k : ℕ) →
         Follows o d (S .after) (withReturn noticed i (Answer.Done (outputsIn (S .after) i) k))
     ended-done idle h k =
-        tracks-returned i (Answer.Done (outputsIn (S .after) i) k) own-moved (own-moved .over (returning idle) (ap isDone h)) others idle moved
+        tracks-returned i others moved (Answer.Done (outputsIn (S .after) i) k) own-moved (own-moved .over (returning idle) (ap isDone h)) idle
 
     ended-exited :
         isBusy d i ≡ false → announcementIn (S .after) i .flag ≡ Exit → (k : ℕ) → Follows o d (S .after) (withReturn noticed i (Answer.Exited k))
-    ended-exited idle h k = tracks-returned i (Answer.Exited k) own-moved (own-moved .pending (ap isDone h)) others idle moved
+    ended-exited idle h k = tracks-returned i others moved (Answer.Exited k) own-moved (own-moved .pending (ap isDone h)) idle
 
     answered : Follows o d (S .after) (ended noticed i (answerOf d i))
     answered =

@@ -256,105 +256,106 @@ own-next {w = w} {i = i} f g O =
     }
 
 -- the processes of another card, all but i as they were
-pub tracks-place :
-    {p : ℕ} {busy announced busy′ announced′ : ℕ → Bool} {w : World} {s : Notes} (i : ℕ) →
-    ((j : ℕ) → j ≢ i → (busy′ j ≡ busy j) × (announced′ j ≡ announced j)) →
-    (i < p → busy′ i ≡ true → Own (announced′ i) w s i) →
-    Tracks p busy announced w s → Tracks p busy′ announced′ w s
-tracks-place {p} {busy} {announced} {busy′} {announced′} {w} {s} i others mine T =
-    record {
-      words = T .words;
-      count = T .count;
-      numbers = T .numbers;
-      agree = T .agree;
-      once = T .once;
-      known = T .known;
-      unborn = T .unborn;
-      own = λ j l b. one j (ℕ-discrete j i) l b;
-    }
-  where
-    one : (j : ℕ) → Dec (j ≡ i) → j < p → busy′ j ≡ true → Own (announced′ j) w s j
-    one j (yes e) l b = subst (λ (k : ℕ). Own (announced′ k) w s k) (sym e) (mine (rw (← e) l) (rw (← e) b))
-    one j (no ne) l b = rw (others j ne .1) (T .own j l (sym (others j ne .0) ∙ b))
+module _
+    {p : ℕ} {busy announced busy′ announced′ : ℕ → Bool} {w : World} {s : Notes} (i : ℕ)
+    (others : (j : ℕ) → j ≢ i → (busy′ j ≡ busy j) × (announced′ j ≡ announced j)) (T : Tracks p busy announced w s) where
+  -- by cases on whose operation is meant
+  on-process :
+      (P : ℕ → Type 0) → (busy′ i ≡ true → P i) → ((j : ℕ) → j ≢ i → Own (announced′ j) w s j → P j) →
+      (j : ℕ) → j < p → busy′ j ≡ true → P j
+  on-process P mine other j l b = go (ℕ-discrete j i)
+    where
+      go : Dec (j ≡ i) → P j
+      go (yes e) = subst P (sym e) (mine (rw (← e) b))
+      go (no ne) = other j ne (rw (others j ne .1) (T .own j l (sym (others j ne .0) ∙ b)))
 
--- a call of process i is taken
-pub tracks-called :
-    {F : Fixed} {p : ℕ} {busy announced busy′ announced′ : ℕ → Bool} {w : World} {s : Notes} (i : ℕ) (x : Invocation) → Good F w →
-    i < F .processes → x .process ≡ i → ((j : ℕ) → j ≢ i → (busy′ j ≡ busy j) × (announced′ j ≡ announced j)) → announced′ i ≡ false →
-    Tracks p busy announced w s →
-    Tracks p busy′ announced′ (asking w i (requestOf x))
-    (record { operations = x ∷ s .operations; order = s .order; returns = s .returns; words = s .words })
-unfolding hasCalled latest latestCall
-tracks-called {F} {p} {busy} {announced} {busy′} {announced′} {w} {s} i x G lt e others quiet T =
-    record {
-      words = T .words;
-      count = T .count;
-      numbers = T .numbers;
-      agree = T .agree;
-      once = T .once;
-      known = λ k h. T .known k (omega arith);
-      unborn = λ k h. T .unborn k (omega arith);
-      own = λ j l b. one j (ℕ-discrete j i) l b;
-    }
-  where
-    one : (j : ℕ) → Dec (j ≡ i) → j < p → busy′ j ≡ true →
-        Own (announced′ j) (asking w i (requestOf x)) (record { operations = x ∷ s .operations; order = s .order; returns = s .returns; words = s .words }) j
-    one j (yes z) l b =
-        let new : callIn (asking w i (requestOf x)) i ≡ requestOf x =
-        getD-set-same (w .calls) i (requestOf x) noOperation (omega (arith, G .lengths .calls, G .fits .few)) in
-        let q : x .process ≡ j = e ∙ sym z in
-        let none : times (latest (x ∷ s .operations) j) (s .order) ≡ 0 = rw (chosen (x .process) j (length (s .operations)) (latest (s .operations) j) q) (T .known (length (s .operations)) (omega arith)) in
-        record {
-          asked = chosen (x .process) j true (hasCalled (s .operations) j) q;
-          request = ap requestOf (chosen (x .process) j x (latestCall (s .operations) j) q) ∙ (sym new ∙ ap (callIn (asking w i (requestOf x))) (sym z));
-          unreturned = rw (chosen (x .process) j (length (s .operations)) (latest (s .operations) j) q) (T .unborn (length (s .operations)) (omega arith));
-          early = λ t. none;
-          pending = λ t. none;
-          over = λ t. absurd (true-false _ t (rw z quiet));
-        }
-    one j (no ne) l b =
-        let O = T .own j l (sym (others j ne .0) ∙ b) in
-        let q : x .process ≢ j = λ r. ne (sym r ∙ e) in
-        let number : latest (x ∷ s .operations) j ≡ latest (s .operations) j = passed (x .process) j (length (s .operations)) (latest (s .operations) j) q in
-        record {
-          asked = passed (x .process) j true (hasCalled (s .operations) j) q ∙ O .asked;
-          request = ap requestOf (passed (x .process) j x (latestCall (s .operations) j) q) ∙ (O .request ∙ sym (getD-set-other (w .calls) i j (requestOf x) noOperation ne));
-          unreturned = rw number (O .unreturned);
-          early = λ t. rw number (O .early (sym (others j ne .1) ∙ t));
-          pending = λ t. rw number (O .pending t);
-          over = λ t d. rw number (O .over (sym (others j ne .1) ∙ t) d);
-        }
+  -- process i goes on
+  pub tracks-place : (busy′ i ≡ true → Own (announced′ i) w s i) → Tracks p busy′ announced′ w s
+  tracks-place mine =
+      record {
+        words = T .words;
+        count = T .count;
+        numbers = T .numbers;
+        agree = T .agree;
+        once = T .once;
+        known = T .known;
+        unborn = T .unborn;
+        own = on-process (λ j. Own (announced′ j) w s j) mine (λ j ne O. O);
+      }
 
--- process i returns with an answer that agrees with the order
-pub tracks-returned :
-    {p : ℕ} {busy announced busy′ announced′ : ℕ → Bool} {w : World} {s : Notes} {b : Bool} (i : ℕ) (a : Answer) →
-    Own b w s i → Agrees (s .order) (latest (s .operations) i) a →
-    ((j : ℕ) → j ≢ i → (busy′ j ≡ busy j) × (announced′ j ≡ announced j)) → busy′ i ≡ false →
-    Tracks p busy announced w s → Tracks p busy′ announced′ w (withReturn s i a)
-unfolding hasReturned
-tracks-returned {p} {busy} {announced} {busy′} {announced′} {w} {s} i a O agrees others idle T =
-    record {
-      words = T .words;
-      count = T .count;
-      numbers = T .numbers;
-      agree = (agrees, T .agree);
-      once = T .once;
-      known = T .known;
-      unborn = λ k h.
-          let far : latest (s .operations) i ≢ k = λ e. omega (arith, latest-below (s .operations) i (O .asked)) in
-          passed _ _ _ _ far ∙ T .unborn k h;
-      own = λ j l t. one j (ℕ-discrete j i) l t;
-    }
-  where
-    one : (j : ℕ) → Dec (j ≡ i) → j < p → busy′ j ≡ true → Own (announced′ j) w (withReturn s i a) j
-    one j (yes e) l t = absurd (true-false _ t (rw e idle))
-    one j (no ne) l t =
-        let Q = T .own j l (sym (others j ne .0) ∙ t) in
-        rw (others j ne .1) (record {
+  -- a call of process i is taken
+  pub tracks-called :
+      {F : Fixed} (x : Invocation) → Good F w → i < F .processes → x .process ≡ i → announced′ i ≡ false →
+      Tracks p busy′ announced′ (asking w i (requestOf x))
+      (record { operations = x ∷ s .operations; order = s .order; returns = s .returns; words = s .words })
+  unfolding hasCalled latest latestCall
+  tracks-called x G lt e quiet =
+      record {
+        words = T .words;
+        count = T .count;
+        numbers = T .numbers;
+        agree = T .agree;
+        once = T .once;
+        known = λ k h. T .known k (omega arith);
+        unborn = λ k h. T .unborn k (omega arith);
+        own = on-process (λ j. Own (announced′ j) (asking w i (requestOf x)) after j) (λ _. new) old;
+      }
+    where
+      after : Notes
+      after = record { operations = x ∷ s .operations; order = s .order; returns = s .returns; words = s .words }
+
+      new : Own (announced′ i) (asking w i (requestOf x)) after i
+      new =
+          let number : latest (x ∷ s .operations) i ≡ length (s .operations) = chosen (x .process) i _ (latest (s .operations) i) e in
+          let none : times (latest (x ∷ s .operations) i) (s .order) ≡ 0 = rw number (T .known (length (s .operations)) (omega arith)) in
+          record {
+            asked = chosen (x .process) i true (hasCalled (s .operations) i) e;
+            request =
+                ap requestOf (chosen (x .process) i x (latestCall (s .operations) i) e)
+                ∙ sym (getD-set-same (w .calls) i (requestOf x) noOperation (omega (arith, G .lengths .calls, G .fits .few)));
+            unreturned = rw number (T .unborn (length (s .operations)) (omega arith));
+            early = λ t. none;
+            pending = λ t. none;
+            over = λ t. absurd (true-false _ t quiet);
+          }
+
+      old : (j : ℕ) → j ≢ i → Own (announced′ j) w s j → Own (announced′ j) (asking w i (requestOf x)) after j
+      old j ne O =
+          let q : x .process ≢ j = λ r. ne (sym r ∙ e) in
+          let number : latest (x ∷ s .operations) j ≡ latest (s .operations) j = passed (x .process) j (length (s .operations)) _ q in
+          record {
+            asked = passed (x .process) j true (hasCalled (s .operations) j) q ∙ O .asked;
+            request =
+                ap requestOf (passed (x .process) j x (latestCall (s .operations) j) q)
+                ∙ (O .request ∙ sym (getD-set-other (w .calls) i j (requestOf x) noOperation ne));
+            unreturned = rw number (O .unreturned);
+            early = λ t. rw number (O .early t);
+            pending = λ t. rw number (O .pending t);
+            over = λ t d. rw number (O .over t d);
+          }
+
+  -- process i returns with an answer that agrees with the order
+  pub tracks-returned :
+      {b : Bool} (a : Answer) → Own b w s i → Agrees (s .order) (latest (s .operations) i) a → busy′ i ≡ false →
+      Tracks p busy′ announced′ w (withReturn s i a)
+  unfolding hasReturned
+  tracks-returned a O agrees idle =
+      record {
+        words = T .words;
+        count = T .count;
+        numbers = T .numbers;
+        agree = (agrees, T .agree);
+        once = T .once;
+        known = T .known;
+        unborn = λ k h.
+            let far : latest (s .operations) i ≢ k = λ e. omega (arith, latest-below (s .operations) i (O .asked)) in
+            passed _ _ _ _ far ∙ T .unborn k h;
+        own = on-process (λ j. Own (announced′ j) w (withReturn s i a) j) (λ t. absurd (true-false _ t idle)) (λ j ne Q. record {
           asked = Q .asked;
           request = Q .request;
           unreturned = passed _ _ _ _ (latest-apart (s .operations) i j (λ e. ne (sym e)) (O .asked) (Q .asked)) ∙ Q .unreturned;
           early = Q .early;
           pending = Q .pending;
           over = Q .over;
-        })
+        });
+      }

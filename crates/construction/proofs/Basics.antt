@@ -3,7 +3,7 @@ use Prim.Native.Nat.{ℕ, zero, suc, _<_}
 use mathlib.Core.Path.{_≡_, refl, sym, ap}
 use mathlib.Core.Bool.{Bool, true, false, cond, _&&_}
 use mathlib.Core.Logic.{_≢_, _⊎_, inl, inr}
-use mathlib.Core.List.{List}
+use mathlib.Core.List.{List, [], _∷_}
 use native.Mathlib.Decide.{ℕ-discrete}
 use lib.ListN.{length, getD, set, replicate}
 use lib.Seq.{getD-set-same, getD-set-other}
@@ -47,6 +47,16 @@ on-set P l i j a d h same other = go (ℕ-discrete j i)
     go : Dec (j ≡ i) → P (getD (set l i a) j d)
     go (yes e) = rw e (rw getD-set-same (same e))
     go (no n) = rw getD-set-other (other n)
+
+-- the same where the place may lie past the end
+pub set-keeps {ℓ κ} :
+    {A : Type ℓ} (P : A → Type κ) (l : List A) (i j : ℕ) (a d : A) →
+    (j ≡ i → P a) → P (getD l j d) → P (getD (set l i a) j d)
+set-keeps P [] i j a d same h = h
+set-keeps P (x ∷ l) zero zero a d same h = same refl
+set-keeps P (x ∷ l) zero (suc j) a d same h = h
+set-keeps P (x ∷ l) (suc i) zero a d same h = h
+set-keeps P (x ∷ l) (suc i) (suc j) a d same h = set-keeps P l i j a d (λ e. same (ap suc e)) h
 
 -- a list of the same, its default too
 pub getD-replicate-same : {A : Type 0} (n i : ℕ) (a : A) → getD (replicate n a) i a ≡ a

@@ -6,7 +6,7 @@ use mathlib.Core.Logic.{_≢_}
 use mathlib.Core.List.{[], _∷_, map}
 use native.Mathlib.Omega.{arith}
 use native.Mathlib.Decide.{ℕ-discrete}
-use lib.ListN.{length, getD, set, take, replicate, length-set, length-map, List·getD-map}
+use lib.ListN.{length, getD, take, replicate, length-set, length-map, List·getD-map}
 use lib.Seq.{getD-set-same, getD-set-other, getD-take, length-take-le}
 use borrow.Author.Tests.{not-true, not-false}
 use Rattle.construction.specs.declared.Gate.{Gate}
@@ -22,7 +22,7 @@ use Rattle.construction.specs.declared.Place.the-variants.{Idle, P1}
 use Rattle.construction.specs.Cells.{zeros, openAnnouncement, openRecord, current}
 use Rattle.construction.specs.Instructions.{noProgram}
 use Rattle.construction.specs.Dictionary.{empty}
-use Rattle.construction.specs.Parts.{idleTask, noOperation, taskAt, exitAt, countAt, dictionaryAt, withExit}
+use Rattle.construction.specs.Parts.{idleTask, noOperation, taskAt, exitAt, countAt, heldAt, copyAt, simulationAt, dictionaryAt, withExit}
 use Rattle.construction.specs.Machine.{accessOf, perform, counted, advance}
 use Rattle.construction.specs.Requests.{isBusy, begun}
 use Rattle.construction.specs.Opening.{fresh}
@@ -37,6 +37,7 @@ use Rattle.construction.proofs.Stages.{stage, is-idle}
 use Rattle.construction.proofs.Acting.{worldOf, Tidy, Before, Acted}
 use Rattle.construction.proofs.Steps.{at-place}
 
+-- the cells of the card are those of a good world, every process knows what its place asks for, and the numbers keep their bounds
 pub record Inv (c : Card) (w : World) : Type 0 where
   pub cells : worldOf c w ≡ w
   pub good : Good (fixedOf c) w
@@ -55,9 +56,6 @@ module _ {c : Card} {w : World} (I : Inv c w) where
 
   pub announcements-is : c .announcements ≡ w .announcements
   announcements-is = ap (λ (u : World). u .announcements) (I .cells)
-
-  pub records-is : c .records ≡ w .records
-  records-is = ap (λ (u : World). u .records) (I .cells)
 
 -- a card v after a move to the world u: all but process i is as in c
 module _ {c : Card} {w : World} {i : ℕ} (I : Inv c w) {u : World} (M : Move (fixedOf c) i w u) (v : Card) (t : Local) where
@@ -92,6 +90,7 @@ module _ {c : Card} {w : World} {i : ℕ} (I : Inv c w) {u : World} (M : Move (f
           (subst (λ (l : Local). Tidy (l .dictionary)) (sym here) tidy)
       at-dictionary j (no ne) = subst (λ (l : Local). Tidy (l .dictionary)) (sym (elsewhere j ne)) (I .tidy j)
 
+-- what an accepted step of process i comes to
 pub record Stepped (c : Card) (w : World) (i : ℕ) : Type 0 where
   pub after : World
   pub move : Move (fixedOf c) i w after
@@ -185,29 +184,13 @@ inv-call c w i k inputs I lt b =
       place = P1;
       target = 0;
       operation = called k inputs;
-      gate = T .gate;
-      copy = T .copy;
-      simulation = T .simulation;
-      dictionary = T .dictionary;
+      gate = heldAt c i;
+      copy = copyAt c i;
+      simulation = simulationAt c i;
+      dictionary = dictionaryAt c i;
     })
-    (λ n. record {
-      gate = gate-is I n;
-      announcements = announcements-is I n;
-      records = records-is I n;
-      words = w .words;
-      calls = set (w .calls) i (called k inputs);
-      outs = w .outs;
-      left = w .left;
-      bound = w .bound;
-      rounds = w .rounds;
-      count = w .count;
-    })
-    (rw (
-      length-set (c .tasks) i (record { place = P1; target = 0 }),
-      length-set (c .operations) i (called k inputs),
-      length-set (c .exits) i false,
-      length-set (c .counts) i 0,
-    ) Z)
+    (ap (λ (x : World). asking x i (called k inputs)) (I .cells))
+    (simp length-set Z)
     (rw (
       getD-set-same (c .tasks) i (record { place = P1; target = 0 }) idleTask (omega (arith, few, Z .tasks)),
       getD-set-same (c .operations) i (called k inputs) noOperation (omega (arith, few, Z .operations)),
@@ -225,9 +208,6 @@ inv-call c w i k inputs I lt b =
     on-set (λ n. n ≤ c .steps) (c .counts) i j 0 0 (omega (arith, few, Z .counts)) (λ _. omega arith)
     (λ _. I .counts j))
   where
-    T : Local
-    T = localAt c i
-
     Z : Sizes c
     Z = I .sizes
 

@@ -36,7 +36,7 @@ use Rattle.construction.proofs.Stages.{isAnnounced, stage, announced-bu
 use Rattle.construction.proofs.Invariant.{Inv, Stepped, gate-is, announcements-is, inv-call, inv-exit, inv-step}
 use Rattle.construction.proofs.Answers.{read-is, answer-is, holder-announced}
 use Rattle.construction.proofs.NextPlaces.{P1-next, P3-next, P3-active, announced-next}
-use Rattle.construction.proofs.Course.{active-before}
+use Rattle.construction.proofs.ActiveFlags.{active-before}
 use Rattle.construction.proofs.Observed.{requestOf, Own, Tracks, under-way, Calm, Ends, kind-of, turned-ends, tracks-calm, tracks-finished, own-next, tracks-place, tracks-called, tracks-returned}
 
 -- the processes of a card that have an operation under way, and those that have announced it

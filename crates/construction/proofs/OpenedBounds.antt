@@ -1,19 +1,18 @@
 -- What every text opens to lies within the bounds of document 01, 'The card and its edges', also where the text is refused.
 use Prim.Native.Nat.{ℕ, zero, suc, _≤_}
 use mathlib.Core.Path.{_≡_, refl, _∙_}
-use mathlib.Core.List.{List, [], _∷_}
+use mathlib.Core.List.{List}
 use native.Mathlib.Omega.{arith}
-use lib.ListN.{length, getD, set, length-set}
+use lib.ListN.{length, getD, length-set}
 use lib.Dec.{ltb, eqb}
 use Rattle.construction.specs.declared.CardLine.{CardLine}
-use Rattle.construction.specs.declared.Program.{Program}
 use Rattle.construction.specs.declared.Contents.{Contents}
 use Rattle.construction.specs.declared.Reading.{Reading}
 use Rattle.construction.specs.declared.ProgramReading.{ProgramReading}
 use Rattle.construction.specs.Instructions.{noProgram}
 use Rattle.construction.specs.Lines.{cardLine, varLine, sheetLine, insLine}
 use Rattle.construction.specs.Opening.{noContents, withLine, insFrom, readProgram, withProgram, programsFrom, withStart, varsFrom, atEnd, thenPrograms, afterCard, readCard}
-use Rattle.construction.proofs.Basics.{on-test, getD-replicate-same}
+use Rattle.construction.proofs.Basics.{on-test, set-keeps, getD-replicate-same}
 use Rattle.construction.proofs.TextLines.{card-read}
 use Rattle.construction.proofs.TextReading.{afterFields, afterLength, on-ins, on-sheet, on-program, on-var, on-accepted, on-card}
 
@@ -82,17 +81,9 @@ with-program r k x l h =
       limit = h .limit;
       starts = h .starts;
       code = rw length-set (h .code);
-      lines = set-lines (r .contents .code) k (h .lines);
+      lines = λ j.
+          set-keeps (λ y. length (y .lines) ≡ 32) (r .contents .code) k j (x .program) noProgram (λ _. l) (h .lines j);
     }
-  where
-    set-lines :
-        (code : List Program) (k : ℕ) → ((j : ℕ) → length (getD code j noProgram .lines) ≡ 32) →
-        (j : ℕ) → length (getD (set code k (x .program)) j noProgram .lines) ≡ 32
-    set-lines [] k h j = h j
-    set-lines (y ∷ ys) zero h zero = l
-    set-lines (y ∷ ys) zero h (suc j) = h (suc j)
-    set-lines (y ∷ ys) (suc k) h zero = h zero
-    set-lines (y ∷ ys) (suc k) h (suc j) = set-lines ys k (λ i. h (suc i)) j
 
 programs-bounded : (t : List ℕ) (m k : ℕ) (r : Reading) → Within r → Within (programsFrom t m k r)
 unfolding programsFrom

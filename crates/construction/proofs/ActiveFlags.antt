@@ -1,9 +1,9 @@
 -- Only line P3 makes an announcement active: a process does not announce its operation twice.
-use Prim.Native.Nat.{ℕ, zero, suc}
+use Prim.Native.Nat.{ℕ}
 use mathlib.Core.Path.{_≡_, refl}
 use mathlib.Core.Bool.{Bool, true, false, true≢false, false≢true}
 use mathlib.Core.Logic.{_≢_}
-use mathlib.Core.List.{List, [], _∷_}
+use mathlib.Core.List.{List}
 use lib.ListN.{getD, set}
 use lib.Dec.{ltb}
 use Rattle.construction.specs.declared.Flag.the-variants.{Active}
@@ -21,7 +21,7 @@ use Rattle.construction.specs.Instructions.{started}
 use Rattle.construction.specs.Dictionary.{empty}
 use Rattle.construction.specs.Parts.{announcementAt, recordAt, taskAt, exitAt, heldAt, withCopy}
 use Rattle.construction.specs.Machine.{accessOf, holderOf, accessGate, withdrawn, finished, help, helps, accessAnnouncement, accessRecord, perform, advance}
-use Rattle.construction.proofs.Basics.{on-test, active-not-done, active-not-exit}
+use Rattle.construction.proofs.Basics.{on-test, set-keeps, active-not-done, active-not-exit}
 use Rattle.construction.proofs.Stages.{isAnnounced, announces, Stage, stage}
 
 -- a flag that is active after was active before
@@ -31,11 +31,8 @@ Before c i d = announcementAt d i .flag ≡ Active → announcementAt c i .flag 
 set-active :
     (l : List Announcement) (m j : ℕ) (x : Announcement) → (x .flag ≡ Active → getD l m openAnnouncement .flag ≡ Active) →
     getD (set l m x) j openAnnouncement .flag ≡ Active → getD l j openAnnouncement .flag ≡ Active
-set-active [] m j x f h = h
-set-active (a ∷ l) zero zero x f h = f h
-set-active (a ∷ l) zero (suc j) x f h = h
-set-active (a ∷ l) (suc m) zero x f h = h
-set-active (a ∷ l) (suc m) (suc j) x f h = set-active l m j x f h
+set-active l m j x f =
+    set-keeps (λ a. a .flag ≡ Active → getD l j openAnnouncement .flag ≡ Active) l m j x openAnnouncement (λ e. rw e f) (λ h. h)
 
 swap-active :
     (cell expected new : Announcement) → new .flag ≢ Active → swapAnnouncement cell expected new .cell .flag ≡ Active → cell .flag ≡ Active

@@ -24,8 +24,8 @@ use Rattle.construction.specs.declared.Place.the-variants.{P1, P3, P5}
 use Rattle.construction.specs.Cells.{isDone, openAnnouncement}
 use Rattle.construction.specs.Parts.{idleTask, taskAt, withExit}
 use Rattle.construction.specs.Machine.{advance}
-use Rattle.construction.specs.Requests.{isVariable, isIdle, isBusy, refused, begun as cardBegun, answerOf, read}
-use Rattle.construction.specs.History.{Entry, act, Invocation, Notes, turned, finishing, finished, begun, withReturn, ended, noted, Moment, observe, FinishesOne, FinishesAtMostOne}
+use Rattle.construction.specs.Requests.{isVariable, isIdle, isBusy, refused, begun, answerOf, read}
+use Rattle.construction.specs.History.{Entry, act, Invocation, Notes, turned, finishing, finished, withReturn, ended, noted, Moment, observe, FinishesOne, FinishesAtMostOne}
 use Rattle.construction.proofs.Basics.{true-or-false, true-false, cond-true, cond-false}
 use Rattle.construction.proofs.NotesLaws.{turned-same}
 use Rattle.construction.proofs.TextKept.{contentsOf, advance-kept}
@@ -39,15 +39,12 @@ use Rattle.construction.proofs.NextPlaces.{P1-next, P3-next, P3-active,
 use Rattle.construction.proofs.ActiveFlags.{active-before}
 use Rattle.construction.proofs.Observed.{requestOf, Own, Tracks, under-way, Calm, Ends, kind-of, turned-ends, tracks-calm, tracks-finished, own-next, tracks-place, tracks-called, tracks-returned}
 
--- the processes of a card that have an operation under way, and those that have announced it
-abbrev busyIn : Card → ℕ → Bool
-busyIn c j = isBusy c j
-
+-- the processes of a card that have announced their operation
 abbrev announcedIn : Card → ℕ → Bool
 announcedIn c j = isAnnounced (taskAt c j .place)
 
 abbrev Follows : Card → Card → World → Notes → Type 0
-Follows o c w s = Tracks (o .processes) (busyIn c) (announcedIn c) w s
+Follows o c w s = Tracks (o .processes) (isBusy c) (announcedIn c) w s
 
 -- a moment in which card, world and notes go together
 pub record Consistent (o : Card) (m : Moment) : Type 0 where
@@ -74,18 +71,24 @@ module _ (o : Card) (m : Moment) (O : Consistent o m) where
   abbrev w : World
   w = O .world
 
-  nothing-finished : (d : Card) → c .announcements ≡ d .announcements → finished o (c .gate .seq) (finishing c d) s ≡ s
+  -- an entry that turns no flag
+  unturned :
+      (d : Card) (e : Entry) (a : Answer) → c .announcements ≡ d .announcements →
+      Consistent o (record { card = d; notes = noted s e a }) → Consistent o (after o m e (record { card = d; answer = a }))
   unfolding finished
-  nothing-finished d e = rw (← e, turned-same 0 (c .announcements))
+  unturned d e a z O′ = subst (λ (n : Notes). Consistent o (record { card = d; notes = noted n e a })) (sym none) O′
+    where
+      none : finished o (c .gate .seq) (finishing c d) s ≡ s
+      none = rw (← z, turned-same 0 (c .announcements))
 
   processes-is : c .processes ≡ o .processes
   processes-is = ap (λ (x : Contents). x .processes) (O .text)
 
   -- an entry that is turned back
   refused-kept : (e : Entry) (why : Refusal) → Consistent o (after o m e (refused c why))
-  refused-kept e why = subst (λ (n : Notes). Consistent o (record { card = c; notes = n })) (sym (noted-refused e ∙ nothing-finished c refl)) O
+  refused-kept e why = unturned c e (Answer.Refused why) refl (rw (noted-refused e) O)
     where
-      noted-refused : {n : Notes} (e : Entry) → noted n e (Answer.Refused why) ≡ n
+      noted-refused : (e : Entry) → noted s e (Answer.Refused why) ≡ s
       noted-refused (Entry.Call i k inputs) = refl
       noted-refused (Entry.Exit i) = refl
       noted-refused (Entry.Step i) = refl
@@ -93,25 +96,25 @@ module _ (o : Card) (m : Moment) (O : Consistent o m) where
 
   -- a read and an exit request
   read-kept : (v x : ℕ) → Consistent o (after o m (Entry.Read v) (record { card = c; answer = Answer.Value x }))
-  read-kept v x = subst (λ (n : Notes). Consistent o (record { card = c; notes = n })) (sym (nothing-finished c refl)) O
+  read-kept v x = unturned c (Entry.Read v) (Answer.Value x) refl O
 
   exit-kept : (i : ℕ) → Consistent o (after o m (Entry.Exit i) (record { card = withExit c i true; answer = Answer.Taken }))
   exit-kept i =
-      subst (λ (n : Notes). Consistent o (record { card = withExit c i true; notes = n })) (sym (nothing-finished (withExit c i true) refl))
+      unturned (withExit c i true) (Entry.Exit i) Answer.Taken refl
       (record { world = w; inv = inv-exit c w i true (O .inv); tracks = O .tracks; text = O .text })
 
   -- a call
   call-kept :
       (i k : ℕ) (inputs : Words) → i < c .processes → isBusy c i ≡ false →
-      Consistent o (after o m (Entry.Call i k inputs) (record { card = cardBegun c i k inputs; answer = Answer.Taken }))
+      Consistent o (after o m (Entry.Call i k inputs) (record { card = begun c i k inputs; answer = Answer.Taken }))
   call-kept i k inputs lt f =
       let x : Invocation = record { process = i; program = k; inputs = inputs } in
-      let d = cardBegun c i k inputs in
-      let others : (j : ℕ) → j ≢ i → (busyIn d j ≡ busyIn c j) × (announcedIn d j ≡ announcedIn c j) =
+      let d = begun c i k inputs in
+      let others : (j : ℕ) → j ≢ i → (isBusy d j ≡ isBusy c j) × (announcedIn d j ≡ announcedIn c j) =
       λ j ne. rw (getD-set-other (c .tasks) i j (record { place = P1; target = 0 }) idleTask ne) (refl, refl) in
       let here : taskAt d i ≡ record { place = P1; target = 0 } =
       getD-set-same (c .tasks) i _ idleTask (omega (arith, O .inv .sizes .tasks, O .inv .good .fits .few)) in
-      subst (λ (n : Notes). Consistent o (record { card = d; notes = begun n x Answer.Taken })) (sym (nothing-finished d refl))
+      unturned d (Entry.Call i k inputs) Answer.Taken refl
       (record {
         world = asking w i (requestOf x);
         inv = inv-call c w i k inputs (O .inv) lt f;
@@ -141,7 +144,7 @@ module _ (o : Card) (m : Moment) (O : Consistent o m) where
         ap flag (sym (announcements-is (O .inv))) ∙ active-before c i t (ap flag (announcements-is (S .inv)) ∙ h)
 
     kind : Calm (announcedIn c) w (S .after) ⊎ Ends (fixedOf c) w (S .after)
-    kind = kind-of (fixedOf c) i (announcedIn c) w (S .after) (O .inv .good) (S .move) only
+    kind = kind-of (announcedIn c) (O .inv .good) (S .move) only
 
     -- the operation that an ending move finishes
     module _ (E : Ends (fixedOf c) w (S .after)) where
@@ -159,9 +162,9 @@ module _ (o : Card) (m : Moment) (O : Consistent o m) where
 
     -- the notes after the step and before its answer
     abbrev Moved : ℕ → List ℕ → World → Type 0
-    Moved gate is v = Tracks (o .processes) (busyIn c) (announcedIn c) v (finished o gate is s)
+    Moved gate is v = Tracks (o .processes) (isBusy c) (announcedIn c) v (finished o gate is s)
 
-    moved : Tracks (o .processes) (busyIn c) (announcedIn c) (S .after) noticed
+    moved : Tracks (o .processes) (isBusy c) (announcedIn c) (S .after) noticed
     unfolding finished
     moved = ⊎-elim calm ends kind
       where
@@ -175,11 +178,10 @@ module _ (o : Card) (m : Moment) (O : Consistent o m) where
             subst (λ (is : List ℕ). Moved (c .gate .seq) is (S .after)) (sym (ends-one E))
             (subst (λ (v : World). Moved (c .gate .seq) (E .process ∷ []) v) (sym (E .becomes))
             (subst (λ (g : Gate). Moved (g .seq) (E .process ∷ []) (ending (fixedOf c) w (E .process))) (sym (gate-is (O .inv)))
-            (tracks-finished o (fixedOf c) (o .processes) (busyIn c) (announcedIn c) w s (O .inv .good) (O .tracks) (E .process) (E .inside)
-            (E .held) (E .undone) (ends-own E) (ap (λ (x : Contents). x .variables) (sym (O .text)))
+            (tracks-finished o (O .inv .good) (O .tracks) (E .process) (E .inside) (E .held) (E .undone) (ends-own E) (ap (λ (x : Contents). x .variables) (sym (O .text)))
             (ap (λ (x : Contents). x .code) (sym (O .text))) (ends-announced E))))
 
-    others : (j : ℕ) → j ≢ i → (busyIn d j ≡ busyIn c j) × (announcedIn d j ≡ announcedIn c j)
+    others : (j : ℕ) → j ≢ i → (isBusy d j ≡ isBusy c j) × (announcedIn d j ≡ announcedIn c j)
     others j ne =
         let h : taskAt d j .place ≡ taskAt c j .place = ap (λ (t : Local). t .place) (S .elsewhere j ne) in
         rw h (refl, refl)
@@ -252,13 +254,13 @@ module _ (o : Card) (m : Moment) (O : Consistent o m) where
 
     answered : Follows o d (S .after) (ended noticed i (answerOf d i))
     answered =
-        ⊎-elim (λ busy. subst (λ (a : Answer). Follows o d (S .after) (ended noticed i a)) (sym (cond-true (isBusy d i) _ _ busy)) (running busy))
-        (λ idle.
-        ⊎-elim
-        (λ z. subst (λ (a : Answer). Follows o d (S .after) (ended noticed i a)) (sym (z .1)) (ended-done idle (z .0) _))
-        (λ z. subst (λ (a : Answer). Follows o d (S .after) (ended noticed i a)) (sym (z .1)) (ended-exited idle (z .0) _))
+        ⊎-elim (λ busy. by-answer (cond-true (isBusy d i) _ _ busy) (running busy))
+        (λ idle. ⊎-elim (λ z. by-answer (z .1) (ended-done idle (z .0) _)) (λ z. by-answer (z .1) (ended-exited idle (z .0) _))
         (answer-is (S .inv) i (subst (λ (x : Contents). i < x .processes) (sym (advance-kept c i)) lt) idle))
         (true-or-false (isBusy d i))
+      where
+        by-answer : {a : Answer} → answerOf d i ≡ a → Follows o d (S .after) (ended noticed i a) → Follows o d (S .after) (ended noticed i (answerOf d i))
+        by-answer {a} z f = subst (λ (x : Answer). Follows o d (S .after) (ended noticed i x)) (sym z) f
 
     step-kept : Consistent o (after o m (Entry.Step i) (record { card = d; answer = answerOf d i }))
     step-kept = record { world = S .after; inv = S .inv; tracks = answered; text = text-moved }

@@ -82,50 +82,48 @@ turns-active Done = refl
 turns-active Active = refl
 turns-active Exit = refl
 
--- a move that changes none of what the observer sees
-calm-same :
-    (announced : ℕ → Bool) (w v : World) → v .announcements ≡ w .announcements → v .words ≡ w .words → v .count ≡ w .count →
-    v .outs ≡ w .outs → Calm announced w v
-calm-same announced w v a b c d =
-    record {
-      none = ap (turned 0 (w .announcements)) a ∙ turned-same 0 (w .announcements);
-      words = b;
-      count = c;
-      outs = d;
-      done = λ j t. ap (λ (l : List Announcement). isDone (getD l j openAnnouncement .flag)) a;
-    }
+module _ {F : Fixed} {w : World} (announced : ℕ → Bool) (G : Good F w) where
+  -- a move that changes none of what the observer sees
+  calm-same : {v : World} → v .announcements ≡ w .announcements → v .words ≡ w .words → v .count ≡ w .count → v .outs ≡ w .outs → Calm announced w v
+  calm-same a b c d =
+      record {
+        none = ap (turned 0 (w .announcements)) a ∙ turned-same 0 (w .announcements);
+        words = b;
+        count = c;
+        outs = d;
+        done = λ j t. ap (λ (l : List Announcement). isDone (getD l j openAnnouncement .flag)) a;
+      }
 
--- every move is one of the two, if a process that has announced its operation does not announce again
-pub kind-of :
-    (F : Fixed) (i : ℕ) (announced : ℕ → Bool) (w v : World) → Good F w → Move F i w v →
-    (announced i ≡ true → announcementIn v i .flag ≡ Active → announcementIn w i .flag ≡ Active) → Calm announced w v ⊎ Ends F w v
-kind-of F i announced w v G stay only = inl (calm-same announced w v refl refl refl refl)
-kind-of F i announced w v G (ask q lt Q) only = inl (calm-same announced w v refl refl refl refl)
-kind-of F i announced w v G (announce a lt Q fa op l b) only =
-    let size : i < length (w .announcements) = omega (arith, G .lengths .announcements, G .fits .few) in
-    let here : announcementIn v i ≡ a = getD-set-same (w .announcements) i a openAnnouncement size in
-    inl (record {
-      none = turned-not 0 (w .announcements) i a (rw fa (turns-active (announcementIn w i .flag)));
-      words = refl;
-      count = refl;
-      outs = refl;
-      done = λ j t. on-set (λ x. isDone (x .flag) ≡ doneIn w j) (w .announcements) i j a openAnnouncement size
-          (λ e. absurd (Q .not-active (only (rw (← e) t) (rw here fa)))) (λ ne. refl);
-    })
-kind-of F i announced w v G (leave lt fa) only =
-    let size : i < length (w .announcements) = omega (arith, G .lengths .announcements, G .fits .few) in
-    inl (record {
-      none = turned-not 0 (w .announcements) i _ (rw fa refl);
-      words = refl;
-      count = refl;
-      outs = refl;
-      done = λ j t. on-set (λ x. isDone (x .flag) ≡ doneIn w j) (w .announcements) i j _ openAnnouncement size
-          (λ e. rw (e, fa) refl) (λ ne. refl);
-    })
-kind-of F i announced w v G (take m lt hn fl op z) only = inl (calm-same announced w v refl refl refl refl)
-kind-of F i announced w v G (write m u x vl hm fl below ex) only = inl (calm-same announced w v refl refl refl refl)
-kind-of F i announced w v G (end m lt hm fl all) only = inr (record { process = m; inside = lt; held = hm; undone = fl; becomes = refl })
-kind-of F i announced w v G (free m lt hm d) only = inl (calm-same announced w v refl refl refl refl)
+  -- every move is one of the two, if a process that has announced its operation does not announce again
+  pub kind-of :
+      {i : ℕ} {v : World} → Move F i w v → (announced i ≡ true → announcementIn v i .flag ≡ Active → announcementIn w i .flag ≡ Active) →
+      Calm announced w v ⊎ Ends F w v
+  kind-of stay only = inl (calm-same refl refl refl refl)
+  kind-of (ask q lt Q) only = inl (calm-same refl refl refl refl)
+  kind-of {i} (announce a lt Q fa op l b) only =
+      let size : i < length (w .announcements) = omega (arith, G .lengths .announcements, G .fits .few) in
+      inl (record {
+        none = turned-not 0 (w .announcements) i a (rw fa (turns-active (announcementIn w i .flag)));
+        words = refl;
+        count = refl;
+        outs = refl;
+        done = λ j t. on-set (λ x. isDone (x .flag) ≡ doneIn w j) (w .announcements) i j a openAnnouncement size
+            (λ e. absurd (Q .not-active (only (rw (← e) t) (rw (getD-set-same (w .announcements) i a openAnnouncement size) fa)))) (λ ne. refl);
+      })
+  kind-of {i} (leave lt fa) only =
+      let size : i < length (w .announcements) = omega (arith, G .lengths .announcements, G .fits .few) in
+      inl (record {
+        none = turned-not 0 (w .announcements) i _ (rw fa refl);
+        words = refl;
+        count = refl;
+        outs = refl;
+        done = λ j t. on-set (λ x. isDone (x .flag) ≡ doneIn w j) (w .announcements) i j _ openAnnouncement size
+            (λ e. rw (e, fa) refl) (λ ne. refl);
+      })
+  kind-of (take m lt hn fl op z) only = inl (calm-same refl refl refl refl)
+  kind-of (write m u x vl hm fl below ex) only = inl (calm-same refl refl refl refl)
+  kind-of (end m lt hm fl all) only = inr (record { process = m; inside = lt; held = hm; undone = fl; becomes = refl })
+  kind-of (free m lt hm d) only = inl (calm-same refl refl refl refl)
 
 pub turned-ends : {F : Fixed} {w v : World} → Good F w → (E : Ends F w v) → turned 0 (w .announcements) (v .announcements) ≡ E .process ∷ []
 turned-ends {F} {w} G E =
@@ -166,7 +164,7 @@ tracks-calm C f T =
 
 -- a move that finishes the operation of m, whose number the sequential run gives it too
 module _
-    (o : Card) (F : Fixed) (p : ℕ) (busy announced : ℕ → Bool) (w : World) (s : Notes) (G : Good F w) (T : Tracks p busy announced w s)
+    (o : Card) {F : Fixed} {p : ℕ} {busy announced : ℕ → Bool} {w : World} {s : Notes} (G : Good F w) (T : Tracks p busy announced w s)
     (m : ℕ) (lt : m < F .processes) (held : w .gate .holder ≡ Process m) (undone : announcementIn w m .flag ≢ Done)
     (O : Own true w s m) (vs : o .variables ≡ F .variables) (co : o .code ≡ F .code) where
   same-run : benchRun o (suc (length (s .order))) (latestCall (s .operations) m) (s .words) ≡ endingIn F w (w .gate .seq)

@@ -20,7 +20,7 @@ use Rattle.construction.specs.Sequential.{sequential}
 use Rattle.construction.specs.Parts.{noOperation}
 use Rattle.construction.proofs.Basics.{on-set, active-not-done, active-not-exit, exit-not-done, nobody-process, process-same, done-or-not}
 use Rattle.construction.proofs.SequentialLaws.{run-length}
-use Rattle.construction.proofs.World.{Fixed, Round, noRound, endingOf, endingIn, programIn, World, announcementIn, recordIn, leftIn, callIn, roundIn, wordAt, operationOf, doneWith, Pending, Phase, Good, asking, announcing, leaving, taking, writing, ending, freeing, Quiet, Move}
+use Rattle.construction.proofs.World.{Fixed, Round, noRound, endingOf, endingIn, programIn, World, announcementIn, recordIn, leftIn, callIn, roundIn, wordAt, operationOf, doneWith, Pending, Phase, Recorded, Good, asking, announcing, leaving, taking, writing, ending, freeing, Quiet, Move}
 use Rattle.construction.proofs.World.Move.{stay, ask, announce, leave, take, write, end, free}
 
 ending-length : (F : Fixed) (s : ℕ) (r : Round) → length (endingOf F s r .words) ≡ length (r .words)
@@ -207,21 +207,54 @@ module _ {F : Fixed} {w : World} (G : Good F w) where
     λ d. let B = ph .2 d in record { counted = B .counted; now = B .now; asked = B .asked },
   )
 
-  good-write :
-      (m v x : ℕ) → v < F .variables → w .gate .holder ≡ Process m → announcementIn w m .flag ≢ Done →
-      recordIn w v .seq < w .gate .seq → x ≡ wordAt (endingIn F w (w .gate .seq) .words) v → Good F (writing w v x)
-  unfolding rewritten
-  good-write m v x vl hm fl below ex =
-      let R = G .recorded in
-      let ph : Phase (Process m) w = subst (λ (h : Holder). Phase h w) hm (G .phase) in
-      let many : length (w .rounds) ≡ suc (w .gate .seq) = ph .0 in
-      let B : Pending w m = ph .2 fl in
-      let counted : w .count ≡ w .gate .seq = B .counted in
-      let set-record :
-      (P : Record → Type 0) (u : ℕ) → (u ≡ v → P (rewritten (recordIn w v) x (w .gate .seq))) →
-      (u ≢ v → P (recordIn w u)) → P (recordIn (writing w v x) u) =
-      λ P u. on-set P (w .records) v u (rewritten (recordIn w v) x (w .gate .seq)) (openRecord 0) (omega arith) in
-      record {
+  -- the gate is held for an operation of m that is not done
+  module _ (m : ℕ) (hm : w .gate .holder ≡ Process m) (fl : announcementIn w m .flag ≢ Done) where
+    held : Phase (Process m) w
+    held = subst (λ (h : Holder). Phase h w) hm (G .phase)
+
+    many : length (w .rounds) ≡ suc (w .gate .seq)
+    many = held .0
+
+    counted : w .count ≡ w .gate .seq
+    counted = held .2 fl .counted
+
+    -- variable v is written (H36)
+    module _
+        (v x : ℕ) (vl : v < F .variables) (below : recordIn w v .seq < w .gate .seq)
+        (ex : x ≡ wordAt (endingIn F w (w .gate .seq) .words) v) where
+      set-record :
+          (P : Record → Type 0) (u : ℕ) → (u ≡ v → P (rewritten (recordIn w v) x (w .gate .seq))) → (u ≢ v → P (recordIn w u)) →
+          P (recordIn (writing w v x) u)
+      set-record P u =
+          on-set P (w .records) v u (rewritten (recordIn w v) x (w .gate .seq)) (openRecord 0) (omega (arith, G .lengths, G .fits))
+
+      recorded-write : Recorded F (writing w v x .records) (w .rounds) (w .count) (w .words)
+      unfolding rewritten
+      recorded-write =
+          let R = G .recorded in
+          record {
+            below = λ u. set-record (λ q. q .seq < length (w .rounds)) u (λ _. omega (arith, many)) (λ _. R .below u);
+            old = λ s u sl ul.
+                set-record (λ q. q .seq < s → current q ≡ wordAt (roundIn w s .words) u) u
+                (λ _ h. absurd (omega (arith, many))) (λ _. R .old s u sl ul);
+            same = λ u ul.
+                set-record
+                (λ q. 0 < q .seq →
+                (previous q ≡ wordAt (roundIn w (q .seq) .words) u) × (current q ≡ wordAt (endingIn F w (q .seq) .words) u))
+                u
+                (λ e h. (
+                  previous-rewritten (recordIn w v) x (w .gate .seq) ∙ rw e (R .old (w .gate .seq) v (omega (arith, many)) vl below),
+                  current-rewritten (recordIn w v) x (w .gate .seq) ∙ rw e ex,
+                ))
+                (λ _. R .same u ul);
+            settled = λ s u sl ul.
+                set-record (λ q. q .seq < s → wordAt (endingIn F w s .words) u ≡ wordAt (roundIn w s .words) u) u
+                (λ _ h. absurd (omega (arith, counted))) (λ _. R .settled s u sl ul);
+            words-are = λ u ul e. absurd (omega (arith, many, counted));
+          }
+
+      good-write : Good F (writing w v x)
+      good-write = record {
         fits = G .fits;
         lengths = rw length-set (G .lengths);
         size-words = G .size-words;
@@ -233,74 +266,56 @@ module _ {F : Fixed} {w : World} (G : Good F w) where
         inside = G .inside;
         active-operation = G .active-operation;
         phase = phase-write v x (w .gate .holder) (G .phase);
-        recorded = record {
-          below = λ u. set-record (λ q. q .seq < length (w .rounds)) u (λ _. omega arith) (λ _. R .below u);
-          old = λ s u sl ul.
-              set-record (λ q. q .seq < s → current q ≡ wordAt (roundIn w s .words) u) u
-              (λ _ h. absurd (omega arith)) (λ _. R .old s u sl ul);
-          same = λ u ul.
-              set-record
-              (λ q. 0 < q .seq →
-              (previous q ≡ wordAt (roundIn w (q .seq) .words) u) × (current q ≡ wordAt (endingIn F w (q .seq) .words) u))
-              u
-              (λ e h. (
-                previous-rewritten (recordIn w v) x (w .gate .seq) ∙ rw e (R .old (w .gate .seq) v (omega arith) vl below),
-                current-rewritten (recordIn w v) x (w .gate .seq) ∙ rw e ex,
-              ))
-              (λ _. R .same u ul);
-          settled = λ s u sl ul.
-              set-record (λ q. q .seq < s → wordAt (endingIn F w s .words) u ≡ wordAt (roundIn w s .words) u) u
-              (λ _ h. absurd (omega arith)) (λ _. R .settled s u sl ul);
-          words-are = λ u ul e. absurd (omega arith);
-        };
+        recorded = recorded-write;
       }
 
-  good-end :
-      (m : ℕ) → m < F .processes → w .gate .holder ≡ Process m → announcementIn w m .flag ≢ Done →
-      ((v : ℕ) → v < F .variables → recordIn w v .seq < w .gate .seq →
-      wordAt (endingIn F w (w .gate .seq) .words) v ≡ wordAt (roundIn w (w .gate .seq) .words) v) →
-      Good F (ending F w m)
-  good-end m lt hm fl all =
-      let R = G .recorded in
-      let ph : Phase (Process m) w = subst (λ (h : Holder). Phase h w) hm (G .phase) in
-      let many : length (w .rounds) ≡ suc (w .gate .seq) = ph .0 in
-      let B : Pending w m = ph .2 fl in
-      let counted : w .count ≡ w .gate .seq = B .counted in
-      let a : Announcement = doneWith (announcementIn w m) (endingIn F w (w .gate .seq) .outputs) in
-      record {
-        fits = G .fits;
-        lengths = simp length-set (G .lengths);
-        size-words =
-            ending-length F (w .gate .seq) (roundIn w (w .gate .seq)) ∙ G .size-round (w .gate .seq) (omega arith);
-        size-round = G .size-round;
-        left-below = G .left-below;
-        bound-below = G .bound-below;
-        announcement-below = λ j.
-            announcements-set (λ r. r .seq ≤ w .gate .seq) m j a lt (λ _. G .announcement-below m) (λ _. G .announcement-below j);
-        fresh = λ j.
-            announcements-set (λ r. r .flag ≢ Done → leftIn w j < r .seq) m j a lt (λ _ q. absurd (q refl)) (λ _. G .fresh j);
-        inside = G .inside;
-        active-operation = λ j.
-            announcements-set (λ r. r .flag ≡ Active → operationOf r ≡ callIn w j) m j a lt
-            (λ _ q. absurd (active-not-done q refl)) (λ _. G .active-operation j);
-        phase = subst (λ (h : Holder). Phase h (ending F w m)) (sym hm) (
-          many,
-          λ _. omega arith,
-          λ d. absurd (d (announcements-set (λ r. r .flag ≡ Done) m m a lt (λ _. refl) (λ ne. absurd (ne refl)))),
-        );
-        recorded = record {
-          below = R .below;
-          old = R .old;
-          same = R .same;
-          settled = λ s v sl vl h.
-              ⊎-elim (λ (e : s ≡ w .gate .seq). rw e (all v vl (rw e at h))) (λ l. R .settled s v (omega arith) vl h)
-              (eq-or-lt-of-le (omega arith));
-          words-are = λ v vl e.
-              ⊎-elim (λ (l : recordIn w v .seq ≡ w .gate .seq). let z = R .same v vl (omega (arith, G .left-below m)) .1 in rw l at z)
-              (λ l. R .old (w .gate .seq) v (omega arith) vl l ∙ sym (all v vl l))
-              (eq-or-lt-of-le (omega (arith, R .below v)));
-        };
-      }
+    -- the operation is finished (P19, P20)
+    module _
+        (lt : m < F .processes)
+        (all : (v : ℕ) → v < F .variables → recordIn w v .seq < w .gate .seq →
+        wordAt (endingIn F w (w .gate .seq) .words) v ≡ wordAt (roundIn w (w .gate .seq) .words) v) where
+      recorded-end : Recorded F (w .records) (w .rounds) (suc (w .count)) (endingIn F w (w .gate .seq) .words)
+      recorded-end =
+          let R = G .recorded in
+          record {
+            below = R .below;
+            old = R .old;
+            same = R .same;
+            settled = λ s v sl vl h.
+                ⊎-elim (λ (e : s ≡ w .gate .seq). rw e (all v vl (rw e at h))) (λ l. R .settled s v (omega (arith, counted)) vl h)
+                (eq-or-lt-of-le (omega (arith, counted)));
+            words-are = λ v vl e.
+                ⊎-elim (λ (l : recordIn w v .seq ≡ w .gate .seq). let z = R .same v vl (omega (arith, G .left-below m)) .1 in rw l at z)
+                (λ l. R .old (w .gate .seq) v (omega (arith, many)) vl l ∙ sym (all v vl l))
+                (eq-or-lt-of-le (omega (arith, many, R .below v)));
+          }
+
+      good-end : Good F (ending F w m)
+      good-end =
+          let a : Announcement = doneWith (announcementIn w m) (endingIn F w (w .gate .seq) .outputs) in
+          record {
+            fits = G .fits;
+            lengths = simp length-set (G .lengths);
+            size-words =
+                ending-length F (w .gate .seq) (roundIn w (w .gate .seq)) ∙ G .size-round (w .gate .seq) (omega (arith, many));
+            size-round = G .size-round;
+            left-below = G .left-below;
+            bound-below = G .bound-below;
+            announcement-below = λ j.
+                announcements-set (λ r. r .seq ≤ w .gate .seq) m j a lt (λ _. G .announcement-below m) (λ _. G .announcement-below j);
+            fresh = λ j.
+                announcements-set (λ r. r .flag ≢ Done → leftIn w j < r .seq) m j a lt (λ _ q. absurd (q refl)) (λ _. G .fresh j);
+            inside = G .inside;
+            active-operation = λ j.
+                announcements-set (λ r. r .flag ≡ Active → operationOf r ≡ callIn w j) m j a lt
+                (λ _ q. absurd (active-not-done q refl)) (λ _. G .active-operation j);
+            phase = subst (λ (h : Holder). Phase h (ending F w m)) (sym hm) (
+              many,
+              λ _. omega (arith, counted),
+              λ d. absurd (d (announcements-set (λ r. r .flag ≡ Done) m m a lt (λ _. refl) (λ ne. absurd (ne refl)))),
+            );
+            recorded = recorded-end;
+          }
 
   good-free :
       (m : ℕ) → m < F .processes → w .gate .holder ≡ Process m → announcementIn w m .flag ≡ Done → Good F (freeing w m)
@@ -332,8 +347,8 @@ good-move G (ask q lt Q) = good-ask G _ q lt Q
 good-move G (announce a lt Q fa op l b) = good-announce G _ a lt Q fa op l b
 good-move G (leave lt fa) = good-leave G _ lt fa
 good-move G (take m lt hn fl op z) = good-take G m lt hn fl op
-good-move G (write m v x vl hm fl below ex) = good-write G m v x vl hm fl below ex
-good-move G (end m lt hm fl all) = good-end G m lt hm fl all
+good-move G (write m v x vl hm fl below ex) = good-write G m hm fl v x vl below ex
+good-move G (end m lt hm fl all) = good-end G m hm fl lt all
 good-move G (free m lt hm d) = good-free G m lt hm d
 
 -- a move takes the gate's number up by one at most
@@ -354,9 +369,7 @@ pub ends-now :
     × (endingIn F w (w .gate .seq)
     ≡ sequential (F .variables) (programIn F (callIn w m .program) (w .gate .seq)) (callIn w m .inputs) (w .words))
 unfolding endingOf
-ends-now {F} {w} G m hm fl =
-    let ph : Phase (Process m) w = subst (λ (h : Holder). Phase h w) hm (G .phase) in
-    (ph .2 fl .counted, ap (endingOf F (w .gate .seq)) (ph .2 fl .now))
+ends-now {F} {w} G m hm fl = (counted G m hm fl, ap (endingOf F (w .gate .seq)) (held G m hm fl .2 fl .now))
 
 -- how many rounds there are at most, and operations finished at least
 pub rounds-few : (h : Holder) (w : World) → Phase h w → length (w .rounds) ≤ suc (w .gate .seq)

@@ -178,7 +178,8 @@ module _ (o : Card) (m : Moment) (O : Consistent o m) where
             subst (λ (is : List ℕ). Moved (c .gate .seq) is (S .after)) (sym (ends-one E))
             (subst (λ (v : World). Moved (c .gate .seq) (E .process ∷ []) v) (sym (E .becomes))
             (subst (λ (g : Gate). Moved (g .seq) (E .process ∷ []) (ending (fixedOf c) w (E .process))) (sym (gate-is (O .inv)))
-            (tracks-finished o (O .inv .good) (O .tracks) (E .process) (E .inside) (E .held) (E .undone) (ends-own E) (ap (λ (x : Contents). x .variables) (sym (O .text)))
+            (tracks-finished o (O .inv .good) (O .tracks) (E .process) (E .inside) (E .held) (E .undone) (ends-own E)
+            (ap (λ (x : Contents). x .variables) (sym (O .text)))
             (ap (λ (x : Contents). x .code) (sym (O .text))) (ends-announced E))))
 
     others : (j : ℕ) → j ≢ i → (isBusy d j ≡ isBusy c j) × (announcedIn d j ≡ announcedIn c j)
@@ -259,8 +260,10 @@ module _ (o : Card) (m : Moment) (O : Consistent o m) where
         (answer-is (S .inv) i (subst (λ (x : Contents). i < x .processes) (sym (advance-kept c i)) lt) idle))
         (true-or-false (isBusy d i))
       where
-        by-answer : {a : Answer} → answerOf d i ≡ a → Follows o d (S .after) (ended noticed i a) → Follows o d (S .after) (ended noticed i (answerOf d i))
-        by-answer {a} z f = subst (λ (x : Answer). Follows o d (S .after) (ended noticed i x)) (sym z) f
+        by-answer :
+            {a : Answer} → answerOf d i ≡ a → Follows o d (S .after) (ended noticed i a) →
+            Follows o d (S .after) (ended noticed i (answerOf d i))
+        by-answer z f = subst (λ (x : Answer). Follows o d (S .after) (ended noticed i x)) (sym z) f
 
     step-kept : Consistent o (after o m (Entry.Step i) (record { card = d; answer = answerOf d i }))
     step-kept = record { world = S .after; inv = S .inv; tracks = answered; text = text-moved }

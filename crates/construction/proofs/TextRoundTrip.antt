@@ -18,6 +18,7 @@ use Rattle.construction.specs.declared.InsLine.{InsLine}
 use Rattle.construction.specs.declared.Instruction.{Instruction}
 use Rattle.construction.specs.declared.Encoded.{Encoded}
 use Rattle.construction.specs.declared.Decoded.{Decoded}
+use Rattle.construction.specs.declared.Contents.{Contents}
 use Rattle.construction.specs.declared.Verdict.{Verdict}
 use Rattle.construction.specs.declared.Line.{Line}
 use Rattle.construction.specs.declared.ProgramReading.{ProgramReading}
@@ -57,6 +58,9 @@ use Rattle.construction.specs.Opening.{
 use Rattle.construction.specs.Writing.{varsText, linesText, programText, programsText, textOf}
 use Rattle.construction.proofs.TextLines.{pair-true, skip-true, card-read, var-read, sheet-read, ins-read}
 use Rattle.construction.proofs.TextReading.{afterFields, afterLength, on-ins, on-sheet, on-program, on-var, on-accepted, on-card}
+
+abbrev Accepted : Verdict → Type 0
+Accepted v = v ≡ Verdict.Accepted
 
 -- ---- what a line that was read looks like
 module _ (t : List ℕ) (at : ℕ) where
@@ -167,31 +171,40 @@ ins-text n h t at x i e =
     ∙ ap (λ (y : List ℕ). insWord ++ y) (four-text t (at + 4) _ _ _ _ i (d .small) (r .numbers-there))
     ∙ ap (λ (y : Encoded). encodedText y ++ drop i t) (sym (d .back))
 
+-- ---- the numbers of the `card` line stay while the others are read
+record Fields (p n s l : ℕ) (x : Contents) : Type 0 where
+  processes : x .processes ≡ p
+  variables : x .variables ≡ n
+  programs : x .programs ≡ s
+  limit : x .limit ≡ l
+
+abbrev SameFields : Reading → Reading → Type 0
+SameFields r z = Fields (r .contents .processes) (r .contents .variables) (r .contents .programs) (r .contents .limit) (z .contents)
+
+same : {x : Contents} → Fields (x .processes) (x .variables) (x .programs) (x .limit) x
+same = record { processes = refl; variables = refl; programs = refl; limit = refl }
+
 -- ---- the `var` lines
 record VarsRead (t : List ℕ) (m k : ℕ) (r z : Reading) : Type 0 where
   text : drop (r .at) t ≡ varsText m k (z .contents .starts) ++ drop (z .at) t
-  processes : z .contents .processes ≡ r .contents .processes
-  variables : z .contents .variables ≡ r .contents .variables
-  programs : z .contents .programs ≡ r .contents .programs
-  limit : z .contents .limit ≡ r .contents .limit
+  fields : SameFields r z
   code : z .contents .code ≡ r .contents .code
   below : (j : ℕ) → j < k → getD (z .contents .starts) j 0 ≡ getD (r .contents .starts) j 0
 
-vars-read : (t : List ℕ) (m k : ℕ) (r : Reading) → k + m ≤ length (r .contents .starts) → varsFrom t m k r .verdict ≡ Verdict.Accepted → VarsRead t m k r (varsFrom t m k r)
+vars-read :
+    (t : List ℕ) (m k : ℕ) (r : Reading) → k + m ≤ length (r .contents .starts) → Accepted (varsFrom t m k r .verdict) →
+    VarsRead t m k r (varsFrom t m k r)
 unfolding varsFrom varsText
-vars-read t zero k r h = λ e. record { text = refl; processes = refl; variables = refl; programs = refl; limit = refl; code = refl; below = λ j p. refl }
+vars-read t zero k r h = λ e. record { text = refl; fields = same; code = refl; below = λ j p. refl }
 vars-read t (suc m) k r h =
-    on-var (λ z. z .verdict ≡ Verdict.Accepted → VarsRead t (suc m) k r z) (varLine t (r .at)) r k (λ x. varsFrom t m (suc k) x)
+    on-var (λ z. Accepted (z .verdict) → VarsRead t (suc m) k r z) (varLine t (r .at)) r k (λ x. varsFrom t m (suc k) x)
     (λ v i f e.
     let y : Reading = withStart r k v i in
     let q = vars-read t m (suc k) y (omega (arith, length-set (r .contents .starts) k v)) e in
     let g : getD (varsFrom t m (suc k) y .contents .starts) k 0 ≡ v = q .below k (omega arith) ∙ getD-set-same (r .contents .starts) k v 0 (omega arith) in
     record {
       text = rw (g, append-assoc (varText v)) (var-text t (r .at) v i f ∙ ap (λ (l : List ℕ). varText v ++ l) (q .text));
-      processes = q .processes;
-      variables = q .variables;
-      programs = q .programs;
-      limit = q .limit;
+      fields = q .fields;
       code = q .code;
       below = λ j p. q .below j (omega arith) ∙ getD-set-other (r .contents .starts) k j v 0 (λ (z : j ≡ k). omega arith);
     })
@@ -203,11 +216,13 @@ record LinesRead (t : List ℕ) (m k : ℕ) (r z : ProgramReading) : Type 0 wher
   length-kept : z .program .length ≡ r .program .length
   below : (j : ℕ) → j < k → getD (z .program .lines) j noLine ≡ getD (r .program .lines) j noLine
 
-lines-read : (n : ℕ) → n ≤ 256 → (t : List ℕ) (m k : ℕ) (r : ProgramReading) → k + m ≤ length (r .program .lines) → insFrom n t m k r .verdict ≡ Verdict.Accepted → LinesRead t m k r (insFrom n t m k r)
+lines-read :
+    (n : ℕ) → n ≤ 256 → (t : List ℕ) (m k : ℕ) (r : ProgramReading) → k + m ≤ length (r .program .lines) →
+    Accepted (insFrom n t m k r .verdict) → LinesRead t m k r (insFrom n t m k r)
 unfolding insFrom linesText
 lines-read n s t zero k r h = λ e. record { text = refl; length-kept = refl; below = λ j p. refl }
 lines-read n s t (suc m) k r h =
-    on-ins (λ z. z .verdict ≡ Verdict.Accepted → LinesRead t (suc m) k r z) (insLine n t (r .at)) r k (λ x. insFrom n t m (suc k) x)
+    on-ins (λ z. Accepted (z .verdict) → LinesRead t (suc m) k r z) (insLine n t (r .at)) r k (λ x. insFrom n t m (suc k) x)
     (λ v i f e.
     let y : ProgramReading = withLine r k v i in
     let b : Line = record { instruction = v } in
@@ -221,11 +236,11 @@ lines-read n s t (suc m) k r h =
     (λ why e. clash (cc))
 
 program-text :
-    (n : ℕ) → n ≤ 256 → (t : List ℕ) (at line : ℕ) → readProgram n t at line .verdict ≡ Verdict.Accepted →
+    (n : ℕ) → n ≤ 256 → (t : List ℕ) (at line : ℕ) → Accepted (readProgram n t at line .verdict) →
     drop at t ≡ programText (readProgram n t at line .program) ++ drop (readProgram n t at line .at) t
 unfolding readProgram
 program-text n s t at line =
-    on-sheet (λ x. x .verdict ≡ Verdict.Accepted → drop at t ≡ programText (x .program) ++ drop (x .at) t) n t (sheetLine t at) line
+    on-sheet (λ x. Accepted (x .verdict) → drop at t ≡ programText (x .program) ++ drop (x .at) t) n t (sheetLine t at) line
     (λ m i f e.
     let q = lines-read n s t m 0 (afterLength m i (suc line)) (omega (arith, sheet-read t at m i f .fits, length-replicate 32 noLine)) e in
     rw (q .length-kept, append-assoc (sheetText m)) (sheet-text t at m i f ∙ ap (λ (l : List ℕ). sheetText m ++ l) (q .text)))
@@ -234,21 +249,18 @@ program-text n s t at line =
 -- ---- the programs
 record ProgramsRead (t : List ℕ) (m k : ℕ) (r z : Reading) : Type 0 where
   text : drop (r .at) t ≡ programsText m k (z .contents .code) ++ drop (z .at) t
-  processes : z .contents .processes ≡ r .contents .processes
-  variables : z .contents .variables ≡ r .contents .variables
-  programs : z .contents .programs ≡ r .contents .programs
-  limit : z .contents .limit ≡ r .contents .limit
+  fields : SameFields r z
   starts : z .contents .starts ≡ r .contents .starts
   below : (j : ℕ) → j < k → getD (z .contents .code) j noProgram ≡ getD (r .contents .code) j noProgram
 
 programs-read :
-    (t : List ℕ) (m k : ℕ) (r : Reading) → r .contents .variables ≤ 256 → k + m ≤ length (r .contents .code) → programsFrom t m k r .verdict ≡ Verdict.Accepted →
-    ProgramsRead t m k r (programsFrom t m k r)
+    (t : List ℕ) (m k : ℕ) (r : Reading) → r .contents .variables ≤ 256 → k + m ≤ length (r .contents .code) →
+    Accepted (programsFrom t m k r .verdict) → ProgramsRead t m k r (programsFrom t m k r)
 unfolding programsFrom programsText
-programs-read t zero k r s h = λ e. record { text = refl; processes = refl; variables = refl; programs = refl; limit = refl; starts = refl; below = λ j p. refl }
+programs-read t zero k r s h = λ e. record { text = refl; fields = same; starts = refl; below = λ j p. refl }
 programs-read t (suc m) k r s h =
     let x = readProgram (r .contents .variables) t (r .at) (r .line) in
-    on-program (λ z. z .verdict ≡ Verdict.Accepted → ProgramsRead t (suc m) k r z) (x .verdict) x r k (λ y. programsFrom t m (suc k) y)
+    on-program (λ z. Accepted (z .verdict) → ProgramsRead t (suc m) k r z) (x .verdict) x r k (λ y. programsFrom t m (suc k) y)
     (λ a e.
     let q = programs-read t m (suc k) (withProgram r k x) s (omega (arith, length-set (r .contents .code) k (x .program))) e in
     let g : getD (programsFrom t m (suc k) (withProgram r k x) .contents .code) k noProgram ≡ x .program =
@@ -257,10 +269,7 @@ programs-read t (suc m) k r s h =
       text =
           rw (g, append-assoc (programText (x .program)))
           (program-text (r .contents .variables) s t (r .at) (r .line) a ∙ ap (λ (l : List ℕ). programText (x .program) ++ l) (q .text));
-      processes = q .processes;
-      variables = q .variables;
-      programs = q .programs;
-      limit = q .limit;
+      fields = q .fields;
       starts = q .starts;
       below = λ j p. q .below j (omega arith) ∙ getD-set-other (r .contents .code) k j (x .program) noProgram (λ (z : j ≡ k). omega arith);
     })
@@ -271,6 +280,10 @@ programs-read t (suc m) k r s h =
 abbrev SoFar : List ℕ → Reading → Type 0
 SoFar t z = t ≡ textOf (fresh (z .contents)) ++ drop (z .at) t
 
+-- a reading that is accepted has the card that writes as t
+abbrev WritesAs : List ℕ → Reading → Type 0
+WritesAs t z = Accepted (z .verdict) → textOf (fresh (z .contents)) ≡ t
+
 module _ (t : List ℕ) (p n s l i : ℕ) (f : cardLine t 0 ≡ CardLine.Fields p n s l i) where
   abbrev begun : Reading
   begun = afterFields p n s l i
@@ -279,54 +292,56 @@ module _ (t : List ℕ) (p n s l i : ℕ) (f : cardLine t 0 ≡ CardLine.Fields 
   unfolding textOf fresh
   all-read v z a b =
       let c = card-read t 0 p n s l i f .fits in
-      let x₁ : z .contents .processes ≡ p = b .processes ∙ a .processes in
-      let x₂ : z .contents .variables ≡ n = b .variables ∙ a .variables in
-      let x₃ : z .contents .programs ≡ s = b .programs ∙ a .programs in
-      let x₄ : z .contents .limit ≡ l = b .limit ∙ a .limit in
+      let x₁ : z .contents .processes ≡ p = b .fields .processes ∙ a .fields .processes in
+      let x₂ : z .contents .variables ≡ n = b .fields .variables ∙ a .fields .variables in
+      let x₃ : z .contents .programs ≡ s = b .fields .programs ∙ a .fields .programs in
+      let x₄ : z .contents .limit ≡ l = b .fields .limit ∙ a .fields .limit in
       let q : eqb p 0 ≡ false = ne-eqb p 0 (λ (y : p ≡ 0). omega (arith, c .processes)) in
       let w : t ≡ cardText p n s l ++ (varsText n 0 (v .contents .starts) ++ (programsText s 0 (z .contents .code) ++ drop (z .at) t)) =
       card-text t 0 p n s l i f
       ∙ ap (λ (y : List ℕ). cardText p n s l ++ y) (a .text ∙ ap (λ (y : List ℕ). varsText n 0 (v .contents .starts) ++ y) (b .text)) in
       rw (x₁, x₂, x₃, x₄, b .starts, q) (w ∙ simp append-assoc)
 
-  programs-after : (v : Reading) → VarsRead t n 0 begun v → programsFrom t s 0 v .verdict ≡ Verdict.Accepted → SoFar t (programsFrom t s 0 v)
+  programs-after : (v : Reading) → VarsRead t n 0 begun v → Accepted (programsFrom t s 0 v .verdict) → SoFar t (programsFrom t s 0 v)
   programs-after v a e =
       let c = card-read t 0 p n s l i f .fits in
       all-read v (programsFrom t s 0 v) a
       (programs-read t s 0 v
-      (omega (arith, c .variables, a .variables))
+      (omega (arith, c .variables, a .fields .variables))
       (rw (a .code) (omega (arith, c .programs, length-replicate 8 noProgram)))
       e)
 
-  vars-there : varsFrom t n 0 begun .verdict ≡ Verdict.Accepted → VarsRead t n 0 begun (varsFrom t n 0 begun)
+  vars-there : Accepted (varsFrom t n 0 begun .verdict) → VarsRead t n 0 begun (varsFrom t n 0 begun)
   vars-there e = vars-read t n 0 begun (omega (arith, card-read t 0 p n s l i f .fits .variables, length-replicate {A = ℕ} 64 0)) e
 
-  body-there : (v : Reading) → (v .verdict ≡ Verdict.Accepted → VarsRead t n 0 begun v) → thenPrograms t s v .verdict ≡ Verdict.Accepted → SoFar t (thenPrograms t s v)
+  body-there :
+      (v : Reading) → (Accepted (v .verdict) → VarsRead t n 0 begun v) → Accepted (thenPrograms t s v .verdict) →
+      SoFar t (thenPrograms t s v)
   body-there v a =
-      on-accepted (λ z. z .verdict ≡ Verdict.Accepted → SoFar t z) v (λ x. programsFrom t s 0 x)
+      on-accepted (λ z. Accepted (z .verdict) → SoFar t z) v (λ x. programsFrom t s 0 x)
       (λ q. programs-after v (a q)) (λ why line q e. clash (cc))
 
-  end-there : (z : Reading) → SoFar t z → atEnd t z .verdict ≡ Verdict.Accepted → textOf (fresh (atEnd t z .contents)) ≡ t
+  end-there : (z : Reading) → SoFar t z → WritesAs t (atEnd t z)
   end-there z q =
-      on-test (λ (y : Reading). y .verdict ≡ Verdict.Accepted → textOf (fresh (y .contents)) ≡ t) (eqb (z .at) (length t))
+      on-test (WritesAs t) (eqb (z .at) (length t))
       (λ h e. sym (q ∙ rw (eqb-true (z .at) (length t) h, drop-length t, append-nil)))
       (λ h e. clash (cc))
 
-  card-there : (z : Reading) → (z .verdict ≡ Verdict.Accepted → SoFar t z) → thenEnd t z .verdict ≡ Verdict.Accepted → textOf (fresh (thenEnd t z .contents)) ≡ t
+  card-there : (z : Reading) → (Accepted (z .verdict) → SoFar t z) → WritesAs t (thenEnd t z)
   card-there z a =
-      on-accepted (λ y. y .verdict ≡ Verdict.Accepted → textOf (fresh (y .contents)) ≡ t) z (λ x. atEnd t x)
+      on-accepted (WritesAs t) z (λ x. atEnd t x)
       (λ q. end-there z (a q)) (λ why line q e. clash (cc))
 
-  fields-there : thenEnd t (thenPrograms t s (varsFrom t n 0 begun)) .verdict ≡ Verdict.Accepted → textOf (fresh (thenEnd t (thenPrograms t s (varsFrom t n 0 begun)) .contents)) ≡ t
+  fields-there : WritesAs t (thenEnd t (thenPrograms t s (varsFrom t n 0 begun)))
   fields-there = card-there (thenPrograms t s (varsFrom t n 0 begun)) (body-there (varsFrom t n 0 begun) vars-there)
 
 -- a text that opens is given back byte for byte
 pub given-back : (t : List ℕ) → opened t .verdict ≡ Verdict.Accepted → textOf (opened t .card) ≡ t
 unfolding opened readCard
 given-back t =
-    on-test (λ (y : Reading). y .verdict ≡ Verdict.Accepted → textOf (fresh (y .contents)) ≡ t) (ltb 16384 (length t))
+    on-test (WritesAs t) (ltb 16384 (length t))
     (λ h e. clash (cc))
-    (λ h. on-card (λ y. y .verdict ≡ Verdict.Accepted → textOf (fresh (y .contents)) ≡ t) t (cardLine t 0) (fields-there t) (λ why e. clash (cc)))
+    (λ h. on-card (WritesAs t) t (cardLine t 0) (fields-there t) (λ why e. clash (cc)))
 
 -- what is written of it opens to the same card
 pub reads-back : (t : List ℕ) → opened t .verdict ≡ Verdict.Accepted → opened (textOf (opened t .card)) ≡ opened t
@@ -337,27 +352,25 @@ pub injective : (t u : List ℕ) → opened t .verdict ≡ Verdict.Accepted → 
 injective t u p q e = sym (given-back t p) ∙ ap textOf e ∙ given-back u q
 
 -- ---- a refused text opens to the empty card, which writes as no bytes
-abbrev Refused : Verdict → Type 0
-Refused v = v ≡ Verdict.Accepted → ⊥
-
 -- a reading that is refused has no contents
 abbrev Empty : Reading → Type 0
-Empty r = Refused (r .verdict) → r .contents ≡ noContents
+Empty r = (Accepted (r .verdict) → ⊥) → r .contents ≡ noContents
 
-vars-empty : (t : List ℕ) (m k : ℕ) (r : Reading) → r .verdict ≡ Verdict.Accepted → Empty (varsFrom t m k r)
+vars-empty : (t : List ℕ) (m k : ℕ) (r : Reading) → Accepted (r .verdict) → Empty (varsFrom t m k r)
 unfolding varsFrom
 vars-empty t zero k r e = λ n. absurd (n e)
 vars-empty t (suc m) k r e =
     on-var Empty (varLine t (r .at)) r k (λ x. varsFrom t m (suc k) x) (λ v i _. vars-empty t m (suc k) (withStart r k v i) refl) (λ why n. refl)
 
-programs-empty : (t : List ℕ) (m k : ℕ) (r : Reading) → r .verdict ≡ Verdict.Accepted → Empty (programsFrom t m k r)
+programs-empty : (t : List ℕ) (m k : ℕ) (r : Reading) → Accepted (r .verdict) → Empty (programsFrom t m k r)
 unfolding programsFrom
 programs-empty t zero k r e = λ n. absurd (n e)
 programs-empty t (suc m) k r e =
     let x = readProgram (r .contents .variables) t (r .at) (r .line) in
-    on-program Empty (x .verdict) x r k (λ y. programsFrom t m (suc k) y) (λ _. programs-empty t m (suc k) (withProgram r k x) refl) (λ why line n. refl)
+    on-program Empty (x .verdict) x r k (λ y. programsFrom t m (suc k) y)
+    (λ _. programs-empty t m (suc k) (withProgram r k x) refl) (λ why line n. refl)
 
-end-empty : (t : List ℕ) (r : Reading) → r .verdict ≡ Verdict.Accepted → Empty (atEnd t r)
+end-empty : (t : List ℕ) (r : Reading) → Accepted (r .verdict) → Empty (atEnd t r)
 end-empty t r e = on-test Empty (eqb (r .at) (length t)) (λ h n. absurd (n e)) (λ h n. refl)
 
 read-empty : (t : List ℕ) → Empty (readCard t)

@@ -25,8 +25,8 @@ use Rattle.construction.proofs.Basics.{on-test, set-keeps, active-not-d
 use Rattle.construction.proofs.Stages.{isAnnounced, announces, Stage, stage}
 
 -- a flag that is active after was active before
-abbrev Before : Card → ℕ → Card → Type 0
-Before c i d = announcementAt d i .flag ≡ Active → announcementAt c i .flag ≡ Active
+abbrev ActiveBefore : Card → ℕ → Card → Type 0
+ActiveBefore c i d = announcementAt d i .flag ≡ Active → announcementAt c i .flag ≡ Active
 
 set-active :
     (l : List Announcement) (m j : ℕ) (x : Announcement) → (x .flag ≡ Active → getD l m openAnnouncement .flag ≡ Active) →
@@ -40,19 +40,19 @@ unfolding swapAnnouncement
 swap-active cell expected new ne =
     on-test (λ (x : Announcement). x .flag ≡ Active → cell .flag ≡ Active) (sameAnnouncement cell expected) (λ _ h. absurd (ne h)) (λ _ h. h)
 
-gate-active : (a : GateAccess) (c : Card) (i : ℕ) → Before c i (accessGate a c i)
+gate-active : (a : GateAccess) (c : Card) (i : ℕ) → ActiveBefore c i (accessGate a c i)
 unfolding accessGate
 gate-active (GateAccess.Read held free) c i h = h
 gate-active GateAccess.ReadLast c i h = h
 gate-active GateAccess.Nominate c i h = h
 gate-active (GateAccess.Release next) c i h = h
 
-help-active : (c : Card) (i : ℕ) (s : Simulation) (d : Dictionary) → Before c i (help c i s d)
+help-active : (c : Card) (i : ℕ) (s : Simulation) (d : Dictionary) → ActiveBefore c i (help c i s d)
 unfolding help
 help-active c i s d h = h
 
 announcement-active :
-    (a : AnnouncementAccess) (c : Card) (i : ℕ) → announces (Access.Announcement a) ≡ false → Before c i (accessAnnouncement a c i)
+    (a : AnnouncementAccess) (c : Card) (i : ℕ) → announces (Access.Announcement a) ≡ false → ActiveBefore c i (accessAnnouncement a c i)
 unfolding accessAnnouncement
 announcement-active AnnouncementAccess.Announce c i e = absurd (true≢false e)
 announcement-active AnnouncementAccess.Withdraw c i e =
@@ -61,25 +61,25 @@ announcement-active (AnnouncementAccess.ReadOwn done active exit) c i e = λ h. 
 announcement-active AnnouncementAccess.ReadFirst c i e = λ h. h
 announcement-active AnnouncementAccess.Help c i e =
     let a = announcementAt c (holderOf (heldAt c i .holder)) in
-    on-test (Before c i) (helps a (heldAt c i .seq)) (λ _. help-active (withCopy c i a) i started empty) (λ _ h. h)
+    on-test (ActiveBefore c i) (helps a (heldAt c i .seq)) (λ _. help-active (withCopy c i a) i started empty) (λ _ h. h)
 announcement-active (AnnouncementAccess.Finish flag next) c i e =
     set-active (c .announcements) (holderOf (heldAt c i .holder)) i _ (swap-active _ _ (finished c i) (λ z. active-not-done z refl))
 
-record-active : (a : RecordAccess) (c : Card) (i : ℕ) → Before c i (accessRecord a c i)
+record-active : (a : RecordAccess) (c : Card) (i : ℕ) → ActiveBefore c i (accessRecord a c i)
 unfolding accessRecord
 record-active RecordAccess.Read c i =
-    on-test (Before c i) (ltb (heldAt c i .seq) (recordAt c (taskAt c i .target) .seq)) (λ _ h. h) (λ _. help-active c i _ _)
+    on-test (ActiveBefore c i) (ltb (heldAt c i .seq) (recordAt c (taskAt c i .target) .seq)) (λ _ h. h) (λ _. help-active c i _ _)
 record-active RecordAccess.Swap c i = λ h. h
 
 -- every access but that of P3
-access-active : (a : Access) (c : Card) (i : ℕ) → announces a ≡ false → Before c i (perform a c i)
+access-active : (a : Access) (c : Card) (i : ℕ) → announces a ≡ false → ActiveBefore c i (perform a c i)
 unfolding perform
 access-active Access.None c i e = λ h. h
 access-active (Access.Gate a) c i e = gate-active a c i
 access-active (Access.Announcement a) c i e = announcement-active a c i e
 access-active (Access.Record a) c i e = record-active a c i
 
-place-active : {l : Place} → Stage l → isAnnounced l ≡ true → (exit : Bool) (c : Card) (i : ℕ) → Before c i (perform (accessOf l exit) c i)
+place-active : {l : Place} → Stage l → isAnnounced l ≡ true → (exit : Bool) (c : Card) (i : ℕ) → ActiveBefore c i (perform (accessOf l exit) c i)
 place-active Stage.idle t exit c i = absurd (false≢true t)
 place-active Stage.called t exit c i = absurd (false≢true t)
 place-active Stage.numbered t exit c i = absurd (false≢true t)

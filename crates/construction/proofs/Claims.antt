@@ -1,4 +1,4 @@
--- Claims of a process about the world, and that each stays so when another process moves.
+-- What a process may claim of the world, and that no move of another process interferes with it.
 use Prim.Native.Nat.{ℕ, _+_, _≤_, _<_}
 use mathlib.Core.Path.{_≡_, refl, sym, ap, _∙_}
 use mathlib.Core.Logic.{_≢_, _⊎_, inl, inr, ⊎-elim}

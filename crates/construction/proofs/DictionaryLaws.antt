@@ -1,4 +1,4 @@
--- The dictionary as a list of items: look-up, an item with another value, one item more, and the items to write.
+-- The dictionary (lines H20 to H32) as a list of items: look-up, an item with another value, one item more, and the items to write.
 use Prim.Native.Nat.{ℕ, zero, suc, _+_, _-_, _≤_, _<_}
 use mathlib.Core.Path.{_≡_, refl, sym, ap, _∙_}
 use mathlib.Core.Bool.{Bool, true, false, cond, false≢true}

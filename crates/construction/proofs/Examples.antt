@@ -1,4 +1,4 @@
--- Every row of the table of worked pieces holds, by computation.
+-- Every row of the table of worked pieces (document 01, 'Proving pieces') holds, by computation.
 use mathlib.Core.Path.{refl}
 use Rattle.grammar.specs.Reading.{four, field, number, digits, hasWord}
 use Rattle.construction.specs.Opening.{opened, readCard, varsFrom, programsFrom, readProgram, insFrom, fresh}

@@ -217,7 +217,7 @@ inv-call c w i k inputs I lt b =
     Q : Quiet w i
     Q = at-rest I i lt b .0
 
--- an exit request that is taken: no process knows of its own
+-- an exit request that is taken: no assertion speaks of it
 pub inv-exit : (c : Card) (w : World) (i : ℕ) (b : Bool) → Inv c w → Inv (withExit c i b) w
 inv-exit c w i b I = record {
   cells = I .cells;

@@ -1,4 +1,4 @@
--- Every move keeps the world good.
+-- Every move keeps the world good (lines P3, P6, P13, H36, P19, P20, P21 and F3; and a call).
 use Prim.Native.Nat.{ℕ, suc, _+_, _≤_, _<_}
 use mathlib.Core.Path.{_≡_, refl, sym, subst, ap, _∙_}
 use mathlib.Core.Bool.{Bool, true, false, cond, not}

@@ -1,4 +1,4 @@
--- After any list of entries numbers stay within their 64 bits and dictionaries within their items.
+-- After any list of entries numbers stay within their 64 bits and dictionaries within their items, no variable twice (specs/Limits).
 use Prim.Native.Nat.{ℕ, zero, suc, _≤_, _<_}
 use mathlib.Core.Path.{_≡_, refl, sym, ap}
 use mathlib.Core.Bool.{true, false, false≢true}

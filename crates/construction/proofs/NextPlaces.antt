@@ -33,7 +33,7 @@ use Rattle.construction.specs.Machine.{byHolder, byFlag, holderOf, first
 use Rattle.construction.proofs.Basics.{on-test}
 use Rattle.construction.proofs.Stages.{isAnnounced}
 
--- what is so of every place that an access can lead to
+-- what is so of every place that an access can lead to; no step makes the access None
 module _ (Q : Place → Type 0) where
   abbrev GateLeads : GateAccess → Type 0
   GateLeads (GateAccess.Read held free) = Q held × Q free

@@ -1,4 +1,4 @@
--- The sequential run: one instruction, its length, and that fuel past the end changes nothing.
+-- The sequential run: one instruction at a time, as many words at its end as at its start, and fuel past the end changes nothing.
 use Prim.Native.Nat.{ℕ, zero, suc, _+_, _≤_, _<_, min}
 use mathlib.Core.Path.{_≡_, refl, sym, ap, _∙_}
 use mathlib.Core.Bool.{Bool, true, false}

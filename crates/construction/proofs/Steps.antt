@@ -1,4 +1,4 @@
--- Every accepted step: the access of a place keeps what its process knows.
+-- Every accepted step: after the access of its place a process knows what its next place asks for.
 use Prim.Native.Nat.{ℕ}
 use mathlib.Core.Path.{_≡_}
 use mathlib.Core.Bool.{Bool, true, false, true≢false}

@@ -1,4 +1,4 @@
--- Instructions and lines of a card text, by the tests that decide them.
+-- Instructions and lines of a card text, by the tests that decide them (document 01, 'The card text').
 use mathlib.Core.Bool.{Bool, true, false, _&&_}
 use mathlib.Core.Path.{_≡_, refl, sym, _∙_, ap}
 use mathlib.Core.List.{List}

@@ -1,4 +1,5 @@
--- A text that opens is the text of the card that it opens to.
+-- A text that opens is the text of the card that it opens to; a refused one opens to the empty card, which writes as no bytes
+-- (document 01, 'The card text' and 'Turned back').
 use mathlib.Core.Bool.{Bool, true, false, cond, _&&_}
 use mathlib.Core.Path.{_≡_, refl, sym, _∙_, ap}
 use mathlib.Core.List.{List, [], _++_, append-assoc, append-nil}

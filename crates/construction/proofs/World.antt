@@ -1,4 +1,4 @@
--- What the processes share, with what the proof adds to it, and the moves that an entry makes of it.
+-- The shared cells with the ghost state of the proof, what holds of them after every list of entries, and the moves that an entry makes.
 use Prim.Native.Nat.{ℕ, suc, _+_, _≤_, _<_}
 use mathlib.Core.Path.{_≡_}
 use mathlib.Core.Logic.{_≢_, _⊎_}

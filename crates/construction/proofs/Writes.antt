@@ -1,4 +1,4 @@
--- From the end of a simulation to the writes: the next place of a helper.
+-- From the end of a simulation to the writes (lines H31 and H32): the next place of a helper.
 use Prim.Native.Nat.{ℕ, _<_}
 use mathlib.Core.Path.{_≡_, sym, _∙_}
 use mathlib.Core.Bool.{true, false, not}

@@ -84,51 +84,46 @@ module _ {c : Card} {w : World} {i : ℕ} (B : Before c w i) where
   abbrev read : Place → Local
   read l = atTask (atCopy (localAt c i) (announcementAt c i)) (record { place = l; target = i })
 
-  answered : announcementAt c i .flag ≡ Done → Mine (viewOf W i) (operationAt c i) → Loc F W i (read F1)
-  answered e q = record { done = e; same = refl; out = q .own .out e }
-
-  read-P7 : (f : Flag) → announcementAt c i .flag ≡ f → L P7 → Loc F W i (read (byFlag f F1 P10 P10))
-  read-P7 Done e q = answered e q
-  read-P7 Active e q = q
-  read-P7 Exit e q = q
+  -- lines P7, C4 and P22: by the flag that is read
+  at-own :
+      (active exit : Place) → Mine (viewOf W i) (operationAt c i) → (announcementAt c i .flag ≡ Active → Loc F W i (read active)) →
+      (announcementAt c i .flag ≡ Exit → Loc F W i (read exit)) →
+      Acted c W i (accessAnnouncement (AnnouncementAccess.ReadOwn F1 active exit) c i)
+  unfolding accessAnnouncement
+  at-own active exit mine a x = reads-announcement B (announcementAt c i) _ (go (announcementAt c i .flag) refl)
+    where
+      go : (f : Flag) → announcementAt c i .flag ≡ f → Loc F W i (read (byFlag f F1 active exit))
+      go Done e = record { done = e; same = refl; out = mine .own .out e }
+      go Active e = a e
+      go Exit e = x e
 
   pub at-P7 : L P7 → Acted c W i (accessAnnouncement (AnnouncementAccess.ReadOwn F1 P10 P10) c i)
-  unfolding accessAnnouncement
-  at-P7 q = reads-announcement B (announcementAt c i) _ (read-P7 (announcementAt c i .flag) refl q)
-
-  self : announcementAt c i .flag ≢ Done → L C4 → Loc F W i (read P13)
-  self nd q = (
-    q .0,
-    q .1,
-    B .inside,
-    record { below = q .2; fit = λ _ _. record { alive = nd; op = q .0 .own .op nd; right = inl refl } },
-    q .3,
-  )
-
-  read-C4 : (f : Flag) → announcementAt c i .flag ≡ f → L C4 → Loc F W i (read (byFlag f F1 P13 P13))
-  read-C4 Done e q = answered e (q .0)
-  read-C4 Active e q = self (active-not-done e) q
-  read-C4 Exit e q = self (exit-not-done e) q
+  at-P7 q = at-own P10 P10 q (λ _. q) (λ _. q)
 
   pub at-C4 : L C4 → Acted c W i (accessAnnouncement (AnnouncementAccess.ReadOwn F1 P13 P13) c i)
-  unfolding accessAnnouncement
-  at-C4 q = reads-announcement B (announcementAt c i) _ (read-C4 (announcementAt c i .flag) refl q)
-
-  read-P22 : (f : Flag) → announcementAt c i .flag ≡ f → L P22 → Loc F W i (read (byFlag f F1 P5 Idle))
-  read-P22 Done e q = answered e (q .0)
-  read-P22 Active e q = (
-    q .0,
-    e,
-    ap (λ (r : Operation). r .inputs) (q .0 .own .op (active-not-done e) ∙ sym (q .0 .called)),
-  )
-  read-P22 Exit e q = (
-    record { not-active = λ a. active-not-exit a e; free-of = q .1 .free-of e; late = q .1 .late },
-    record { same = refl; out = q .0 .own .out },
-  )
+  at-C4 q = at-own P13 P13 (q .0) (λ e. self (active-not-done e)) (λ e. self (exit-not-done e))
+    where
+      self : announcementAt c i .flag ≢ Done → Loc F W i (read P13)
+      self nd = (
+        q .0,
+        q .1,
+        B .inside,
+        record { below = q .2; fit = λ _ _. record { alive = nd; op = q .0 .own .op nd; right = inl refl } },
+        q .3,
+      )
 
   pub at-P22 : L P22 → Acted c W i (accessAnnouncement (AnnouncementAccess.ReadOwn F1 P5 Idle) c i)
-  unfolding accessAnnouncement
-  at-P22 q = reads-announcement B (announcementAt c i) _ (read-P22 (announcementAt c i .flag) refl q)
+  at-P22 q =
+      at-own P5 Idle (q .0)
+      (λ e. (
+        q .0,
+        e,
+        ap (λ (r : Operation). r .inputs) (q .0 .own .op (active-not-done e) ∙ sym (q .0 .called)),
+      ))
+      (λ e. (
+        record { not-active = λ a. active-not-exit a e; free-of = q .1 .free-of e; late = q .1 .late },
+        record { same = refl; out = q .0 .own .out },
+      ))
 
   read-C2 :
       (m : ℕ) → m < c .processes → (f : Flag) → announcementAt c m .flag ≡ f → L C2 →

@@ -70,29 +70,30 @@ module _ {c : Card} {w : World} {i : ℕ} (B : Before c w i) where
     limit = limit-now;
   }
 
-  read-P1 : (h : Holder) → L P1 → Loc F W i (read (byHolder h P3 P3))
-  read-P1 Nobody q = (q .0, q .1, B .good .left-below i, omega arith)
-  read-P1 (Process m) q = (q .0, q .1, B .good .left-below i, omega arith)
+  -- lines P1, P10 and P14: by the holder that is read
+  at-read :
+      (held nobody : Place) → ((m : ℕ) → c .gate .holder ≡ Process m → Loc F W i (read held)) →
+      (c .gate .holder ≡ Nobody → Loc F W i (read nobody)) → Acted c W i (accessGate (GateAccess.Read held nobody) c i)
+  unfolding accessGate
+  at-read held nobody a b = reads-gate B (byHolder (c .gate .holder) held nobody) (go (c .gate .holder) refl)
+    where
+      go : (h : Holder) → c .gate .holder ≡ h → Loc F W i (read (byHolder h held nobody))
+      go Nobody e = b e
+      go (Process m) e = a m e
 
   pub at-P1 : L P1 → Acted c W i (accessGate (GateAccess.Read P3 P3) c i)
-  unfolding accessGate
-  at-P1 q = reads-gate B (byHolder (c .gate .holder) P3 P3) (read-P1 (c .gate .holder) q)
-
-  read-P10 : (h : Holder) → c .gate .holder ≡ h → Mine (viewOf W i) (operationAt c i) → Loc F W i (read (byHolder h P16 C2))
-  read-P10 Nobody e q = (q, e, omega arith, limit-now)
-  read-P10 (Process m) e q = helper-now m e q
+  at-P1 q = at-read P3 P3 (λ _ _. next) (λ _. next)
+    where
+      next : Loc F W i (read P3)
+      next = (q .0, q .1, B .good .left-below i, omega arith)
 
   pub at-P10 : Mine (viewOf W i) (operationAt c i) → Acted c W i (accessGate (GateAccess.Read P16 C2) c i)
-  unfolding accessGate
-  at-P10 q = reads-gate B (byHolder (c .gate .holder) P16 C2) (read-P10 (c .gate .holder) refl q)
-
-  read-P14 : (h : Holder) → c .gate .holder ≡ h → L P14 → Loc F W i (read (byHolder h P16 P22))
-  read-P14 Nobody e q = (q .0, record { late = λ lv. q .1 .past lv e; free-of = λ _ h. nobody-process e h })
-  read-P14 (Process m) e q = helper-now m e (q .0)
+  at-P10 q = at-read P16 C2 (λ m e. helper-now m e q) (λ e. (q, e, omega arith, limit-now))
 
   pub at-P14 : L P14 → Acted c W i (accessGate (GateAccess.Read P16 P22) c i)
-  unfolding accessGate
-  at-P14 q = reads-gate B (byHolder (c .gate .holder) P16 P22) (read-P14 (c .gate .holder) refl q)
+  at-P14 q =
+      at-read P16 P22 (λ m e. helper-now m e (q .0))
+      (λ e. (q .0, record { late = λ x. q .1 .past x e; free-of = λ _. nobody-process e }))
 
   pub at-F1 : L F1 → Acted c W i (accessGate GateAccess.ReadLast c i)
   unfolding accessGate

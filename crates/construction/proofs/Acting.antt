@@ -1,7 +1,6 @@
 -- A step of process i: what is known before it, and what is to be shown of the card after its access.
 use Prim.Native.Nat.{ℕ, _≤_, _<_}
 use mathlib.Core.Path.{_≡_, refl}
-use lib.ListN.{length}
 use native.Mathlib.Omega.{arith}
 use Rattle.construction.specs.declared.Announcement.{Announcement}
 use Rattle.construction.specs.declared.Task.{Task}
@@ -33,10 +32,9 @@ worldOf c w =
       count = w .count;
     }
 
--- a dictionary has room for 32 items, and no variable stands in it twice
+-- a dictionary has at most 32 items, and no variable stands in it twice
 pub record Tidy (d : Dictionary) : Type 0 where
   pub short : d .length ≤ 32
-  pub full : length (d .items) ≡ 32
   pub keyed : Keyed (noted d)
 
 pub record Before (c : Card) (w : World) (i : ℕ) : Type 0 where
@@ -61,7 +59,7 @@ pub record Acted (c : Card) (w : World) (i : ℕ) (v : Card) : Type 0 where
 
 module _ {c : Card} {w : World} {i : ℕ} (B : Before c w i) where
   pub place-fits : i < 8
-  place-fits = omega (arith, B .good .few, B .inside)
+  place-fits = omega (arith, B .good .fits .few, B .inside)
 
   pub untouched : Updated c i c (localAt c i)
   untouched = unchanged c i (B .sizes)

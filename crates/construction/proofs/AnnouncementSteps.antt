@@ -21,23 +21,13 @@ use Rattle.construction.specs.declared.AnnouncementAccess.{AnnouncementA
 use Rattle.construction.specs.Cells.{openAnnouncement, sameAnnouncement, swapAnnouncement}
 use Rattle.construction.specs.Parts.{announcementAt, recordAt, taskAt, operationAt, heldAt, copyAt, simulationAt, withAnnouncement, withTask}
 use Rattle.construction.specs.Machine.{goTo, byFlag, holderOf, firstChoice, announced, flagged, withdrawn, finished, accessAnnouncement}
-use Rattle.construction.proofs.Basics.{on-test, sameAnnouncement-true, sameAnnouncement-false, active-not-done, active-not-exit, exit-not-done}
+use Rattle.construction.proofs.Basics.{on-test, announcement-path, sameAnnouncement-true, sameAnnouncement-false, active-not-done, active-not-exit, exit-not-done, else-done}
 use Rattle.construction.proofs.World.{Fixed, endingIn, World, announcementIn, roundIn, wordAt, operationOf, announcing, leaving, ending, Move}
 use Rattle.construction.proofs.World.Move.{announce, leave, end}
 use Rattle.construction.proofs.Claims.{viewOf, Change, end-change}
 use Rattle.construction.proofs.Locals.{Local, localAt, atTask, atCopy, fixedOf, Updated, announcement-updated, copy-updated, task-updated}
 use Rattle.construction.proofs.Places.{Mine, Helper, Plan, Ready, LocAt, Loc, helper-stays, plan-stays, ready-stays}
 use Rattle.construction.proofs.Acting.{worldOf, Before, Acted, place-fits, untouched, keeps, reads-announcement}
-
-announcement-path :
-    {a b : Announcement} → a .program ≡ b .program → a .flag ≡ b .flag → a .seq ≡ b .seq → a .words ≡ b .words → a ≡ b
-announcement-path e f g h = λ i. record { program = e i; flag = f i; seq = g i; words = h i }
-
--- what is neither active nor exit is done
-flag-done : (f : Flag) → f ≢ Active → f ≢ Exit → f ≡ Done
-flag-done Done a b = refl
-flag-done Active a b = absurd (a refl)
-flag-done Exit a b = absurd (b refl)
 
 -- line C1 names a process
 first-inside : (s p i : ℕ) → i < p → firstChoice s p < p
@@ -57,7 +47,7 @@ module _ {c : Card} {w : World} {i : ℕ} (B : Before c w i) where
   -- the announcement of m after it was set
   set-is : (m : ℕ) (a : Announcement) → m < c .processes → getD (set (c .announcements) m a) m openAnnouncement ≡ a
   set-is m a lt =
-      getD-set-same (c .announcements) m a openAnnouncement (omega (arith, B .good .few, B .good .size-announcements))
+      getD-set-same (c .announcements) m a openAnnouncement (omega (arith, B .good .fits .few, B .good .lengths .announcements))
 
   pub at-P3 : L P3 → Acted c W i (accessAnnouncement AnnouncementAccess.Announce c i)
   unfolding accessAnnouncement
@@ -80,7 +70,7 @@ module _ {c : Card} {w : World} {i : ℕ} (B : Before c w i) where
         loc = (
           record {
             own = record {
-              out = λ d. absurd (active-not-done _ (ap (λ (r : Announcement). r .flag) z) d);
+              out = λ d. absurd (active-not-done (ap (λ (r : Announcement). r .flag) z) d);
               op = λ _. ap operationOf z ∙ q .1;
             };
             called = q .1;
@@ -94,51 +84,46 @@ module _ {c : Card} {w : World} {i : ℕ} (B : Before c w i) where
   abbrev read : Place → Local
   read l = atTask (atCopy (localAt c i) (announcementAt c i)) (record { place = l; target = i })
 
-  answered : announcementAt c i .flag ≡ Done → Mine (viewOf W i) (operationAt c i) → Loc F W i (read F1)
-  answered e q = record { done = e; same = refl; out = q .own .out e }
-
-  read-P7 : (f : Flag) → announcementAt c i .flag ≡ f → L P7 → Loc F W i (read (byFlag f F1 P10 P10))
-  read-P7 Done e q = answered e q
-  read-P7 Active e q = q
-  read-P7 Exit e q = q
+  -- lines P7, C4 and P22: by the flag that is read
+  at-own :
+      (active exit : Place) → Mine (viewOf W i) (operationAt c i) → (announcementAt c i .flag ≡ Active → Loc F W i (read active)) →
+      (announcementAt c i .flag ≡ Exit → Loc F W i (read exit)) →
+      Acted c W i (accessAnnouncement (AnnouncementAccess.ReadOwn F1 active exit) c i)
+  unfolding accessAnnouncement
+  at-own active exit mine a x = reads-announcement B (announcementAt c i) _ (go (announcementAt c i .flag) refl)
+    where
+      go : (f : Flag) → announcementAt c i .flag ≡ f → Loc F W i (read (byFlag f F1 active exit))
+      go Done e = record { done = e; same = refl; out = mine .own .out e }
+      go Active e = a e
+      go Exit e = x e
 
   pub at-P7 : L P7 → Acted c W i (accessAnnouncement (AnnouncementAccess.ReadOwn F1 P10 P10) c i)
-  unfolding accessAnnouncement
-  at-P7 q = reads-announcement B (announcementAt c i) _ (read-P7 (announcementAt c i .flag) refl q)
-
-  self : announcementAt c i .flag ≢ Done → L C4 → Loc F W i (read P13)
-  self nd q = (
-    q .0,
-    q .1,
-    B .inside,
-    record { below = q .2; fit = λ _ _. record { alive = nd; op = q .0 .own .op nd; right = inl refl } },
-    q .3,
-  )
-
-  read-C4 : (f : Flag) → announcementAt c i .flag ≡ f → L C4 → Loc F W i (read (byFlag f F1 P13 P13))
-  read-C4 Done e q = answered e (q .0)
-  read-C4 Active e q = self (λ d. active-not-done _ e d) q
-  read-C4 Exit e q = self (λ d. exit-not-done _ e d) q
+  at-P7 q = at-own P10 P10 q (λ _. q) (λ _. q)
 
   pub at-C4 : L C4 → Acted c W i (accessAnnouncement (AnnouncementAccess.ReadOwn F1 P13 P13) c i)
-  unfolding accessAnnouncement
-  at-C4 q = reads-announcement B (announcementAt c i) _ (read-C4 (announcementAt c i .flag) refl q)
-
-  read-P22 : (f : Flag) → announcementAt c i .flag ≡ f → L P22 → Loc F W i (read (byFlag f F1 P5 Idle))
-  read-P22 Done e q = answered e (q .0)
-  read-P22 Active e q = (
-    q .0,
-    e,
-    ap (λ (r : Operation). r .inputs) (q .0 .own .op (λ d. active-not-done _ e d) ∙ sym (q .0 .called)),
-  )
-  read-P22 Exit e q = (
-    record { not-active = λ a. active-not-exit _ a e; free-of = q .1 .free-of e; late = q .1 .late },
-    record { same = refl; out = q .0 .own .out },
-  )
+  at-C4 q = at-own P13 P13 (q .0) (λ e. self (active-not-done e)) (λ e. self (exit-not-done e))
+    where
+      self : announcementAt c i .flag ≢ Done → Loc F W i (read P13)
+      self nd = (
+        q .0,
+        q .1,
+        B .inside,
+        record { below = q .2; fit = λ _ _. record { alive = nd; op = q .0 .own .op nd; right = inl refl } },
+        q .3,
+      )
 
   pub at-P22 : L P22 → Acted c W i (accessAnnouncement (AnnouncementAccess.ReadOwn F1 P5 Idle) c i)
-  unfolding accessAnnouncement
-  at-P22 q = reads-announcement B (announcementAt c i) _ (read-P22 (announcementAt c i .flag) refl q)
+  at-P22 q =
+      at-own P5 Idle (q .0)
+      (λ e. (
+        q .0,
+        e,
+        ap (λ (r : Operation). r .inputs) (q .0 .own .op (active-not-done e) ∙ sym (q .0 .called)),
+      ))
+      (λ e. (
+        record { not-active = λ a. active-not-exit a e; free-of = q .1 .free-of e; late = q .1 .late },
+        record { same = refl; out = q .0 .own .out },
+      ))
 
   read-C2 :
       (m : ℕ) → m < c .processes → (f : Flag) → announcementAt c m .flag ≡ f → L C2 →
@@ -151,9 +136,9 @@ module _ {c : Card} {w : World} {i : ℕ} (B : Before c w i) where
     record {
       below = q .2;
       fit = λ _ _. record {
-        alive = λ d. active-not-done _ e d;
+        alive = active-not-done e;
         op = B .good .active-operation m e;
-        right = inr (λ x. absurd (active-not-exit _ e x));
+        right = inr (λ x. absurd (active-not-exit e x));
       };
     },
     q .3,
@@ -210,8 +195,8 @@ module _ {c : Card} {w : World} {i : ℕ} (B : Before c w i) where
             tidy = B .tidy;
             loc = record {
               own = record {
-                out = λ d. absurd (exit-not-done _ (ap (λ (r : Announcement). r .flag) y) d);
-                op = λ _. ap operationOf y ∙ q .0 .own .op (λ d. active-not-done _ fa d);
+                out = λ d. absurd (exit-not-done (ap (λ (r : Announcement). r .flag) y) d);
+                op = λ _. ap operationOf y ∙ q .0 .own .op (active-not-done fa);
               };
               called = q .0 .called;
             };
@@ -273,27 +258,21 @@ module _ {c : Card} {w : World} {i : ℕ} (B : Before c w i) where
   at-P19 q =
       on-test (λ a. Acted c W i (swapped helped a P20))
       (sameAnnouncement (announcementAt c helped) (flagged (copyAt c i) Active))
-      (λ e. ends P20 Active na (q .0) (q .1) (q .2) (sameAnnouncement-true _ _ e) (λ M C. (
+      (λ e. ends P20 Active (active-not-done refl) (q .0) (q .1) (q .2) (sameAnnouncement-true _ _ e) (λ M C. (
         helper-stays (B .good) M C (q .0),
         plan-stays (B .good) M (heldAt c i) (copyAt c i) (q .0 .seen) (q .1),
         ready-stays (B .good) M (heldAt c i .seq) (q .1 .number) (q .1 .below) (simulationAt c i .outputs) (q .2),
-        record { isnt = λ _ _ a. active-not-done _ a (is-done helped (q .0 .inside)) },
+        record { isnt = λ _ _ a. active-not-done a (is-done helped (q .0 .inside)) },
       )))
       (λ e. lost helped P20
-      (q .0, q .1, q .2, record { isnt = missed P20 Active na (q .0) (q .1) (q .2) e }))
-    where
-      na : Active ≢ Done
-      na d = active-not-done Active refl d
+      (q .0, q .1, q .2, record { isnt = missed P20 Active (active-not-done refl) (q .0) (q .1) (q .2) e }))
 
   pub at-P20 : L P20 → Acted c W i (accessAnnouncement (AnnouncementAccess.Finish Exit P21) c i)
   unfolding accessAnnouncement swapAnnouncement
   at-P20 q =
       on-test (λ a. Acted c W i (swapped helped a P21))
       (sameAnnouncement (announcementAt c helped) (flagged (copyAt c i) Exit))
-      (λ e. ends P21 Exit ne (q .0) (q .1) (q .2) (sameAnnouncement-true _ _ e)
+      (λ e. ends P21 Exit (exit-not-done refl) (q .0) (q .1) (q .2) (sameAnnouncement-true _ _ e)
       (λ M C. (helper-stays (B .good) M C (q .0), record { over = λ _ _. is-done helped (q .0 .inside) })))
       (λ e. lost helped P21
-      (q .0, record { over = λ h z. flag-done _ (q .3 .isnt h z) (missed P21 Exit ne (q .0) (q .1) (q .2) e h z) }))
-    where
-      ne : Exit ≢ Done
-      ne d = exit-not-done Exit refl d
+      (q .0, record { over = λ h z. else-done _ (q .3 .isnt h z) (missed P21 Exit (exit-not-done refl) (q .0) (q .1) (q .2) e h z) }))

@@ -14,7 +14,7 @@ use Rattle.construction.specs.declared.Holder.the-variants.{Nobody, Proc
 use Rattle.construction.specs.declared.Flag.{Flag}
 use Rattle.construction.specs.declared.Flag.the-variants.{Done, Active, Exit}
 use Rattle.construction.specs.declared.Place.{Place}
-use Rattle.construction.specs.declared.Place.the-variants.{Idle, P1, P3, P5, P7, P10, C2, C4, P13, P14, P16, H21, H36, P19, P20, P21, P22, F1, F3}
+use Rattle.construction.specs.declared.Place.the-variants.{Idle}
 use Rattle.construction.specs.declared.Answer.{Answer}
 use Rattle.construction.specs.Cells.{isDone, current, previous}
 use Rattle.construction.specs.Parts.{announcementAt, recordAt, taskAt, countAt, copyAt}
@@ -23,6 +23,7 @@ use Rattle.construction.proofs.Basics.{on-test, true-false, true-or-fal
 use Rattle.construction.proofs.World.{Fixed, Round, World, announcementIn, outputsIn, roundIn, wordAt, Phase, Good, Quiet}
 use Rattle.construction.proofs.Locals.{Local, localAt, fixedOf}
 use Rattle.construction.proofs.Places.{LocAt}
+use Rattle.construction.proofs.Stages.{isAnnounced, Stage, stage}
 use Rattle.construction.proofs.Acting.{worldOf}
 use Rattle.construction.proofs.Invariant.{Inv, at-rest}
 
@@ -53,8 +54,8 @@ module _ (c : Card) (w : World) (I : Inv c w) (v : ℕ) (vl : v < c .variables) 
       (m : ℕ) → Phase (Process m) W → (f : Flag) → announcementAt c m .flag ≡ f →
       shown (not (isDone f)) ≡ wordAt (w .words) v
   by-flag m ph Done e = good .recorded .words-are v vl (omega (arith, ph .1 e, ph .0))
-  by-flag m ph Active e = under-way m ph (λ d. active-not-done _ e d)
-  by-flag m ph Exit e = under-way m ph (λ d. exit-not-done _ e d)
+  by-flag m ph Active e = under-way m ph (active-not-done e)
+  by-flag m ph Exit e = under-way m ph (exit-not-done e)
 
   by-holder : (h : Holder) → Phase h W → shown (isPending c h) ≡ wordAt (w .words) v
   by-holder Nobody ph = good .recorded .words-are v vl (omega (arith, ph .0, ph .1))
@@ -88,54 +89,17 @@ module _ {c : Card} {w : World} (I : Inv c w) (i : ℕ) (lt : i < c .processes) 
       go Active e = absurd (q .0 .not-active e)
       go Exit e = inr (e, rw b)
 
--- the places of an announced operation: from P3 on until it returns
-abbrev pub isAnnounced : Place → Bool
-isAnnounced Idle = false
-isAnnounced P1 = false
-isAnnounced P3 = false
-isAnnounced P5 = true
-isAnnounced P7 = true
-isAnnounced P10 = true
-isAnnounced C2 = true
-isAnnounced C4 = true
-isAnnounced P13 = true
-isAnnounced P14 = true
-isAnnounced P16 = true
-isAnnounced H21 = true
-isAnnounced H36 = true
-isAnnounced P19 = true
-isAnnounced P20 = true
-isAnnounced P21 = true
-isAnnounced P22 = true
-isAnnounced F1 = true
-isAnnounced F3 = true
-
 module _ (F : Fixed) (w : World) (i : ℕ) (t : Local) where
-  quiet-at : (l : Place) → isAnnounced l ≡ false → LocAt l F w i t → Quiet w i
-  quiet-at Idle e q = q .0
-  quiet-at P1 e q = q .0
-  quiet-at P3 e q = q .0
-  quiet-at P5 e q = absurd (true-false true refl e)
-  quiet-at P7 e q = absurd (true-false true refl e)
-  quiet-at P10 e q = absurd (true-false true refl e)
-  quiet-at C2 e q = absurd (true-false true refl e)
-  quiet-at C4 e q = absurd (true-false true refl e)
-  quiet-at P13 e q = absurd (true-false true refl e)
-  quiet-at P14 e q = absurd (true-false true refl e)
-  quiet-at P16 e q = absurd (true-false true refl e)
-  quiet-at H21 e q = absurd (true-false true refl e)
-  quiet-at H36 e q = absurd (true-false true refl e)
-  quiet-at P19 e q = absurd (true-false true refl e)
-  quiet-at P20 e q = absurd (true-false true refl e)
-  quiet-at P21 e q = absurd (true-false true refl e)
-  quiet-at P22 e q = absurd (true-false true refl e)
-  quiet-at F1 e q = absurd (true-false true refl e)
-  quiet-at F3 e q = absurd (true-false true refl e)
+  quiet-at : {l : Place} → Stage l → isAnnounced l ≡ false → LocAt l F w i t → Quiet w i
+  quiet-at Stage.idle e q = q .0
+  quiet-at Stage.called e q = q .0
+  quiet-at Stage.numbered e q = q .0
+  quiet-at (Stage.announced a b f) e q = absurd (true-false _ a e)
 
 module _ {c : Card} {w : World} (I : Inv c w) (i : ℕ) (lt : i < c .processes) where
   -- an operation that is not announced is not active and does not hold the gate
-  pub quiet-is : isAnnounced (taskAt c i .place) ≡ false → Quiet w i
-  quiet-is e = quiet-at (fixedOf c) w i (localAt c i) (taskAt c i .place) e (I .locs i lt)
+  quiet-is : isAnnounced (taskAt c i .place) ≡ false → Quiet w i
+  quiet-is e = quiet-at (fixedOf c) w i (localAt c i) (stage (taskAt c i .place)) e (I .locs i lt)
 
   -- the holder of the gate is announced
   pub holder-announced : w .gate .holder ≡ Process i → isAnnounced (taskAt c i .place) ≡ true

@@ -1,15 +1,15 @@
--- Case splits on a test and on a place of a list; what the whole-cell tests say; flags and holders told apart.
-use Prim.Native.Nat.{ℕ, _<_}
+-- Case splits on a test and on a place of a list; what the tests of cells and flags say; flags and holders told apart.
+use Prim.Native.Nat.{ℕ, zero, suc, _<_}
 use mathlib.Core.Path.{_≡_, refl, sym, ap}
 use mathlib.Core.Bool.{Bool, true, false, cond, _&&_}
 use mathlib.Core.Logic.{_≢_, _⊎_, inl, inr}
-use mathlib.Core.List.{List}
-use native.Mathlib.Omega.{arith}
+use mathlib.Core.List.{List, [], _∷_}
 use native.Mathlib.Decide.{ℕ-discrete}
-use lib.ListN.{length, getD, set}
+use lib.ListN.{length, getD, set, replicate}
 use lib.Seq.{getD-set-same, getD-set-other}
 use lib.Dec.{eqb}
 use borrow.Author.Tests.{eqb-true, eq-eqb}
+pub use Rattle.grammar.proofs.Cases.{on-test, and-true, clash}
 use Rattle.construction.specs.declared.Holder.{Holder}
 use Rattle.construction.specs.declared.Holder.the-variants.{Nobody, Process}
 use Rattle.construction.specs.declared.Flag.{Flag}
@@ -18,20 +18,14 @@ use Rattle.construction.specs.declared.Words.{Words}
 use Rattle.construction.specs.declared.Gate.{Gate}
 use Rattle.construction.specs.declared.Announcement.{Announcement}
 use Rattle.construction.specs.declared.Record.{Record}
-use Rattle.construction.specs.Cells.{sameHolder, sameFlag, sameBool, sameWords, sameGate, sameAnnouncement, sameRecord}
-
--- by cases on a test, its outcome in hand
-pub on-test {ℓ κ} :
-    {A : Type ℓ} (P : A → Type κ) (b : Bool) {x y : A} → (b ≡ true → P x) → (b ≡ false → P y) → P (cond b x y)
-on-test P true f g = f refl
-on-test P false f g = g refl
+use Rattle.construction.specs.Cells.{isDone, sameHolder, sameFlag, sameBool, sameWords, sameGate, sameAnnouncement, sameRecord}
 
 pub true-or-false : (b : Bool) → (b ≡ true) ⊎ (b ≡ false)
 true-or-false true = inl refl
 true-or-false false = inr refl
 
 pub true-false : (b : Bool) → b ≡ true → b ≡ false → ⊥
-true-false b p q = let z : _≡_ {A = ℕ} 0 1 = cc in omega arith
+true-false b p q = clash (cc)
 
 -- a test whose outcome is known
 pub cond-true {ℓ} : {A : Type ℓ} (b : Bool) (x y : A) → b ≡ true → cond b x y ≡ x
@@ -40,9 +34,9 @@ cond-true b x y e = rw e
 pub cond-false {ℓ} : {A : Type ℓ} (b : Bool) (x y : A) → b ≡ false → cond b x y ≡ y
 cond-false b x y e = rw e
 
-pub and-true : (a b : Bool) → a && b ≡ true → (a ≡ true) × (b ≡ true)
-and-true true b e = (refl, e)
-and-true false b e = (e, cc)
+pub and-false : (a b : Bool) → a && b ≡ false → (a ≡ false) ⊎ ((a ≡ true) × (b ≡ false))
+and-false true b e = inr (refl, e)
+and-false false b e = inl refl
 
 -- by cases on the place that was set
 pub on-set {ℓ κ} :
@@ -53,6 +47,22 @@ on-set P l i j a d h same other = go (ℕ-discrete j i)
     go : Dec (j ≡ i) → P (getD (set l i a) j d)
     go (yes e) = rw e (rw getD-set-same (same e))
     go (no n) = rw getD-set-other (other n)
+
+-- the same where the place may lie past the end
+pub set-keeps {ℓ κ} :
+    {A : Type ℓ} (P : A → Type κ) (l : List A) (i j : ℕ) (a d : A) →
+    (j ≡ i → P a) → P (getD l j d) → P (getD (set l i a) j d)
+set-keeps P [] i j a d same h = h
+set-keeps P (x ∷ l) zero zero a d same h = same refl
+set-keeps P (x ∷ l) zero (suc j) a d same h = h
+set-keeps P (x ∷ l) (suc i) zero a d same h = h
+set-keeps P (x ∷ l) (suc i) (suc j) a d same h = set-keeps P l i j a d (λ e. same (ap suc e)) h
+
+-- a list of the same, its default too
+pub getD-replicate-same : {A : Type 0} (n i : ℕ) (a : A) → getD (replicate n a) i a ≡ a
+getD-replicate-same zero i a = refl
+getD-replicate-same (suc n) zero a = refl
+getD-replicate-same (suc n) (suc i) a = getD-replicate-same n i a
 
 -- equality of the parts of a cell
 pub sameHolder-true : (a b : Holder) → sameHolder a b ≡ true → a ≡ b
@@ -90,7 +100,7 @@ sameBool-refl : (a : Bool) → sameBool a a ≡ true
 sameBool-refl true = refl
 sameBool-refl false = refl
 
-eqb-refl : (n : ℕ) → eqb n n ≡ true
+pub eqb-refl : (n : ℕ) → eqb n n ≡ true
 eqb-refl n = eq-eqb n n refl
 
 sameWords-true : (a b : Words) → sameWords a b ≡ true → a ≡ b
@@ -111,16 +121,20 @@ unfolding sameWords
 sameWords-refl a = rw (eqb-refl (a .w0), eqb-refl (a .w1), eqb-refl (a .w2)) (eqb-refl (a .w3))
 
 -- equality of whole cells
+pub gate-path : {a b : Gate} → a .holder ≡ b .holder → a .seq ≡ b .seq → a ≡ b
+gate-path e f = λ i. record { holder = e i; seq = f i }
+
+pub announcement-path :
+    {a b : Announcement} → a .program ≡ b .program → a .flag ≡ b .flag → a .seq ≡ b .seq → a .words ≡ b .words → a ≡ b
+announcement-path e f g h = λ i. record { program = e i; flag = f i; seq = g i; words = h i }
+
 pub sameGate-true : (a b : Gate) → sameGate a b ≡ true → a ≡ b
 unfolding sameGate
 sameGate-true a b e =
     let h = and-true (sameHolder (a .holder) (b .holder)) _ e in
-    λ i. record {
-      holder = sameHolder-true (a .holder) (b .holder) (h .0) i;
-      seq = eqb-true (a .seq) (b .seq) (h .1) i;
-    }
+    gate-path (sameHolder-true _ _ (h .0)) (eqb-true _ _ (h .1))
 
-pub sameGate-refl : (a : Gate) → sameGate a a ≡ true
+sameGate-refl : (a : Gate) → sameGate a a ≡ true
 unfolding sameGate
 sameGate-refl a = rw sameHolder-refl (eqb-refl (a .seq))
 
@@ -133,14 +147,9 @@ sameAnnouncement-true a b e =
     let h = and-true (eqb (a .program) (b .program)) _ e in
     let k = and-true (eqb (a .seq) (b .seq)) _ (h .1) in
     let l = and-true (sameFlag (a .flag) (b .flag)) _ (k .1) in
-    λ i. record {
-      program = eqb-true (a .program) (b .program) (h .0) i;
-      flag = sameFlag-true (a .flag) (b .flag) (l .0) i;
-      seq = eqb-true (a .seq) (b .seq) (k .0) i;
-      words = sameWords-true (a .words) (b .words) (l .1) i;
-    }
+    announcement-path (eqb-true _ _ (h .0)) (sameFlag-true _ _ (l .0)) (eqb-true _ _ (k .0)) (sameWords-true _ _ (l .1))
 
-pub sameAnnouncement-refl : (a : Announcement) → sameAnnouncement a a ≡ true
+sameAnnouncement-refl : (a : Announcement) → sameAnnouncement a a ≡ true
 unfolding sameAnnouncement
 sameAnnouncement-refl a = rw (eqb-refl (a .program), eqb-refl (a .seq), sameFlag-refl) (sameWords-refl (a .words))
 
@@ -160,7 +169,7 @@ sameRecord-true a b e =
       seq = eqb-true (a .seq) (b .seq) (l .1) i;
     }
 
-pub sameRecord-refl : (a : Record) → sameRecord a a ≡ true
+sameRecord-refl : (a : Record) → sameRecord a a ≡ true
 unfolding sameRecord
 sameRecord-refl a = rw (eqb-refl (a .val0), eqb-refl (a .val1), sameBool-refl) (eqb-refl (a .seq))
 
@@ -168,34 +177,47 @@ pub sameRecord-false : (a b : Record) → sameRecord a b ≡ false → a ≢ b
 sameRecord-false a b e q = true-false (sameRecord a b) (rw (← q) (sameRecord-refl a)) e
 
 -- holders told apart
-pub nobody-process : (h : Holder) (m : ℕ) → h ≡ Nobody → h ≡ Process m → ⊥
-nobody-process h m a b = let z : _≡_ {A = ℕ} 0 1 = cc in omega arith
-
-pub never : {m : ℕ} → _≡_ {A = Holder} Nobody (Process m) → ⊥
-never {m} e = nobody-process Nobody m refl e
-
-pub never′ : {m : ℕ} → _≡_ {A = Holder} (Process m) Nobody → ⊥
-never′ {m} e = nobody-process (Process m) m e refl
+pub nobody-process : {h : Holder} {m : ℕ} → h ≡ Nobody → h ≡ Process m → ⊥
+nobody-process a b = clash (cc)
 
 pub process-same : {m n : ℕ} → _≡_ {A = Holder} (Process m) (Process n) → m ≡ n
 process-same e = cc
 
 -- flags told apart
-pub active-not-done : (f : Flag) → f ≡ Active → f ≡ Done → ⊥
-active-not-done f p q = let z : _≡_ {A = ℕ} 0 1 = cc in omega arith
+pub active-not-done : {f : Flag} → f ≡ Active → f ≢ Done
+active-not-done p q = clash (cc)
 
-pub active-not-exit : (f : Flag) → f ≡ Active → f ≡ Exit → ⊥
-active-not-exit f p q = let z : _≡_ {A = ℕ} 0 1 = cc in omega arith
+pub active-not-exit : {f : Flag} → f ≡ Active → f ≢ Exit
+active-not-exit p q = clash (cc)
 
-pub exit-not-done : (f : Flag) → f ≡ Exit → f ≡ Done → ⊥
-exit-not-done f p q = let z : _≡_ {A = ℕ} 0 1 = cc in omega arith
+pub exit-not-done : {f : Flag} → f ≡ Exit → f ≢ Done
+exit-not-done p q = clash (cc)
 
-pub done? : (f : Flag) → (f ≡ Done) ⊎ (f ≢ Done)
-done? Done = inl refl
-done? Active = inr (active-not-done Active refl)
-done? Exit = inr (exit-not-done Exit refl)
+pub done-or-not : (f : Flag) → (f ≡ Done) ⊎ (f ≢ Done)
+done-or-not Done = inl refl
+done-or-not Active = inr (active-not-done refl)
+done-or-not Exit = inr (exit-not-done refl)
 
-pub third : (f : Flag) → f ≢ Done → f ≢ Active → f ≡ Exit
-third Done a b = absurd (a refl)
-third Active a b = absurd (b refl)
-third Exit a b = refl
+pub else-exit : (f : Flag) → f ≢ Done → f ≢ Active → f ≡ Exit
+else-exit Done a b = absurd (a refl)
+else-exit Active a b = absurd (b refl)
+else-exit Exit a b = refl
+
+pub else-done : (f : Flag) → f ≢ Active → f ≢ Exit → f ≡ Done
+else-done Done a b = refl
+else-done Active a b = absurd (a refl)
+else-done Exit a b = absurd (b refl)
+
+-- the test of a flag
+pub isDone-true : (f : Flag) → isDone f ≡ true → f ≡ Done
+isDone-true Done e = refl
+isDone-true Active e = cc
+isDone-true Exit e = cc
+
+pub isDone-false : (f : Flag) → isDone f ≡ false → f ≢ Done
+isDone-false f e d = true-false _ (ap isDone d) e
+
+pub ne-isDone : (f : Flag) → f ≢ Done → isDone f ≡ false
+ne-isDone Done h = absurd (h refl)
+ne-isDone Active h = refl
+ne-isDone Exit h = refl

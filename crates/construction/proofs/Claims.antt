@@ -1,4 +1,4 @@
--- Claims of a process about the world, and that each stays so when another process moves.
+-- What a process may claim of the world, and that no move of another process interferes with it.
 use Prim.Native.Nat.{ℕ, _+_, _≤_, _<_}
 use mathlib.Core.Path.{_≡_, refl, sym, ap, _∙_}
 use mathlib.Core.Logic.{_≢_, _⊎_, inl, inr, ⊎-elim}
@@ -16,7 +16,7 @@ use Rattle.construction.specs.declared.Flag.the-variants.{Done, Active, 
 use Rattle.construction.specs.Cells.{zeros, openAnnouncement, openRecord, rewritten}
 use Rattle.construction.specs.Parts.{noOperation}
 use Rattle.construction.specs.Machine.{flagged}
-use Rattle.construction.proofs.Basics.{on-set, active-not-done, active-not-exit, exit-not-done, nobody-process, never, never′, process-same, third}
+use Rattle.construction.proofs.Basics.{on-set, active-not-done, active-not-exit, exit-not-done, nobody-process, process-same, else-exit}
 use Rattle.construction.proofs.World.{Fixed, noRound, endingIn, World, announcementIn, recordIn, leftIn, boundIn, callIn, outputsIn, roundIn, operationOf, doneWith, Good, asking, announcing, leaving, ending, Quiet, Move}
 use Rattle.construction.proofs.World.Move.{stay, ask, announce, leave, take, write, end, free}
 use Rattle.construction.proofs.Kept.{announcements-set}
@@ -79,9 +79,9 @@ Silent x j =
 silent-change : {j : ℕ} {x y : View} → Change j x y → Silent x j → Silent y j
 silent-change kept q = q
 silent-change (took m hn f) q =
-    (q .0, λ h. let z = f (process-same h) in let e = third _ (z .0) (q .0) in omega (arith, z .1 e, q .2 e), q .2)
+    (q .0, λ h. let z = f (process-same h) in let e = else-exit _ (z .0) (q .0) in omega (arith, z .1 e, q .2 e), q .2)
 silent-change (ended o h d) q = absurd (q .1 h)
-silent-change (freed b) q = (q .0, never, λ e. omega (arith, q .2 e))
+silent-change (freed b) q = (q .0, nobody-process refl, λ e. omega (arith, q .2 e))
 
 -- what the announcement of j says: the outputs where it is done, and else the latest call
 pub record Owned (x : View) : Type 0 where
@@ -127,13 +127,13 @@ pub limit-change : {j n : ℕ} {x y : View} → Change j x y → Limit x j n →
 limit-change kept q = q
 limit-change (took m hn f) q =
     record { low = q .low; high = λ e h. omega (arith, f (process-same h) .1 e, q .low e) }
-limit-change (ended o h d) q = record { low = λ e. absurd (exit-not-done _ e refl); high = λ e. absurd (exit-not-done _ e refl) }
-limit-change (freed b) q = record { low = q .low; high = λ _ h. absurd (never h) }
+limit-change (ended o h d) q = record { low = λ e. absurd (exit-not-done e refl); high = λ e. absurd (exit-not-done e refl) }
+limit-change (freed b) q = record { low = q .low; high = λ _ h. absurd (nobody-process refl h) }
 
 pub past-change : {j : ℕ} {x y : View} → Change j x y → Past x → Past y
 past-change kept q = q
-past-change (took m hn f) q = record { past = λ _ h. absurd (never′ h) }
-past-change (ended o h d) q = record { past = λ e. absurd (exit-not-done _ e refl) }
+past-change (took m hn f) q = record { past = λ _ h. absurd (nobody-process h refl) }
+past-change (ended o h d) q = record { past = λ e. absurd (exit-not-done e refl) }
 past-change (freed b) q = record { past = λ _ _. omega arith }
 
 pub gone-change : {j : ℕ} {x y : View} → Change j x y → Gone x j → Gone y j
@@ -141,8 +141,8 @@ gone-change kept q = q
 gone-change (took m hn f) q =
     record { late = q .late; free-of = λ e h. omega (arith, f (process-same h) .1 e, q .late e) }
 gone-change (ended o h d) q =
-    record { late = λ e. absurd (exit-not-done _ e refl); free-of = λ e. absurd (exit-not-done _ e refl) }
-gone-change (freed b) q = record { late = λ e. omega (arith, q .late e); free-of = λ _. never }
+    record { late = λ e. absurd (exit-not-done e refl); free-of = λ e. absurd (exit-not-done e refl) }
+gone-change (freed b) q = record { late = λ e. omega (arith, q .late e); free-of = λ _. nobody-process refl }
 
 pub returning-change : {j : ℕ} {a : Announcement} {x y : View} → Change j x y → Returning x a → Returning y a
 returning-change kept q = q
@@ -161,7 +161,7 @@ pub last-change : {j n : ℕ} {x y : View} → x .announcement .flag ≡ Done �
 last-change d kept q = q
 last-change d (took m hn f) q = record { only = λ h. absurd (f (process-same h) .0 d) }
 last-change d (ended o h n) q = absurd (n d)
-last-change d (freed b) q = record { only = λ h. absurd (never h) }
+last-change d (freed b) q = record { only = λ h. absurd (nobody-process refl h) }
 
 module _ {F : Fixed} {w : World} (G : Good F w) where
   -- an operation that is finished, seen by any process
@@ -232,7 +232,7 @@ module _ {F : Fixed} {i : ℕ} {w : World} (G : Good F w) where
   seen-stays (ask c lt Q) o = record { still = o .still }
   seen-stays (announce a lt Q fa op l b) o = record { still = o .still }
   seen-stays (leave lt fa) o = record { still = o .still }
-  seen-stays {m = m} (take m′ lt hn fl op z) o = record { still = λ l. absurd (nobody-process _ m hn (o .still l .0)) }
+  seen-stays {m = m} (take m′ lt hn fl op z) o = record { still = λ l. absurd (nobody-process hn (o .still l .0)) }
   seen-stays (write m v x vl hm fl below ex) o = record { still = o .still }
   seen-stays (end m lt hm fl all) o = record { still = o .still }
   seen-stays {m = m} {s} (free m′ lt hm d) o = record {
@@ -255,7 +255,7 @@ module _ {F : Fixed} {i : ℕ} {w : World} (G : Good F w) where
       where
         asked : m ≡ i → ⊥
         asked z =
-            let ex : announcementIn w m .flag ≡ Exit = third _ (E .alive) (rw z (Q .not-active)) in
+            let ex : announcementIn w m .flag ≡ Exit = else-exit _ (E .alive) (rw z (Q .not-active)) in
             let late : announcementIn w m .flag ≡ Exit → boundIn w m < w .gate .seq = rw z (Q .late) in
             ⊎-elim (λ mj. ne (sym mj ∙ z)) (λ b. omega (arith, b ex, late ex)) (E .right)
 
@@ -263,15 +263,15 @@ module _ {F : Fixed} {i : ℕ} {w : World} (G : Good F w) where
         (a : Announcement) → i < F .processes → a .flag ≡ Active → operationOf a ≡ callIn w i →
         Eligible (announcing w i a) j m n
     eligible-announce a lt fa op = record {
-      alive = announcements-set G (λ r. r .flag ≢ Done) i m a lt (λ _ d. active-not-done _ fa d) (λ _. E .alive);
+      alive = announcements-set G (λ r. r .flag ≢ Done) i m a lt (λ _. active-not-done fa) (λ _. E .alive);
       op = announcements-set G (λ r. operationOf r ≡ callIn w m) i m a lt (λ z. rw z op) (λ _. E .op);
       right = announcements-set G (λ r. (m ≡ j) ⊎ (r .flag ≡ Exit → n ≤ boundIn w m)) i m a lt
-          (λ _. inr (λ q. absurd (active-not-exit _ fa q))) (λ _. E .right);
+          (λ _. inr (λ q. absurd (active-not-exit fa q))) (λ _. E .right);
     }
 
     eligible-leave : i < F .processes → n ≡ w .gate .seq → Eligible (leaving w i) j m n
     eligible-leave lt now = record {
-      alive = announcements-set G (λ r. r .flag ≢ Done) i m _ lt (λ _ d. exit-not-done _ refl d) (λ _. E .alive);
+      alive = announcements-set G (λ r. r .flag ≢ Done) i m _ lt (λ _. exit-not-done refl) (λ _. E .alive);
       op = announcements-set G (λ r. operationOf r ≡ callIn w m) i m _ lt (λ z. rw z (rw z at (E .op))) (λ _. E .op);
       right = go (ℕ-discrete m i);
     }
@@ -287,13 +287,13 @@ module _ {F : Fixed} {i : ℕ} {w : World} (G : Good F w) where
   nominated-stays ne (announce a lt Q fa op l b) o =
       record { below = o .below; fit = λ h e. eligible-announce ne (o .fit h e) a lt fa op }
   nominated-stays ne (leave lt fa) o = record { below = o .below; fit = λ h e. eligible-leave ne (o .fit h e) lt (sym e) }
-  nominated-stays ne (take m lt hn fl op z) o = record { below = o .below; fit = λ h. absurd (never′ h) }
+  nominated-stays ne (take m lt hn fl op z) o = record { below = o .below; fit = λ h. absurd (nobody-process h refl) }
   nominated-stays ne (write m v x vl hm fl below ex) o =
       record {
         below = o .below;
         fit = λ h e. let E = o .fit h e in record { alive = E .alive; op = E .op; right = E .right };
       }
-  nominated-stays ne (end m lt hm fl all) o = record { below = o .below; fit = λ h. absurd (nobody-process _ m h hm) }
+  nominated-stays ne (end m lt hm fl all) o = record { below = o .below; fit = λ h. absurd (nobody-process h hm) }
   nominated-stays ne (free m lt hm d) o =
       record { below = omega (arith, o .below); fit = λ _ e. absurd (omega (arith, o .below)) }
 
@@ -309,30 +309,30 @@ module _ {F : Fixed} {i : ℕ} {w : World} (G : Good F w) where
     held-stays (leave lt fa) h e =
         announcements-set G P i m _ lt (λ z. rw (← z) (exits (announcementIn w m) (rw z fa) (f h e))) (λ _. f h e)
     held-stays (take m′ lt hn fl op z) h e =
-        absurd (nobody-process _ m hn (seen .still (rw e at (G .left-below m)) .0))
+        absurd (nobody-process hn (seen .still (rw e at (G .left-below m)) .0))
     held-stays (write m′ v x vl hm fl below ex) h e = f h e
     held-stays (end m′ lt hm fl all) h e =
         announcements-set G P m′ m _ lt (λ _. ends (announcementIn w m′) _) (λ _. f h e)
-    held-stays (free m′ lt hm d) h e = absurd (never h)
+    held-stays (free m′ lt hm d) h e = absurd (nobody-process refl h)
 
   pub working-stays :
       {v : World} {m s : ℕ} {a : Announcement} → Move F i w v → Seen w m s → Working w m s a → Working v m s a
   working-stays {m = m} {s} {a} M seen o = record {
     alike = held-stays (λ r. r .flag ≢ Done → Alike r a) m s
-        (λ r fa q _. let z = q (λ d. active-not-done _ fa d) in record { program = z .program; seq = z .seq; words = z .words })
+        (λ r fa q _. let z = q (active-not-done fa) in record { program = z .program; seq = z .seq; words = z .words })
         (λ r _ q. absurd (q refl)) seen (o .alike) M;
   }
 
   pub halfway-stays : {v : World} {m s : ℕ} → Move F i w v → Seen w m s → Halfway w m s → Halfway v m s
   halfway-stays {m = m} {s} M seen o = record {
     isnt = held-stays (λ r. r .flag ≢ Active) m s
-        (λ r fa q z. active-not-exit _ z refl) (λ r _ z. active-not-done _ z refl) seen (o .isnt) M;
+        (λ r fa q z. active-not-exit z refl) (λ r _ z. active-not-done z refl) seen (o .isnt) M;
   }
 
   pub over-stays : {v : World} {m s : ℕ} → Move F i w v → Seen w m s → Over w m s → Over v m s
   over-stays {m = m} {s} M seen o = record {
     over = held-stays (λ r. r .flag ≡ Done) m s
-        (λ r fa q. absurd (active-not-done _ fa q)) (λ r _. refl) seen (o .over) M;
+        (λ r fa q. absurd (active-not-done fa q)) (λ r _. refl) seen (o .over) M;
   }
 
   -- the gate's number does not fall

@@ -1,18 +1,18 @@
--- The dictionary as a list of items: look-up, an item with another value, one item more, and the items to write.
+-- The dictionary (lines H20 to H32) as a list of items: look-up, an item with another value, one item more, and the items to write.
 use Prim.Native.Nat.{ℕ, zero, suc, _+_, _-_, _≤_, _<_}
 use mathlib.Core.Path.{_≡_, refl, sym, ap, _∙_}
-use mathlib.Core.Bool.{Bool, true, false, cond}
+use mathlib.Core.Bool.{Bool, true, false, cond, false≢true}
 use mathlib.Core.Logic.{_≢_, ⊎-elim}
 use mathlib.Core.List.{List, [], _∷_, _++_}
 use native.Mathlib.Omega.{arith}
 use lib.Dec.{eqb, ltb, leb·suc-suc}
 use lib.ListN.{length, getD, set, drop, length-take, length-drop, length-set}
 use lib.Seq.{getD-take, getD-drop, take-set-lt, take-suc-set}
-use borrow.Author.Tests.{eqb-true, eqb-false, eq-eqb, ne-eqb, ltb-true, lt-ltb}
+use borrow.Author.Tests.{eqb-true, eqb-false, ne-eqb, ltb-true, lt-ltb}
 use Rattle.construction.specs.declared.Item.{Item}
 use Rattle.construction.specs.declared.Dictionary.{Dictionary}
 use Rattle.construction.specs.Dictionary.{noItem, noted, position, find, has, valueAt, withValue, assign, insert, altered, unaltered, nextWrite}
-use Rattle.construction.proofs.Basics.{on-test, true-or-false, true-false, cond-true, cond-false}
+use Rattle.construction.proofs.Basics.{on-test, true-or-false, true-false, cond-true, cond-false, eqb-refl}
 
 -- whether a list has an item of v, its value or else x, and the list with the value of v replaced
 unfoldable pub hasIn : List Item → ℕ → Bool
@@ -123,14 +123,14 @@ pub value-snoc-same :
     (b : List Item) (e : Item) (d : ℕ) →
     hasIn b (e .variable) ≡ false → valueIn (b ++ (e ∷ [])) (e .variable) d ≡ e .value
 unfolding valueIn
-value-snoc-same [] e d h = rw (eq-eqb (e .variable) (e .variable) refl)
+value-snoc-same [] e d h = rw (eqb-refl (e .variable))
 value-snoc-same (x ∷ b) e d h = let l = lacks-cons x b (e .variable) h in rw (l .0) (value-snoc-same b e d (l .1))
 
 -- each item is that of its variable
 has-at : (b : List Item) (k : ℕ) → k < length b → hasIn b (getD b k noItem .variable) ≡ true
 unfolding hasIn
 has-at [] k h = absurd (omega arith)
-has-at (x ∷ b) zero h = rw (eq-eqb (x .variable) (x .variable) refl)
+has-at (x ∷ b) zero h = rw (eqb-refl (x .variable))
 has-at (x ∷ b) (suc k) h =
     on-test (λ z. z ≡ true) (eqb (x .variable) (getD b k noItem .variable)) (λ _. refl) (λ _. has-at b k (omega arith))
 
@@ -139,7 +139,7 @@ pub value-at :
     Keyed b → k < length b → valueIn b (getD b k noItem .variable) d ≡ getD b k noItem .value
 unfolding valueIn
 value-at [] k d q h = absurd (omega arith)
-value-at (x ∷ b) zero d q h = rw (eq-eqb (x .variable) (x .variable) refl)
+value-at (x ∷ b) zero d q h = rw (eqb-refl (x .variable))
 value-at (x ∷ b) (suc k) d q h =
     ⊎-elim
     (λ t. absurd (true-false _ (has-at b k (omega arith)) (rw (eqb-true (x .variable) (getD b k noItem .variable) t) at (q .0))))
@@ -160,7 +160,7 @@ pub at-position :
     hasIn b v ≡ true →
     (getD b (position b v) noItem .variable ≡ v) × (valueIn b v d ≡ getD b (position b v) noItem .value)
 unfolding position hasIn valueIn
-at-position [] v d h = absurd (true-false false h refl)
+at-position [] v d h = absurd (false≢true h)
 at-position (x ∷ b) v d h =
     ⊎-elim
     (λ (t : eqb (x .variable) v ≡ true). rw t (eqb-true _ _ t, refl))

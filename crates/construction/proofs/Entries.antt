@@ -13,43 +13,46 @@ use Rattle.construction.specs.declared.Refusal.the-variants.{NoProcess, 
 use Rattle.construction.specs.Parts.{withExit}
 use Rattle.construction.specs.Machine.{advance}
 use Rattle.construction.specs.Requests.{isProcess, isProgram, isVariable, isBusy, refused, begun, call, requestExit, answerOf, step, valueOf, read}
-use Rattle.construction.proofs.Basics.{on-test}
+use Rattle.construction.proofs.Basics.{on-test, and-true}
 
 -- by cases on a test that is denied
 on-not {ℓ κ} : {A : Type ℓ} (P : A → Type κ) (b : Bool) {x y : A} → P x → (b ≡ true → P y) → P (cond (not b) x y)
 on-not P true f g = g refl
 on-not P false f g = f
 
+inside : (c : Card) (i : ℕ) → isProcess c i ≡ true → i < c .processes
+inside c i e = ltb-true i (c .processes) (and-true (ltb i (c .processes)) _ e .0)
+
 module _ {κ} (P : Answered → Type κ) (c : Card) (turned-back : (r : Refusal) → P (refused c r)) where
   pub on-call :
       (i k : ℕ) (inputs : Words) →
-      (isProcess c i ≡ true → isProgram c k ≡ true → isBusy c i ≡ false →
+      (i < c .processes → isProgram c k ≡ true → isBusy c i ≡ false →
       P (record { card = begun c i k inputs; answer = Answer.Taken })) →
       P (call c i k inputs)
   unfolding call
   on-call i k inputs taken =
       on-not P (isProcess c i) (turned-back NoProcess)
       (λ p. on-not P (isProgram c k) (turned-back NoProgram)
-      (λ q. on-test P (isBusy c i) (λ _. turned-back Busy) (λ b. taken p q b)))
+      (λ q. on-test P (isBusy c i) (λ _. turned-back Busy) (taken (inside c i p) q)))
 
   pub on-exit :
       (i : ℕ) →
-      (isProcess c i ≡ true → isBusy c i ≡ true → P (record { card = withExit c i true; answer = Answer.Taken })) →
+      (i < c .processes → isBusy c i ≡ true → P (record { card = withExit c i true; answer = Answer.Taken })) →
       P (requestExit c i)
   unfolding requestExit
   on-exit i taken =
-      on-not P (isProcess c i) (turned-back NoProcess) (λ p. on-not P (isBusy c i) (turned-back NotBusy) (λ b. taken p b))
+      on-not P (isProcess c i) (turned-back NoProcess) (λ p. on-not P (isBusy c i) (turned-back NotBusy) (taken (inside c i p)))
 
   pub on-step :
       (i : ℕ) →
-      (isProcess c i ≡ true → isBusy c i ≡ true → c .steps < c .limit →
+      (i < c .processes → isBusy c i ≡ true → c .steps < c .limit →
       P (record { card = advance c i; answer = answerOf (advance c i) i })) →
       P (step c i)
   unfolding step
   on-step i taken =
       on-not P (isProcess c i) (turned-back NoProcess)
       (λ p. on-not P (isBusy c i) (turned-back NotBusy)
-      (λ b. on-not P (ltb (c .steps) (c .limit)) (turned-back LimitReached) (λ l. taken p b (ltb-true _ _ l))))
+      (λ b. on-not P (ltb (c .steps) (c .limit)) (turned-back LimitReached) (λ l. taken (inside c i p) b (ltb-true _ _ l))))
 
   pub on-read :
       (v : ℕ) → (isVariable c v ≡ true → P (record { card = c; answer = Answer.Value (valueOf c v) })) → P (read c v)

@@ -1,4 +1,4 @@
--- Every row of the tables of worked pieces and of small examples holds, by computation.
+-- Every row of the tables of worked pieces and of small examples (document 01, 'Proving pieces' and 'Turned back') holds, by computation.
 use mathlib.Core.Path.{refl}
 use Rattle.grammar.specs.Reading.{four, field, number, digits, hasWord}
 use Rattle.construction.specs.Opening.{opened, readCard, varsFrom, programsFrom, readProgram, insFrom, fresh}

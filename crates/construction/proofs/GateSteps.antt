@@ -18,7 +18,7 @@ use Rattle.construction.specs.declared.GateAccess.{GateAccess}
 use Rattle.construction.specs.Cells.{sameHolder, sameGate, swapGate, released}
 use Rattle.construction.specs.Parts.{announcementAt, taskAt, operationAt, heldAt, withGate, withTask}
 use Rattle.construction.specs.Machine.{goTo, byHolder, holderOf, readGate, accessGate}
-use Rattle.construction.proofs.Basics.{on-test, true-false, sameGate-true, sameGate-false, sameHolder-true, sameHolder-refl, nobody-process, never, never′, active-not-done, exit-not-done}
+use Rattle.construction.proofs.Basics.{on-test, true-false, gate-path, sameGate-true, sameGate-false, sameHolder-true, sameHolder-refl, nobody-process, active-not-done, exit-not-done}
 use Rattle.construction.proofs.World.{Fixed, World, leftIn, taking, freeing, Quiet}
 use Rattle.construction.proofs.World.Move.{take, free}
 use Rattle.construction.proofs.Claims.{View, viewOf, gated, Limit, Returning, Rested, Eligible}
@@ -26,18 +26,15 @@ use Rattle.construction.proofs.Locals.{Local, localAt, atTask, atGate, 
 use Rattle.construction.proofs.Places.{Mine, Helper, LocAt, Loc}
 use Rattle.construction.proofs.Acting.{worldOf, Before, Acted, place-fits, untouched, keeps, reads-gate}
 
-gate-path : {a b : Gate} → a .holder ≡ b .holder → a .seq ≡ b .seq → a ≡ b
-gate-path e q = λ i. record { holder = e i; seq = q i }
-
 -- what is known of an operation at its return
 rests :
     (w : World) (i : ℕ) {a : Announcement} → Returning (viewOf w i) a → w .gate .holder ≢ Process i →
     Quiet w i × Rested (viewOf w i) a
 rests w i q ne = (
   record {
-    not-active = λ e. active-not-done _ e (q .done);
+    not-active = λ e. active-not-done e (q .done);
     free-of = ne;
-    late = λ e. absurd (exit-not-done _ e (q .done));
+    late = λ e. absurd (exit-not-done e (q .done));
   },
   record { same = q .same; out = λ _. ap (λ (r : Announcement). r .words) (q .same) ∙ q .out },
 )
@@ -73,29 +70,30 @@ module _ {c : Card} {w : World} {i : ℕ} (B : Before c w i) where
     limit = limit-now;
   }
 
-  read-P1 : (h : Holder) → L P1 → Loc F W i (read (byHolder h P3 P3))
-  read-P1 Nobody q = (q .0, q .1, B .good .left-below i, omega arith)
-  read-P1 (Process m) q = (q .0, q .1, B .good .left-below i, omega arith)
+  -- lines P1, P10 and P14: by the holder that is read
+  at-read :
+      (held nobody : Place) → ((m : ℕ) → c .gate .holder ≡ Process m → Loc F W i (read held)) →
+      (c .gate .holder ≡ Nobody → Loc F W i (read nobody)) → Acted c W i (accessGate (GateAccess.Read held nobody) c i)
+  unfolding accessGate
+  at-read held nobody a b = reads-gate B (byHolder (c .gate .holder) held nobody) (go (c .gate .holder) refl)
+    where
+      go : (h : Holder) → c .gate .holder ≡ h → Loc F W i (read (byHolder h held nobody))
+      go Nobody e = b e
+      go (Process m) e = a m e
 
   pub at-P1 : L P1 → Acted c W i (accessGate (GateAccess.Read P3 P3) c i)
-  unfolding accessGate
-  at-P1 q = reads-gate B (byHolder (c .gate .holder) P3 P3) (read-P1 (c .gate .holder) q)
-
-  read-P10 : (h : Holder) → c .gate .holder ≡ h → Mine (viewOf W i) (operationAt c i) → Loc F W i (read (byHolder h P16 C2))
-  read-P10 Nobody e q = (q, e, omega arith, limit-now)
-  read-P10 (Process m) e q = helper-now m e q
+  at-P1 q = at-read P3 P3 (λ _ _. next) (λ _. next)
+    where
+      next : Loc F W i (read P3)
+      next = (q .0, q .1, B .good .left-below i, omega arith)
 
   pub at-P10 : Mine (viewOf W i) (operationAt c i) → Acted c W i (accessGate (GateAccess.Read P16 C2) c i)
-  unfolding accessGate
-  at-P10 q = reads-gate B (byHolder (c .gate .holder) P16 C2) (read-P10 (c .gate .holder) refl q)
-
-  read-P14 : (h : Holder) → c .gate .holder ≡ h → L P14 → Loc F W i (read (byHolder h P16 P22))
-  read-P14 Nobody e q = (q .0, record { late = λ lv. q .1 .past lv e; free-of = λ _ h. nobody-process _ i e h })
-  read-P14 (Process m) e q = helper-now m e (q .0)
+  at-P10 q = at-read P16 C2 (λ m e. helper-now m e q) (λ e. (q, e, omega arith, limit-now))
 
   pub at-P14 : L P14 → Acted c W i (accessGate (GateAccess.Read P16 P22) c i)
-  unfolding accessGate
-  at-P14 q = reads-gate B (byHolder (c .gate .holder) P16 P22) (read-P14 (c .gate .holder) refl q)
+  at-P14 q =
+      at-read P16 P22 (λ m e. helper-now m e (q .0))
+      (λ e. (q .0, record { late = λ x. q .1 .past x e; free-of = λ _. nobody-process e }))
 
   pub at-F1 : L F1 → Acted c W i (accessGate GateAccess.ReadLast c i)
   unfolding accessGate
@@ -172,7 +170,7 @@ module _ {c : Card} {w : World} {i : ℕ} (B : Before c w i) where
             local = _;
             updated = swapped-updated _ P14;
             tidy = B .tidy;
-            loc = (mine-gated (q .0), record { past = λ _ h. absurd (never′ h) });
+            loc = (mine-gated (q .0), record { past = λ _ h. absurd (nobody-process h refl) });
           }
 
   pub at-P21 : L P21 → Acted c W i (accessGate (GateAccess.Release P22) c i)
@@ -189,7 +187,7 @@ module _ {c : Card} {w : World} {i : ℕ} (B : Before c w i) where
           let zh : c .gate .holder ≡ Process m = ap (λ (g : Gate). g .holder) z ∙ q .0 .named in
           let zs : c .gate .seq ≡ heldAt c i .seq = ap (λ (g : Gate). g .seq) z in
           frees m P22 (q .0 .inside) zh (q .1 .over zh zs) z
-          (mine-gated (q .0 .mine), record { late = λ x. omega (arith, q .0 .limit .low x); free-of = λ _. never })
+          (mine-gated (q .0 .mine), record { late = λ x. omega (arith, q .0 .limit .low x); free-of = λ _. nobody-process refl })
 
       past : sameGate (c .gate) (heldAt c i) ≡ false → heldAt c i .seq < c .gate .seq
       past e = go (decLt (leftIn W m) (heldAt c i .seq))
@@ -215,7 +213,7 @@ module _ {c : Card} {w : World} {i : ℕ} (B : Before c w i) where
           let z = sameGate-true (c .gate) (heldAt c i) e in
           let r = q .0 in
           frees i Idle (B .inside) (ap (λ (g : Gate). g .holder) z ∙ q .1) (r .done) z
-          (rests (freeing W i) i (record { done = r .done; same = r .same; out = r .out }) never)
+          (rests (freeing W i) i (record { done = r .done; same = r .same; out = r .out }) (nobody-process refl))
 
       late : sameGate (c .gate) (heldAt c i) ≡ false → Loc F W i (atTask (localAt c i) (goTo (taskAt c i) Idle))
       late e = rests W i (q .0) (λ z. sameGate-false _ _ e (gate-path (z ∙ sym (q .1)) (q .2 .only z)))

@@ -7,7 +7,7 @@ use native.Mathlib.Omega.{arith}
 use lib.ListN.{length}
 use lib.Seq.{getD-set-same}
 use lib.Dec.{ltb, leb}
-use borrow.Author.Tests.{ltb-true, ltb-false, leb-true, leb-false}
+use borrow.Author.Tests.{ltb-true, ltb-false, leb-true, leb-false, not-true, not-false}
 use Rattle.construction.specs.declared.Announcement.{Announcement}
 use Rattle.construction.specs.declared.Operation.{Operation}
 use Rattle.construction.specs.declared.Simulation.{Simulation}
@@ -18,8 +18,7 @@ use Rattle.construction.specs.declared.Pause.the-variants.{Ended, Lacks}
 use Rattle.construction.specs.declared.Card.{Card}
 use Rattle.construction.specs.declared.Holder.{Holder}
 use Rattle.construction.specs.declared.Holder.the-variants.{Process}
-use Rattle.construction.specs.declared.Flag.{Flag}
-use Rattle.construction.specs.declared.Flag.the-variants.{Done, Active, Exit}
+use Rattle.construction.specs.declared.Flag.the-variants.{Done}
 use Rattle.construction.specs.declared.Place.{Place}
 use Rattle.construction.specs.declared.Place.the-variants.{P16, H21, P19, P21}
 use Rattle.construction.specs.declared.AnnouncementAccess.{AnnouncementAccess}
@@ -31,8 +30,7 @@ use Rattle.construction.specs.Sequential.{sequential}
 use Rattle.construction.specs.Helping.{simulate}
 use Rattle.construction.specs.Parts.{announcementAt, recordAt, taskAt, operationAt, heldAt, copyAt, simulationAt, dictionaryAt, programOf, withTask, withCopy, withSimulation, withDictionary}
 use Rattle.construction.specs.Machine.{goTo, holderOf, helps, help, withSimulated, afterPause, accessAnnouncement, accessRecord}
-use Rattle.construction.proofs.Basics.{on-test, true-false, and-true}
-use Rattle.construction.proofs.Tests.{not-true, not-false, and-false}
+use Rattle.construction.proofs.Basics.{on-test, and-true, and-false, isDone-true, isDone-false}
 use Rattle.construction.proofs.SimulationLaws.{PausedAt, starts, noting, simulates}
 use Rattle.construction.proofs.World.{Fixed, Round, endingOf, endingIn, World, callIn, roundIn, wordAt, operationOf, Phase}
 use Rattle.construction.proofs.Kept.{rounds-few}
@@ -49,22 +47,14 @@ run-is :
 unfolding endingOf
 run-is F s r a e = ap (λ (o : Operation). endingOf F s (record { words = r .words; call = o })) (sym e)
 
-is-done : (f : Flag) → isDone f ≡ true → f ≡ Done
-is-done Done e = refl
-is-done Active e = cc
-is-done Exit e = cc
-
-isnt-done : (f : Flag) → isDone f ≡ false → f ≢ Done
-isnt-done f e d = true-false (isDone Done) refl (rw d at e)
-
 -- a dictionary after a simulation is tidy
 paused-tidy :
     (F : Fixed) (w : World) (s : ℕ) (a : Announcement) (p : Pause) (l : Simulation) (d : Dictionary) →
     PausedAt (F .variables) (programFor F s a) (a .words) (roundIn w s .words) (endingIn F w s) (Noted F w s) p l d →
     Tidy d
-paused-tidy F w s a Ended l d q = record { short = q .room .small; full = q .room .array; keyed = q .keyed }
+paused-tidy F w s a Ended l d q = record { short = q .room .small; keyed = q .keyed }
 paused-tidy F w s a (Lacks v) l d q =
-    record { short = q .core .room .small; full = q .core .room .array; keyed = q .core .keyed }
+    record { short = q .core .room .small; keyed = q .core .keyed }
 
 module _ {c : Card} {w : World} {i : ℕ} (B : Before c w i) where
   abbrev W : World
@@ -92,7 +82,7 @@ module _ {c : Card} {w : World} {i : ℕ} (B : Before c w i) where
       let x : Simulated = simulate (c .variables) (programOf c (a .program) s) (a .words) l d in
       let q =
       simulates (c .variables) (programFor F s a) (a .words) (roundIn W s .words) (endingIn F W s) (Noted F W s)
-      (B .good .short (a .program) s)
+      (B .good .fits .short (a .program) s)
       (λ e y p. record { inside = p .inside; base = p .base; kept = p .kept }) l d core in
       keeps B (task-updated (simulation-updated U (place-fits B) (x .simulation) (x .dictionary)) (place-fits B) _) g n r
       (paused-tidy F W s a (x .pause) (x .simulation) (x .dictionary) q)
@@ -156,12 +146,12 @@ module _ {c : Card} {w : World} {i : ℕ} (B : Before c w i) where
       on-test (Acted c W i) (helps (announcementAt c m) s)
       (λ e.
       let h = and-true (not (isDone (announcementAt c m .flag))) _ e in
-      begins m n (isnt-done _ (not-true _ (h .0))) (leb-true _ _ (h .1)) q)
+      begins m n (isDone-false _ (not-true _ (h .0))) (leb-true _ _ (h .1)) q)
       (λ e. reads-announcement B (announcementAt c m) _ (q, record { over = λ _ z. rw n (over z e) }))
     where
       over : c .gate .seq ≡ s → helps (announcementAt c m) s ≡ false → announcementAt c m .flag ≡ Done
       over z e =
-          ⊎-elim (λ d. is-done (announcementAt c m .flag) (not-false _ d))
+          ⊎-elim (λ d. isDone-true (announcementAt c m .flag) (not-false _ d))
           (λ b. absurd (omega (arith, B .good .announcement-below m, leb-false (announcementAt c m .seq) s (b .1))))
           (and-false (not (isDone (announcementAt c m .flag))) (leb (announcementAt c m .seq) s) e)
 

@@ -1,15 +1,14 @@
 -- The invariant of a card beside a world, and that fresh cards have it and every taken call, exit request and step keeps it.
-use Prim.Native.Nat.{ℕ, zero, suc, _+_, _≤_, _<_, _%_}
+use Prim.Native.Nat.{ℕ, suc, _+_, _≤_, _<_, _%_}
 use mathlib.Core.Path.{_≡_, refl, sym, subst, ap, _∙_}
 use mathlib.Core.Bool.{Bool, true, false}
 use mathlib.Core.Logic.{_≢_}
 use mathlib.Core.List.{[], _∷_, map}
 use native.Mathlib.Omega.{arith}
 use native.Mathlib.Decide.{ℕ-discrete}
-use lib.ListN.{length, getD, set, take, replicate, length-set, length-replicate, length-map, List·getD-map}
+use lib.ListN.{length, getD, take, replicate, length-set, length-map, List·getD-map}
 use lib.Seq.{getD-set-same, getD-set-other, getD-take, length-take-le}
-use lib.Dec.{ltb}
-use borrow.Author.Tests.{ltb-true}
+use borrow.Author.Tests.{not-true, not-false}
 use Rattle.construction.specs.declared.Gate.{Gate}
 use Rattle.construction.specs.declared.Announcement.{Announcement}
 use Rattle.construction.specs.declared.Words.{Words}
@@ -19,25 +18,26 @@ use Rattle.construction.specs.declared.Card.{Card}
 use Rattle.construction.specs.declared.Contents.{Contents}
 use Rattle.construction.specs.declared.Flag.the-variants.{Done}
 use Rattle.construction.specs.declared.Place.{Place}
-use Rattle.construction.specs.declared.Place.the-variants.{Idle, P1, P3, P5, P7, P10, C2, C4, P13, P14, P16, H21, H36, P19, P20, P21, P22, F1, F3}
+use Rattle.construction.specs.declared.Place.the-variants.{Idle, P1}
 use Rattle.construction.specs.Cells.{zeros, openAnnouncement, openRecord, current}
 use Rattle.construction.specs.Instructions.{noProgram}
-use Rattle.construction.specs.Dictionary.{noItem, empty}
-use Rattle.construction.specs.Parts.{idleTask, noOperation, taskAt, exitAt, countAt, dictionaryAt, withExit}
+use Rattle.construction.specs.Dictionary.{empty}
+use Rattle.construction.specs.Parts.{idleTask, noOperation, taskAt, exitAt, countAt, heldAt, copyAt, simulationAt, dictionaryAt, withExit}
 use Rattle.construction.specs.Machine.{accessOf, perform, counted, advance}
-use Rattle.construction.specs.Requests.{isProcess, isIdle, isBusy, begun}
+use Rattle.construction.specs.Requests.{isBusy, begun}
 use Rattle.construction.specs.Opening.{fresh}
-use Rattle.construction.proofs.Basics.{on-set, and-true, active-not-done, exit-not-done, never}
-use Rattle.construction.proofs.Tests.{not-true, not-false}
+use Rattle.construction.proofs.Basics.{on-set, getD-replicate-same, active-not-done, exit-not-done, nobody-process}
 use Rattle.construction.proofs.SequentialLaws.{Short}
 use Rattle.construction.proofs.World.{Fixed, World, Good, asking, Quiet, Move}
 use Rattle.construction.proofs.World.Move.{ask}
 use Rattle.construction.proofs.Kept.{good-move, seq-move}
 use Rattle.construction.proofs.Locals.{Local, localAt, fixedOf, Sizes}
 use Rattle.construction.proofs.Places.{LocAt, Loc, loc-stays}
+use Rattle.construction.proofs.Stages.{stage, is-idle}
 use Rattle.construction.proofs.Acting.{worldOf, Tidy, Before, Acted}
 use Rattle.construction.proofs.Steps.{at-place}
 
+-- the cells of the card are those of a good world, every process knows what its place asks for, and the numbers keep their bounds
 pub record Inv (c : Card) (w : World) : Type 0 where
   pub cells : worldOf c w ≡ w
   pub good : Good (fixedOf c) w
@@ -56,9 +56,6 @@ module _ {c : Card} {w : World} (I : Inv c w) where
 
   pub announcements-is : c .announcements ≡ w .announcements
   announcements-is = ap (λ (u : World). u .announcements) (I .cells)
-
-  pub records-is : c .records ≡ w .records
-  records-is = ap (λ (u : World). u .records) (I .cells)
 
 -- a card v after a move to the world u: all but process i is as in c
 module _ {c : Card} {w : World} {i : ℕ} (I : Inv c w) {u : World} (M : Move (fixedOf c) i w u) (v : Card) (t : Local) where
@@ -93,23 +90,20 @@ module _ {c : Card} {w : World} {i : ℕ} (I : Inv c w) {u : World} (M : Move (f
           (subst (λ (l : Local). Tidy (l .dictionary)) (sym here) tidy)
       at-dictionary j (no ne) = subst (λ (l : Local). Tidy (l .dictionary)) (sym (elsewhere j ne)) (I .tidy j)
 
-inside : (c : Card) (i : ℕ) → isProcess c i ≡ true → i < c .processes
-inside c i e = ltb-true i (c .processes) (and-true (ltb i (c .processes)) _ e .0)
-
+-- what an accepted step of process i comes to
 pub record Stepped (c : Card) (w : World) (i : ℕ) : Type 0 where
   pub after : World
   pub move : Move (fixedOf c) i w after
   pub inv : Inv (advance c i) after
   pub calls-is : after .calls ≡ w .calls
-  pub fixed-is : fixedOf (advance c i) ≡ fixedOf c
   pub elsewhere : (j : ℕ) → j ≢ i → localAt (advance c i) j ≡ localAt c j
 
 -- a step that is accepted
 pub inv-step :
     (c : Card) (w : World) (i : ℕ) →
-    Inv c w → isProcess c i ≡ true → isBusy c i ≡ true → c .steps < c .limit → Stepped c w i
+    Inv c w → i < c .processes → isBusy c i ≡ true → c .steps < c .limit → Stepped c w i
 unfolding advance
-inv-step c w i I p b h = record {
+inv-step c w i I lt b h = record {
   after = A .after;
   move = M;
   inv = moved I M (counted v i) (A .local)
@@ -131,15 +125,11 @@ inv-step c w i I p b h = record {
       (rw steps (omega arith))
       (λ j. rw steps (counts j));
   calls-is = A .calls-is;
-  fixed-is = A .updated .fixed-is;
   elsewhere = A .updated .elsewhere;
 }
   where
     v : Card
     v = perform (accessOf (taskAt c i .place) (exitAt c i)) c i
-
-    lt : i < c .processes
-    lt = inside c i p
 
     B : Before c w i
     B = record {
@@ -165,79 +155,42 @@ inv-step c w i I p b h = record {
     steps = rw (A .updated .steps-is) (omega (arith, I .capped))
 
     counts : (j : ℕ) → countAt (counted v i) j ≤ suc (c .steps)
-    counts j = on-set (λ n. n ≤ suc (c .steps)) (v .counts) i j _ 0 (omega (arith, Z .counts, I .good .few, lt))
+    counts j = on-set (λ n. n ≤ suc (c .steps)) (v .counts) i j _ 0 (omega (arith, Z .counts, I .good .fits .few, lt))
         (λ _. rw (A .updated .counts-is) (omega (arith, I .counts i, I .capped)))
         (λ _. rw (A .updated .counts-is) (omega (arith, I .counts j)))
-
-is-idle : (l : Place) → isIdle l ≡ true → l ≡ Idle
-is-idle Idle e = refl
-is-idle P1 e = cc
-is-idle P3 e = cc
-is-idle P5 e = cc
-is-idle P7 e = cc
-is-idle P10 e = cc
-is-idle C2 e = cc
-is-idle C4 e = cc
-is-idle P13 e = cc
-is-idle P14 e = cc
-is-idle P16 e = cc
-is-idle H21 e = cc
-is-idle H36 e = cc
-is-idle P19 e = cc
-is-idle P20 e = cc
-is-idle P21 e = cc
-is-idle P22 e = cc
-is-idle F1 e = cc
-is-idle F3 e = cc
 
 -- what is known of a process that has no operation under way
 pub at-rest :
     {c : Card} {w : World} (I : Inv c w) (i : ℕ) →
     i < c .processes → isBusy c i ≡ false → LocAt Idle (fixedOf c) w i (localAt c i)
 at-rest {c} {w} I i lt b =
-    subst (λ (l : Place). LocAt l (fixedOf c) w i (localAt c i)) (is-idle (taskAt c i .place) (not-false _ b)) (I .locs i lt)
+    subst (λ (l : Place). LocAt l (fixedOf c) w i (localAt c i)) (is-idle (stage (taskAt c i .place)) (not-false _ b)) (I .locs i lt)
 
 -- a call that is taken
 abbrev pub called : ℕ → Words → Operation
 called k inputs = record { program = k; inputs = inputs }
 
-pub call-move :
-    (c : Card) (w : World) (i k : ℕ) (inputs : Words) → Inv c w → isProcess c i ≡ true → isBusy c i ≡ false →
+call-move :
+    (c : Card) (w : World) (i k : ℕ) (inputs : Words) → Inv c w → i < c .processes → isBusy c i ≡ false →
     Move (fixedOf c) i w (asking w i (called k inputs))
-call-move c w i k inputs I p b = ask (called k inputs) (inside c i p) (at-rest I i (inside c i p) b .0)
+call-move c w i k inputs I lt b = ask (called k inputs) lt (at-rest I i lt b .0)
 
 pub inv-call :
-    (c : Card) (w : World) (i k : ℕ) (inputs : Words) → Inv c w → isProcess c i ≡ true → isBusy c i ≡ false →
+    (c : Card) (w : World) (i k : ℕ) (inputs : Words) → Inv c w → i < c .processes → isBusy c i ≡ false →
     Inv (begun c i k inputs) (asking w i (called k inputs))
-inv-call c w i k inputs I p b =
-    moved I (call-move c w i k inputs I p b) (begun c i k inputs)
+inv-call c w i k inputs I lt b =
+    moved I (call-move c w i k inputs I lt b) (begun c i k inputs)
     (record {
       place = P1;
       target = 0;
       operation = called k inputs;
-      gate = T .gate;
-      copy = T .copy;
-      simulation = T .simulation;
-      dictionary = T .dictionary;
+      gate = heldAt c i;
+      copy = copyAt c i;
+      simulation = simulationAt c i;
+      dictionary = dictionaryAt c i;
     })
-    (λ n. record {
-      gate = gate-is I n;
-      announcements = announcements-is I n;
-      records = records-is I n;
-      words = w .words;
-      calls = set (w .calls) i (called k inputs);
-      outs = w .outs;
-      left = w .left;
-      bound = w .bound;
-      rounds = w .rounds;
-      count = w .count;
-    })
-    (rw (
-      length-set (c .tasks) i (record { place = P1; target = 0 }),
-      length-set (c .operations) i (called k inputs),
-      length-set (c .exits) i false,
-      length-set (c .counts) i 0,
-    ) Z)
+    (ap (λ (x : World). asking x i (called k inputs)) (I .cells))
+    (simp length-set Z)
     (rw (
       getD-set-same (c .tasks) i (record { place = P1; target = 0 }) idleTask (omega (arith, few, Z .tasks)),
       getD-set-same (c .operations) i (called k inputs) noOperation (omega (arith, few, Z .operations)),
@@ -248,26 +201,23 @@ inv-call c w i k inputs I p b =
     ))
     refl (
       record { not-active = Q .not-active; free-of = Q .free-of; late = Q .late },
-      sym (getD-set-same (w .calls) i (called k inputs) noOperation (omega (arith, few, I .good .size-calls))),
+      sym (getD-set-same (w .calls) i (called k inputs) noOperation (omega (arith, few, I .good .lengths .calls))),
     )
     (I .tidy i) (subst (λ (g : Gate). g .seq ≤ suc (c .steps)) (gate-is I) (I .numbered)) (I .limited)
     (λ j.
     on-set (λ n. n ≤ c .steps) (c .counts) i j 0 0 (omega (arith, few, Z .counts)) (λ _. omega arith)
     (λ _. I .counts j))
   where
-    T : Local
-    T = localAt c i
-
     Z : Sizes c
     Z = I .sizes
 
     few : i < 8
-    few = omega (arith, inside c i p, I .good .few)
+    few = omega (arith, I .good .fits .few)
 
     Q : Quiet w i
-    Q = at-rest I i (inside c i p) b .0
+    Q = at-rest I i lt b .0
 
--- an exit request that is taken: no process knows of its own
+-- an exit request that is taken: no assertion speaks of it
 pub inv-exit : (c : Card) (w : World) (i : ℕ) (b : Bool) → Inv c w → Inv (withExit c i b) w
 inv-exit c w i b I = record {
   cells = I .cells;
@@ -297,15 +247,10 @@ firstWorld x =
       count = 1;
     }
 
-all-same : {A : Type 0} (n i : ℕ) (a : A) → getD (replicate n a) i a ≡ a
-all-same zero i a = refl
-all-same (suc n) zero a = refl
-all-same (suc n) (suc i) a = all-same n i a
-
 module _ (x : Contents) (few : x .processes ≤ 8) (narrow : x .variables ≤ 64) (capped : x .limit ≤ 1000000000000000000)
     (many : length (x .starts) ≡ 64) (short : (k : ℕ) → Short (getD (x .code) k noProgram)) where
   open-flag : (m : ℕ) → getD (replicate 8 openAnnouncement) m openAnnouncement .flag ≡ Done
-  open-flag m = ap (λ (a : Announcement). a .flag) (all-same 8 m openAnnouncement)
+  open-flag m = ap (λ (a : Announcement). a .flag) (getD-replicate-same 8 m openAnnouncement)
 
   open-record : (v : ℕ) → getD (map openRecord (x .starts)) v (openRecord 0) ≡ openRecord (getD (x .starts) v 0)
   open-record v = List·getD-map openRecord (x .starts) v 0
@@ -316,23 +261,23 @@ module _ (x : Contents) (few : x .processes ≤ 8) (narrow : x .variables ≤ 64
   good-fresh : Good (fixedOf (fresh x)) (firstWorld x)
   unfolding fresh current
   good-fresh = record {
-    few = few;
-    narrow = narrow;
-    short = λ k number. short k;
-    size-announcements = length-replicate 8 openAnnouncement;
-    size-records = length-map (x .starts) openRecord ∙ many;
-    size-calls = length-replicate 8 noOperation;
-    size-outs = length-replicate 8 zeros;
-    size-left = length-replicate {A = ℕ} 8 0;
-    size-bound = length-replicate {A = ℕ} 8 0;
+    fits = record { few = few; narrow = narrow; short = λ k number. short k };
+    lengths = record {
+      announcements = refl;
+      records = length-map (x .starts) openRecord ∙ many;
+      calls = refl;
+      outs = refl;
+      left = refl;
+      bound = refl;
+    };
     size-words = open-words;
     size-round = λ s l. let z : s ≡ 0 = omega arith in rw z open-words;
-    left-below = λ m. rw (all-same {A = ℕ} 8 m 0) (omega arith);
-    bound-below = λ m. rw (all-same {A = ℕ} 8 m 0) (omega arith);
-    announcement-below = λ m. rw (all-same 8 m openAnnouncement) (omega arith);
+    left-below = λ m. rw (getD-replicate-same {A = ℕ} 8 m 0) (omega arith);
+    bound-below = λ m. rw (getD-replicate-same {A = ℕ} 8 m 0) (omega arith);
+    announcement-below = λ m. rw (getD-replicate-same 8 m openAnnouncement) (omega arith);
     fresh = λ m e. absurd (e (open-flag m));
-    inside = λ m e. absurd (never e);
-    active-operation = λ m e. absurd (active-not-done _ e (open-flag m));
+    inside = λ m e. absurd (nobody-process refl e);
+    active-operation = λ m e. absurd (active-not-done e (open-flag m));
     phase = (refl, refl);
     recorded = record {
       below = λ v. rw (open-record v) (omega arith);
@@ -359,23 +304,23 @@ module _ (x : Contents) (few : x .processes ≤ 8) (narrow : x .variables ≤ 64
       dictionaries = refl;
     };
     locs = λ j h. subst (λ (l : Place). LocAt l (fixedOf (fresh x)) (firstWorld x) j (localAt (fresh x) j))
-        (sym (ap (λ (t : Task). t .place) (all-same 8 j idleTask))) (
+        (sym (ap (λ (t : Task). t .place) (getD-replicate-same 8 j idleTask))) (
           record {
-            not-active = λ a. active-not-done _ a (open-flag j);
-            free-of = never;
-            late = λ l. absurd (exit-not-done _ l (open-flag j));
+            not-active = λ a. active-not-done a (open-flag j);
+            free-of = nobody-process refl;
+            late = λ l. absurd (exit-not-done l (open-flag j));
           },
           record {
             same = refl;
             out = λ _.
-                ap (λ (a : Announcement). a .words) (all-same 8 j openAnnouncement) ∙ sym (all-same 8 j zeros);
+                ap (λ (a : Announcement). a .words) (getD-replicate-same 8 j openAnnouncement) ∙ sym (getD-replicate-same 8 j zeros);
           },
         );
     tidy = λ j.
-        subst Tidy (sym (all-same 8 j empty))
-        (record { short = omega arith; full = length-replicate 32 noItem; keyed = tt });
+        subst Tidy (sym (getD-replicate-same 8 j empty))
+        (record { short = omega arith; keyed = tt });
     numbered = omega arith;
     limited = omega arith;
     capped = capped;
-    counts = λ j. rw (all-same {A = ℕ} 8 j 0) (omega arith);
+    counts = λ j. rw (getD-replicate-same {A = ℕ} 8 j 0) (omega arith);
   }

@@ -1,11 +1,11 @@
--- Every move keeps the world good.
+-- Every move keeps the world good (lines P3, P6, P13, H36, P19, P20, P21 and F3; and a call).
 use Prim.Native.Nat.{ℕ, suc, _+_, _≤_, _<_}
 use mathlib.Core.Path.{_≡_, refl, sym, subst, ap, _∙_}
 use mathlib.Core.Bool.{Bool, true, false, cond, not}
-use mathlib.Core.Logic.{_≢_, _⊎_, inl, inr, ⊎-elim}
+use mathlib.Core.Logic.{_≢_, _⊎_, ⊎-elim}
 use mathlib.Core.List.{[], _∷_}
 use native.Mathlib.Omega.{arith}
-use native.Mathlib.Decide.{ℕ-discrete}
+use native.Mathlib.Nat.{eq-or-lt-of-le}
 use lib.ListN.{length, getD, set, length-set, length-append, List·getD-append}
 use lib.Seq.{getD-set-other, getD-at}
 use Rattle.construction.specs.declared.Announcement.{Announcement}
@@ -18,9 +18,9 @@ use Rattle.construction.specs.Cells.{openAnnouncement, openRecord, curre
 use Rattle.construction.specs.Instructions.{started}
 use Rattle.construction.specs.Sequential.{sequential}
 use Rattle.construction.specs.Parts.{noOperation}
-use Rattle.construction.proofs.Basics.{on-set, active-not-done, active-not-exit, exit-not-done, never, process-same, done?}
+use Rattle.construction.proofs.Basics.{on-set, active-not-done, active-not-exit, exit-not-done, nobody-process, process-same, done-or-not}
 use Rattle.construction.proofs.SequentialLaws.{run-length}
-use Rattle.construction.proofs.World.{Fixed, Round, noRound, endingOf, endingIn, programIn, World, announcementIn, recordIn, leftIn, callIn, roundIn, wordAt, operationOf, doneWith, Pending, Phase, Good, asking, announcing, leaving, taking, writing, ending, freeing, Quiet, Move}
+use Rattle.construction.proofs.World.{Fixed, Round, noRound, endingOf, endingIn, programIn, World, announcementIn, recordIn, leftIn, callIn, roundIn, wordAt, operationOf, doneWith, Pending, Phase, Recorded, Good, asking, announcing, leaving, taking, writing, ending, freeing, Quiet, Move}
 use Rattle.construction.proofs.World.Move.{stay, ask, announce, leave, take, write, end, free}
 
 ending-length : (F : Fixed) (s : ℕ) (r : Round) → length (endingOf F s r .words) ≡ length (r .words)
@@ -43,13 +43,6 @@ previous-rewritten r x s = go (r .toggle)
     go true = refl
     go false = refl
 
-pub below-or : (n s : ℕ) → s < suc n → (s < n) ⊎ (s ≡ n)
-below-or n s h = go (ℕ-discrete s n)
-  where
-    go : Dec (s ≡ n) → (s < n) ⊎ (s ≡ n)
-    go (yes e) = inr e
-    go (no ne) = inl (omega arith)
-
 module _ {F : Fixed} {w : World} (G : Good F w) where
   -- after announcement i was set to a: by cases on whose is meant
   pub announcements-set :
@@ -66,15 +59,8 @@ module _ {F : Fixed} {w : World} (G : Good F w) where
 
   good-ask : (i : ℕ) (q : Operation) → i < F .processes → Quiet w i → Good F (asking w i q)
   good-ask i q lt Q = record {
-    few = G .few;
-    narrow = G .narrow;
-    short = G .short;
-    size-announcements = G .size-announcements;
-    size-records = G .size-records;
-    size-calls = rw length-set (G .size-calls);
-    size-outs = G .size-outs;
-    size-left = G .size-left;
-    size-bound = G .size-bound;
+    fits = G .fits;
+    lengths = rw length-set (G .lengths);
     size-words = G .size-words;
     size-round = G .size-round;
     left-below = G .left-below;
@@ -104,15 +90,8 @@ module _ {F : Fixed} {w : World} (G : Good F w) where
       (i : ℕ) (a : Announcement) → i < F .processes → Quiet w i → a .flag ≡ Active → operationOf a ≡ callIn w i →
       leftIn w i < a .seq → a .seq ≤ w .gate .seq → Good F (announcing w i a)
   good-announce i a lt Q fa op l b = record {
-    few = G .few;
-    narrow = G .narrow;
-    short = G .short;
-    size-announcements = rw length-set (G .size-announcements);
-    size-records = G .size-records;
-    size-calls = G .size-calls;
-    size-outs = G .size-outs;
-    size-left = G .size-left;
-    size-bound = G .size-bound;
+    fits = G .fits;
+    lengths = rw length-set (G .lengths);
     size-words = G .size-words;
     size-round = G .size-round;
     left-below = G .left-below;
@@ -135,9 +114,9 @@ module _ {F : Fixed} {w : World} (G : Good F w) where
   phase-leave i lt fa (Process m) ph = (
     ph .0,
     announcements-set (λ r. r .flag ≡ Done → w .count ≡ suc (w .gate .seq)) i m _ lt
-        (λ _ q. absurd (exit-not-done _ refl q)) (λ _. ph .1),
+        (λ _ q. absurd (exit-not-done refl q)) (λ _. ph .1),
     announcements-set (λ r. r .flag ≢ Done → Pending (leaving w i) m) i m _ lt
-        (λ e _. busy (ph .2 (λ d. active-not-done _ fa (rw e at d)))) (λ _ d. busy (ph .2 d)),
+        (λ e _. busy (ph .2 (λ d. active-not-done fa (rw e at d)))) (λ _ d. busy (ph .2 d)),
   )
     where
       busy : Pending w m → Pending (leaving w i) m
@@ -150,15 +129,8 @@ module _ {F : Fixed} {w : World} (G : Good F w) where
 
   good-leave : (i : ℕ) → i < F .processes → announcementIn w i .flag ≡ Active → Good F (leaving w i)
   good-leave i lt fa = record {
-    few = G .few;
-    narrow = G .narrow;
-    short = G .short;
-    size-announcements = rw length-set (G .size-announcements);
-    size-records = G .size-records;
-    size-calls = G .size-calls;
-    size-outs = G .size-outs;
-    size-left = G .size-left;
-    size-bound = rw length-set (G .size-bound);
+    fits = G .fits;
+    lengths = simp length-set (G .lengths);
     size-words = G .size-words;
     size-round = G .size-round;
     left-below = G .left-below;
@@ -169,28 +141,28 @@ module _ {F : Fixed} {w : World} (G : Good F w) where
         announcements-set (λ r. r .seq ≤ w .gate .seq) i m _ lt (λ _. G .announcement-below i) (λ _. G .announcement-below m);
     fresh = λ m.
         announcements-set (λ r. r .flag ≢ Done → leftIn w m < r .seq) i m _ lt
-        (λ e _. rw e (G .fresh i (λ d. active-not-done _ fa d))) (λ _. G .fresh m);
+        (λ e _. rw e (G .fresh i (active-not-done fa))) (λ _. G .fresh m);
     inside = G .inside;
     active-operation = λ m.
         announcements-set (λ r. r .flag ≡ Active → operationOf r ≡ callIn w m) i m _ lt
-        (λ _ q. absurd (active-not-exit _ q refl)) (λ _. G .active-operation m);
+        (λ _ q. absurd (active-not-exit q refl)) (λ _. G .active-operation m);
     phase = phase-leave i lt fa (w .gate .holder) (G .phase);
     recorded = G .recorded;
   }
 
   -- one round more: the earlier ones are as before
-  abbrev page : ℕ → Round
-  page m = record { words = w .words; call = callIn w m }
+  abbrev newRound : ℕ → Round
+  newRound m = record { words = w .words; call = callIn w m }
 
   earlier : (m s : ℕ) → s < length (w .rounds) → roundIn (taking w m) s ≡ roundIn w s
-  earlier m s lt = List·getD-append (w .rounds) (page m ∷ []) noRound s lt
+  earlier m s lt = List·getD-append (w .rounds) (newRound m ∷ []) noRound s lt
 
-  latest : (m s : ℕ) → s ≡ length (w .rounds) → roundIn (taking w m) s ≡ page m
-  latest m s e = getD-at (w .rounds) (page m) [] noRound s (sym e)
+  latest : (m s : ℕ) → s ≡ length (w .rounds) → roundIn (taking w m) s ≡ newRound m
+  latest m s e = getD-at (w .rounds) (newRound m) [] noRound s (sym e)
 
   -- a number below the longer list is below the list, or the last
-  split-last : (m s : ℕ) → s < length (taking w m .rounds) → (s < length (w .rounds)) ⊎ (s ≡ length (w .rounds))
-  split-last m s lt = below-or (length (w .rounds)) s (omega (arith, simp length-append at lt))
+  split-last : (m s : ℕ) → s < length (taking w m .rounds) → (s ≡ length (w .rounds)) ⊎ (s < length (w .rounds))
+  split-last m s lt = eq-or-lt-of-le (omega (arith, simp length-append at lt))
 
   good-take :
       (m : ℕ) → m < F .processes → w .gate .holder ≡ Nobody → announcementIn w m .flag ≢ Done →
@@ -200,18 +172,11 @@ module _ {F : Fixed} {w : World} (G : Good F w) where
       let ph : Phase Nobody w = subst (λ (h : Holder). Phase h w) hn (G .phase) in
       let more : length (taking w m .rounds) ≡ suc (length (w .rounds)) = rw length-append (omega arith) in
       record {
-        few = G .few;
-        narrow = G .narrow;
-        short = G .short;
-        size-announcements = G .size-announcements;
-        size-records = G .size-records;
-        size-calls = G .size-calls;
-        size-outs = G .size-outs;
-        size-left = G .size-left;
-        size-bound = G .size-bound;
+        fits = G .fits;
+        lengths = G .lengths;
         size-words = G .size-words;
         size-round = λ s sl.
-            ⊎-elim (λ l. rw (earlier m s l) (G .size-round s l)) (λ e. rw (latest m s e) (G .size-words)) (split-last m s sl);
+            ⊎-elim (λ e. rw (latest m s e) (G .size-words)) (λ l. rw (earlier m s l) (G .size-round s l)) (split-last m s sl);
         left-below = G .left-below;
         bound-below = G .bound-below;
         announcement-below = G .announcement-below;
@@ -226,8 +191,8 @@ module _ {F : Fixed} {w : World} (G : Good F w) where
         recorded = record {
           below = λ v. omega (arith, R .below v);
           old = λ s v sl vl h.
-              ⊎-elim (λ l. rw (earlier m s l) (R .old s v l vl h))
-              (λ e. rw (latest m s e) (R .words-are v vl (omega arith))) (split-last m s sl);
+              ⊎-elim (λ e. rw (latest m s e) (R .words-are v vl (omega arith)))
+              (λ l. rw (earlier m s l) (R .old s v l vl h)) (split-last m s sl);
           same = λ v vl z. rw (earlier m (recordIn w v .seq) (R .below v)) (R .same v vl z);
           settled = λ s v sl vl h. rw (earlier m s (omega arith)) (R .settled s v sl vl h);
           words-are = λ v vl e. absurd (omega arith);
@@ -242,30 +207,56 @@ module _ {F : Fixed} {w : World} (G : Good F w) where
     λ d. let B = ph .2 d in record { counted = B .counted; now = B .now; asked = B .asked },
   )
 
-  good-write :
-      (m v x : ℕ) → v < F .variables → w .gate .holder ≡ Process m → announcementIn w m .flag ≢ Done →
-      recordIn w v .seq < w .gate .seq → x ≡ wordAt (endingIn F w (w .gate .seq) .words) v → Good F (writing w v x)
-  unfolding rewritten
-  good-write m v x vl hm fl below ex =
-      let R = G .recorded in
-      let ph : Phase (Process m) w = subst (λ (h : Holder). Phase h w) hm (G .phase) in
-      let many : length (w .rounds) ≡ suc (w .gate .seq) = ph .0 in
-      let B : Pending w m = ph .2 fl in
-      let counted : w .count ≡ w .gate .seq = B .counted in
-      let set-record :
-      (P : Record → Type 0) (u : ℕ) → (u ≡ v → P (rewritten (recordIn w v) x (w .gate .seq))) →
-      (u ≢ v → P (recordIn w u)) → P (recordIn (writing w v x) u) =
-      λ P u. on-set P (w .records) v u (rewritten (recordIn w v) x (w .gate .seq)) (openRecord 0) (omega arith) in
-      record {
-        few = G .few;
-        narrow = G .narrow;
-        short = G .short;
-        size-announcements = G .size-announcements;
-        size-records = rw length-set (G .size-records);
-        size-calls = G .size-calls;
-        size-outs = G .size-outs;
-        size-left = G .size-left;
-        size-bound = G .size-bound;
+  -- the gate is held for an operation of m that is not done
+  module _ (m : ℕ) (hm : w .gate .holder ≡ Process m) (fl : announcementIn w m .flag ≢ Done) where
+    held : Phase (Process m) w
+    held = subst (λ (h : Holder). Phase h w) hm (G .phase)
+
+    many : length (w .rounds) ≡ suc (w .gate .seq)
+    many = held .0
+
+    counted : w .count ≡ w .gate .seq
+    counted = held .2 fl .counted
+
+    -- variable v is written (H36)
+    module _
+        (v x : ℕ) (vl : v < F .variables) (below : recordIn w v .seq < w .gate .seq)
+        (ex : x ≡ wordAt (endingIn F w (w .gate .seq) .words) v) where
+      set-record :
+          (P : Record → Type 0) (u : ℕ) → (u ≡ v → P (rewritten (recordIn w v) x (w .gate .seq))) → (u ≢ v → P (recordIn w u)) →
+          P (recordIn (writing w v x) u)
+      set-record P u =
+          on-set P (w .records) v u (rewritten (recordIn w v) x (w .gate .seq)) (openRecord 0) (omega (arith, G .lengths, G .fits))
+
+      recorded-write : Recorded F (writing w v x .records) (w .rounds) (w .count) (w .words)
+      unfolding rewritten
+      recorded-write =
+          let R = G .recorded in
+          record {
+            below = λ u. set-record (λ q. q .seq < length (w .rounds)) u (λ _. omega (arith, many)) (λ _. R .below u);
+            old = λ s u sl ul.
+                set-record (λ q. q .seq < s → current q ≡ wordAt (roundIn w s .words) u) u
+                (λ _ h. absurd (omega (arith, many))) (λ _. R .old s u sl ul);
+            same = λ u ul.
+                set-record
+                (λ q. 0 < q .seq →
+                (previous q ≡ wordAt (roundIn w (q .seq) .words) u) × (current q ≡ wordAt (endingIn F w (q .seq) .words) u))
+                u
+                (λ e h. (
+                  previous-rewritten (recordIn w v) x (w .gate .seq) ∙ rw e (R .old (w .gate .seq) v (omega (arith, many)) vl below),
+                  current-rewritten (recordIn w v) x (w .gate .seq) ∙ rw e ex,
+                ))
+                (λ _. R .same u ul);
+            settled = λ s u sl ul.
+                set-record (λ q. q .seq < s → wordAt (endingIn F w s .words) u ≡ wordAt (roundIn w s .words) u) u
+                (λ _ h. absurd (omega (arith, counted))) (λ _. R .settled s u sl ul);
+            words-are = λ u ul e. absurd (omega (arith, many, counted));
+          }
+
+      good-write : Good F (writing w v x)
+      good-write = record {
+        fits = G .fits;
+        lengths = rw length-set (G .lengths);
         size-words = G .size-words;
         size-round = G .size-round;
         left-below = G .left-below;
@@ -275,81 +266,56 @@ module _ {F : Fixed} {w : World} (G : Good F w) where
         inside = G .inside;
         active-operation = G .active-operation;
         phase = phase-write v x (w .gate .holder) (G .phase);
-        recorded = record {
-          below = λ u. set-record (λ q. q .seq < length (w .rounds)) u (λ _. omega arith) (λ _. R .below u);
-          old = λ s u sl ul.
-              set-record (λ q. q .seq < s → current q ≡ wordAt (roundIn w s .words) u) u
-              (λ _ h. absurd (omega arith)) (λ _. R .old s u sl ul);
-          same = λ u ul.
-              set-record
-              (λ q. 0 < q .seq →
-              (previous q ≡ wordAt (roundIn w (q .seq) .words) u) × (current q ≡ wordAt (endingIn F w (q .seq) .words) u))
-              u
-              (λ e h. (
-                previous-rewritten (recordIn w v) x (w .gate .seq) ∙ rw e (R .old (w .gate .seq) v (omega arith) vl below),
-                current-rewritten (recordIn w v) x (w .gate .seq) ∙ rw e ex,
-              ))
-              (λ _. R .same u ul);
-          settled = λ s u sl ul.
-              set-record (λ q. q .seq < s → wordAt (endingIn F w s .words) u ≡ wordAt (roundIn w s .words) u) u
-              (λ _ h. absurd (omega arith)) (λ _. R .settled s u sl ul);
-          words-are = λ u ul e. absurd (omega arith);
-        };
+        recorded = recorded-write;
       }
 
-  good-end :
-      (m : ℕ) → m < F .processes → w .gate .holder ≡ Process m → announcementIn w m .flag ≢ Done →
-      ((v : ℕ) → v < F .variables → recordIn w v .seq < w .gate .seq →
-      wordAt (endingIn F w (w .gate .seq) .words) v ≡ wordAt (roundIn w (w .gate .seq) .words) v) →
-      Good F (ending F w m)
-  good-end m lt hm fl all =
-      let R = G .recorded in
-      let ph : Phase (Process m) w = subst (λ (h : Holder). Phase h w) hm (G .phase) in
-      let many : length (w .rounds) ≡ suc (w .gate .seq) = ph .0 in
-      let B : Pending w m = ph .2 fl in
-      let counted : w .count ≡ w .gate .seq = B .counted in
-      let a : Announcement = doneWith (announcementIn w m) (endingIn F w (w .gate .seq) .outputs) in
-      record {
-        few = G .few;
-        narrow = G .narrow;
-        short = G .short;
-        size-announcements = rw length-set (G .size-announcements);
-        size-records = G .size-records;
-        size-calls = G .size-calls;
-        size-outs = rw length-set (G .size-outs);
-        size-left = G .size-left;
-        size-bound = G .size-bound;
-        size-words =
-            ending-length F (w .gate .seq) (roundIn w (w .gate .seq)) ∙ G .size-round (w .gate .seq) (omega arith);
-        size-round = G .size-round;
-        left-below = G .left-below;
-        bound-below = G .bound-below;
-        announcement-below = λ j.
-            announcements-set (λ r. r .seq ≤ w .gate .seq) m j a lt (λ _. G .announcement-below m) (λ _. G .announcement-below j);
-        fresh = λ j.
-            announcements-set (λ r. r .flag ≢ Done → leftIn w j < r .seq) m j a lt (λ _ q. absurd (q refl)) (λ _. G .fresh j);
-        inside = G .inside;
-        active-operation = λ j.
-            announcements-set (λ r. r .flag ≡ Active → operationOf r ≡ callIn w j) m j a lt
-            (λ _ q. absurd (active-not-done _ q refl)) (λ _. G .active-operation j);
-        phase = subst (λ (h : Holder). Phase h (ending F w m)) (sym hm) (
-          many,
-          λ _. omega arith,
-          λ d. absurd (d (announcements-set (λ r. r .flag ≡ Done) m m a lt (λ _. refl) (λ ne. absurd (ne refl)))),
-        );
-        recorded = record {
-          below = R .below;
-          old = R .old;
-          same = R .same;
-          settled = λ s v sl vl h.
-              ⊎-elim (λ l. R .settled s v (omega arith) vl h) (λ e. rw e (all v vl (rw e at h)))
-              (below-or (w .gate .seq) s (omega arith));
-          words-are = λ v vl e.
-              ⊎-elim (λ l. R .old (w .gate .seq) v (omega arith) vl l ∙ sym (all v vl l))
-              (λ l. let z = R .same v vl (omega (arith, G .left-below m)) .1 in rw l at z)
-              (below-or (w .gate .seq) (recordIn w v .seq) (omega (arith, R .below v)));
-        };
-      }
+    -- the operation is finished (P19, P20)
+    module _
+        (lt : m < F .processes)
+        (all : (v : ℕ) → v < F .variables → recordIn w v .seq < w .gate .seq →
+        wordAt (endingIn F w (w .gate .seq) .words) v ≡ wordAt (roundIn w (w .gate .seq) .words) v) where
+      recorded-end : Recorded F (w .records) (w .rounds) (suc (w .count)) (endingIn F w (w .gate .seq) .words)
+      recorded-end =
+          let R = G .recorded in
+          record {
+            below = R .below;
+            old = R .old;
+            same = R .same;
+            settled = λ s v sl vl h.
+                ⊎-elim (λ (e : s ≡ w .gate .seq). rw e (all v vl (rw e at h))) (λ l. R .settled s v (omega (arith, counted)) vl h)
+                (eq-or-lt-of-le (omega (arith, counted)));
+            words-are = λ v vl e.
+                ⊎-elim (λ (l : recordIn w v .seq ≡ w .gate .seq). let z = R .same v vl (omega (arith, G .left-below m)) .1 in rw l at z)
+                (λ l. R .old (w .gate .seq) v (omega (arith, many)) vl l ∙ sym (all v vl l))
+                (eq-or-lt-of-le (omega (arith, many, R .below v)));
+          }
+
+      good-end : Good F (ending F w m)
+      good-end =
+          let a : Announcement = doneWith (announcementIn w m) (endingIn F w (w .gate .seq) .outputs) in
+          record {
+            fits = G .fits;
+            lengths = simp length-set (G .lengths);
+            size-words =
+                ending-length F (w .gate .seq) (roundIn w (w .gate .seq)) ∙ G .size-round (w .gate .seq) (omega (arith, many));
+            size-round = G .size-round;
+            left-below = G .left-below;
+            bound-below = G .bound-below;
+            announcement-below = λ j.
+                announcements-set (λ r. r .seq ≤ w .gate .seq) m j a lt (λ _. G .announcement-below m) (λ _. G .announcement-below j);
+            fresh = λ j.
+                announcements-set (λ r. r .flag ≢ Done → leftIn w j < r .seq) m j a lt (λ _ q. absurd (q refl)) (λ _. G .fresh j);
+            inside = G .inside;
+            active-operation = λ j.
+                announcements-set (λ r. r .flag ≡ Active → operationOf r ≡ callIn w j) m j a lt
+                (λ _ q. absurd (active-not-done q refl)) (λ _. G .active-operation j);
+            phase = subst (λ (h : Holder). Phase h (ending F w m)) (sym hm) (
+              many,
+              λ _. omega (arith, counted),
+              λ d. absurd (d (announcements-set (λ r. r .flag ≡ Done) m m a lt (λ _. refl) (λ ne. absurd (ne refl)))),
+            );
+            recorded = recorded-end;
+          }
 
   good-free :
       (m : ℕ) → m < F .processes → w .gate .holder ≡ Process m → announcementIn w m .flag ≡ Done → Good F (freeing w m)
@@ -361,22 +327,15 @@ module _ {F : Fixed} {w : World} (G : Good F w) where
       (P : ℕ → Type 0) (j : ℕ) → (j ≡ m → P (w .gate .seq)) → (j ≢ m → P (leftIn w j)) → P (leftIn (freeing w m) j) =
       λ P j. on-set P (w .left) m j (w .gate .seq) 0 (omega arith) in
       record {
-        few = G .few;
-        narrow = G .narrow;
-        short = G .short;
-        size-announcements = G .size-announcements;
-        size-records = G .size-records;
-        size-calls = G .size-calls;
-        size-outs = G .size-outs;
-        size-left = rw length-set (G .size-left);
-        size-bound = G .size-bound;
+        fits = G .fits;
+        lengths = rw length-set (G .lengths);
         size-words = G .size-words;
         size-round = G .size-round;
         left-below = λ j. set-left (λ b. b < w .gate .seq + 1) j (λ _. omega arith) (λ _. omega (arith, G .left-below j));
         bound-below = λ j. omega (arith, G .bound-below j);
         announcement-below = λ j. omega (arith, G .announcement-below j);
         fresh = λ j q. set-left (λ b. b < announcementIn w j .seq) j (λ e. absurd (q (rw e d))) (λ _. G .fresh j q);
-        inside = λ j e. absurd (never e);
+        inside = λ j e. absurd (nobody-process refl e);
         active-operation = G .active-operation;
         phase = (omega arith, omega arith);
         recorded = G .recorded;
@@ -388,8 +347,8 @@ good-move G (ask q lt Q) = good-ask G _ q lt Q
 good-move G (announce a lt Q fa op l b) = good-announce G _ a lt Q fa op l b
 good-move G (leave lt fa) = good-leave G _ lt fa
 good-move G (take m lt hn fl op z) = good-take G m lt hn fl op
-good-move G (write m v x vl hm fl below ex) = good-write G m v x vl hm fl below ex
-good-move G (end m lt hm fl all) = good-end G m lt hm fl all
+good-move G (write m v x vl hm fl below ex) = good-write G m hm fl v x vl below ex
+good-move G (end m lt hm fl all) = good-end G m hm fl lt all
 good-move G (free m lt hm d) = good-free G m lt hm d
 
 -- a move takes the gate's number up by one at most
@@ -410,9 +369,7 @@ pub ends-now :
     × (endingIn F w (w .gate .seq)
     ≡ sequential (F .variables) (programIn F (callIn w m .program) (w .gate .seq)) (callIn w m .inputs) (w .words))
 unfolding endingOf
-ends-now {F} {w} G m hm fl =
-    let ph : Phase (Process m) w = subst (λ (h : Holder). Phase h w) hm (G .phase) in
-    (ph .2 fl .counted, ap (endingOf F (w .gate .seq)) (ph .2 fl .now))
+ends-now {F} {w} G m hm fl = (counted G m hm fl, ap (endingOf F (w .gate .seq)) (held G m hm fl .2 fl .now))
 
 -- how many rounds there are at most, and operations finished at least
 pub rounds-few : (h : Holder) (w : World) → Phase h w → length (w .rounds) ≤ suc (w .gate .seq)
@@ -422,4 +379,4 @@ rounds-few (Process m) w ph = omega arith
 pub count-many : (h : Holder) (w : World) → Phase h w → w .gate .seq ≤ w .count
 count-many Nobody w ph = omega arith
 count-many (Process m) w ph =
-    ⊎-elim (λ d. omega (arith, ph .1 d)) (λ d. omega (arith, ph .2 d .counted)) (done? (announcementIn w m .flag))
+    ⊎-elim (λ d. omega (arith, ph .1 d)) (λ d. omega (arith, ph .2 d .counted)) (done-or-not (announcementIn w m .flag))

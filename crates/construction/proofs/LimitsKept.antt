@@ -1,7 +1,7 @@
--- After any list of entries numbers stay within their 64 bits and dictionaries within their items.
+-- After any list of entries numbers stay within their 64 bits and dictionaries within their items, no variable twice (specs/Limits).
 use Prim.Native.Nat.{ℕ, zero, suc, _≤_, _<_}
 use mathlib.Core.Path.{_≡_, refl, sym, ap}
-use mathlib.Core.Bool.{true, false}
+use mathlib.Core.Bool.{true, false, false≢true}
 use mathlib.Core.List.{List, [], _∷_}
 use native.Mathlib.Omega.{arith}
 use lib.ListN.{length, getD}
@@ -14,7 +14,6 @@ use Rattle.construction.specs.Parts.{taskAt, dictionaryAt}
 use Rattle.construction.specs.Opening.{opened}
 use Rattle.construction.specs.Limits.{touching, Distinct, usesDictionary, Limited}
 use Rattle.construction.specs.History.{Entry, run}
-use Rattle.construction.proofs.Basics.{true-false}
 use Rattle.construction.proofs.DictionaryLaws.{hasIn, Keyed, lacks-cons}
 use Rattle.construction.proofs.World.{Fixed, World}
 use Rattle.construction.proofs.Locals.{Local, localAt, fixedOf}
@@ -36,28 +35,28 @@ distinct (x ∷ b) q (suc j) zero l m e = absurd (lacks-at b (x .variable) (q .0
 distinct (x ∷ b) q (suc j) (suc k) l m e = ap suc (distinct b (q .1) j k (omega arith) (omega arith) e)
 
 -- where a process uses its dictionary, that holds at most the touching instructions of the program helped
-few :
+at-most-touching :
     (p : Place) (F : Fixed) (w : World) (j : ℕ) (t : Local) → usesDictionary p ≡ true → LocAt p F w j t →
     t .dictionary .length ≤ touching (programFor F (t .gate .seq) (t .copy)) 32
-few Idle F w j t e q = absurd (true-false false e refl)
-few P1 F w j t e q = absurd (true-false false e refl)
-few P3 F w j t e q = absurd (true-false false e refl)
-few P5 F w j t e q = absurd (true-false false e refl)
-few P7 F w j t e q = absurd (true-false false e refl)
-few P10 F w j t e q = absurd (true-false false e refl)
-few C2 F w j t e q = absurd (true-false false e refl)
-few C4 F w j t e q = absurd (true-false false e refl)
-few P13 F w j t e q = absurd (true-false false e refl)
-few P14 F w j t e q = absurd (true-false false e refl)
-few P16 F w j t e q = absurd (true-false false e refl)
-few H21 F w j t e q = q .2 .core .room .few
-few H36 F w j t e q = q .2 .room .few
-few P19 F w j t e q = absurd (true-false false e refl)
-few P20 F w j t e q = absurd (true-false false e refl)
-few P21 F w j t e q = absurd (true-false false e refl)
-few P22 F w j t e q = absurd (true-false false e refl)
-few F1 F w j t e q = absurd (true-false false e refl)
-few F3 F w j t e q = absurd (true-false false e refl)
+at-most-touching Idle F w j t e q = absurd (false≢true e)
+at-most-touching P1 F w j t e q = absurd (false≢true e)
+at-most-touching P3 F w j t e q = absurd (false≢true e)
+at-most-touching P5 F w j t e q = absurd (false≢true e)
+at-most-touching P7 F w j t e q = absurd (false≢true e)
+at-most-touching P10 F w j t e q = absurd (false≢true e)
+at-most-touching C2 F w j t e q = absurd (false≢true e)
+at-most-touching C4 F w j t e q = absurd (false≢true e)
+at-most-touching P13 F w j t e q = absurd (false≢true e)
+at-most-touching P14 F w j t e q = absurd (false≢true e)
+at-most-touching P16 F w j t e q = absurd (false≢true e)
+at-most-touching H21 F w j t e q = q .2 .core .room .few
+at-most-touching H36 F w j t e q = q .2 .room .few
+at-most-touching P19 F w j t e q = absurd (false≢true e)
+at-most-touching P20 F w j t e q = absurd (false≢true e)
+at-most-touching P21 F w j t e q = absurd (false≢true e)
+at-most-touching P22 F w j t e q = absurd (false≢true e)
+at-most-touching F1 F w j t e q = absurd (false≢true e)
+at-most-touching F3 F w j t e q = absurd (false≢true e)
 
 pub limits : (t : List ℕ) (es : List Entry) → Limited (run (opened t .card) es .card)
 limits t es =
@@ -70,5 +69,5 @@ limits t es =
       numbers = omega (arith, I .numbered, I .limited, I .capped);
       items = λ i. I .tidy i .short;
       distinct = λ i. distinct (noted (dictionaryAt c i)) (I .tidy i .keyed);
-      touched = λ i l u. few (taskAt c i .place) (fixedOf c) (O .world) i (localAt c i) u (I .locs i l);
+      touched = λ i l u. at-most-touching (taskAt c i .place) (fixedOf c) (O .world) i (localAt c i) u (I .locs i l);
     }

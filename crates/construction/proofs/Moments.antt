@@ -7,8 +7,7 @@ use mathlib.Core.List.{List, [], _∷_}
 use native.Mathlib.Omega.{arith}
 use lib.ListN.{length, getD}
 use lib.Seq.{getD-set-same, getD-set-other}
-use lib.Dec.{ltb}
-use borrow.Author.Tests.{ltb-true, lt-ltb}
+use borrow.Author.Tests.{lt-ltb}
 use Rattle.construction.specs.declared.Flag.{Flag}
 use Rattle.construction.specs.declared.Flag.the-variants.{Done, Active, Exit}
 use Rattle.construction.specs.declared.Words.{Words}
@@ -25,29 +24,27 @@ use Rattle.construction.specs.declared.Place.the-variants.{P1, P3, P5}
 use Rattle.construction.specs.Cells.{isDone, openAnnouncement}
 use Rattle.construction.specs.Parts.{idleTask, taskAt, withExit}
 use Rattle.construction.specs.Machine.{advance}
-use Rattle.construction.specs.Requests.{isProcess, isVariable, isIdle, isBusy, refused, begun as cardBegun, answerOf, read}
-use Rattle.construction.specs.History.{Entry, act, Invocation, Notes, turned, finishing, finished, begun, withReturn, ended, noted, Moment, observe, FinishesOne, FinishesAtMostOne}
-use Rattle.construction.proofs.Basics.{true-or-false, true-false, cond-true, cond-false, and-true}
+use Rattle.construction.specs.Requests.{isVariable, isIdle, isBusy, refused, begun, answerOf, read}
+use Rattle.construction.specs.History.{Entry, act, Invocation, Notes, turned, finishing, finished, withReturn, ended, noted, Moment, observe, FinishesOne, FinishesAtMostOne}
+use Rattle.construction.proofs.Basics.{true-or-false, true-false, cond-true, cond-false}
 use Rattle.construction.proofs.NotesLaws.{turned-same}
 use Rattle.construction.proofs.TextKept.{contentsOf, advance-kept}
 use Rattle.construction.proofs.Outcomes.{Outcome, outcome}
 use Rattle.construction.proofs.World.{World, announcementIn, outputsIn, ending, asking}
 use Rattle.construction.proofs.Locals.{Local, fixedOf}
+use Rattle.construction.proofs.Stages.{isAnnounced, stage, announced-busy, busy-stage}
 use Rattle.construction.proofs.Invariant.{Inv, Stepped, gate-is, announcements-is, inv-call, inv-exit, inv-step}
-use Rattle.construction.proofs.Answers.{read-is, answer-is, isAnnounced, holder-announced}
+use Rattle.construction.proofs.Answers.{read-is, answer-is, holder-announced}
 use Rattle.construction.proofs.NextPlaces.{P1-next, P3-next, P3-active, announced-next}
-use Rattle.construction.proofs.Course.{active-before, announced-busy, stage-of}
+use Rattle.construction.proofs.ActiveFlags.{active-before}
 use Rattle.construction.proofs.Observed.{requestOf, Own, Tracks, under-way, Calm, Ends, kind-of, turned-ends, tracks-calm, tracks-finished, own-next, tracks-place, tracks-called, tracks-returned}
 
--- the processes of a card that have an operation under way, and those that have announced it
-abbrev busyIn : Card → ℕ → Bool
-busyIn c j = isBusy c j
-
+-- the processes of a card that have announced their operation
 abbrev announcedIn : Card → ℕ → Bool
 announcedIn c j = isAnnounced (taskAt c j .place)
 
 abbrev Follows : Card → Card → World → Notes → Type 0
-Follows o c w s = Tracks (o .processes) (busyIn c) (announcedIn c) w s
+Follows o c w s = Tracks (o .processes) (isBusy c) (announcedIn c) w s
 
 -- a moment in which card, world and notes go together
 pub record Consistent (o : Card) (m : Moment) : Type 0 where
@@ -74,18 +71,24 @@ module _ (o : Card) (m : Moment) (O : Consistent o m) where
   abbrev w : World
   w = O .world
 
-  nothing-finished : (d : Card) → c .announcements ≡ d .announcements → finished o (c .gate .seq) (finishing c d) s ≡ s
+  -- an entry that turns no flag
+  unturned :
+      (d : Card) (e : Entry) (a : Answer) → c .announcements ≡ d .announcements →
+      Consistent o (record { card = d; notes = noted s e a }) → Consistent o (after o m e (record { card = d; answer = a }))
   unfolding finished
-  nothing-finished d e = rw (← e, turned-same 0 (c .announcements))
+  unturned d e a z O′ = subst (λ (n : Notes). Consistent o (record { card = d; notes = noted n e a })) (sym none) O′
+    where
+      none : finished o (c .gate .seq) (finishing c d) s ≡ s
+      none = rw (← z, turned-same 0 (c .announcements))
 
   processes-is : c .processes ≡ o .processes
   processes-is = ap (λ (x : Contents). x .processes) (O .text)
 
   -- an entry that is turned back
   refused-kept : (e : Entry) (why : Refusal) → Consistent o (after o m e (refused c why))
-  refused-kept e why = subst (λ (n : Notes). Consistent o (record { card = c; notes = n })) (sym (noted-refused e ∙ nothing-finished c refl)) O
+  refused-kept e why = unturned c e (Answer.Refused why) refl (rw (noted-refused e) O)
     where
-      noted-refused : {n : Notes} (e : Entry) → noted n e (Answer.Refused why) ≡ n
+      noted-refused : (e : Entry) → noted s e (Answer.Refused why) ≡ s
       noted-refused (Entry.Call i k inputs) = refl
       noted-refused (Entry.Exit i) = refl
       noted-refused (Entry.Step i) = refl
@@ -93,43 +96,39 @@ module _ (o : Card) (m : Moment) (O : Consistent o m) where
 
   -- a read and an exit request
   read-kept : (v x : ℕ) → Consistent o (after o m (Entry.Read v) (record { card = c; answer = Answer.Value x }))
-  read-kept v x = subst (λ (n : Notes). Consistent o (record { card = c; notes = n })) (sym (nothing-finished c refl)) O
+  read-kept v x = unturned c (Entry.Read v) (Answer.Value x) refl O
 
   exit-kept : (i : ℕ) → Consistent o (after o m (Entry.Exit i) (record { card = withExit c i true; answer = Answer.Taken }))
   exit-kept i =
-      subst (λ (n : Notes). Consistent o (record { card = withExit c i true; notes = n })) (sym (nothing-finished (withExit c i true) refl))
+      unturned (withExit c i true) (Entry.Exit i) Answer.Taken refl
       (record { world = w; inv = inv-exit c w i true (O .inv); tracks = O .tracks; text = O .text })
-
-  inside : (i : ℕ) → isProcess c i ≡ true → i < c .processes
-  inside i e = ltb-true i (c .processes) (and-true (ltb i (c .processes)) _ e .0)
 
   -- a call
   call-kept :
-      (i k : ℕ) (inputs : Words) → isProcess c i ≡ true → isBusy c i ≡ false →
-      Consistent o (after o m (Entry.Call i k inputs) (record { card = cardBegun c i k inputs; answer = Answer.Taken }))
-  call-kept i k inputs e f =
+      (i k : ℕ) (inputs : Words) → i < c .processes → isBusy c i ≡ false →
+      Consistent o (after o m (Entry.Call i k inputs) (record { card = begun c i k inputs; answer = Answer.Taken }))
+  call-kept i k inputs lt f =
       let x : Invocation = record { process = i; program = k; inputs = inputs } in
-      let d = cardBegun c i k inputs in
-      let lt = inside i e in
-      let others : (j : ℕ) → j ≢ i → (busyIn d j ≡ busyIn c j) × (announcedIn d j ≡ announcedIn c j) =
+      let d = begun c i k inputs in
+      let others : (j : ℕ) → j ≢ i → (isBusy d j ≡ isBusy c j) × (announcedIn d j ≡ announcedIn c j) =
       λ j ne. rw (getD-set-other (c .tasks) i j (record { place = P1; target = 0 }) idleTask ne) (refl, refl) in
       let here : taskAt d i ≡ record { place = P1; target = 0 } =
-      getD-set-same (c .tasks) i _ idleTask (omega (arith, O .inv .sizes .tasks, O .inv .good .few)) in
-      subst (λ (n : Notes). Consistent o (record { card = d; notes = begun n x Answer.Taken })) (sym (nothing-finished d refl))
+      getD-set-same (c .tasks) i _ idleTask (omega (arith, O .inv .sizes .tasks, O .inv .good .fits .few)) in
+      unturned d (Entry.Call i k inputs) Answer.Taken refl
       (record {
         world = asking w i (requestOf x);
-        inv = inv-call c w i k inputs (O .inv) e f;
-        tracks = tracks-called i x (O .inv .good) lt refl others (ap (λ (t : Task). isAnnounced (t .place)) here) (O .tracks);
+        inv = inv-call c w i k inputs (O .inv) lt f;
+        tracks = tracks-called i others (O .tracks) x (O .inv .good) lt refl (ap (λ (t : Task). isAnnounced (t .place)) here);
         text = O .text;
       })
 
   -- an accepted step of process i
-  module _ (i : ℕ) (e : isProcess c i ≡ true) (b : isBusy c i ≡ true) (l : c .steps < c .limit) where
+  module _ (i : ℕ) (lt : i < c .processes) (b : isBusy c i ≡ true) (l : c .steps < c .limit) where
     abbrev d : Card
     d = advance c i
 
     S : Stepped c w i
-    S = inv-step c w i (O .inv) e b l
+    S = inv-step c w i (O .inv) lt b l
 
     abbrev noticed : Notes
     noticed = finished o (c .gate .seq) (finishing c d) s
@@ -145,7 +144,7 @@ module _ (o : Card) (m : Moment) (O : Consistent o m) where
         ap flag (sym (announcements-is (O .inv))) ∙ active-before c i t (ap flag (announcements-is (S .inv)) ∙ h)
 
     kind : Calm (announcedIn c) w (S .after) ⊎ Ends (fixedOf c) w (S .after)
-    kind = kind-of (fixedOf c) i (announcedIn c) w (S .after) (O .inv .good) (S .move) only
+    kind = kind-of (announcedIn c) (O .inv .good) (S .move) only
 
     -- the operation that an ending move finishes
     module _ (E : Ends (fixedOf c) w (S .after)) where
@@ -156,16 +155,16 @@ module _ (o : Card) (m : Moment) (O : Consistent o m) where
       ends-own =
           subst (λ (a : Bool). Own a w s (E .process)) ends-announced
           (O .tracks .own (E .process) (subst (λ (n : ℕ). E .process < n) processes-is (E .inside))
-          (announced-busy (taskAt c (E .process) .place) ends-announced))
+          (announced-busy (stage (taskAt c (E .process) .place)) ends-announced))
 
       ends-one : finishing c d ≡ E .process ∷ []
       ends-one = finishing-is ∙ turned-ends (O .inv .good) E
 
     -- the notes after the step and before its answer
     abbrev Moved : ℕ → List ℕ → World → Type 0
-    Moved gate is v = Tracks (o .processes) (busyIn c) (announcedIn c) v (finished o gate is s)
+    Moved gate is v = Tracks (o .processes) (isBusy c) (announcedIn c) v (finished o gate is s)
 
-    moved : Tracks (o .processes) (busyIn c) (announcedIn c) (S .after) noticed
+    moved : Tracks (o .processes) (isBusy c) (announcedIn c) (S .after) noticed
     unfolding finished
     moved = ⊎-elim calm ends kind
       where
@@ -179,11 +178,11 @@ module _ (o : Card) (m : Moment) (O : Consistent o m) where
             subst (λ (is : List ℕ). Moved (c .gate .seq) is (S .after)) (sym (ends-one E))
             (subst (λ (v : World). Moved (c .gate .seq) (E .process ∷ []) v) (sym (E .becomes))
             (subst (λ (g : Gate). Moved (g .seq) (E .process ∷ []) (ending (fixedOf c) w (E .process))) (sym (gate-is (O .inv)))
-            (tracks-finished o (fixedOf c) (o .processes) (busyIn c) (announcedIn c) w s (O .inv .good) (O .tracks) (E .process) (E .inside)
-            (E .held) (E .undone) (ends-own E) (ap (λ (x : Contents). x .variables) (sym (O .text)))
+            (tracks-finished o (O .inv .good) (O .tracks) (E .process) (E .inside) (E .held) (E .undone) (ends-own E)
+            (ap (λ (x : Contents). x .variables) (sym (O .text)))
             (ap (λ (x : Contents). x .code) (sym (O .text))) (ends-announced E))))
 
-    others : (j : ℕ) → j ≢ i → (busyIn d j ≡ busyIn c j) × (announcedIn d j ≡ announcedIn c j)
+    others : (j : ℕ) → j ≢ i → (isBusy d j ≡ isBusy c j) × (announcedIn d j ≡ announcedIn c j)
     others j ne =
         let h : taskAt d j .place ≡ taskAt c j .place = ap (λ (t : Local). t .place) (S .elsewhere j ne) in
         rw h (refl, refl)
@@ -196,17 +195,17 @@ module _ (o : Card) (m : Moment) (O : Consistent o m) where
 
     -- the operation of i itself
     own-moved : Own (announcedIn c i) (S .after) noticed i
-    own-moved = moved .own i (subst (λ (n : ℕ). i < n) processes-is (inside i e)) b
+    own-moved = moved .own i (subst (λ (n : ℕ). i < n) processes-is lt) b
 
-    stage : (own-place ≡ P1) ⊎ (own-place ≡ P3) ⊎ (isAnnounced own-place ≡ true)
-    stage = stage-of own-place b
+    own-stage : (own-place ≡ P1) ⊎ (own-place ≡ P3) ⊎ (isAnnounced own-place ≡ true)
+    own-stage = busy-stage (stage own-place) b
 
     has-task : i < length (c .tasks)
-    has-task = omega (arith, O .inv .sizes .tasks, O .inv .good .few, inside i e)
+    has-task = omega (arith, O .inv .sizes .tasks, O .inv .good .fits .few)
 
     has-announcement : i < length (c .announcements)
     has-announcement =
-        omega (arith, O .inv .good .size-announcements, ap length (announcements-is (O .inv)), O .inv .good .few, inside i e)
+        omega (arith, O .inv .good .lengths .announcements, ap length (announcements-is (O .inv)), O .inv .good .fits .few)
 
     at-P1 : own-place ≡ P1 → next-place ≡ P3
     at-P1 h = P1-next c i has-task h
@@ -220,7 +219,7 @@ module _ (o : Card) (m : Moment) (O : Consistent o m) where
         ⊎-elim (λ z. ap isAnnounced z)
         (⊎-elim (λ z. ap isAnnounced z)
         (λ t. ⊎-elim (λ z. absurd (true-false _ z h)) (λ z. absurd (true-false _ busy (ap (λ (l : Place). not (isIdle l)) z)))
-        (announced-next c i has-task t))) stage
+        (announced-next c i has-task t))) own-stage
 
     -- it was announced before, or is active now
     newly : isAnnounced next-place ≡ true → (isAnnounced own-place ≡ true) ⊎ (announcementIn (S .after) i .flag ≡ Active)
@@ -230,39 +229,41 @@ module _ (o : Card) (m : Moment) (O : Consistent o m) where
         (λ z. inr
         (ap (λ (x : List Announcement). getD x i openAnnouncement .flag) (sym (announcements-is (S .inv)))
         ∙ ap (λ (a : Announcement). a .flag) (P3-active c i has-task has-announcement z)))
-        inl) stage
+        inl) own-stage
 
     -- one that returns was announced
     returning : isBusy d i ≡ false → isAnnounced own-place ≡ true
     returning idle =
         ⊎-elim (λ z. absurd (true-false _ (ap (λ (l : Place). not (isIdle l)) (at-P1 z)) idle))
-        (⊎-elim (λ z. absurd (true-false _ (ap (λ (l : Place). not (isIdle l)) (at-P3 z)) idle)) (λ z. z)) stage
+        (⊎-elim (λ z. absurd (true-false _ (ap (λ (l : Place). not (isIdle l)) (at-P3 z)) idle)) (λ z. z)) own-stage
 
     text-moved : contentsOf d ≡ contentsOf o
     text-moved = advance-kept c i ∙ O .text
 
     running : isBusy d i ≡ true → Follows o d (S .after) noticed
-    running busy = tracks-place i others (λ _ _. own-next (unannounced busy) newly own-moved) moved
+    running busy = tracks-place i others moved (λ _. own-next (unannounced busy) newly own-moved)
 
     ended-done :
         isBusy d i ≡ false → announcementIn (S .after) i .flag ≡ Done → (k : ℕ) →
         Follows o d (S .after) (withReturn noticed i (Answer.Done (outputsIn (S .after) i) k))
     ended-done idle h k =
-        tracks-returned i (Answer.Done (outputsIn (S .after) i) k) own-moved (own-moved .over (returning idle) (ap isDone h)) others idle moved
+        tracks-returned i others moved (Answer.Done (outputsIn (S .after) i) k) own-moved (own-moved .over (returning idle) (ap isDone h)) idle
 
     ended-exited :
         isBusy d i ≡ false → announcementIn (S .after) i .flag ≡ Exit → (k : ℕ) → Follows o d (S .after) (withReturn noticed i (Answer.Exited k))
-    ended-exited idle h k = tracks-returned i (Answer.Exited k) own-moved (own-moved .pending (ap isDone h)) others idle moved
+    ended-exited idle h k = tracks-returned i others moved (Answer.Exited k) own-moved (own-moved .pending (ap isDone h)) idle
 
     answered : Follows o d (S .after) (ended noticed i (answerOf d i))
     answered =
-        ⊎-elim (λ busy. subst (λ (a : Answer). Follows o d (S .after) (ended noticed i a)) (sym (cond-true (isBusy d i) _ _ busy)) (running busy))
-        (λ idle.
-        ⊎-elim
-        (λ z. subst (λ (a : Answer). Follows o d (S .after) (ended noticed i a)) (sym (z .1)) (ended-done idle (z .0) _))
-        (λ z. subst (λ (a : Answer). Follows o d (S .after) (ended noticed i a)) (sym (z .1)) (ended-exited idle (z .0) _))
-        (answer-is (S .inv) i (subst (λ (x : Contents). i < x .processes) (sym (advance-kept c i)) (inside i e)) idle))
+        ⊎-elim (λ busy. by-answer (cond-true (isBusy d i) _ _ busy) (running busy))
+        (λ idle. ⊎-elim (λ z. by-answer (z .1) (ended-done idle (z .0) _)) (λ z. by-answer (z .1) (ended-exited idle (z .0) _))
+        (answer-is (S .inv) i (subst (λ (x : Contents). i < x .processes) (sym (advance-kept c i)) lt) idle))
         (true-or-false (isBusy d i))
+      where
+        by-answer :
+            {a : Answer} → answerOf d i ≡ a → Follows o d (S .after) (ended noticed i a) →
+            Follows o d (S .after) (ended noticed i (answerOf d i))
+        by-answer z f = subst (λ (x : Answer). Follows o d (S .after) (ended noticed i x)) (sym z) f
 
     step-kept : Consistent o (after o m (Entry.Step i) (record { card = d; answer = answerOf d i }))
     step-kept = record { world = S .after; inv = S .inv; tracks = answered; text = text-moved }
@@ -283,7 +284,7 @@ module _ (o : Card) (m : Moment) (O : Consistent o m) where
   abbrev AtMostOne : Entry → Answered → Type 0
   AtMostOne e r = (finishing c (r .card) ≡ []) ⊎ (act c e ≡ r → FinishesOne m e)
 
-  step-finishes : (i : ℕ) → isProcess c i ≡ true → isBusy c i ≡ true → c .steps < c .limit →
+  step-finishes : (i : ℕ) → i < c .processes → isBusy c i ≡ true → c .steps < c .limit →
       AtMostOne (Entry.Step i) (record { card = advance c i; answer = answerOf (advance c i) i })
   step-finishes i p b l =
       ⊎-elim (λ C. inl (finishing-is i p b l ∙ C .none))
@@ -310,7 +311,7 @@ pub read-shown : (o : Card) (m : Moment) → Consistent o m → (v : ℕ) → v 
 unfolding read
 read-shown o m O v l =
     let inside : v < m .card .variables = subst (λ (x : Contents). v < x .variables) (sym (O .text)) l in
-    let there : isVariable (m .card) v ≡ true = rw (lt-ltb v (m .card .variables) inside) (lt-ltb v 64 (omega (arith, O .inv .good .narrow))) in
+    let there : isVariable (m .card) v ≡ true = rw (lt-ltb v (m .card .variables) inside) (lt-ltb v 64 (omega (arith, O .inv .good .fits .narrow))) in
     cond-false (not (isVariable (m .card) v)) _ _ (ap not there)
     ∙ ap (λ (x : ℕ). record { card = m .card; answer = Answer.Value x })
     (read-is (m .card) (O .world) (O .inv) v inside ∙ ap (λ (ws : List ℕ). getD ws v 0) (sym (O .tracks .words)))

@@ -1,7 +1,7 @@
 -- Where a step leads: the place of its process afterwards.
 use Prim.Native.Nat.{ℕ, suc, _<_}
 use mathlib.Core.Path.{_≡_, refl, sym, subst}
-use mathlib.Core.Bool.{Bool, true, false}
+use mathlib.Core.Bool.{Bool, true, false, false≢true}
 use mathlib.Core.Logic.{_⊎_, inl, inr}
 use lib.ListN.{length, getD, set}
 use lib.Seq.{getD-set-same}
@@ -20,6 +20,7 @@ use Rattle.construction.specs.declared.Flag.{Flag}
 use Rattle.construction.specs.declared.Flag.the-variants.{Done, Active, Exit}
 use Rattle.construction.specs.declared.Place.{Place}
 use Rattle.construction.specs.declared.Place.the-variants.{Idle, P1, P3, P5, P7, P10, C2, C4, P13, P14, P16, H21, H36, P19, P20, P21, P22, F1, F3}
+use Rattle.construction.specs.declared.Access.{Access}
 use Rattle.construction.specs.declared.GateAccess.{GateAccess}
 use Rattle.construction.specs.declared.AnnouncementAccess.{AnnouncementAccess}
 use Rattle.construction.specs.declared.RecordAccess.{RecordAccess}
@@ -29,18 +30,18 @@ use Rattle.construction.specs.Instructions.{started}
 use Rattle.construction.specs.Helping.{simulate}
 use Rattle.construction.specs.Parts.{idleTask, announcementAt, recordAt, taskAt, operationAt, exitAt, heldAt, copyAt, dictionaryAt, programOf, withCopy}
 use Rattle.construction.specs.Machine.{byHolder, byFlag, holderOf, firstChoice, helps, help, writeFrom, afterPause, announced, accessOf, accessGate, accessAnnouncement, accessRecord, perform, advance}
-use Rattle.construction.proofs.Basics.{on-test, true-false}
-use Rattle.construction.proofs.Answers.{isAnnounced}
+use Rattle.construction.proofs.Basics.{on-test}
+use Rattle.construction.proofs.Stages.{isAnnounced}
 
--- what is so of every place that an access can lead to
+-- what is so of every place that an access can lead to; no step makes the access None
 module _ (Q : Place → Type 0) where
-  abbrev pub GateLeads : GateAccess → Type 0
+  abbrev GateLeads : GateAccess → Type 0
   GateLeads (GateAccess.Read held free) = Q held × Q free
   GateLeads GateAccess.ReadLast = Q F3 × Q Idle
   GateLeads GateAccess.Nominate = Q P14
   GateLeads (GateAccess.Release next) = Q next
 
-  abbrev pub AnnouncementLeads : AnnouncementAccess → Type 0
+  abbrev AnnouncementLeads : AnnouncementAccess → Type 0
   AnnouncementLeads AnnouncementAccess.Announce = Q P5
   AnnouncementLeads AnnouncementAccess.Withdraw = Q P7
   AnnouncementLeads (AnnouncementAccess.ReadOwn done active exit) = Q done × Q active × Q exit
@@ -48,9 +49,15 @@ module _ (Q : Place → Type 0) where
   AnnouncementLeads AnnouncementAccess.Help = Q P21 × Q H21 × Q H36 × Q P19
   AnnouncementLeads (AnnouncementAccess.Finish flag next) = Q next
 
-  abbrev pub RecordLeads : RecordAccess → Type 0
+  abbrev RecordLeads : RecordAccess → Type 0
   RecordLeads RecordAccess.Read = Q P19 × Q H21 × Q H36
   RecordLeads RecordAccess.Swap = Q H36 × Q P19
+
+  abbrev Leads : Access → Type 0
+  Leads Access.None = ⊥
+  Leads (Access.Gate a) = GateLeads a
+  Leads (Access.Announcement a) = AnnouncementLeads a
+  Leads (Access.Record a) = RecordLeads a
 
   by-holder : (h : Holder) (held free : Place) → Q held → Q free → Q (byHolder h held free)
   by-holder Nobody held free a b = b
@@ -118,47 +125,54 @@ module _ (Q : Place → Type 0) where
         placed c i lt _
         (by-write (heldAt c i .seq) (dictionaryAt c i) (suc (taskAt c i .target)) (q .0) (q .1))
 
+    leads : (a : Access) → Leads a → Q (taskAt (perform a c i) i .place)
+    unfolding perform
+    leads Access.None q = absurd q
+    leads (Access.Gate a) q = gate-leads a q
+    leads (Access.Announcement a) q = announcement-leads a q
+    leads (Access.Record a) q = record-leads a q
+
 -- an announced operation stays announced until it returns
 abbrev pub Onward : Place → Type 0
 Onward l = (isAnnounced l ≡ true) ⊎ (l ≡ Idle)
 
-module _ (c : Card) (i : ℕ) (lt : i < length (c .tasks)) where
-  onward : (l : Place) (exit : Bool) → isAnnounced l ≡ true → Onward (taskAt (perform (accessOf l exit) c i) i .place)
-  unfolding perform accessOf
-  onward Idle exit e = absurd (true-false false e refl)
-  onward P1 exit e = absurd (true-false false e refl)
-  onward P3 exit e = absurd (true-false false e refl)
-  onward P5 true e = announcement-leads Onward c i lt AnnouncementAccess.Withdraw (inl refl)
-  onward P5 false e = gate-leads Onward c i lt (GateAccess.Read P16 C2) (inl refl, inl refl)
-  onward P7 exit e = announcement-leads Onward c i lt (AnnouncementAccess.ReadOwn F1 P10 P10) (inl refl, inl refl, inl refl)
-  onward P10 exit e = gate-leads Onward c i lt (GateAccess.Read P16 C2) (inl refl, inl refl)
-  onward C2 exit e = announcement-leads Onward c i lt AnnouncementAccess.ReadFirst (inl refl, inl refl)
-  onward C4 exit e = announcement-leads Onward c i lt (AnnouncementAccess.ReadOwn F1 P13 P13) (inl refl, inl refl, inl refl)
-  onward P13 exit e = gate-leads Onward c i lt GateAccess.Nominate (inl refl)
-  onward P14 exit e = gate-leads Onward c i lt (GateAccess.Read P16 P22) (inl refl, inl refl)
-  onward P16 exit e = announcement-leads Onward c i lt AnnouncementAccess.Help (inl refl, inl refl, inl refl, inl refl)
-  onward H21 exit e = record-leads Onward c i lt RecordAccess.Read (inl refl, inl refl, inl refl)
-  onward H36 exit e = record-leads Onward c i lt RecordAccess.Swap (inl refl, inl refl)
-  onward P19 exit e = announcement-leads Onward c i lt (AnnouncementAccess.Finish Active P20) (inl refl)
-  onward P20 exit e = announcement-leads Onward c i lt (AnnouncementAccess.Finish Exit P21) (inl refl)
-  onward P21 exit e = gate-leads Onward c i lt (GateAccess.Release P22) (inl refl)
-  onward P22 exit e = announcement-leads Onward c i lt (AnnouncementAccess.ReadOwn F1 P5 Idle) (inl refl, inl refl, inr refl)
-  onward F1 exit e = gate-leads Onward c i lt GateAccess.ReadLast (inl refl, inr refl)
-  onward F3 exit e = gate-leads Onward c i lt (GateAccess.Release Idle) (inr refl)
+onward : (l : Place) (exit : Bool) → isAnnounced l ≡ true → Leads Onward (accessOf l exit)
+unfolding accessOf
+onward Idle exit e = absurd (false≢true e)
+onward P1 exit e = absurd (false≢true e)
+onward P3 exit e = absurd (false≢true e)
+onward P5 true e = inl refl
+onward P5 false e = (inl refl, inl refl)
+onward P7 exit e = (inl refl, inl refl, inl refl)
+onward P10 exit e = (inl refl, inl refl)
+onward C2 exit e = (inl refl, inl refl)
+onward C4 exit e = (inl refl, inl refl, inl refl)
+onward P13 exit e = inl refl
+onward P14 exit e = (inl refl, inl refl)
+onward P16 exit e = (inl refl, inl refl, inl refl, inl refl)
+onward H21 exit e = (inl refl, inl refl, inl refl)
+onward H36 exit e = (inl refl, inl refl)
+onward P19 exit e = inl refl
+onward P20 exit e = inl refl
+onward P21 exit e = inl refl
+onward P22 exit e = (inl refl, inl refl, inr refl)
+onward F1 exit e = (inl refl, inr refl)
+onward F3 exit e = inr refl
 
+module _ (c : Card) (i : ℕ) (lt : i < length (c .tasks)) where
   pub announced-next : isAnnounced (taskAt c i .place) ≡ true → Onward (taskAt (advance c i) i .place)
   unfolding advance
-  announced-next e = onward (taskAt c i .place) (exitAt c i) e
+  announced-next e = leads Onward c i lt _ (onward (taskAt c i .place) (exitAt c i) e)
 
   -- P1 leads to P3
   pub P1-next : taskAt c i .place ≡ P1 → taskAt (advance c i) i .place ≡ P3
-  unfolding advance perform accessOf
-  P1-next e = rw e (gate-leads (λ l. l ≡ P3) c i lt (GateAccess.Read P3 P3) (refl, refl))
+  unfolding advance accessOf
+  P1-next e = rw e (leads (λ l. l ≡ P3) c i lt _ (refl, refl))
 
   -- P3 leads to P5, with the operation announced
   pub P3-next : taskAt c i .place ≡ P3 → taskAt (advance c i) i .place ≡ P5
-  unfolding advance perform accessOf
-  P3-next e = rw e (announcement-leads (λ l. l ≡ P5) c i lt AnnouncementAccess.Announce refl)
+  unfolding advance accessOf
+  P3-next e = rw e (leads (λ l. l ≡ P5) c i lt _ refl)
 
   pub P3-active : i < length (c .announcements) → taskAt c i .place ≡ P3 → announcementAt (advance c i) i ≡ announced (operationAt c i) (heldAt c i)
   unfolding advance perform accessOf accessAnnouncement

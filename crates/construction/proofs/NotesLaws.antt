@@ -1,7 +1,7 @@
 -- Laws of what an observer notes: the lists of operations, finishes and returns, and how they grow. No machine.
 use Prim.Native.Nat.{ℕ, zero, suc, _+_, _≤_, _<_}
 use mathlib.Core.Path.{_≡_, refl, sym, _∙_}
-use mathlib.Core.Bool.{Bool, true, false, cond, not, _&&_}
+use mathlib.Core.Bool.{Bool, true, false, cond, not, _&&_, true≢false, false≢true}
 use mathlib.Core.Logic.{_≢_}
 use mathlib.Core.List.{List, [], _∷_}
 use native.Mathlib.Omega.{arith}
@@ -15,7 +15,7 @@ use Rattle.construction.specs.declared.Announcement.{Announcement}
 use Rattle.construction.specs.declared.Answer.{Answer}
 use Rattle.construction.specs.Cells.{isDone, openAnnouncement}
 use Rattle.construction.specs.History.{Invocation, Finish, Response, hasCalled, latest, turned, times, place, outputsOf, hasReturned, Agrees, AllAgree}
-use Rattle.construction.proofs.Basics.{on-test, true-false}
+use Rattle.construction.proofs.Basics.{on-test}
 
 -- a list of notes, newest first, and an earlier one
 pub data Extends {A : Type 0} (old : List A) : List A → Type 0 where
@@ -47,7 +47,7 @@ passed a b x y e = rw (ne-eqb a b e)
 -- the number of a process's latest taken call
 pub latest-below : (xs : List Invocation) (i : ℕ) → hasCalled xs i ≡ true → latest xs i < length xs
 unfolding hasCalled latest
-latest-below [] i h = absurd (true-false false h refl)
+latest-below [] i h = absurd (false≢true h)
 latest-below (x ∷ xs) i h =
     on-equal (λ b. cond b true (hasCalled xs i) ≡ true → cond b (length xs) (latest xs i) < suc (length xs)) (x .process) i
     (λ e k. omega arith) (λ e k. omega (arith, latest-below xs i k)) h
@@ -56,7 +56,7 @@ latest-below (x ∷ xs) i h =
 pub latest-apart :
     (xs : List Invocation) (i j : ℕ) → i ≢ j → hasCalled xs i ≡ true → hasCalled xs j ≡ true → latest xs i ≢ latest xs j
 unfolding hasCalled latest
-latest-apart [] i j ne h k = λ e. true-false false h refl
+latest-apart [] i j ne h k = λ e. false≢true h
 latest-apart (x ∷ xs) i j ne h k =
     on-equal (λ a. cond a true (hasCalled xs i) ≡ true → cond a (length xs) (latest xs i) ≢ latest (x ∷ xs) j) (x .process) i
     (λ p _. on-equal (λ b. cond b true (hasCalled xs j) ≡ true → length xs ≢ cond b (length xs) (latest xs j)) (x .process) j
@@ -82,7 +82,7 @@ unfolding hasReturned
 agree-longer f fs [] h a = tt
 agree-longer f fs (r ∷ rs) h a =
     on-equal (λ b. cond b true (hasReturned (f .operation) rs) ≡ false → AllAgree (f ∷ fs) (r ∷ rs)) (r .operation) (f .operation)
-    (λ e k. absurd (true-false true refl k))
+    (λ e k. absurd (true≢false k))
     (λ ne k. (agrees-longer f fs (r .operation) (λ q. ne (sym q)) (r .answer) (a .0), agree-longer f fs rs k (a .1))) h
 
 pub agree-earlier : {old new : List Response} (fs : List Finish) → Extends old new → AllAgree fs new → AllAgree fs old
@@ -102,7 +102,7 @@ pub returned-times :
     (old new : List Finish) (rs : List Response) (j : ℕ) → AllAgree old rs → AllAgree new rs → hasReturned j rs ≡ true →
     times j old ≡ times j new
 unfolding hasReturned
-returned-times old new [] j p q h = absurd (true-false false h refl)
+returned-times old new [] j p q h = absurd (false≢true h)
 returned-times old new (r ∷ rs) j p q h =
     on-equal (λ b. cond b true (hasReturned j rs) ≡ true → times j old ≡ times j new) (r .operation) j
     (λ e _. rw (← e) (same-times old new (r .operation) (r .answer) (p .0) (q .0)))

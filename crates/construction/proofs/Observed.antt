@@ -1,7 +1,7 @@
 -- What the observer's notes have to do with the world: how each move keeps it, and how a call and a return do.
 use Prim.Native.Nat.{ℕ, suc, _≤_, _<_}
 use mathlib.Core.Path.{_≡_, refl, sym, subst, ap, _∙_}
-use mathlib.Core.Bool.{Bool, true, false, cond}
+use mathlib.Core.Bool.{Bool, true, false, cond, true≢false}
 use mathlib.Core.Logic.{_≢_, _⊎_, inl, inr, ⊎-elim}
 use mathlib.Core.List.{List, [], _∷_}
 use native.Mathlib.Omega.{arith}
@@ -22,7 +22,7 @@ use Rattle.construction.specs.Sequential.{Ending, sequential, commit, pa
 use Rattle.construction.specs.Instructions.{noProgram}
 use Rattle.construction.specs.Parts.{noOperation}
 use Rattle.construction.specs.History.{Invocation, Notes, hasCalled, latest, latestCall, turned, benchRun, finishedOne, withReturn, times, outputsOf, hasReturned, Numbered, Agrees, AllAgree, UnderWay}
-use Rattle.construction.proofs.Basics.{on-set, true-or-false, true-false}
+use Rattle.construction.proofs.Basics.{on-set, true-or-false, true-false, ne-isDone}
 use Rattle.construction.proofs.NotesLaws.{on-equal, chosen, passed, latest-below, latest-apart, agree-longer, turns, turned-same, turned-not, turned-one}
 use Rattle.construction.proofs.World.{Fixed, World, announcementIn, callIn, outputsIn, endingIn, doneWith, Good, asking, ending, Move}
 use Rattle.construction.proofs.World.Move.{stay, ask, announce, leave, take, write, end, free}
@@ -77,66 +77,59 @@ pub record Ends (F : Fixed) (w v : World) : Type 0 where
   pub undone : announcementIn w process .flag ≢ Done
   pub becomes : v ≡ ending F w process
 
-not-done : (f : Flag) → f ≢ Done → isDone f ≡ false
-not-done Done h = absurd (h refl)
-not-done Active h = refl
-not-done Exit h = refl
-
 turns-active : (f : Flag) → turns f Active ≡ false
 turns-active Done = refl
 turns-active Active = refl
 turns-active Exit = refl
 
--- a move that changes none of what the observer sees
-calm-same :
-    (announced : ℕ → Bool) (w v : World) → v .announcements ≡ w .announcements → v .words ≡ w .words → v .count ≡ w .count →
-    v .outs ≡ w .outs → Calm announced w v
-calm-same announced w v a b c d =
-    record {
-      none = ap (turned 0 (w .announcements)) a ∙ turned-same 0 (w .announcements);
-      words = b;
-      count = c;
-      outs = d;
-      done = λ j t. ap (λ (l : List Announcement). isDone (getD l j openAnnouncement .flag)) a;
-    }
+module _ {F : Fixed} {w : World} (announced : ℕ → Bool) (G : Good F w) where
+  -- a move that changes none of what the observer sees
+  calm-same : {v : World} → v .announcements ≡ w .announcements → v .words ≡ w .words → v .count ≡ w .count → v .outs ≡ w .outs → Calm announced w v
+  calm-same a b c d =
+      record {
+        none = ap (turned 0 (w .announcements)) a ∙ turned-same 0 (w .announcements);
+        words = b;
+        count = c;
+        outs = d;
+        done = λ j t. ap (λ (l : List Announcement). isDone (getD l j openAnnouncement .flag)) a;
+      }
 
--- every move is one of the two, if a process that has announced its operation does not announce again
-pub kind-of :
-    (F : Fixed) (i : ℕ) (announced : ℕ → Bool) (w v : World) → Good F w → Move F i w v →
-    (announced i ≡ true → announcementIn v i .flag ≡ Active → announcementIn w i .flag ≡ Active) → Calm announced w v ⊎ Ends F w v
-kind-of F i announced w v G stay only = inl (calm-same announced w v refl refl refl refl)
-kind-of F i announced w v G (ask q lt Q) only = inl (calm-same announced w v refl refl refl refl)
-kind-of F i announced w v G (announce a lt Q fa op l b) only =
-    let size : i < length (w .announcements) = omega (arith, G .size-announcements, G .few) in
-    let here : announcementIn v i ≡ a = getD-set-same (w .announcements) i a openAnnouncement size in
-    inl (record {
-      none = turned-not 0 (w .announcements) i a (rw fa (turns-active (announcementIn w i .flag)));
-      words = refl;
-      count = refl;
-      outs = refl;
-      done = λ j t. on-set (λ x. isDone (x .flag) ≡ doneIn w j) (w .announcements) i j a openAnnouncement size
-          (λ e. absurd (Q .not-active (only (rw (← e) t) (rw here fa)))) (λ ne. refl);
-    })
-kind-of F i announced w v G (leave lt fa) only =
-    let size : i < length (w .announcements) = omega (arith, G .size-announcements, G .few) in
-    inl (record {
-      none = turned-not 0 (w .announcements) i _ (rw fa refl);
-      words = refl;
-      count = refl;
-      outs = refl;
-      done = λ j t. on-set (λ x. isDone (x .flag) ≡ doneIn w j) (w .announcements) i j _ openAnnouncement size
-          (λ e. rw (e, fa) refl) (λ ne. refl);
-    })
-kind-of F i announced w v G (take m lt hn fl op z) only = inl (calm-same announced w v refl refl refl refl)
-kind-of F i announced w v G (write m u x vl hm fl below ex) only = inl (calm-same announced w v refl refl refl refl)
-kind-of F i announced w v G (end m lt hm fl all) only = inr (record { process = m; inside = lt; held = hm; undone = fl; becomes = refl })
-kind-of F i announced w v G (free m lt hm d) only = inl (calm-same announced w v refl refl refl refl)
+  -- every move is one of the two, if a process that has announced its operation does not announce again
+  pub kind-of :
+      {i : ℕ} {v : World} → Move F i w v → (announced i ≡ true → announcementIn v i .flag ≡ Active → announcementIn w i .flag ≡ Active) →
+      Calm announced w v ⊎ Ends F w v
+  kind-of stay only = inl (calm-same refl refl refl refl)
+  kind-of (ask q lt Q) only = inl (calm-same refl refl refl refl)
+  kind-of {i} (announce a lt Q fa op l b) only =
+      let size : i < length (w .announcements) = omega (arith, G .lengths .announcements, G .fits .few) in
+      inl (record {
+        none = turned-not 0 (w .announcements) i a (rw fa (turns-active (announcementIn w i .flag)));
+        words = refl;
+        count = refl;
+        outs = refl;
+        done = λ j t. on-set (λ x. isDone (x .flag) ≡ doneIn w j) (w .announcements) i j a openAnnouncement size
+            (λ e. absurd (Q .not-active (only (rw (← e) t) (rw (getD-set-same (w .announcements) i a openAnnouncement size) fa)))) (λ ne. refl);
+      })
+  kind-of {i} (leave lt fa) only =
+      let size : i < length (w .announcements) = omega (arith, G .lengths .announcements, G .fits .few) in
+      inl (record {
+        none = turned-not 0 (w .announcements) i _ (rw fa refl);
+        words = refl;
+        count = refl;
+        outs = refl;
+        done = λ j t. on-set (λ x. isDone (x .flag) ≡ doneIn w j) (w .announcements) i j _ openAnnouncement size
+            (λ e. rw (e, fa) refl) (λ ne. refl);
+      })
+  kind-of (take m lt hn fl op z) only = inl (calm-same refl refl refl refl)
+  kind-of (write m u x vl hm fl below ex) only = inl (calm-same refl refl refl refl)
+  kind-of (end m lt hm fl all) only = inr (record { process = m; inside = lt; held = hm; undone = fl; becomes = refl })
+  kind-of (free m lt hm d) only = inl (calm-same refl refl refl refl)
 
 pub turned-ends : {F : Fixed} {w v : World} → Good F w → (E : Ends F w v) → turned 0 (w .announcements) (v .announcements) ≡ E .process ∷ []
 turned-ends {F} {w} G E =
     rw (E .becomes)
-    (turned-one 0 (w .announcements) (E .process) _ (omega (arith, G .size-announcements, G .few, E .inside))
-    (rw (not-done _ (E .undone)) refl) ∙ rw zero-add)
+    (turned-one 0 (w .announcements) (E .process) _ (omega (arith, G .lengths .announcements, G .fits .few, E .inside))
+    (rw (ne-isDone _ (E .undone)) refl) ∙ rw zero-add)
 
 -- a move that finishes nothing
 own-calm :
@@ -171,7 +164,7 @@ tracks-calm C f T =
 
 -- a move that finishes the operation of m, whose number the sequential run gives it too
 module _
-    (o : Card) (F : Fixed) (p : ℕ) (busy announced : ℕ → Bool) (w : World) (s : Notes) (G : Good F w) (T : Tracks p busy announced w s)
+    (o : Card) {F : Fixed} {p : ℕ} {busy announced : ℕ → Bool} {w : World} {s : Notes} (G : Good F w) (T : Tracks p busy announced w s)
     (m : ℕ) (lt : m < F .processes) (held : w .gate .holder ≡ Process m) (undone : announcementIn w m .flag ≢ Done)
     (O : Own true w s m) (vs : o .variables ≡ F .variables) (co : o .code ≡ F .code) where
   same-run : benchRun o (suc (length (s .order))) (latestCall (s .operations) m) (s .words) ≡ endingIn F w (w .gate .seq)
@@ -183,7 +176,7 @@ module _
   number-is = sym (T .count ∙ ends-now G m held undone .0)
 
   size : m < 8
-  size = omega (arith, G .few)
+  size = omega (arith, G .fits .few)
 
   own-ended : (j : ℕ) → j ≢ m → {a : Bool} → Own a w s j → Own a (ending F w m) (finishedOne o (w .gate .seq) m s) j
   unfolding times outputsOf
@@ -208,19 +201,19 @@ module _
         asked = O .asked;
         request = O .request;
         unreturned = O .unreturned;
-        early = λ t. absurd (true-false true refl t);
-        pending = λ z. absurd (true-false true refl (ap (λ (x : Announcement). isDone (x .flag)) (sym here) ∙ z));
+        early = λ t. absurd (true≢false t);
+        pending = λ z. absurd (true≢false (ap (λ (x : Announcement). isDone (x .flag)) (sym here) ∙ z));
         over = λ t z. (
-          chosen (latest (s .operations) m) _ _ (times (latest (s .operations) m) (s .order)) refl ∙ ap suc (O .pending (not-done _ undone)),
+          chosen (latest (s .operations) m) _ _ (times (latest (s .operations) m) (s .order)) refl ∙ ap suc (O .pending (ne-isDone _ undone)),
           chosen (latest (s .operations) m) _ _ (outputsOf (latest (s .operations) m) (s .order)) refl ∙ (ap (λ (e : Ending). e .outputs) same-run ∙ sym out),
         );
       }
     where
       here : announcementIn (ending F w m) m ≡ doneWith (announcementIn w m) (endingIn F w (w .gate .seq) .outputs)
-      here = getD-set-same (w .announcements) m _ openAnnouncement (omega (arith, size, G .size-announcements))
+      here = getD-set-same (w .announcements) m _ openAnnouncement (omega (arith, size, G .lengths .announcements))
 
       out : outputsIn (ending F w m) m ≡ endingIn F w (w .gate .seq) .outputs
-      out = getD-set-same (w .outs) m _ zeros (omega (arith, size, G .size-outs))
+      out = getD-set-same (w .outs) m _ zeros (omega (arith, size, G .lengths .outs))
 
   pub tracks-finished : announced m ≡ true → Tracks p busy announced (ending F w m) (finishedOne o (w .gate .seq) m s)
   unfolding times commit
@@ -232,7 +225,7 @@ module _
         agree = agree-longer _ (s .order) (s .returns) (O .unreturned) (T .agree);
         once = λ k.
             on-equal (λ b. cond b (suc (times k (s .order))) (times k (s .order)) ≤ 1) (latest (s .operations) m) k
-            (λ e. let z : times k (s .order) ≡ 0 = rw (← e) (O .pending (not-done _ undone)) in omega arith) (λ _. T .once k);
+            (λ e. let z : times k (s .order) ≡ 0 = rw (← e) (O .pending (ne-isDone _ undone)) in omega arith) (λ _. T .once k);
         known = λ k h.
             let far : latest (s .operations) m ≢ k = λ e. omega (arith, latest-below (s .operations) m (O .asked)) in
             passed _ _ _ _ far ∙ T .known k h;
@@ -261,105 +254,106 @@ own-next {w = w} {i = i} f g O =
     }
 
 -- the processes of another card, all but i as they were
-pub tracks-place :
-    {p : ℕ} {busy announced busy′ announced′ : ℕ → Bool} {w : World} {s : Notes} (i : ℕ) →
-    ((j : ℕ) → j ≢ i → (busy′ j ≡ busy j) × (announced′ j ≡ announced j)) →
-    (i < p → busy′ i ≡ true → Own (announced′ i) w s i) →
-    Tracks p busy announced w s → Tracks p busy′ announced′ w s
-tracks-place {p} {busy} {announced} {busy′} {announced′} {w} {s} i others mine T =
-    record {
-      words = T .words;
-      count = T .count;
-      numbers = T .numbers;
-      agree = T .agree;
-      once = T .once;
-      known = T .known;
-      unborn = T .unborn;
-      own = λ j l b. one j (ℕ-discrete j i) l b;
-    }
-  where
-    one : (j : ℕ) → Dec (j ≡ i) → j < p → busy′ j ≡ true → Own (announced′ j) w s j
-    one j (yes e) l b = subst (λ (k : ℕ). Own (announced′ k) w s k) (sym e) (mine (rw (← e) l) (rw (← e) b))
-    one j (no ne) l b = rw (others j ne .1) (T .own j l (sym (others j ne .0) ∙ b))
+module _
+    {p : ℕ} {busy announced busy′ announced′ : ℕ → Bool} {w : World} {s : Notes} (i : ℕ)
+    (others : (j : ℕ) → j ≢ i → (busy′ j ≡ busy j) × (announced′ j ≡ announced j)) (T : Tracks p busy announced w s) where
+  -- by cases on whose operation is meant
+  on-process :
+      (P : ℕ → Type 0) → (busy′ i ≡ true → P i) → ((j : ℕ) → j ≢ i → Own (announced′ j) w s j → P j) →
+      (j : ℕ) → j < p → busy′ j ≡ true → P j
+  on-process P mine other j l b = go (ℕ-discrete j i)
+    where
+      go : Dec (j ≡ i) → P j
+      go (yes e) = subst P (sym e) (mine (rw (← e) b))
+      go (no ne) = other j ne (rw (others j ne .1) (T .own j l (sym (others j ne .0) ∙ b)))
 
--- a call of process i is taken
-pub tracks-called :
-    {F : Fixed} {p : ℕ} {busy announced busy′ announced′ : ℕ → Bool} {w : World} {s : Notes} (i : ℕ) (x : Invocation) → Good F w →
-    i < F .processes → x .process ≡ i → ((j : ℕ) → j ≢ i → (busy′ j ≡ busy j) × (announced′ j ≡ announced j)) → announced′ i ≡ false →
-    Tracks p busy announced w s →
-    Tracks p busy′ announced′ (asking w i (requestOf x))
-    (record { operations = x ∷ s .operations; order = s .order; returns = s .returns; words = s .words })
-unfolding hasCalled latest latestCall
-tracks-called {F} {p} {busy} {announced} {busy′} {announced′} {w} {s} i x G lt e others quiet T =
-    record {
-      words = T .words;
-      count = T .count;
-      numbers = T .numbers;
-      agree = T .agree;
-      once = T .once;
-      known = λ k h. T .known k (omega arith);
-      unborn = λ k h. T .unborn k (omega arith);
-      own = λ j l b. one j (ℕ-discrete j i) l b;
-    }
-  where
-    one : (j : ℕ) → Dec (j ≡ i) → j < p → busy′ j ≡ true →
-        Own (announced′ j) (asking w i (requestOf x)) (record { operations = x ∷ s .operations; order = s .order; returns = s .returns; words = s .words }) j
-    one j (yes z) l b =
-        let new : callIn (asking w i (requestOf x)) i ≡ requestOf x =
-        getD-set-same (w .calls) i (requestOf x) noOperation (omega (arith, G .size-calls, G .few)) in
-        let q : x .process ≡ j = e ∙ sym z in
-        let none : times (latest (x ∷ s .operations) j) (s .order) ≡ 0 = rw (chosen (x .process) j (length (s .operations)) (latest (s .operations) j) q) (T .known (length (s .operations)) (omega arith)) in
-        record {
-          asked = chosen (x .process) j true (hasCalled (s .operations) j) q;
-          request = ap requestOf (chosen (x .process) j x (latestCall (s .operations) j) q) ∙ (sym new ∙ ap (callIn (asking w i (requestOf x))) (sym z));
-          unreturned = rw (chosen (x .process) j (length (s .operations)) (latest (s .operations) j) q) (T .unborn (length (s .operations)) (omega arith));
-          early = λ t. none;
-          pending = λ t. none;
-          over = λ t. absurd (true-false _ t (rw z quiet));
-        }
-    one j (no ne) l b =
-        let O = T .own j l (sym (others j ne .0) ∙ b) in
-        let q : x .process ≢ j = λ r. ne (sym r ∙ e) in
-        let number : latest (x ∷ s .operations) j ≡ latest (s .operations) j = passed (x .process) j (length (s .operations)) (latest (s .operations) j) q in
-        record {
-          asked = passed (x .process) j true (hasCalled (s .operations) j) q ∙ O .asked;
-          request = ap requestOf (passed (x .process) j x (latestCall (s .operations) j) q) ∙ (O .request ∙ sym (getD-set-other (w .calls) i j (requestOf x) noOperation ne));
-          unreturned = rw number (O .unreturned);
-          early = λ t. rw number (O .early (sym (others j ne .1) ∙ t));
-          pending = λ t. rw number (O .pending t);
-          over = λ t d. rw number (O .over (sym (others j ne .1) ∙ t) d);
-        }
+  -- process i goes on
+  pub tracks-place : (busy′ i ≡ true → Own (announced′ i) w s i) → Tracks p busy′ announced′ w s
+  tracks-place mine =
+      record {
+        words = T .words;
+        count = T .count;
+        numbers = T .numbers;
+        agree = T .agree;
+        once = T .once;
+        known = T .known;
+        unborn = T .unborn;
+        own = on-process (λ j. Own (announced′ j) w s j) mine (λ j ne O. O);
+      }
 
--- process i returns with an answer that agrees with the order
-pub tracks-returned :
-    {p : ℕ} {busy announced busy′ announced′ : ℕ → Bool} {w : World} {s : Notes} {b : Bool} (i : ℕ) (a : Answer) →
-    Own b w s i → Agrees (s .order) (latest (s .operations) i) a →
-    ((j : ℕ) → j ≢ i → (busy′ j ≡ busy j) × (announced′ j ≡ announced j)) → busy′ i ≡ false →
-    Tracks p busy announced w s → Tracks p busy′ announced′ w (withReturn s i a)
-unfolding hasReturned
-tracks-returned {p} {busy} {announced} {busy′} {announced′} {w} {s} i a O agrees others idle T =
-    record {
-      words = T .words;
-      count = T .count;
-      numbers = T .numbers;
-      agree = (agrees, T .agree);
-      once = T .once;
-      known = T .known;
-      unborn = λ k h.
-          let far : latest (s .operations) i ≢ k = λ e. omega (arith, latest-below (s .operations) i (O .asked)) in
-          passed _ _ _ _ far ∙ T .unborn k h;
-      own = λ j l t. one j (ℕ-discrete j i) l t;
-    }
-  where
-    one : (j : ℕ) → Dec (j ≡ i) → j < p → busy′ j ≡ true → Own (announced′ j) w (withReturn s i a) j
-    one j (yes e) l t = absurd (true-false _ t (rw e idle))
-    one j (no ne) l t =
-        let Q = T .own j l (sym (others j ne .0) ∙ t) in
-        rw (others j ne .1) (record {
+  -- a call of process i is taken
+  pub tracks-called :
+      {F : Fixed} (x : Invocation) → Good F w → i < F .processes → x .process ≡ i → announced′ i ≡ false →
+      Tracks p busy′ announced′ (asking w i (requestOf x))
+      (record { operations = x ∷ s .operations; order = s .order; returns = s .returns; words = s .words })
+  unfolding hasCalled latest latestCall
+  tracks-called x G lt e quiet =
+      record {
+        words = T .words;
+        count = T .count;
+        numbers = T .numbers;
+        agree = T .agree;
+        once = T .once;
+        known = λ k h. T .known k (omega arith);
+        unborn = λ k h. T .unborn k (omega arith);
+        own = on-process (λ j. Own (announced′ j) (asking w i (requestOf x)) after j) (λ _. new) old;
+      }
+    where
+      after : Notes
+      after = record { operations = x ∷ s .operations; order = s .order; returns = s .returns; words = s .words }
+
+      new : Own (announced′ i) (asking w i (requestOf x)) after i
+      new =
+          let number : latest (x ∷ s .operations) i ≡ length (s .operations) = chosen (x .process) i _ (latest (s .operations) i) e in
+          let none : times (latest (x ∷ s .operations) i) (s .order) ≡ 0 = rw number (T .known (length (s .operations)) (omega arith)) in
+          record {
+            asked = chosen (x .process) i true (hasCalled (s .operations) i) e;
+            request =
+                ap requestOf (chosen (x .process) i x (latestCall (s .operations) i) e)
+                ∙ sym (getD-set-same (w .calls) i (requestOf x) noOperation (omega (arith, G .lengths .calls, G .fits .few)));
+            unreturned = rw number (T .unborn (length (s .operations)) (omega arith));
+            early = λ t. none;
+            pending = λ t. none;
+            over = λ t. absurd (true-false _ t quiet);
+          }
+
+      old : (j : ℕ) → j ≢ i → Own (announced′ j) w s j → Own (announced′ j) (asking w i (requestOf x)) after j
+      old j ne O =
+          let q : x .process ≢ j = λ r. ne (sym r ∙ e) in
+          let number : latest (x ∷ s .operations) j ≡ latest (s .operations) j = passed (x .process) j (length (s .operations)) _ q in
+          record {
+            asked = passed (x .process) j true (hasCalled (s .operations) j) q ∙ O .asked;
+            request =
+                ap requestOf (passed (x .process) j x (latestCall (s .operations) j) q)
+                ∙ (O .request ∙ sym (getD-set-other (w .calls) i j (requestOf x) noOperation ne));
+            unreturned = rw number (O .unreturned);
+            early = λ t. rw number (O .early t);
+            pending = λ t. rw number (O .pending t);
+            over = λ t d. rw number (O .over t d);
+          }
+
+  -- process i returns with an answer that agrees with the order
+  pub tracks-returned :
+      {b : Bool} (a : Answer) → Own b w s i → Agrees (s .order) (latest (s .operations) i) a → busy′ i ≡ false →
+      Tracks p busy′ announced′ w (withReturn s i a)
+  unfolding hasReturned
+  tracks-returned a O agrees idle =
+      record {
+        words = T .words;
+        count = T .count;
+        numbers = T .numbers;
+        agree = (agrees, T .agree);
+        once = T .once;
+        known = T .known;
+        unborn = λ k h.
+            let far : latest (s .operations) i ≢ k = λ e. omega (arith, latest-below (s .operations) i (O .asked)) in
+            passed _ _ _ _ far ∙ T .unborn k h;
+        own = on-process (λ j. Own (announced′ j) w (withReturn s i a) j) (λ t. absurd (true-false _ t idle)) (λ j ne Q. record {
           asked = Q .asked;
           request = Q .request;
           unreturned = passed _ _ _ _ (latest-apart (s .operations) i j (λ e. ne (sym e)) (O .asked) (Q .asked)) ∙ Q .unreturned;
           early = Q .early;
           pending = Q .pending;
           over = Q .over;
-        })
+        });
+      }

@@ -9,25 +9,25 @@ use Rattle.construction.specs.declared.Answered.{Answered}
 use Rattle.construction.specs.declared.Refusal.{Refusal}
 use Rattle.construction.specs.Parts.{withExit}
 use Rattle.construction.specs.Machine.{advance}
-use Rattle.construction.specs.Requests.{isProcess, isBusy, refused, begun, answerOf, valueOf}
+use Rattle.construction.specs.Requests.{isBusy, refused, begun, answerOf, valueOf}
 use Rattle.construction.specs.History.{Entry, act}
 use Rattle.construction.proofs.Entries.{on-call, on-exit, on-step, on-read}
 
 pub data Outcome (c : Card) : Entry → Answered → Type 0 where
   turned-back : (e : Entry) (why : Refusal) → Outcome c e (refused c why)
   called :
-      (i k : ℕ) (inputs : Words) → isProcess c i ≡ true → isBusy c i ≡ false →
+      (i k : ℕ) (inputs : Words) → i < c .processes → isBusy c i ≡ false →
       Outcome c (Entry.Call i k inputs) (record { card = begun c i k inputs; answer = Answer.Taken })
   asked : (i : ℕ) → Outcome c (Entry.Exit i) (record { card = withExit c i true; answer = Answer.Taken })
   stepped :
-      (i : ℕ) → isProcess c i ≡ true → isBusy c i ≡ true → c .steps < c .limit →
+      (i : ℕ) → i < c .processes → isBusy c i ≡ true → c .steps < c .limit →
       Outcome c (Entry.Step i) (record { card = advance c i; answer = answerOf (advance c i) i })
   shown : (v x : ℕ) → Outcome c (Entry.Read v) (record { card = c; answer = Answer.Value x })
 
 pub outcome : (c : Card) (e : Entry) → Outcome c e (act c e)
 outcome c (Entry.Call i k inputs) =
     let e = Entry.Call i k inputs in
-    on-call (Outcome c e) c (Outcome.turned-back e) i k inputs (λ p _ b. Outcome.called i k inputs p b)
+    on-call (Outcome c e) c (Outcome.turned-back e) i k inputs (λ lt _. Outcome.called i k inputs lt)
 outcome c (Entry.Exit i) =
     let e = Entry.Exit i in
     on-exit (Outcome c e) c (Outcome.turned-back e) i (λ _ _. Outcome.asked i)

@@ -1,4 +1,4 @@
--- What a process knows at each place, and that it stays so when another process moves.
+-- The assertion of each place, what a process knows there, and that no move of another process interferes with it.
 use Prim.Native.Nat.{ℕ, _≤_, _<_}
 use mathlib.Core.Path.{_≡_, sym, ap, _∙_}
 use mathlib.Core.Bool.{true}

@@ -5,7 +5,6 @@ use mathlib.Core.Path.{_≡_, refl}
 use mathlib.Core.Bool.{true, false}
 use mathlib.Core.List.{List, [], _∷_}
 use lib.ListN.{length}
-use native.Mathlib.Omega.{arith}
 use borrow.Author.Tests.{lt-ltb, le-ltb, le-leb, lt-leb}
 use Rattle.construction.specs.declared.Words.{Words}
 use Rattle.construction.specs.declared.Announcement.{Announcement}
@@ -22,7 +21,7 @@ use Rattle.construction.specs.Parts.{copyAt, countAt, withExit}
 use Rattle.construction.specs.Requests.{isProcess, isProgram, isVariable, isBusy, refused, begun, call, requestExit, returned, answerOf, step, valueOf, read}
 use Rattle.construction.specs.Opening.{readCard, opened}
 use Rattle.construction.specs.Writing.{textOf, written, writtenInto}
-use Rattle.construction.proofs.Basics.{on-test}
+use Rattle.construction.proofs.Basics.{on-test, clash}
 use Rattle.construction.proofs.Entries.{on-call, on-exit, on-step, on-read}
 
 -- a refused request gives the number of its refusal and the card as it was
@@ -118,17 +117,17 @@ other c d a h = record { kept = λ why e. absurd (h why e) }
 
 -- an answer that is no refusal
 taken : (why : Refusal) → Answer.Taken ≡ Answer.Refused why → ⊥
-taken why e = let z : _≡_ {A = ℕ} 0 1 = cc in omega arith
+taken why e = clash (cc)
 
 returns : (a : Announcement) (f : Flag) (k : ℕ) (why : Refusal) → returned a f k ≡ Answer.Refused why → ⊥
-returns a Done k why e = let z : _≡_ {A = ℕ} 0 1 = cc in omega arith
-returns a Active k why e = let z : _≡_ {A = ℕ} 0 1 = cc in omega arith
-returns a Exit k why e = let z : _≡_ {A = ℕ} 0 1 = cc in omega arith
+returns a Done k why e = clash (cc)
+returns a Active k why e = clash (cc)
+returns a Exit k why e = clash (cc)
 
 accepted : (c : Card) (i : ℕ) (why : Refusal) → answerOf c i ≡ Answer.Refused why → ⊥
 accepted c i why =
     on-test (λ (a : Answer). a ≡ Answer.Refused why → ⊥) (isBusy c i)
-    (λ _ e. let z : _≡_ {A = ℕ} 0 1 = cc in omega arith)
+    (λ _ e. clash (cc))
     (λ _. returns (copyAt c i) (copyAt c i .flag) (countAt c i) why)
 
 pub call-kept : (c : Card) (i k : ℕ) (inputs : Words) → Kept c (call c i k inputs)

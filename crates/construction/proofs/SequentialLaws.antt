@@ -1,4 +1,4 @@
--- The sequential run: one instruction, its length, and that fuel past the end changes nothing.
+-- The sequential run: one instruction at a time, as many words at its end as at its start, and fuel past the end changes nothing.
 use Prim.Native.Nat.{ℕ, zero, suc, _+_, _≤_, _<_, min}
 use mathlib.Core.Path.{_≡_, refl, sym, ap, _∙_}
 use mathlib.Core.Bool.{Bool, true, false}
@@ -33,21 +33,6 @@ by-effect P (Effect.Load a v) p q r s t u = r a v refl
 by-effect P (Effect.Store v x) p q r s t u = s v x refl
 by-effect P (Effect.Output a x) p q r s t u = t a x refl
 by-effect P (Effect.Skip c) p q r s t u = u c refl
-
--- two ways to go on that agree at the effect
-onEffect-path {ℓ} :
-    {A : Type ℓ} (e : Effect) (z : A) {f f′ g g′ h h′ k k′ : ℕ → ℕ → A} {l l′ : ℕ → A} →
-    ((a x : ℕ) → e ≡ Effect.Set a x → f a x ≡ f′ a x) →
-    ((a v : ℕ) → e ≡ Effect.Load a v → g a v ≡ g′ a v) →
-    ((v x : ℕ) → e ≡ Effect.Store v x → h v x ≡ h′ v x) →
-    ((a x : ℕ) → e ≡ Effect.Output a x → k a x ≡ k′ a x) →
-    ((c : ℕ) → e ≡ Effect.Skip c → l c ≡ l′ c) → onEffect e z f g h k l ≡ onEffect e z f′ g′ h′ k′ l′
-onEffect-path Effect.Stop z q r s t u = refl
-onEffect-path (Effect.Set a x) z q r s t u = q a x refl
-onEffect-path (Effect.Load a v) z q r s t u = r a v refl
-onEffect-path (Effect.Store v x) z q r s t u = s v x refl
-onEffect-path (Effect.Output a x) z q r s t u = t a x refl
-onEffect-path (Effect.Skip c) z q r s t u = u c refl
 
 abbrev pub stops : Effect → Bool
 stops Effect.Stop = true
@@ -108,12 +93,13 @@ module _ (n : ℕ) (program : Program) (inputs : Words) where
     unfolding runFrom withRegister withOutput skipped
     enough zero s mem h = rw (past-end s (omega arith))
     enough (suc fuel) s mem h =
-        onEffect-path (nextEffect n program inputs s) _
-        (λ a x e. enough fuel (withRegister s a x) mem (omega (arith, advances s 0 (ap stops e) .1)))
-        (λ a v e. enough fuel (withRegister s a (getD mem v 0)) mem (omega (arith, advances s 0 (ap stops e) .1)))
-        (λ v x e. enough fuel (skipped s 0) (set mem v x) (omega (arith, advances s 0 (ap stops e) .1)))
-        (λ a x e. enough fuel (withOutput s a x) mem (omega (arith, advances s 0 (ap stops e) .1)))
-        (λ c e. enough fuel (skipped s c) mem (omega (arith, advances s c (ap stops e) .1)))
+        by-effect (λ r. r ≡ runFrom n program inputs (suc fuel) s mem) (nextEffect n program inputs s)
+        (λ e. rw e refl)
+        (λ a x e. rw e (enough fuel (withRegister s a x) mem (omega (arith, advances s 0 (ap stops e) .1))))
+        (λ a v e. rw e (enough fuel (withRegister s a (getD mem v 0)) mem (omega (arith, advances s 0 (ap stops e) .1))))
+        (λ v x e. rw e (enough fuel (skipped s 0) (set mem v x) (omega (arith, advances s 0 (ap stops e) .1))))
+        (λ a x e. rw e (enough fuel (withOutput s a x) mem (omega (arith, advances s 0 (ap stops e) .1))))
+        (λ c e. rw e (enough fuel (skipped s c) mem (omega (arith, advances s c (ap stops e) .1))))
 
     -- one instruction of the run; the fuel may stay
     pub run-step :

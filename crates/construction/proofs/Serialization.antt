@@ -13,9 +13,9 @@ use Rattle.construction.specs.Parts.{idleTask}
 use Rattle.construction.specs.Requests.{isIdle}
 use Rattle.construction.specs.Opening.{fresh, readCard, opened}
 use Rattle.construction.specs.History.{Entry, Notes, Moment, opening, observe, observeAll, run, times, place, hasReturned, Serialized}
-use Rattle.construction.proofs.Basics.{true-false}
+use Rattle.construction.proofs.Basics.{true-false, getD-replicate-same}
 use Rattle.construction.proofs.NotesLaws.{agree-earlier, returned-times, place-below, place-kept, place-after}
-use Rattle.construction.proofs.OpenedBounds.{getD-same, Bounded, opened-bounded}
+use Rattle.construction.proofs.OpenedBounds.{Bounded, opened-bounded}
 use Rattle.construction.proofs.SequentialLaws.{Short}
 use Rattle.construction.proofs.Invariant.{firstWorld, inv-fresh}
 use Rattle.construction.proofs.Growth.{Grown, all-grow, observe-append}
@@ -45,7 +45,7 @@ fresh-consistent x B =
             once = λ k. omega arith;
             known = λ k h. refl;
             unborn = λ k h. refl;
-            own = λ j l b. absurd (true-false _ b (ap (λ (t : Task). not (isIdle (t .place))) (getD-same 8 j idleTask)));
+            own = λ j l b. absurd (true-false _ b (ap (λ (t : Task). not (isIdle (t .place))) (getD-replicate-same 8 j idleTask)));
           };
       text = refl;
     }

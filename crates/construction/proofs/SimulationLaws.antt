@@ -6,7 +6,6 @@ use mathlib.Core.List.{List, [], _∷_, _++_}
 use native.Mathlib.Omega.{arith}
 use native.Mathlib.Decide.{ℕ-discrete}
 use lib.ListN.{length, getD, set, length-set, length-replicate}
-use borrow.Author.Tests.{eq-eqb}
 use Rattle.construction.specs.declared.Words.{Words}
 use Rattle.construction.specs.declared.Program.{Program}
 use Rattle.construction.specs.declared.Effect.{Effect}
@@ -20,7 +19,7 @@ use Rattle.construction.specs.Instructions.{nextEffect, fetch, forward, 
 use Rattle.construction.specs.Sequential.{Ending, runFrom, sequential}
 use Rattle.construction.specs.Dictionary.{noItem, empty, noted, find, has, valueAt, withValue, assign, insert}
 use Rattle.construction.specs.Helping.{simulateFrom, simulate}
-use Rattle.construction.proofs.Basics.{on-test, on-set, true-false}
+use Rattle.construction.proofs.Basics.{on-test, on-set, true-false, eqb-refl}
 use Rattle.construction.proofs.SequentialLaws.{by-effect, stops, Short, past-end, advances, run-step}
 use Rattle.construction.proofs.DictionaryLaws.{hasIn, valueIn, putIn, AllIn, all-put, all-snoc, Keyed, keyed-put, keyed-snoc}
 use Rattle.construction.proofs.DictionaryLaws.{value-none, value-put-same, value-put-other, value-snoc-same, value-snoc-other}
@@ -131,7 +130,7 @@ module _ (n : ℕ) (program : Program) (inputs : Words) (ws : List ℕ) (R : End
       present : hasIn (noted (insert d e)) (variableOf (nextEffect n program inputs s)) ≡ true
       present =
           rw (list, q .next, ← ev)
-          (has-snoc (noted d) e (e .variable) absent ∙ eq-eqb (e .variable) (e .variable) refl)
+          (has-snoc (noted d) e (e .variable) absent ∙ eqb-refl (e .variable))
 
       at-it :
           valueIn (noted d) (e .variable) (getD ws (e .variable) 0)

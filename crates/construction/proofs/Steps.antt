@@ -1,13 +1,12 @@
--- Every accepted step: the access of a place keeps what its process knows.
+-- Every accepted step: after the access of its place a process knows what its next place asks for.
 use Prim.Native.Nat.{ℕ}
-use mathlib.Core.Path.{_≡_, refl}
-use mathlib.Core.Bool.{Bool, true, false}
+use mathlib.Core.Path.{_≡_}
+use mathlib.Core.Bool.{Bool, true, false, true≢false}
 use Rattle.construction.specs.declared.Card.{Card}
 use Rattle.construction.specs.declared.Place.{Place}
 use Rattle.construction.specs.declared.Place.the-variants.{Idle, P1, P3, P5, P7, P10, C2, C4, P13, P14, P16, H21, H36, P19, P20, P21, P22, F1, F3}
 use Rattle.construction.specs.Machine.{accessOf, perform}
 use Rattle.construction.specs.Requests.{isIdle}
-use Rattle.construction.proofs.Basics.{true-false}
 use Rattle.construction.proofs.World.{World}
 use Rattle.construction.proofs.Locals.{localAt, fixedOf}
 use Rattle.construction.proofs.Places.{LocAt}
@@ -22,7 +21,7 @@ module _ {c : Card} {w : World} {i : ℕ} (B : Before c w i) where
       (l : Place) (exit : Bool) → isIdle l ≡ false → LocAt l (fixedOf c) (worldOf c w) i (localAt c i) →
       Acted c (worldOf c w) i (perform (accessOf l exit) c i)
   unfolding perform accessOf
-  at-place Idle exit n q = absurd (true-false (isIdle Idle) refl n)
+  at-place Idle exit n q = absurd (true≢false n)
   at-place P1 exit n q = at-P1 B q
   at-place P3 exit n q = at-P3 B q
   at-place P5 true n q = at-P6 B q

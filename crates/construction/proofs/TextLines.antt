@@ -1,4 +1,4 @@
--- Instructions and lines of a card text, by the tests that decide them.
+-- Instructions and lines of a card text, by the tests that decide them (document 01, 'The card text').
 use mathlib.Core.Bool.{Bool, true, false, _&&_}
 use mathlib.Core.Path.{_≡_, refl, sym, _∙_, ap}
 use mathlib.Core.List.{List}
@@ -6,11 +6,11 @@ use Prim.Native.Nat.{ℕ, _+_, _%_, _<_, _≤_}
 use lib.Dec.{eqb, ltb, leb}
 use native.Mathlib.Omega.{arith}
 use native.Mathlib.Nat.{mod-eq-of-lt}
-use borrow.Author.Tests.{ne-eqb, lt-ltb, le-ltb, ltb-true, leb-true}
+use borrow.Author.Tests.{ne-eqb, lt-ltb, le-ltb, eqb-true, ltb-true, leb-true}
 use Rattle.grammar.specs.declared.Number.{Number}
 use Rattle.grammar.specs.declared.Numbers.{Numbers}
 use Rattle.grammar.specs.Reading.{field, four, hasWord}
-use Rattle.grammar.proofs.Cases.{on-test, and-true, clash}
+use Rattle.construction.proofs.Basics.{on-test, and-true, clash}
 use Rattle.construction.specs.declared.CardLine.{CardLine}
 use Rattle.construction.specs.declared.VarLine.{VarLine}
 use Rattle.construction.specs.declared.SheetLine.{SheetLine}
@@ -22,22 +22,21 @@ use Rattle.construction.specs.declared.Refusal.the-variants.{Malformed, 
 use Rattle.construction.specs.Instructions.{inRange, valid, decode, encoded}
 use Rattle.construction.specs.Lines.{cardWord, varWord, sheetWord, insWord, cardFits, cardLine, judgeCard, varLine, judgeVar, sheetLine, judgeSheet, insOf, insLine, judgeIns}
 
--- ---- operands that fit are told whole by their low bytes
-module _ (a b c : ℕ) where
-  pub pair-true : (A B : ℕ) → ltb a A && (ltb b B && eqb c 0) ≡ true → (a < A) × (b < B)
-  pair-true A B q =
-      let q₁ = and-true (ltb a A) (ltb b B && eqb c 0) q in
-      let q₂ = and-true (ltb b B) (eqb c 0) (q₁ .1) in
-      (ltb-true a A (q₁ .0), ltb-true b B (q₂ .0))
-
 pub range-true : (low high x : ℕ) → inRange low high x ≡ true → (low ≤ x) × (x ≤ high)
 range-true low high x e = let h = and-true (leb low x) (leb x high) e in (leb-true low x (h .0), leb-true x high (h .1))
 
+-- ---- operands that fit are told whole by their low bytes
 module _ (a b c : ℕ) where
+  pub pair-true : (A B : ℕ) → ltb a A && (ltb b B && eqb c 0) ≡ true → (a < A) × (b < B) × (c ≡ 0)
+  pair-true A B q =
+      let q₁ = and-true (ltb a A) _ q in
+      let q₂ = and-true (ltb b B) _ (q₁ .1) in
+      (ltb-true a A (q₁ .0), ltb-true b B (q₂ .0), eqb-true c 0 (q₂ .1))
+
   pub skip-true : ltb a 4 && (ltb b 4 && inRange 1 31 c) ≡ true → (a < 4) × (b < 4) × (c ≤ 31)
   skip-true q =
-      let q₁ = and-true (ltb a 4) (ltb b 4 && inRange 1 31 c) q in
-      let q₂ = and-true (ltb b 4) (inRange 1 31 c) (q₁ .1) in
+      let q₁ = and-true (ltb a 4) _ q in
+      let q₂ = and-true (ltb b 4) _ (q₁ .1) in
       (ltb-true a 4 (q₁ .0), ltb-true b 4 (q₂ .0), range-true 1 31 c (q₂ .1) .1)
 
 -- only what a test lets through matters
@@ -54,7 +53,7 @@ valid-pair K A B M N a b c {a₁} {b₁} {f} {r} p q e ea eb d =
     ∙ valid-same f (λ t. same (pair-true a b c A B (sym e ∙ t)))
     ∙ ap (λ (z : Bool). valid z (K a b)) e
   where
-    same : (a < A) × (b < B) → K a₁ b₁ ≡ K a b
+    same : (a < A) × (b < B) × (c ≡ 0) → K a₁ b₁ ≡ K a b
     same h =
         let u : a₁ ≡ a = ea ∙ mod-eq-of-lt (omega arith) in
         let v : b₁ ≡ b = eb ∙ mod-eq-of-lt (omega arith) in
@@ -178,9 +177,9 @@ pub record CardFits (p n s l : ℕ) : Type 0 where
 
 pub card-fits : (p n s l : ℕ) → cardFits p n s l ≡ true → CardFits p n s l
 card-fits p n s l e =
-    let a = and-true (inRange 1 8 p) (inRange 1 64 n && (inRange 1 8 s && inRange 1 1000000000000000000 l)) e in
-    let b = and-true (inRange 1 64 n) (inRange 1 8 s && inRange 1 1000000000000000000 l) (a .1) in
-    let c = and-true (inRange 1 8 s) (inRange 1 1000000000000000000 l) (b .1) in
+    let a = and-true (inRange 1 8 p) _ e in
+    let b = and-true (inRange 1 64 n) _ (a .1) in
+    let c = and-true (inRange 1 8 s) _ (b .1) in
     record {
       processes = range-true 1 8 p (a .0);
       variables = range-true 1 64 n (b .0);

@@ -1,4 +1,5 @@
--- The reading of a card text, line by line: one law for each turn and each end of its loops, and bounds of the line's number.
+-- The reading of a card text, line by line (document 01, 'The card text'): cases on what a line yields, one law for each turn and each end
+-- of the loops, and bounds of the line's number.
 use mathlib.Core.Bool.{false}
 use mathlib.Core.Path.{_≡_, refl, sym, _∙_, ap}
 use mathlib.Core.List.{List, map}
@@ -26,7 +27,7 @@ use Rattle.construction.specs.declared.Verdict.{Verdict}
 use Rattle.construction.specs.declared.Contents.{Contents}
 use Rattle.construction.specs.declared.ProgramReading.{ProgramReading}
 use Rattle.construction.specs.declared.Reading.{Reading}
-use Rattle.construction.specs.Instructions.{noLine, started}
+use Rattle.construction.specs.Instructions.{noLine, noProgram, started}
 use Rattle.construction.specs.Cells.{zeros, openGate, openAnnouncement, openRecord}
 use Rattle.construction.specs.Dictionary.{empty}
 use Rattle.construction.specs.Parts.{idleTask, noGate}
@@ -56,6 +57,64 @@ use Rattle.construction.specs.Opening.{
 }
 use Rattle.construction.proofs.TextLines.{sheet-read}
 
+-- ---- what is read after the `card` line and after a `sheet` line
+abbrev pub afterFields : ℕ → ℕ → ℕ → ℕ → ℕ → Reading
+afterFields p n s l i =
+    record {
+      verdict = Verdict.Accepted;
+      contents = record { processes = p; variables = n; programs = s; limit = l; starts = replicate 64 0; code = replicate 8 noProgram };
+      at = i;
+      line = 2;
+    }
+
+abbrev pub afterLength : ℕ → ℕ → ℕ → ProgramReading
+afterLength m i line =
+    record { verdict = Verdict.Accepted; program = record { length = m; lines = replicate 32 noLine }; at = i; line = line }
+
+-- ---- by cases on what a line yields, which is in hand where it goes on
+pub on-ins :
+    (P : ProgramReading → Type 0) (x : InsLine) (r : ProgramReading) (k : ℕ) (go : ProgramReading → ProgramReading) →
+    ((y : Instruction) (i : ℕ) → x ≡ InsLine.Ins y i → P (go (withLine r k y i))) → ((why : Refusal) → P (programRefusedAt why (r .line))) →
+    P (nextIns x r k go)
+on-ins P (InsLine.Ins y i) r k go f g = f y i refl
+on-ins P (InsLine.Refused why) r k go f g = g why
+
+pub on-sheet :
+    (P : ProgramReading → Type 0) (n : ℕ) (t : List ℕ) (x : SheetLine) (line : ℕ) →
+    ((m i : ℕ) → x ≡ SheetLine.Length m i → P (insFrom n t m 0 (afterLength m i (suc line)))) → ((why : Refusal) → P (programRefusedAt why line)) →
+    P (programAfter n t x line)
+on-sheet P n t (SheetLine.Length m i) line f g = f m i refl
+on-sheet P n t (SheetLine.Refused why) line f g = g why
+
+pub on-program :
+    (P : Reading → Type 0) (v : Verdict) (x : ProgramReading) (r : Reading) (k : ℕ) (go : Reading → Reading) →
+    (v ≡ Verdict.Accepted → P (go (withProgram r k x))) → ((why : Refusal) (line : ℕ) → P (refusedAt why line)) → P (nextProgram v x r k go)
+on-program P Verdict.Accepted x r k go f g = f refl
+on-program P (Verdict.Refused why line) x r k go f g = g why line
+
+pub on-var :
+    (P : Reading → Type 0) (x : VarLine) (r : Reading) (k : ℕ) (go : Reading → Reading) →
+    ((v i : ℕ) → x ≡ VarLine.Start v i → P (go (withStart r k v i))) → ((why : Refusal) → P (refusedAt why (r .line))) → P (nextVar x r k go)
+on-var P (VarLine.Start v i) r k go f g = f v i refl
+on-var P (VarLine.Refused why) r k go f g = g why
+
+pub on-accepted :
+    (P : Reading → Type 0) (r : Reading) (go : Reading → Reading) →
+    (r .verdict ≡ Verdict.Accepted → P (go r)) → ((why : Refusal) (line : ℕ) → r .verdict ≡ Verdict.Refused why line → P r) →
+    P (ifAccepted (r .verdict) r go)
+on-accepted P r go f g = by (r .verdict) refl
+  where
+    by : (v : Verdict) → r .verdict ≡ v → P (ifAccepted v r go)
+    by Verdict.Accepted e = f e
+    by (Verdict.Refused why line) e = g why line e
+
+pub on-card :
+    (P : Reading → Type 0) (t : List ℕ) (x : CardLine) →
+    ((p n s l i : ℕ) → x ≡ CardLine.Fields p n s l i → P (thenEnd t (thenPrograms t s (varsFrom t n 0 (afterFields p n s l i))))) →
+    ((why : Refusal) → P (refusedAt why 1)) → P (afterCard t x)
+on-card P t (CardLine.Fields p n s l i) f g = f p n s l i refl
+on-card P t (CardLine.Refused why) f g = g why
+
 -- ---- the `ins` lines of a program
 module _ (n : ℕ) (t : List ℕ) (m k : ℕ) (r : ProgramReading) (h : k < m) where
   ins-turn : insFrom n t (m - k) k r ≡ nextIns (insLine n t (r .at)) r k (λ x. insFrom n t (m - (k + 1)) (k + 1) x)
@@ -81,11 +140,9 @@ ins-end n t m k r h = rw (let z : m - k ≡ 0 = omega arith in z)
 pub ins-line : (n : ℕ) (t : List ℕ) (m k : ℕ) (r : ProgramReading) → insFrom n t m k r .line ≤ r .line + m
 unfolding insFrom
 ins-line n t zero k r = omega arith
-ins-line n t (suc m) k r = go (λ x. ins-line n t m (suc k) x) (insLine n t (r .at))
-  where
-    go : ((x : ProgramReading) → insFrom n t m (suc k) x .line ≤ x .line + m) → (l : InsLine) → nextIns l r k (λ x. insFrom n t m (suc k) x) .line ≤ r .line + suc m
-    go ih (InsLine.Ins x i) = let p = ih (withLine r k x i) in omega arith
-    go ih (InsLine.Refused why) = omega arith
+ins-line n t (suc m) k r =
+    on-ins (λ x. x .line ≤ r .line + suc m) (insLine n t (r .at)) r k (λ x. insFrom n t m (suc k) x)
+    (λ y i _. omega (arith, ins-line n t m (suc k) (withLine r k y i))) (λ why. omega arith)
 
 -- ---- one program
 module _ (n : ℕ) (t : List ℕ) (at line : ℕ) {l : SheetLine} (e : l ≡ sheetLine t at) where
@@ -95,19 +152,15 @@ module _ (n : ℕ) (t : List ℕ) (at line : ℕ) {l : SheetLine} (e : l ≡ she
 
   pub program-read :
       {m i : ℕ} → l ≡ SheetLine.Length m i →
-      insFrom n t m 0 (record { verdict = Verdict.Accepted; program = record { length = m; lines = replicate 32 noLine }; at = i; line = line + 1 }) ≡ readProgram n t at line
+      insFrom n t m 0 (afterLength m i (line + 1)) ≡ readProgram n t at line
   unfolding readProgram
   program-read p = rw (← e, p, add-one line)
 
 pub program-line : (n : ℕ) (t : List ℕ) (at line : ℕ) → readProgram n t at line .line ≤ line + 33
 unfolding readProgram
-program-line n t at line = go (sheetLine t at) refl
-  where
-    go : (l : SheetLine) → sheetLine t at ≡ l → programAfter n t l line .line ≤ line + 33
-    go (SheetLine.Length m i) f =
-        let p = ins-line n t m 0 (record { verdict = Verdict.Accepted; program = record { length = m; lines = replicate 32 noLine }; at = i; line = suc line }) in
-        omega (arith, sheet-read t at m i f .fits)
-    go (SheetLine.Refused why) f = omega arith
+program-line n t at line =
+    on-sheet (λ x. x .line ≤ line + 33) n t (sheetLine t at) line
+    (λ m i e. omega (arith, ins-line n t m 0 (afterLength m i (suc line)), sheet-read t at m i e .fits)) (λ why. omega arith)
 
 -- ---- the programs
 module _ (t : List ℕ) (m k : ℕ) (r : Reading) (h : k < m) where
@@ -159,11 +212,9 @@ vars-end t m k r h = rw (let z : m - k ≡ 0 = omega arith in z)
 pub vars-line : (t : List ℕ) (m k : ℕ) (r : Reading) → varsFrom t m k r .line ≤ r .line + m
 unfolding varsFrom
 vars-line t zero k r = omega arith
-vars-line t (suc m) k r = go (λ x. vars-line t m (suc k) x) (varLine t (r .at))
-  where
-    go : ((x : Reading) → varsFrom t m (suc k) x .line ≤ x .line + m) → (l : VarLine) → nextVar l r k (λ x. varsFrom t m (suc k) x) .line ≤ r .line + suc m
-    go ih (VarLine.Start v i) = let p = ih (withStart r k v i) in omega arith
-    go ih (VarLine.Refused why) = omega arith
+vars-line t (suc m) k r =
+    on-var (λ x. x .line ≤ r .line + suc m) (varLine t (r .at)) r k (λ x. varsFrom t m (suc k) x)
+    (λ v i _. omega (arith, vars-line t m (suc k) (withStart r k v i))) (λ why. omega arith)
 
 -- ---- what follows the first line
 module _ {v : Verdict} (r : Reading) (go : Reading → Reading) where

@@ -1,14 +1,15 @@
--- A text that opens is the text of the card that it opens to.
+-- A text that opens is the text of the card that it opens to; a refused one opens to the empty card, which writes as no bytes
+-- (document 01, 'The card text' and 'Turned back').
 use mathlib.Core.Bool.{Bool, true, false, cond, _&&_}
 use mathlib.Core.Path.{_≡_, refl, sym, _∙_, ap}
 use mathlib.Core.List.{List, [], _++_, append-assoc, append-nil}
 use Prim.Native.Nat.{ℕ, zero, suc, _+_, _<_, _≤_}
 use lib.Dec.{eqb, ltb}
-use lib.ListN.{getD, drop, length, replicate, length-set, length-replicate}
+use lib.ListN.{getD, drop, length, length-set, length-replicate}
 use lib.Seq.{drop-length, getD-set-same, getD-set-other}
 use native.Mathlib.Omega.{arith}
 use borrow.Author.Tests.{ne-eqb, eqb-true}
-use Rattle.grammar.proofs.Cases.{on-test, and-true, clash}
+use Rattle.construction.proofs.Basics.{on-test, and-true, clash}
 use Rattle.grammar.proofs.Bytes.{word-text}
 use Rattle.grammar.proofs.RoundTrip.{Small, field-text, four-text}
 use Rattle.construction.specs.declared.CardLine.{CardLine}
@@ -18,6 +19,7 @@ use Rattle.construction.specs.declared.InsLine.{InsLine}
 use Rattle.construction.specs.declared.Instruction.{Instruction}
 use Rattle.construction.specs.declared.Encoded.{Encoded}
 use Rattle.construction.specs.declared.Decoded.{Decoded}
+use Rattle.construction.specs.declared.Contents.{Contents}
 use Rattle.construction.specs.declared.Verdict.{Verdict}
 use Rattle.construction.specs.declared.Line.{Line}
 use Rattle.construction.specs.declared.ProgramReading.{ProgramReading}
@@ -42,26 +44,24 @@ use Rattle.construction.specs.Opening.{
   noContents,
   fresh,
   withLine,
-  nextIns,
   insFrom,
-  programAfter,
   readProgram,
   withProgram,
-  nextProgram,
   programsFrom,
   withStart,
-  nextVar,
   varsFrom,
-  ifAccepted,
   atEnd,
   thenEnd,
   thenPrograms,
-  afterCard,
   readCard,
   opened,
 }
 use Rattle.construction.specs.Writing.{varsText, linesText, programText, programsText, textOf}
 use Rattle.construction.proofs.TextLines.{pair-true, skip-true, card-read, var-read, sheet-read, ins-read}
+use Rattle.construction.proofs.TextReading.{afterFields, afterLength, on-ins, on-sheet, on-program, on-var, on-accepted, on-card}
+
+abbrev Accepted : Verdict → Type 0
+Accepted v = v ≡ Verdict.Accepted
 
 -- ---- what a line that was read looks like
 module _ (t : List ℕ) (at : ℕ) where
@@ -118,11 +118,8 @@ module _ (n : ℕ) (x : Encoded) (h : n ≤ 256) (y : Instruction) where
       x .code ≡ j → ltb (x .a) A && (ltb (x .b) B && eqb (x .c) 0) ≡ true → z ≡ y → Decodes x y
   pair j A B z u v w t p q e =
       let b = pair-true (x .a) (x .b) (x .c) A B q in
-      let q₁ = and-true (ltb (x .a) A) (ltb (x .b) B && eqb (x .c) 0) q in
-      let q₂ = and-true (ltb (x .b) B) (eqb (x .c) 0) (q₁ .1) in
-      let hc : x .c ≡ 0 = eqb-true (x .c) 0 (q₂ .1) in
       record {
-        back = ap encode (sym e) ∙ t ∙ numbers j 0 p hc;
+        back = ap encode (sym e) ∙ t ∙ numbers j 0 p (b .2);
         small = record { small-a = omega arith; small-b = omega arith; small-c = omega arith; small-d = omega arith };
       }
 
@@ -139,8 +136,8 @@ module _ (n : ℕ) (x : Encoded) (h : n ≤ 256) (y : Instruction) where
   stop : x .code ≡ 12 → eqb (x .a) 0 && (eqb (x .b) 0 && eqb (x .c) 0) ≡ true → Instruction.Stop ≡ y → Decodes x y
   unfolding encode
   stop p q e =
-      let q₁ = and-true (eqb (x .a) 0) (eqb (x .b) 0 && eqb (x .c) 0) q in
-      let q₂ = and-true (eqb (x .b) 0) (eqb (x .c) 0) (q₁ .1) in
+      let q₁ = and-true (eqb (x .a) 0) _ q in
+      let q₂ = and-true (eqb (x .b) 0) _ (q₁ .1) in
       let ha : x .a ≡ 0 = eqb-true (x .a) 0 (q₁ .0) in
       let hb : x .b ≡ 0 = eqb-true (x .b) 0 (q₂ .0) in
       let hc : x .c ≡ 0 = eqb-true (x .c) 0 (q₂ .1) in
@@ -175,39 +172,44 @@ ins-text n h t at x i e =
     ∙ ap (λ (y : List ℕ). insWord ++ y) (four-text t (at + 4) _ _ _ _ i (d .small) (r .numbers-there))
     ∙ ap (λ (y : Encoded). encodedText y ++ drop i t) (sym (d .back))
 
+-- ---- the numbers of the `card` line stay while the others are read
+record Fields (p n s l : ℕ) (x : Contents) : Type 0 where
+  processes : x .processes ≡ p
+  variables : x .variables ≡ n
+  programs : x .programs ≡ s
+  limit : x .limit ≡ l
+
+abbrev SameFields : Reading → Reading → Type 0
+SameFields r z = Fields (r .contents .processes) (r .contents .variables) (r .contents .programs) (r .contents .limit) (z .contents)
+
+same : {x : Contents} → Fields (x .processes) (x .variables) (x .programs) (x .limit) x
+same = record { processes = refl; variables = refl; programs = refl; limit = refl }
+
 -- ---- the `var` lines
 record VarsRead (t : List ℕ) (m k : ℕ) (r z : Reading) : Type 0 where
   text : drop (r .at) t ≡ varsText m k (z .contents .starts) ++ drop (z .at) t
-  processes : z .contents .processes ≡ r .contents .processes
-  variables : z .contents .variables ≡ r .contents .variables
-  programs : z .contents .programs ≡ r .contents .programs
-  limit : z .contents .limit ≡ r .contents .limit
+  fields : SameFields r z
   code : z .contents .code ≡ r .contents .code
   below : (j : ℕ) → j < k → getD (z .contents .starts) j 0 ≡ getD (r .contents .starts) j 0
 
-vars-read : (t : List ℕ) (m k : ℕ) (r : Reading) → k + m ≤ length (r .contents .starts) → varsFrom t m k r .verdict ≡ Verdict.Accepted → VarsRead t m k r (varsFrom t m k r)
+vars-read :
+    (t : List ℕ) (m k : ℕ) (r : Reading) → k + m ≤ length (r .contents .starts) → Accepted (varsFrom t m k r .verdict) →
+    VarsRead t m k r (varsFrom t m k r)
 unfolding varsFrom varsText
-vars-read t zero k r h = λ e. record { text = refl; processes = refl; variables = refl; programs = refl; limit = refl; code = refl; below = λ j p. refl }
-vars-read t (suc m) k r h = go (λ x p e. vars-read t m (suc k) x p e) (varLine t (r .at)) refl
-  where
-    go :
-        ((x : Reading) → suc k + m ≤ length (x .contents .starts) → varsFrom t m (suc k) x .verdict ≡ Verdict.Accepted → VarsRead t m (suc k) x (varsFrom t m (suc k) x)) →
-        (l : VarLine) → varLine t (r .at) ≡ l → nextVar l r k (λ x. varsFrom t m (suc k) x) .verdict ≡ Verdict.Accepted →
-        VarsRead t (suc m) k r (nextVar l r k (λ x. varsFrom t m (suc k) x))
-    go ih (VarLine.Start v i) f e =
-        let y : Reading = withStart r k v i in
-        let q = ih y (omega (arith, length-set (r .contents .starts) k v)) e in
-        let g : getD (varsFrom t m (suc k) y .contents .starts) k 0 ≡ v = q .below k (omega arith) ∙ getD-set-same (r .contents .starts) k v 0 (omega arith) in
-        record {
-          text = rw (g, append-assoc (varText v)) (var-text t (r .at) v i f ∙ ap (λ (l : List ℕ). varText v ++ l) (q .text));
-          processes = q .processes;
-          variables = q .variables;
-          programs = q .programs;
-          limit = q .limit;
-          code = q .code;
-          below = λ j p. q .below j (omega arith) ∙ getD-set-other (r .contents .starts) k j v 0 (λ (z : j ≡ k). omega arith);
-        }
-    go ih (VarLine.Refused why) f e = clash (cc)
+vars-read t zero k r h = λ e. record { text = refl; fields = same; code = refl; below = λ j p. refl }
+vars-read t (suc m) k r h =
+    on-var (λ z. Accepted (z .verdict) → VarsRead t (suc m) k r z) (varLine t (r .at)) r k (λ x. varsFrom t m (suc k) x)
+    (λ v i f e.
+    let y : Reading = withStart r k v i in
+    let q = vars-read t m (suc k) y (omega (arith, length-set (r .contents .starts) k v)) e in
+    let g : getD (varsFrom t m (suc k) y .contents .starts) k 0 ≡ v = q .below k (omega arith) ∙ getD-set-same (r .contents .starts) k v 0 (omega arith) in
+    record {
+      text = rw (g, append-assoc (varText v)) (var-text t (r .at) v i f ∙ ap (λ (l : List ℕ). varText v ++ l) (q .text));
+      fields = q .fields;
+      code = q .code;
+      below = λ j p. q .below j (omega arith) ∙ getD-set-other (r .contents .starts) k j v 0 (λ (z : j ≡ k). omega arith);
+    })
+    (λ why e. clash (cc))
 
 -- ---- the lines of a program
 record LinesRead (t : List ℕ) (m k : ℕ) (r z : ProgramReading) : Type 0 where
@@ -215,156 +217,132 @@ record LinesRead (t : List ℕ) (m k : ℕ) (r z : ProgramReading) : Type 0 wher
   length-kept : z .program .length ≡ r .program .length
   below : (j : ℕ) → j < k → getD (z .program .lines) j noLine ≡ getD (r .program .lines) j noLine
 
-lines-read : (n : ℕ) → n ≤ 256 → (t : List ℕ) (m k : ℕ) (r : ProgramReading) → k + m ≤ length (r .program .lines) → insFrom n t m k r .verdict ≡ Verdict.Accepted → LinesRead t m k r (insFrom n t m k r)
+lines-read :
+    (n : ℕ) → n ≤ 256 → (t : List ℕ) (m k : ℕ) (r : ProgramReading) → k + m ≤ length (r .program .lines) →
+    Accepted (insFrom n t m k r .verdict) → LinesRead t m k r (insFrom n t m k r)
 unfolding insFrom linesText
 lines-read n s t zero k r h = λ e. record { text = refl; length-kept = refl; below = λ j p. refl }
-lines-read n s t (suc m) k r h = go (λ x p e. lines-read n s t m (suc k) x p e) (insLine n t (r .at)) refl
-  where
-    go :
-        ((x : ProgramReading) → suc k + m ≤ length (x .program .lines) → insFrom n t m (suc k) x .verdict ≡ Verdict.Accepted → LinesRead t m (suc k) x (insFrom n t m (suc k) x)) →
-        (l : InsLine) → insLine n t (r .at) ≡ l → nextIns l r k (λ x. insFrom n t m (suc k) x) .verdict ≡ Verdict.Accepted →
-        LinesRead t (suc m) k r (nextIns l r k (λ x. insFrom n t m (suc k) x))
-    go ih (InsLine.Ins v i) f e =
-        let y : ProgramReading = withLine r k v i in
-        let b : Line = record { instruction = v } in
-        let q = ih y (omega (arith, length-set (r .program .lines) k b)) e in
-        let g : getD (insFrom n t m (suc k) y .program .lines) k noLine ≡ b = q .below k (omega arith) ∙ getD-set-same (r .program .lines) k b noLine (omega arith) in
-        record {
-          text = rw (g, append-assoc (insText v)) (ins-text n s t (r .at) v i f ∙ ap (λ (l : List ℕ). insText v ++ l) (q .text));
-          length-kept = q .length-kept;
-          below = λ j p. q .below j (omega arith) ∙ getD-set-other (r .program .lines) k j b noLine (λ (z : j ≡ k). omega arith);
-        }
-    go ih (InsLine.Refused why) f e = clash (cc)
+lines-read n s t (suc m) k r h =
+    on-ins (λ z. Accepted (z .verdict) → LinesRead t (suc m) k r z) (insLine n t (r .at)) r k (λ x. insFrom n t m (suc k) x)
+    (λ v i f e.
+    let y : ProgramReading = withLine r k v i in
+    let b : Line = record { instruction = v } in
+    let q = lines-read n s t m (suc k) y (omega (arith, length-set (r .program .lines) k b)) e in
+    let g : getD (insFrom n t m (suc k) y .program .lines) k noLine ≡ b = q .below k (omega arith) ∙ getD-set-same (r .program .lines) k b noLine (omega arith) in
+    record {
+      text = rw (g, append-assoc (insText v)) (ins-text n s t (r .at) v i f ∙ ap (λ (l : List ℕ). insText v ++ l) (q .text));
+      length-kept = q .length-kept;
+      below = λ j p. q .below j (omega arith) ∙ getD-set-other (r .program .lines) k j b noLine (λ (z : j ≡ k). omega arith);
+    })
+    (λ why e. clash (cc))
 
 program-text :
-    (n : ℕ) → n ≤ 256 → (t : List ℕ) (at line : ℕ) → readProgram n t at line .verdict ≡ Verdict.Accepted →
+    (n : ℕ) → n ≤ 256 → (t : List ℕ) (at line : ℕ) → Accepted (readProgram n t at line .verdict) →
     drop at t ≡ programText (readProgram n t at line .program) ++ drop (readProgram n t at line .at) t
 unfolding readProgram
-program-text n s t at line = go (sheetLine t at) refl
-  where
-    go :
-        (l : SheetLine) → sheetLine t at ≡ l → programAfter n t l line .verdict ≡ Verdict.Accepted →
-        drop at t ≡ programText (programAfter n t l line .program) ++ drop (programAfter n t l line .at) t
-    go (SheetLine.Length m i) f e =
-        let r : ProgramReading = record { verdict = Verdict.Accepted; program = record { length = m; lines = replicate 32 noLine }; at = i; line = suc line } in
-        let q = lines-read n s t m 0 r (omega (arith, sheet-read t at m i f .fits, length-replicate 32 noLine)) e in
-        rw (q .length-kept, append-assoc (sheetText m)) (sheet-text t at m i f ∙ ap (λ (l : List ℕ). sheetText m ++ l) (q .text))
-    go (SheetLine.Refused why) f e = clash (cc)
+program-text n s t at line =
+    on-sheet (λ x. Accepted (x .verdict) → drop at t ≡ programText (x .program) ++ drop (x .at) t) n t (sheetLine t at) line
+    (λ m i f e.
+    let q = lines-read n s t m 0 (afterLength m i (suc line)) (omega (arith, sheet-read t at m i f .fits, length-replicate 32 noLine)) e in
+    rw (q .length-kept, append-assoc (sheetText m)) (sheet-text t at m i f ∙ ap (λ (l : List ℕ). sheetText m ++ l) (q .text)))
+    (λ why e. clash (cc))
 
 -- ---- the programs
 record ProgramsRead (t : List ℕ) (m k : ℕ) (r z : Reading) : Type 0 where
   text : drop (r .at) t ≡ programsText m k (z .contents .code) ++ drop (z .at) t
-  processes : z .contents .processes ≡ r .contents .processes
-  variables : z .contents .variables ≡ r .contents .variables
-  programs : z .contents .programs ≡ r .contents .programs
-  limit : z .contents .limit ≡ r .contents .limit
+  fields : SameFields r z
   starts : z .contents .starts ≡ r .contents .starts
   below : (j : ℕ) → j < k → getD (z .contents .code) j noProgram ≡ getD (r .contents .code) j noProgram
 
 programs-read :
-    (t : List ℕ) (m k : ℕ) (r : Reading) → r .contents .variables ≤ 256 → k + m ≤ length (r .contents .code) → programsFrom t m k r .verdict ≡ Verdict.Accepted →
-    ProgramsRead t m k r (programsFrom t m k r)
+    (t : List ℕ) (m k : ℕ) (r : Reading) → r .contents .variables ≤ 256 → k + m ≤ length (r .contents .code) →
+    Accepted (programsFrom t m k r .verdict) → ProgramsRead t m k r (programsFrom t m k r)
 unfolding programsFrom programsText
-programs-read t zero k r s h = λ e. record { text = refl; processes = refl; variables = refl; programs = refl; limit = refl; starts = refl; below = λ j p. refl }
+programs-read t zero k r s h = λ e. record { text = refl; fields = same; starts = refl; below = λ j p. refl }
 programs-read t (suc m) k r s h =
-    go (λ x u v w. programs-read t m (suc k) x u v w) (readProgram (r .contents .variables) t (r .at) (r .line)) (program-text (r .contents .variables) s t (r .at) (r .line))
-    (readProgram (r .contents .variables) t (r .at) (r .line) .verdict) refl
-  where
-    go :
-        ((x : Reading) → x .contents .variables ≤ 256 → suc k + m ≤ length (x .contents .code) → programsFrom t m (suc k) x .verdict ≡ Verdict.Accepted → ProgramsRead t m (suc k) x (programsFrom t m (suc k) x)) →
-        (x : ProgramReading) → (x .verdict ≡ Verdict.Accepted → drop (r .at) t ≡ programText (x .program) ++ drop (x .at) t) →
-        (v : Verdict) → x .verdict ≡ v → nextProgram v x r k (λ y. programsFrom t m (suc k) y) .verdict ≡ Verdict.Accepted →
-        ProgramsRead t (suc m) k r (nextProgram v x r k (λ y. programsFrom t m (suc k) y))
-    go ih x f Verdict.Accepted a e =
-        let q = ih (withProgram r k x) s (omega (arith, length-set (r .contents .code) k (x .program))) e in
-        let g : getD (programsFrom t m (suc k) (withProgram r k x) .contents .code) k noProgram ≡ x .program =
-        q .below k (omega arith) ∙ getD-set-same (r .contents .code) k (x .program) noProgram (omega arith) in
-        record {
-          text = rw (g, append-assoc (programText (x .program))) (f a ∙ ap (λ (l : List ℕ). programText (x .program) ++ l) (q .text));
-          processes = q .processes;
-          variables = q .variables;
-          programs = q .programs;
-          limit = q .limit;
-          starts = q .starts;
-          below = λ j p. q .below j (omega arith) ∙ getD-set-other (r .contents .code) k j (x .program) noProgram (λ (z : j ≡ k). omega arith);
-        }
-    go ih x f (Verdict.Refused why line) a e = clash (cc)
+    let x = readProgram (r .contents .variables) t (r .at) (r .line) in
+    on-program (λ z. Accepted (z .verdict) → ProgramsRead t (suc m) k r z) (x .verdict) x r k (λ y. programsFrom t m (suc k) y)
+    (λ a e.
+    let q = programs-read t m (suc k) (withProgram r k x) s (omega (arith, length-set (r .contents .code) k (x .program))) e in
+    let g : getD (programsFrom t m (suc k) (withProgram r k x) .contents .code) k noProgram ≡ x .program =
+    q .below k (omega arith) ∙ getD-set-same (r .contents .code) k (x .program) noProgram (omega arith) in
+    record {
+      text =
+          rw (g, append-assoc (programText (x .program)))
+          (program-text (r .contents .variables) s t (r .at) (r .line) a ∙ ap (λ (l : List ℕ). programText (x .program) ++ l) (q .text));
+      fields = q .fields;
+      starts = q .starts;
+      below = λ j p. q .below j (omega arith) ∙ getD-set-other (r .contents .code) k j (x .program) noProgram (λ (z : j ≡ k). omega arith);
+    })
+    (λ why line e. clash (cc))
 
 -- ---- the whole text
 -- what has been read is the text of the card so far
 abbrev SoFar : List ℕ → Reading → Type 0
 SoFar t z = t ≡ textOf (fresh (z .contents)) ++ drop (z .at) t
 
+-- a reading that is accepted has the card that writes as t
+abbrev WritesAs : List ℕ → Reading → Type 0
+WritesAs t z = Accepted (z .verdict) → textOf (fresh (z .contents)) ≡ t
+
 module _ (t : List ℕ) (p n s l i : ℕ) (f : cardLine t 0 ≡ CardLine.Fields p n s l i) where
   abbrev begun : Reading
-  begun =
-      record {
-        verdict = Verdict.Accepted;
-        contents = record { processes = p; variables = n; programs = s; limit = l; starts = replicate 64 0; code = replicate 8 noProgram };
-        at = i;
-        line = 2;
-      }
+  begun = afterFields p n s l i
 
   all-read : (v z : Reading) → VarsRead t n 0 begun v → ProgramsRead t s 0 v z → SoFar t z
   unfolding textOf fresh
   all-read v z a b =
       let c = card-read t 0 p n s l i f .fits in
-      let x₁ : z .contents .processes ≡ p = b .processes ∙ a .processes in
-      let x₂ : z .contents .variables ≡ n = b .variables ∙ a .variables in
-      let x₃ : z .contents .programs ≡ s = b .programs ∙ a .programs in
-      let x₄ : z .contents .limit ≡ l = b .limit ∙ a .limit in
+      let x₁ : z .contents .processes ≡ p = b .fields .processes ∙ a .fields .processes in
+      let x₂ : z .contents .variables ≡ n = b .fields .variables ∙ a .fields .variables in
+      let x₃ : z .contents .programs ≡ s = b .fields .programs ∙ a .fields .programs in
+      let x₄ : z .contents .limit ≡ l = b .fields .limit ∙ a .fields .limit in
       let q : eqb p 0 ≡ false = ne-eqb p 0 (λ (y : p ≡ 0). omega (arith, c .processes)) in
       let w : t ≡ cardText p n s l ++ (varsText n 0 (v .contents .starts) ++ (programsText s 0 (z .contents .code) ++ drop (z .at) t)) =
       card-text t 0 p n s l i f
       ∙ ap (λ (y : List ℕ). cardText p n s l ++ y) (a .text ∙ ap (λ (y : List ℕ). varsText n 0 (v .contents .starts) ++ y) (b .text)) in
       rw (x₁, x₂, x₃, x₄, b .starts, q) (w ∙ simp append-assoc)
 
-  programs-after : (v : Reading) → VarsRead t n 0 begun v → programsFrom t s 0 v .verdict ≡ Verdict.Accepted → SoFar t (programsFrom t s 0 v)
+  programs-after : (v : Reading) → VarsRead t n 0 begun v → Accepted (programsFrom t s 0 v .verdict) → SoFar t (programsFrom t s 0 v)
   programs-after v a e =
       let c = card-read t 0 p n s l i f .fits in
       all-read v (programsFrom t s 0 v) a
       (programs-read t s 0 v
-      (omega (arith, c .variables, a .variables))
+      (omega (arith, c .variables, a .fields .variables))
       (rw (a .code) (omega (arith, c .programs, length-replicate 8 noProgram)))
       e)
 
-  vars-there : varsFrom t n 0 begun .verdict ≡ Verdict.Accepted → VarsRead t n 0 begun (varsFrom t n 0 begun)
+  vars-there : Accepted (varsFrom t n 0 begun .verdict) → VarsRead t n 0 begun (varsFrom t n 0 begun)
   vars-there e = vars-read t n 0 begun (omega (arith, card-read t 0 p n s l i f .fits .variables, length-replicate {A = ℕ} 64 0)) e
 
-  body-there : (v : Reading) → (v .verdict ≡ Verdict.Accepted → VarsRead t n 0 begun v) → thenPrograms t s v .verdict ≡ Verdict.Accepted → SoFar t (thenPrograms t s v)
-  body-there v a = go (v .verdict) refl
-    where
-      go : (w : Verdict) → v .verdict ≡ w → ifAccepted w v (λ x. programsFrom t s 0 x) .verdict ≡ Verdict.Accepted → SoFar t (ifAccepted w v (λ x. programsFrom t s 0 x))
-      go Verdict.Accepted q e = programs-after v (a q) e
-      go (Verdict.Refused why line) q e = clash (cc)
+  body-there :
+      (v : Reading) → (Accepted (v .verdict) → VarsRead t n 0 begun v) → Accepted (thenPrograms t s v .verdict) →
+      SoFar t (thenPrograms t s v)
+  body-there v a =
+      on-accepted (λ z. Accepted (z .verdict) → SoFar t z) v (λ x. programsFrom t s 0 x)
+      (λ q. programs-after v (a q)) (λ why line q e. clash (cc))
 
-  end-there : (z : Reading) → SoFar t z → atEnd t z .verdict ≡ Verdict.Accepted → textOf (fresh (atEnd t z .contents)) ≡ t
+  end-there : (z : Reading) → SoFar t z → WritesAs t (atEnd t z)
   end-there z q =
-      on-test (λ (y : Reading). y .verdict ≡ Verdict.Accepted → textOf (fresh (y .contents)) ≡ t) (eqb (z .at) (length t))
+      on-test (WritesAs t) (eqb (z .at) (length t))
       (λ h e. sym (q ∙ rw (eqb-true (z .at) (length t) h, drop-length t, append-nil)))
       (λ h e. clash (cc))
 
-  card-there : (z : Reading) → (z .verdict ≡ Verdict.Accepted → SoFar t z) → thenEnd t z .verdict ≡ Verdict.Accepted → textOf (fresh (thenEnd t z .contents)) ≡ t
-  card-there z a = go (z .verdict) refl
-    where
-      go : (w : Verdict) → z .verdict ≡ w → ifAccepted w z (λ x. atEnd t x) .verdict ≡ Verdict.Accepted → textOf (fresh (ifAccepted w z (λ x. atEnd t x) .contents)) ≡ t
-      go Verdict.Accepted q e = end-there z (a q) e
-      go (Verdict.Refused why line) q e = clash (cc)
+  card-there : (z : Reading) → (Accepted (z .verdict) → SoFar t z) → WritesAs t (thenEnd t z)
+  card-there z a =
+      on-accepted (WritesAs t) z (λ x. atEnd t x)
+      (λ q. end-there z (a q)) (λ why line q e. clash (cc))
 
-  fields-there : afterCard t (CardLine.Fields p n s l i) .verdict ≡ Verdict.Accepted → textOf (fresh (afterCard t (CardLine.Fields p n s l i) .contents)) ≡ t
+  fields-there : WritesAs t (thenEnd t (thenPrograms t s (varsFrom t n 0 begun)))
   fields-there = card-there (thenPrograms t s (varsFrom t n 0 begun)) (body-there (varsFrom t n 0 begun) vars-there)
 
 -- a text that opens is given back byte for byte
 pub given-back : (t : List ℕ) → opened t .verdict ≡ Verdict.Accepted → textOf (opened t .card) ≡ t
 unfolding opened readCard
 given-back t =
-    on-test (λ (y : Reading). y .verdict ≡ Verdict.Accepted → textOf (fresh (y .contents)) ≡ t) (ltb 16384 (length t))
+    on-test (WritesAs t) (ltb 16384 (length t))
     (λ h e. clash (cc))
-    (λ h. go (cardLine t 0) refl)
-  where
-    go : (l : CardLine) → cardLine t 0 ≡ l → afterCard t l .verdict ≡ Verdict.Accepted → textOf (fresh (afterCard t l .contents)) ≡ t
-    go (CardLine.Fields p n s l i) f = fields-there t p n s l i f
-    go (CardLine.Refused why) f = λ e. clash (cc)
+    (λ h. on-card (WritesAs t) t (cardLine t 0) (fields-there t) (λ why e. clash (cc)))
 
 -- what is written of it opens to the same card
 pub reads-back : (t : List ℕ) → opened t .verdict ≡ Verdict.Accepted → opened (textOf (opened t .card)) ≡ opened t
@@ -375,63 +353,39 @@ pub injective : (t u : List ℕ) → opened t .verdict ≡ Verdict.Accepted → 
 injective t u p q e = sym (given-back t p) ∙ ap textOf e ∙ given-back u q
 
 -- ---- a refused text opens to the empty card, which writes as no bytes
-abbrev Refused : Verdict → Type 0
-Refused v = v ≡ Verdict.Accepted → ⊥
+-- a reading that is refused has no contents
+abbrev Empty : Reading → Type 0
+Empty r = (Accepted (r .verdict) → ⊥) → r .contents ≡ noContents
 
-vars-empty : (t : List ℕ) (m k : ℕ) (r : Reading) → r .verdict ≡ Verdict.Accepted → Refused (varsFrom t m k r .verdict) → varsFrom t m k r .contents ≡ noContents
+vars-empty : (t : List ℕ) (m k : ℕ) (r : Reading) → Accepted (r .verdict) → Empty (varsFrom t m k r)
 unfolding varsFrom
 vars-empty t zero k r e = λ n. absurd (n e)
-vars-empty t (suc m) k r e = go (λ x p n. vars-empty t m (suc k) x p n) (varLine t (r .at))
-  where
-    go :
-        ((x : Reading) → x .verdict ≡ Verdict.Accepted → Refused (varsFrom t m (suc k) x .verdict) → varsFrom t m (suc k) x .contents ≡ noContents) →
-        (l : VarLine) → Refused (nextVar l r k (λ x. varsFrom t m (suc k) x) .verdict) → nextVar l r k (λ x. varsFrom t m (suc k) x) .contents ≡ noContents
-    go ih (VarLine.Start v i) n = ih (withStart r k v i) refl n
-    go ih (VarLine.Refused why) n = refl
+vars-empty t (suc m) k r e =
+    on-var Empty (varLine t (r .at)) r k (λ x. varsFrom t m (suc k) x) (λ v i _. vars-empty t m (suc k) (withStart r k v i) refl) (λ why n. refl)
 
-programs-empty : (t : List ℕ) (m k : ℕ) (r : Reading) → r .verdict ≡ Verdict.Accepted → Refused (programsFrom t m k r .verdict) → programsFrom t m k r .contents ≡ noContents
+programs-empty : (t : List ℕ) (m k : ℕ) (r : Reading) → Accepted (r .verdict) → Empty (programsFrom t m k r)
 unfolding programsFrom
 programs-empty t zero k r e = λ n. absurd (n e)
 programs-empty t (suc m) k r e =
-    go (λ x p n. programs-empty t m (suc k) x p n) (readProgram (r .contents .variables) t (r .at) (r .line)) (readProgram (r .contents .variables) t (r .at) (r .line) .verdict)
-  where
-    go :
-        ((x : Reading) → x .verdict ≡ Verdict.Accepted → Refused (programsFrom t m (suc k) x .verdict) → programsFrom t m (suc k) x .contents ≡ noContents) →
-        (x : ProgramReading) (v : Verdict) → Refused (nextProgram v x r k (λ y. programsFrom t m (suc k) y) .verdict) →
-        nextProgram v x r k (λ y. programsFrom t m (suc k) y) .contents ≡ noContents
-    go ih x Verdict.Accepted n = ih (withProgram r k x) refl n
-    go ih x (Verdict.Refused why line) n = refl
+    let x = readProgram (r .contents .variables) t (r .at) (r .line) in
+    on-program Empty (x .verdict) x r k (λ y. programsFrom t m (suc k) y)
+    (λ _. programs-empty t m (suc k) (withProgram r k x) refl) (λ why line n. refl)
 
--- a reading that is refused has no contents
-abbrev Empty : Reading → Type 0
-Empty r = Refused (r .verdict) → r .contents ≡ noContents
-
-then-empty : (v : Verdict) (r : Reading) (go : Reading → Reading) → r .verdict ≡ v → Empty r → (r .verdict ≡ Verdict.Accepted → Empty (go r)) → Empty (ifAccepted v r go)
-then-empty Verdict.Accepted r go e a b = b e
-then-empty (Verdict.Refused why line) r go e a b = a
-
-end-empty : (t : List ℕ) (r : Reading) → r .verdict ≡ Verdict.Accepted → Empty (atEnd t r)
+end-empty : (t : List ℕ) (r : Reading) → Accepted (r .verdict) → Empty (atEnd t r)
 end-empty t r e = on-test Empty (eqb (r .at) (length t)) (λ h n. absurd (n e)) (λ h n. refl)
 
 read-empty : (t : List ℕ) → Empty (readCard t)
 unfolding readCard
-read-empty t = on-test Empty (ltb 16384 (length t)) (λ h n. refl) (λ h. go (cardLine t 0))
-  where
-    go : (l : CardLine) → Empty (afterCard t l)
-    go (CardLine.Fields p n s l i) =
-        let r : Reading =
-        record {
-          verdict = Verdict.Accepted;
-          contents = record { processes = p; variables = n; programs = s; limit = l; starts = replicate 64 0; code = replicate 8 noProgram };
-          at = i;
-          line = 2;
-        } in
-        let v : Reading = varsFrom t n 0 r in
-        let u : Reading = thenPrograms t s v in
-        then-empty (u .verdict) u (λ x. atEnd t x) refl
-        (then-empty (v .verdict) v (λ x. programsFrom t s 0 x) refl (vars-empty t n 0 r refl) (λ e. programs-empty t s 0 v e))
-        (λ e. end-empty t u e)
-    go (CardLine.Refused why) = λ n. refl
+read-empty t =
+    on-test Empty (ltb 16384 (length t)) (λ h n. refl)
+    (λ h. on-card Empty t (cardLine t 0)
+    (λ p n s l i _.
+    let v = varsFrom t n 0 (afterFields p n s l i) in
+    let vars = vars-empty t n 0 (afterFields p n s l i) refl in
+    let u = thenPrograms t s v in
+    let programs = on-accepted Empty v (λ x. programsFrom t s 0 x) (λ e. programs-empty t s 0 v e) (λ _ _ _. vars) in
+    on-accepted Empty u (λ x. atEnd t x) (λ e. end-empty t u e) (λ _ _ _. programs))
+    (λ why n. refl))
 
 pub refused-empty : (t : List ℕ) → (opened t .verdict ≡ Verdict.Accepted → ⊥) → opened t .card ≡ fresh noContents
 unfolding opened

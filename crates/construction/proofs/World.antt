@@ -1,4 +1,4 @@
--- What the processes share, with what the proof adds to it, and the moves that an entry makes of it.
+-- The shared cells with the ghost state of the proof, what holds of them after every list of entries, and the moves that an entry makes.
 use Prim.Native.Nat.{ℕ, suc, _+_, _≤_, _<_}
 use mathlib.Core.Path.{_≡_}
 use mathlib.Core.Logic.{_≢_, _⊎_}
@@ -130,17 +130,27 @@ pub record Recorded (F : Fixed) (records : List Record) (rounds : List Round) (c
       wordAt (endingOf F s (roundOf rounds s) .words) v ≡ wordAt (roundOf rounds s .words) v
   pub words-are : (v : ℕ) → v < F .variables → count ≡ length rounds → current (recordOf records v) ≡ wordAt words v
 
--- what holds of the world after every list of entries
-pub record Good (F : Fixed) (w : World) : Type 0 where
+-- there is room for the processes, the variables and the lines of each program
+pub record Fits (F : Fixed) : Type 0 where
   pub few : F .processes ≤ 8
   pub narrow : F .variables ≤ 64
   pub short : (k number : ℕ) → Short (programIn F k number)
-  pub size-announcements : length (w .announcements) ≡ 8
-  pub size-records : length (w .records) ≡ 64
-  pub size-calls : length (w .calls) ≡ 8
-  pub size-outs : length (w .outs) ≡ 8
-  pub size-left : length (w .left) ≡ 8
-  pub size-bound : length (w .bound) ≡ 8
+
+-- the lengths of what there is for each process and for each variable
+pub record Lengths (a r c o l b : ℕ) : Type 0 where
+  pub announcements : a ≡ 8
+  pub records : r ≡ 64
+  pub calls : c ≡ 8
+  pub outs : o ≡ 8
+  pub left : l ≡ 8
+  pub bound : b ≡ 8
+
+-- what holds of the world after every list of entries
+pub record Good (F : Fixed) (w : World) : Type 0 where
+  pub fits : Fits F
+  pub lengths :
+      Lengths (length (w .announcements)) (length (w .records)) (length (w .calls)) (length (w .outs)) (length (w .left))
+      (length (w .bound))
   pub size-words : length (w .words) ≡ F .variables
   pub size-round : (s : ℕ) → s < length (w .rounds) → length (roundIn w s .words) ≡ F .variables
   pub left-below : (m : ℕ) → leftIn w m < w .gate .seq

@@ -6,6 +6,7 @@ use mathlib.Core.Logic.{_≢_, inl, ⊎-elim}
 use mathlib.Core.List.{List}
 use native.Mathlib.Omega.{arith}
 use native.Mathlib.Decide.{decLt}
+use native.Mathlib.Nat.{eq-or-lt-of-le}
 use lib.ListN.{length, getD, set, length-take}
 use lib.Seq.{getD-set-same, set-getD, getD-take}
 use lib.Dec.{ltb, eqb}
@@ -27,7 +28,7 @@ use Rattle.construction.proofs.Basics.{on-test, true-false, and-true, s
 use Rattle.construction.proofs.DictionaryLaws.{valueIn, all-at, value-at}
 use Rattle.construction.proofs.World.{Fixed, endingIn, World, leftIn, roundIn, wordAt, Phase, writing, Move}
 use Rattle.construction.proofs.World.Move.{write}
-use Rattle.construction.proofs.Kept.{below-or, count-many}
+use Rattle.construction.proofs.Kept.{count-many}
 use Rattle.construction.proofs.Locals.{localAt, atTask, fixedOf, Updated, record-updated, task-updated}
 use Rattle.construction.proofs.Places.{Noted, Fine, LocAt, helper-stays, plan-stays, fine-stays, finished-stays}
 use Rattle.construction.proofs.Claims.Change.{kept}
@@ -103,7 +104,7 @@ module _ {c : Card} {w : World} {i : ℕ} (B : Before c w i) (q : LocAt H36 (fix
   lost e =
       keeps B (wrote-updated (recordAt c v)) refl refl (set-getD (c .records) v (openRecord 0)) (B .tidy)
       (write-loc F W i (localAt c i) (q .0) (q .1) (simulationAt c i) d (q .2) (suc k)
-      (λ j h. ⊎-elim (q .3 .before j) (at-item W written j) (below-or k j h)))
+      (λ j h. ⊎-elim (at-item W written j) (q .3 .before j) (eq-or-lt-of-le (omega arith))))
     where
       written : Fine W s item
       written = record { fine = inl (⊎-elim (λ y. absurd (sameRecord-false _ _ e y)) (λ y. y) (known .kept)) }
@@ -141,7 +142,7 @@ module _ {c : Card} {w : World} {i : ℕ} (B : Before c w i) (q : LocAt H36 (fix
     written : Fine (writing W v (item .value)) s item
     unfolding rewritten
     written =
-        let fits : v < length (c .records) = omega (arith, B .good .size-records, B .good .narrow, known .inside) in
+        let fits : v < length (c .records) = omega (arith, B .good .lengths .records, B .good .fits .narrow, known .inside) in
         record {
           fine = inl (rw (getD-set-same (c .records) v (rewritten (recordAt c v) (item .value) (c .gate .seq)) (openRecord 0) fits)
               (omega (arith, held .1)));
@@ -166,9 +167,9 @@ module _ {c : Card} {w : World} {i : ℕ} (B : Before c w i) (q : LocAt H36 (fix
           (finished-stays (B .good) writes s (q .1 .number) (q .1 .below) (copyAt c i) (simulationAt c i) d (q .2))
           (suc k)
           (λ j h.
-          ⊎-elim
+          ⊎-elim (at-item _ written j)
           (λ l. fine-stays (B .good) writes s (q .1 .number) (q .1 .below) (getD (noted d) j noItem) (q .3 .before j l))
-          (at-item _ written j) (below-or k j h));
+          (eq-or-lt-of-le (omega arith)));
     }
 
   pub at-H36 : Acted c W i (accessRecord RecordAccess.Swap c i)

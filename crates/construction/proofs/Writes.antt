@@ -1,4 +1,4 @@
--- From the end of a simulation to the writes: the next place of a helper.
+-- From the end of a simulation to the writes (lines H31 and H32): the next place of a helper.
 use Prim.Native.Nat.{ℕ, _<_}
 use mathlib.Core.Path.{_≡_, sym, _∙_}
 use mathlib.Core.Bool.{true, false, not}
@@ -7,7 +7,7 @@ use native.Mathlib.Omega.{arith}
 use native.Mathlib.Decide.{decLt}
 use lib.ListN.{length, getD}
 use lib.Dec.{ltb, eqb}
-use borrow.Author.Tests.{ltb-true, ltb-false, eqb-true}
+use borrow.Author.Tests.{ltb-true, ltb-false, eqb-true, not-false}
 use Rattle.construction.specs.declared.Item.{Item}
 use Rattle.construction.specs.declared.Task.{Task}
 use Rattle.construction.specs.declared.Dictionary.{Dictionary}
@@ -17,8 +17,7 @@ use Rattle.construction.specs.declared.Pause.the-variants.{Ended, Lacks}
 use Rattle.construction.specs.Cells.{current}
 use Rattle.construction.specs.Dictionary.{noItem, noted, position, valueUnder, altered, nextWrite}
 use Rattle.construction.specs.Machine.{writeFrom, afterPause}
-use Rattle.construction.proofs.Basics.{on-test, true-or-false}
-use Rattle.construction.proofs.Tests.{not-false, and-false}
+use Rattle.construction.proofs.Basics.{on-test, true-or-false, and-false}
 use Rattle.construction.proofs.DictionaryLaws.{hasIn, valueIn, all-at, value-none, has-position, at-position, next-before, next-at}
 use Rattle.construction.proofs.SimulationLaws.{PausedAt}
 use Rattle.construction.proofs.World.{Fixed, endingIn, World, recordIn, roundIn, wordAt}

@@ -30,6 +30,7 @@ pub mod TextReading
 pub mod TextWriting
 pub mod TextRoundTrip
 pub mod TextKept
+pub mod Locality
 pub mod Course
 pub mod Observed
 pub mod Moments

@@ -23,13 +23,13 @@ use Rattle.construction.specs.declared.Task.{Task}
 use Rattle.construction.specs.declared.Place.{Place}
 use Rattle.construction.specs.declared.Place.the-variants.{P1, P3, P5}
 use Rattle.construction.specs.Cells.{isDone, openAnnouncement}
-use Rattle.construction.specs.Parts.{idleTask, taskAt, withExit}
+use Rattle.construction.specs.Parts.{idleTask, contentsOf, taskAt, withExit}
 use Rattle.construction.specs.Machine.{advance}
 use Rattle.construction.specs.Requests.{isProcess, isVariable, isIdle, isBusy, refused, begun as cardBegun, answerOf, read}
 use Rattle.construction.specs.History.{Entry, act, Invocation, Notes, turned, finishing, finished, begun, withReturn, ended, noted, Moment, observe, FinishesOne, FinishesAtMostOne}
 use Rattle.construction.proofs.Basics.{true-or-false, true-false, cond-true, cond-false, and-true}
 use Rattle.construction.proofs.NotesLaws.{turned-same}
-use Rattle.construction.proofs.TextKept.{contentsOf, advance-kept}
+use Rattle.construction.proofs.TextKept.{advance-kept}
 use Rattle.construction.proofs.Outcomes.{Outcome, outcome}
 use Rattle.construction.proofs.World.{World, announcementIn, outputsIn, ending, asking}
 use Rattle.construction.proofs.Locals.{Local, fixedOf}

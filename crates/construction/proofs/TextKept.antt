@@ -15,7 +15,7 @@ use Rattle.construction.specs.declared.AnnouncementAccess.{AnnouncementA
 use Rattle.construction.specs.declared.RecordAccess.{RecordAccess}
 use Rattle.construction.specs.Instructions.{started}
 use Rattle.construction.specs.Dictionary.{empty}
-use Rattle.construction.specs.Parts.{announcementAt, recordAt, taskAt, exitAt, heldAt, withCopy}
+use Rattle.construction.specs.Parts.{contentsOf, announcementAt, recordAt, taskAt, exitAt, heldAt, withCopy}
 use Rattle.construction.specs.Machine.{accessOf, holderOf, accessGate, help, helps, accessAnnouncement, accessRecord, perform, advance}
 use Rattle.construction.specs.Opening.{fresh, opened}
 use Rattle.construction.specs.Writing.{textOf}
@@ -23,18 +23,6 @@ use Rattle.construction.specs.History.{Entry, Moment, observe, observeAl
 use Rattle.construction.proofs.TextRoundTrip.{given-back}
 use Rattle.construction.proofs.Basics.{on-test}
 use Rattle.construction.proofs.Outcomes.{Outcome, outcome}
-
--- what a card was opened with
-abbrev pub contentsOf : Card → Contents
-contentsOf c =
-    record {
-      processes = c .processes;
-      variables = c .variables;
-      programs = c .programs;
-      limit = c .limit;
-      starts = c .starts;
-      code = c .code;
-    }
 
 abbrev Kept : Card → Card → Type 0
 Kept c d = contentsOf d ≡ contentsOf c

@@ -1,6 +1,7 @@
 pub mod Examples
 pub mod Basics
 pub mod Tests
+pub mod Locality
 pub mod Refusals
 pub mod SequentialLaws
 pub mod DictionaryLaws
@@ -30,7 +31,6 @@ pub mod TextReading
 pub mod TextWriting
 pub mod TextRoundTrip
 pub mod TextKept
-pub mod Locality
 pub mod Course
 pub mod Observed
 pub mod Moments

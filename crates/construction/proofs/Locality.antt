@@ -9,6 +9,7 @@ use native.Mathlib.Decide.{decLt}
 use lib.Dec.{ltb}
 use lib.ListN.{length, getD, set, length-set}
 use lib.Seq.{set-out, getD-set-same, getD-set-other}
+use Rattle.construction.specs.declared.Task.{Task}
 use Rattle.construction.specs.declared.Dictionary.{Dictionary}
 use Rattle.construction.specs.declared.Simulation.{Simulation}
 use Rattle.construction.specs.declared.Card.{Card}
@@ -20,14 +21,12 @@ use Rattle.construction.specs.declared.Access.{Access}
 use Rattle.construction.specs.declared.GateAccess.{GateAccess}
 use Rattle.construction.specs.declared.AnnouncementAccess.{AnnouncementAccess}
 use Rattle.construction.specs.declared.RecordAccess.{RecordAccess}
-use Rattle.construction.specs.Cells.{openAnnouncement, openRecord}
 use Rattle.construction.specs.Helping.{simulate}
-use Rattle.construction.specs.Parts.{announcementAt, recordAt, taskAt, exitAt, heldAt, copyAt, simulationAt, dictionaryAt, programOf, withGate, withAnnouncement, withRecord, withCopy}
+use Rattle.construction.specs.Parts.{announcementAt, recordAt, taskAt, exitAt, heldAt, copyAt, programOf, withGate, withAnnouncement, withRecord, withTask, withHeld, withCopy}
 use Rattle.construction.specs.Machine.{accessOf, help, helps, accessGate, accessAnnouncement, accessRecord, perform, advance}
 use Rattle.construction.specs.Requests.{answerOf}
 use Rattle.construction.specs.Locality.{Cell, announcementOf, recordOf, cellOf, touched, Same, SameIn, SameLocal, SameText, OneAccess}
 use Rattle.construction.proofs.Basics.{on-test}
-use Rattle.construction.proofs.TextKept.{advance-kept}
 
 -- the same stored at one place of two arrays
 stored :
@@ -93,43 +92,50 @@ module _ (c d : Card) (i : ℕ) (T : SameText c d) (S : SameLocal i c d) where
   cell-alike (Access.Announcement a) = ap Cell.Announcement (whose a)
   cell-alike (Access.Record a) = ap Cell.Record (which a)
 
+  -- the same stored as the task of process i, and beside it as its gate or its copy
+  placed : {t u : Task} → t ≡ u → SameLocal i (withTask c i t) (withTask d i u)
+  placed e = (stored e (S .0), S .1, S .2, S .3, S .4, S .5, S .6, S .7)
+
+  placed-gate :
+      {t u : Task} {g h : Gate} → t ≡ u → g ≡ h →
+      SameLocal i (withTask (withHeld c i g) i t) (withTask (withHeld d i h) i u)
+  placed-gate e f = (stored e (S .0), S .1, S .2, S .3, stored f (S .4), S .5, S .6, S .7)
+
+  placed-copy :
+      {t u : Task} {a b : Announcement} → t ≡ u → a ≡ b →
+      SameLocal i (withTask (withCopy c i a) i t) (withTask (withCopy d i b) i u)
+  placed-copy e f = (stored e (S .0), S .1, S .2, S .3, S .4, stored f (S .5), S .6, S .7)
+
   gate-alike : (a : GateAccess) → c .gate ≡ d .gate → Alike i Cell.Gate (accessGate a c i) (accessGate a d i)
   unfolding accessGate
-  gate-alike (GateAccess.Read held free) g =
-      ((stored (cc) (S .0), S .1, S .2, S .3, stored g (S .4), S .5, S .6, S .7), g)
-  gate-alike GateAccess.ReadLast g = ((stored (cc) (S .0), S .1, S .2, S .3, stored g (S .4), S .5, S .6, S .7), g)
-  gate-alike GateAccess.Nominate g = ((stored (cc) (S .0), S .1, S .2, S .3, S .4, S .5, S .6, S .7), cc)
-  gate-alike (GateAccess.Release next) g = ((stored (cc) (S .0), S .1, S .2, S .3, S .4, S .5, S .6, S .7), cc)
+  gate-alike (GateAccess.Read held free) g = (placed-gate (cc) g, g)
+  gate-alike GateAccess.ReadLast g = (placed-gate (cc) g, g)
+  gate-alike GateAccess.Nominate g = (placed (cc), cc)
+  gate-alike (GateAccess.Release next) g = (placed (cc), cc)
 
   announcement-alike :
       (a : AnnouncementAccess) → SameIn (Cell.Announcement (announcementOf a c i)) c d →
       Alike i (Cell.Announcement (announcementOf a c i)) (accessAnnouncement a c i) (accessAnnouncement a d i)
   unfolding accessAnnouncement help
-  announcement-alike AnnouncementAccess.Announce n = (
-    (stored (cc) (S .0), S .1, S .2, S .3, S .4, stored (cc) (S .5), S .6, S .7),
-    stored (cc) n,
-  )
-  announcement-alike AnnouncementAccess.Withdraw n =
-      ((stored (cc) (S .0), S .1, S .2, S .3, S .4, S .5, S .6, S .7), stored (cc) n)
-  announcement-alike (AnnouncementAccess.ReadOwn done active exit) n =
-      ((stored (cc) (S .0), S .1, S .2, S .3, S .4, stored (n .elements) (S .5), S .6, S .7), n)
+  announcement-alike AnnouncementAccess.Announce n = (placed-copy (cc) (cc), stored (cc) n)
+  announcement-alike AnnouncementAccess.Withdraw n = (placed (cc), stored (cc) n)
+  announcement-alike (AnnouncementAccess.ReadOwn done active exit) n = (placed-copy (cc) (cc), n)
   announcement-alike AnnouncementAccess.ReadFirst n =
       let e = whose AnnouncementAccess.ReadFirst in
-      ((stored (cc) (S .0), S .1, S .2, S .3, S .4, stored (cc) (S .5), S .6, S .7), n)
+      (placed-copy (cc) (cc), n)
   announcement-alike AnnouncementAccess.Help n =
       let m = announcementOf AnnouncementAccess.Help c i in
       let a = announcementAt c m in
       let b = announcementAt d (announcementOf AnnouncementAccess.Help d i) in
       let e : a ≡ b = cc in
-      let copied : SameLocal i (withCopy c i a) (withCopy d i b) =
-      (S .0, S .1, S .2, S .3, S .4, stored e (S .5), S .6, S .7) in
-      alike (Alike i (Cell.Announcement m)) (helps a (heldAt c i .seq)) (helps b (heldAt d i .seq)) (cc)
-      (help-alike (withCopy c i a) (withCopy d i b) i T copied refl refl, n)
-      ((stored (cc) (S .0), S .1, S .2, S .3, S .4, stored e (S .5), S .6, S .7), n)
-  announcement-alike (AnnouncementAccess.Finish flag next) n = (
-    (stored (cc) (S .0), S .1, S .2, S .3, S .4, S .5, S .6, S .7),
-    rw (← whose (AnnouncementAccess.Finish flag next)) (stored (cc) n),
-  )
+      alike (Alike i (Cell.Announcement m)) (helps a (heldAt c i .seq)) (helps b (heldAt d i .seq)) (cc) (
+        help-alike (withCopy c i a) (withCopy d i b) i T
+            (S .0, S .1, S .2, S .3, S .4, stored e (S .5), S .6, S .7) refl refl,
+        n,
+      )
+      (placed-copy (cc) e, n)
+  announcement-alike (AnnouncementAccess.Finish flag next) n =
+      (placed (cc), rw (← whose (AnnouncementAccess.Finish flag next)) (stored (cc) n))
 
   record-alike :
       (a : RecordAccess) → SameIn (Cell.Record (recordOf a c i)) c d →
@@ -140,12 +146,8 @@ module _ (c d : Card) (i : ℕ) (T : SameText c d) (S : SameLocal i c d) where
       let b = recordAt d (taskAt d i .target) in
       let e : recordAt c m ≡ b = cc in
       alike (Alike i (Cell.Record m)) (ltb (heldAt c i .seq) (recordAt c m .seq)) (ltb (heldAt d i .seq) (b .seq)) (cc)
-      ((stored (cc) (S .0), S .1, S .2, S .3, S .4, S .5, S .6, S .7), n)
-      (help-alike c d i T S (S .6 .elements) (cc), n)
-  record-alike RecordAccess.Swap n = (
-    (stored (cc) (S .0), S .1, S .2, S .3, S .4, S .5, S .6, S .7),
-    rw (← which RecordAccess.Swap) (stored (cc) n),
-  )
+      (placed (cc), n) (help-alike c d i T S (S .6 .elements) (cc), n)
+  record-alike RecordAccess.Swap n = (placed (cc), rw (← which RecordAccess.Swap) (stored (cc) n))
 
   access-alike : (a : Access) → SameIn (cellOf a c i) c d → Alike i (cellOf a c i) (perform a c i) (perform a d i)
   unfolding perform
@@ -182,40 +184,41 @@ record-kept (Cell.Record v) c k r n = elsewhere r (λ e. n (ap Cell.Record e)) s
 
 -- what an access of process i to the cell x leaves alone
 abbrev Kept : Card → ℕ → Cell → Card → Type 0
-Kept c i x e = ((y : Cell) → y ≢ x → SameIn y c e) × ((j : ℕ) → j ≢ i → SameLocal j c e) × (e .steps ≡ c .steps)
+Kept c i x e =
+    ((y : Cell) → y ≢ x → SameIn y c e) × ((j : ℕ) → j ≢ i → SameLocal j c e) × SameText c e × (e .steps ≡ c .steps)
 
 module _ (c : Card) (i : ℕ) where
   gate-keeps : (a : GateAccess) → Kept c i Cell.Gate (accessGate a c i)
   unfolding accessGate
-  gate-keeps (GateAccess.Read held free) = (λ y _. same-in y c, search (same, elsewhere), refl)
-  gate-keeps GateAccess.ReadLast = (λ y _. same-in y c, search (same, elsewhere), refl)
-  gate-keeps GateAccess.Nominate = (λ y n. gate-kept y c _ n, search (same, elsewhere), refl)
-  gate-keeps (GateAccess.Release next) = (λ y n. gate-kept y c _ n, search (same, elsewhere), refl)
+  gate-keeps (GateAccess.Read held free) = (λ y _. same-in y c, search (same, elsewhere), refl, refl)
+  gate-keeps GateAccess.ReadLast = (λ y _. same-in y c, search (same, elsewhere), refl, refl)
+  gate-keeps GateAccess.Nominate = (λ y n. gate-kept y c _ n, search (same, elsewhere), refl, refl)
+  gate-keeps (GateAccess.Release next) = (λ y n. gate-kept y c _ n, search (same, elsewhere), refl, refl)
 
   announcement-keeps :
       (a : AnnouncementAccess) → Kept c i (Cell.Announcement (announcementOf a c i)) (accessAnnouncement a c i)
   unfolding accessAnnouncement help
-  announcement-keeps AnnouncementAccess.Announce = (λ y n. announcement-kept y c _ _ n, search (same, elsewhere), refl)
-  announcement-keeps AnnouncementAccess.Withdraw = (λ y n. announcement-kept y c _ _ n, search (same, elsewhere), refl)
-  announcement-keeps (AnnouncementAccess.ReadOwn done active exit) = (λ y _. same-in y c, search (same, elsewhere), refl)
-  announcement-keeps AnnouncementAccess.ReadFirst = (λ y _. same-in y c, search (same, elsewhere), refl)
+  announcement-keeps AnnouncementAccess.Announce = (λ y n. announcement-kept y c _ _ n, search (same, elsewhere), refl, refl)
+  announcement-keeps AnnouncementAccess.Withdraw = (λ y n. announcement-kept y c _ _ n, search (same, elsewhere), refl, refl)
+  announcement-keeps (AnnouncementAccess.ReadOwn done active exit) = (λ y _. same-in y c, search (same, elsewhere), refl, refl)
+  announcement-keeps AnnouncementAccess.ReadFirst = (λ y _. same-in y c, search (same, elsewhere), refl, refl)
   announcement-keeps AnnouncementAccess.Help =
       let m = announcementOf AnnouncementAccess.Help c i in
       on-test (Kept c i (Cell.Announcement m)) (helps (announcementAt c m) (heldAt c i .seq))
-      (λ _. (λ y _. same-in y c, search (same, elsewhere), refl)) (λ _. (λ y _. same-in y c, search (same, elsewhere), refl))
-  announcement-keeps (AnnouncementAccess.Finish flag next) = (λ y n. announcement-kept y c _ _ n, search (same, elsewhere), refl)
+      (λ _. (λ y _. same-in y c, search (same, elsewhere), refl, refl)) (λ _. (λ y _. same-in y c, search (same, elsewhere), refl, refl))
+  announcement-keeps (AnnouncementAccess.Finish flag next) = (λ y n. announcement-kept y c _ _ n, search (same, elsewhere), refl, refl)
 
   record-keeps : (a : RecordAccess) → Kept c i (Cell.Record (recordOf a c i)) (accessRecord a c i)
   unfolding accessRecord help
   record-keeps RecordAccess.Read =
       let v = recordOf RecordAccess.Read c i in
       on-test (Kept c i (Cell.Record v)) (ltb (heldAt c i .seq) (recordAt c v .seq))
-      (λ _. (λ y _. same-in y c, search (same, elsewhere), refl)) (λ _. (λ y _. same-in y c, search (same, elsewhere), refl))
-  record-keeps RecordAccess.Swap = (λ y n. record-kept y c _ _ n, search (same, elsewhere), refl)
+      (λ _. (λ y _. same-in y c, search (same, elsewhere), refl, refl)) (λ _. (λ y _. same-in y c, search (same, elsewhere), refl, refl))
+  record-keeps RecordAccess.Swap = (λ y n. record-kept y c _ _ n, search (same, elsewhere), refl, refl)
 
   access-keeps : (a : Access) → Kept c i (cellOf a c i) (perform a c i)
   unfolding perform
-  access-keeps Access.None = (λ y _. same-in y c, search same, refl)
+  access-keeps Access.None = (λ y _. same-in y c, search same, refl, refl)
   access-keeps (Access.Gate a) = gate-keeps a
   access-keeps (Access.Announcement a) = announcement-keeps a
   access-keeps (Access.Record a) = record-keeps a
@@ -230,8 +233,8 @@ one-access c i = record {
   depends = λ d T S n. let s = advance-alike d T S n in (s .0, s .1, answer-alike (advance c i) (advance d i) i (s .0));
   kept = access-keeps c i access .0;
   others = λ j n. let s = access-keeps c i access .1 j n in (s .0, s .1, s .2, elsewhere _ n (s .3), s .4, s .5, s .6, s .7);
-  text = sym (advance-kept c i);
-  steps = rw (access-keeps c i access .2);
+  text = access-keeps c i access .2;
+  steps = rw (access-keeps c i access .3);
 }
   where
     access : Access

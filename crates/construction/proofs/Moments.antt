@@ -29,7 +29,7 @@ use Rattle.construction.specs.Requests.{isProcess, isVariable, isIdle, i
 use Rattle.construction.specs.History.{Entry, act, Invocation, Notes, turned, finishing, finished, begun, withReturn, ended, noted, Moment, observe, FinishesOne, FinishesAtMostOne}
 use Rattle.construction.proofs.Basics.{true-or-false, true-false, cond-true, cond-false, and-true}
 use Rattle.construction.proofs.NotesLaws.{turned-same}
-use Rattle.construction.proofs.TextKept.{advance-kept}
+use Rattle.construction.proofs.Locality.{one-access}
 use Rattle.construction.proofs.Outcomes.{Outcome, outcome}
 use Rattle.construction.proofs.World.{World, announcementIn, outputsIn, ending, asking}
 use Rattle.construction.proofs.Locals.{Local, fixedOf}
@@ -239,7 +239,7 @@ module _ (o : Card) (m : Moment) (O : Consistent o m) where
         (⊎-elim (λ z. absurd (true-false _ (ap (λ (l : Place). not (isIdle l)) (at-P3 z)) idle)) (λ z. z)) stage
 
     text-moved : contentsOf d ≡ contentsOf o
-    text-moved = advance-kept c i ∙ O .text
+    text-moved = sym (one-access c i .text) ∙ O .text
 
     running : isBusy d i ≡ true → Follows o d (S .after) noticed
     running busy = tracks-place i others (λ _ _. own-next (unannounced busy) newly own-moved) moved
@@ -261,7 +261,7 @@ module _ (o : Card) (m : Moment) (O : Consistent o m) where
         ⊎-elim
         (λ z. subst (λ (a : Answer). Follows o d (S .after) (ended noticed i a)) (sym (z .1)) (ended-done idle (z .0) _))
         (λ z. subst (λ (a : Answer). Follows o d (S .after) (ended noticed i a)) (sym (z .1)) (ended-exited idle (z .0) _))
-        (answer-is (S .inv) i (subst (λ (x : Contents). i < x .processes) (sym (advance-kept c i)) (inside i e)) idle))
+        (answer-is (S .inv) i (subst (λ (x : Contents). i < x .processes) (one-access c i .text) (inside i e)) idle))
         (true-or-false (isBusy d i))
 
     step-kept : Consistent o (after o m (Entry.Step i) (record { card = d; answer = answerOf d i }))

@@ -1,4 +1,4 @@
--- 'A step of process i makes one shared access' (document 01, 'One step'): it touches one cell, its process, and no more.
+-- 'A step of process i makes one shared access' (document 01, 'One step'): what it does depends on its process and one cell, and changes no more.
 use Prim.Native.Nat.{ℕ, _<_}
 use mathlib.Core.Path.{_≡_, refl, sym, ap, _∙_}
 use mathlib.Core.Bool.{Bool, true, false, cond}
@@ -24,7 +24,6 @@ use Rattle.construction.specs.declared.RecordAccess.{RecordAccess}
 use Rattle.construction.specs.Helping.{simulate}
 use Rattle.construction.specs.Parts.{announcementAt, recordAt, taskAt, exitAt, heldAt, copyAt, programOf, withGate, withAnnouncement, withRecord, withTask, withHeld, withCopy}
 use Rattle.construction.specs.Machine.{accessOf, help, helps, accessGate, accessAnnouncement, accessRecord, perform, advance}
-use Rattle.construction.specs.Requests.{answerOf}
 use Rattle.construction.specs.Locality.{Cell, announcementOf, recordOf, cellOf, touched, Same, SameIn, SameLocal, SameText, OneAccess}
 use Rattle.construction.proofs.Basics.{on-test}
 
@@ -58,7 +57,7 @@ alike :
 alike P true e p f g = rw (← p) f
 alike P false e p f g = rw (← p) g
 
--- what two cards have alike after an access
+-- two cards have alike what an access of process i to the cell x touches
 abbrev Alike : ℕ → Cell → Card → Card → Type 0
 Alike i x c d = SameLocal i c d × SameIn x c d
 
@@ -73,6 +72,7 @@ help-alike c d i T S {s} {t} {b} {e} p q =
     cc (ap (λ (y : Contents). y .variables) T, ap (λ (y : Contents). y .code) T) in
     (stored (cc) (S .0), S .1, S .2, S .3, S .4, S .5, stored (cc) (S .6), stored (cc) (S .7))
 
+-- what an access does to two cards with the same text and the same local state of its process
 module _ (c d : Card) (i : ℕ) (T : SameText c d) (S : SameLocal i c d) where
   whose : (a : AnnouncementAccess) → announcementOf a c i ≡ announcementOf a d i
   whose AnnouncementAccess.Announce = refl
@@ -156,7 +156,7 @@ module _ (c d : Card) (i : ℕ) (T : SameText c d) (S : SameLocal i c d) where
   access-alike (Access.Announcement a) n = announcement-alike a n
   access-alike (Access.Record a) n = record-alike a n
 
--- a cell that is not written
+-- a card as it was, and the cells of a card with one cell replaced
 same-in : (x : Cell) (c : Card) → SameIn x c c
 same-in Cell.None c = tt
 same-in Cell.Gate c = refl
@@ -223,14 +223,11 @@ module _ (c : Card) (i : ℕ) where
   access-keeps (Access.Announcement a) = announcement-keeps a
   access-keeps (Access.Record a) = record-keeps a
 
-answer-alike : (c d : Card) (i : ℕ) → SameLocal i c d → answerOf c i ≡ answerOf d i
-answer-alike c d i S = cc
-
 pub one-access : (c : Card) (i : ℕ) → OneAccess c i
 unfolding advance
 one-access c i = record {
   chosen = λ d T S. rw (← access-is d S) (cell-alike c d i T S access);
-  depends = λ d T S n. let s = advance-alike d T S n in (s .0, s .1, answer-alike (advance c i) (advance d i) i (s .0));
+  depends = λ d T S n. let s = advance-alike d T S n in (s .0, s .1, cc);
   kept = access-keeps c i access .0;
   others = λ j n. let s = access-keeps c i access .1 j n in (s .0, s .1, s .2, elsewhere _ n (s .3), s .4, s .5, s .6, s .7);
   text = access-keeps c i access .2;

@@ -1,4 +1,4 @@
--- 'A step of process i makes one shared access, then does all local work up to the next' (document 01, 'One step'): the one cell that a step touches.
+-- 'A step of process i makes one shared access' (document 01, 'One step'): the cell that a step touches, and that it touches no other.
 use Prim.Native.Nat.{ℕ, _+_, _%_}
 use mathlib.Core.Path.{_≡_}
 use mathlib.Core.Bool.{false}
@@ -37,22 +37,23 @@ abbrev pub recordOf : RecordAccess → Card → ℕ → ℕ
 recordOf RecordAccess.Read c i = taskAt c i .target
 recordOf RecordAccess.Swap c i = writtenItem c i .variable
 
--- the cell of an access of process i, and of its next step
+-- the cell that an access of process i touches: at P1, P10, P13, P14, P21, F1 and F3 the gate
 abbrev pub cellOf : Access → Card → ℕ → Cell
 cellOf Access.None c i = Cell.None
 cellOf (Access.Gate a) c i = Cell.Gate
 cellOf (Access.Announcement a) c i = Cell.Announcement (announcementOf a c i)
 cellOf (Access.Record a) c i = Cell.Record (recordOf a c i)
 
+-- the cell that the next step of process i touches
 abbrev pub touched : Card → ℕ → Cell
 touched c i = cellOf (accessOf (taskAt c i .place) (exitAt c i)) c i
 
--- two arrays have one length, and the same at place i
+-- two arrays have the same length and the same element at place i
 pub record Same {A : Type 0} (l m : List A) (i : ℕ) (none : A) : Type 0 where
   pub lengths : length l ≡ length m
   pub elements : getD l i none ≡ getD m i none
 
--- two cards hold the same in a cell
+-- two cards hold the same in a cell; ..
 abbrev pub SameIn : Cell → Card → Card → Type 0
 SameIn x c d = elim x [
   | None ↦ Unit
@@ -61,7 +62,7 @@ SameIn x c d = elim x [
   | Record v ↦ Same (c .records) (d .records) v (openRecord 0)
 ]
 
--- .. have the same local state of process i
+-- .. have the same local state of process i; ..
 abbrev pub SameLocal : ℕ → Card → Card → Type 0
 SameLocal i c d =
     Same (c .tasks) (d .tasks) i idleTask
@@ -73,15 +74,15 @@ SameLocal i c d =
     × Same (c .simulations) (d .simulations) i started
     × Same (c .dictionaries) (d .dictionaries) i empty
 
--- .. and were opened with the same text
+-- .. were opened with the same text
 abbrev pub SameText : Card → Card → Type 0
 SameText c d = contentsOf c ≡ contentsOf d
 
 -- an accepted step of process i makes one shared access
 pub record OneAccess (c : Card) (i : ℕ) : Type 0 where
-  -- which cell it touches follows from the text and its process alone
+  -- the text and its process alone decide which cell it touches
   pub chosen : (d : Card) → SameText c d → SameLocal i c d → touched c i ≡ touched d i
-  -- what it leaves in that cell and in its process, and its answer, follow from the text, its process and that cell alone
+  -- the text, its process and that cell alone decide what it leaves in its process and in that cell, and its answer
   pub depends :
       (d : Card) → SameText c d → SameLocal i c d → SameIn (touched c i) c d →
       SameLocal i (advance c i) (advance d i)
@@ -91,5 +92,5 @@ pub record OneAccess (c : Card) (i : ℕ) : Type 0 where
   pub kept : (x : Cell) → x ≢ touched c i → SameIn x c (advance c i)
   pub others : (j : ℕ) → j ≢ i → SameLocal j c (advance c i)
   pub text : SameText c (advance c i)
-  -- and the card counts it
+  -- what is left of a card, its count of accepted steps, goes up by one, in 64 bits
   pub steps : advance c i .steps ≡ (c .steps + 1) % 18446744073709551616

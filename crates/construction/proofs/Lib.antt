@@ -4,6 +4,7 @@ pub mod TextReading
 pub mod TextWriting
 pub mod TextRoundTrip
 pub mod OpenedBounds
+pub mod Locality
 pub mod SequentialLaws
 pub mod DictionaryLaws
 pub mod Touching

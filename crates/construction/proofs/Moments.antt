@@ -22,13 +22,13 @@ use Rattle.construction.specs.declared.Task.{Task}
 use Rattle.construction.specs.declared.Place.{Place}
 use Rattle.construction.specs.declared.Place.the-variants.{P1, P3, P5}
 use Rattle.construction.specs.Cells.{isDone, openAnnouncement}
-use Rattle.construction.specs.Parts.{idleTask, taskAt, withExit}
+use Rattle.construction.specs.Parts.{idleTask, contentsOf, taskAt, withExit}
 use Rattle.construction.specs.Machine.{advance}
 use Rattle.construction.specs.Requests.{isVariable, isIdle, isBusy, refused, begun, answerOf, read}
 use Rattle.construction.specs.History.{Entry, act, Invocation, Notes, turned, finishing, finished, withReturn, ended, noted, Moment, observe, FinishesOne, FinishesAtMostOne}
 use Rattle.construction.proofs.Basics.{true-or-false, true-false, cond-true, cond-false}
 use Rattle.construction.proofs.NotesLaws.{turned-same}
-use Rattle.construction.proofs.TextKept.{contentsOf, advance-kept}
+use Rattle.construction.proofs.Locality.{one-access}
 use Rattle.construction.proofs.Outcomes.{Outcome, outcome}
 use Rattle.construction.proofs.World.{World, announcementIn, outputsIn, ending, asking}
 use Rattle.construction.proofs.Locals.{Local, fixedOf}
@@ -238,7 +238,7 @@ module _ (o : Card) (m : Moment) (O : Consistent o m) where
         (⊎-elim (λ z. absurd (true-false _ (ap (λ (l : Place). not (isIdle l)) (at-P3 z)) idle)) (λ z. z)) own-stage
 
     text-moved : contentsOf d ≡ contentsOf o
-    text-moved = advance-kept c i ∙ O .text
+    text-moved = sym (one-access c i .text) ∙ O .text
 
     running : isBusy d i ≡ true → Follows o d (S .after) noticed
     running busy = tracks-place i others moved (λ _. own-next (unannounced busy) newly own-moved)
@@ -257,7 +257,7 @@ module _ (o : Card) (m : Moment) (O : Consistent o m) where
     answered =
         ⊎-elim (λ busy. by-answer (cond-true (isBusy d i) _ _ busy) (running busy))
         (λ idle. ⊎-elim (λ z. by-answer (z .1) (ended-done idle (z .0) _)) (λ z. by-answer (z .1) (ended-exited idle (z .0) _))
-        (answer-is (S .inv) i (subst (λ (x : Contents). i < x .processes) (sym (advance-kept c i)) lt) idle))
+        (answer-is (S .inv) i (subst (λ (x : Contents). i < x .processes) (one-access c i .text) lt) idle))
         (true-or-false (isBusy d i))
       where
         by-answer :

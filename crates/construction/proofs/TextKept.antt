@@ -2,87 +2,23 @@
 use Prim.Native.Nat.{ℕ}
 use mathlib.Core.Path.{_≡_, refl, sym, ap, _∙_}
 use mathlib.Core.List.{List, [], _∷_}
-use lib.Dec.{ltb}
 use Rattle.construction.specs.declared.Card.{Card}
 use Rattle.construction.specs.declared.Verdict.{Verdict}
 use Rattle.construction.specs.declared.Contents.{Contents}
 use Rattle.construction.specs.declared.Answered.{Answered}
-use Rattle.construction.specs.declared.Simulation.{Simulation}
-use Rattle.construction.specs.declared.Dictionary.{Dictionary}
-use Rattle.construction.specs.declared.Access.{Access}
-use Rattle.construction.specs.declared.GateAccess.{GateAccess}
-use Rattle.construction.specs.declared.AnnouncementAccess.{AnnouncementAccess}
-use Rattle.construction.specs.declared.RecordAccess.{RecordAccess}
-use Rattle.construction.specs.Instructions.{started}
-use Rattle.construction.specs.Dictionary.{empty}
-use Rattle.construction.specs.Parts.{announcementAt, recordAt, taskAt, exitAt, heldAt, withCopy}
-use Rattle.construction.specs.Machine.{accessOf, holderOf, accessGate, help, helps, accessAnnouncement, accessRecord, perform, advance}
+use Rattle.construction.specs.Parts.{contentsOf}
 use Rattle.construction.specs.Opening.{fresh, opened}
 use Rattle.construction.specs.Writing.{textOf}
 use Rattle.construction.specs.History.{Entry, Moment, observe, observeAll, run}
 use Rattle.construction.proofs.TextRoundTrip.{given-back}
-use Rattle.construction.proofs.Basics.{on-test}
+use Rattle.construction.proofs.Locality.{one-access}
 use Rattle.construction.proofs.Outcomes.{Outcome, outcome}
 
--- what a card was opened with
-abbrev pub contentsOf : Card → Contents
-contentsOf c =
-    record {
-      processes = c .processes;
-      variables = c .variables;
-      programs = c .programs;
-      limit = c .limit;
-      starts = c .starts;
-      code = c .code;
-    }
-
-abbrev Kept : Card → Card → Type 0
-Kept c d = contentsOf d ≡ contentsOf c
-
-help-kept : (c : Card) (i : ℕ) (s : Simulation) (d : Dictionary) → Kept c (help c i s d)
-unfolding help
-help-kept c i s d = refl
-
-gate-kept : (a : GateAccess) (c : Card) (i : ℕ) → Kept c (accessGate a c i)
-unfolding accessGate
-gate-kept (GateAccess.Read held free) c i = refl
-gate-kept GateAccess.ReadLast c i = refl
-gate-kept GateAccess.Nominate c i = refl
-gate-kept (GateAccess.Release next) c i = refl
-
-announcement-kept : (a : AnnouncementAccess) (c : Card) (i : ℕ) → Kept c (accessAnnouncement a c i)
-unfolding accessAnnouncement
-announcement-kept AnnouncementAccess.Announce c i = refl
-announcement-kept AnnouncementAccess.Withdraw c i = refl
-announcement-kept (AnnouncementAccess.ReadOwn done active exit) c i = refl
-announcement-kept AnnouncementAccess.ReadFirst c i = refl
-announcement-kept AnnouncementAccess.Help c i =
-    let a = announcementAt c (holderOf (heldAt c i .holder)) in
-    on-test (Kept c) (helps a (heldAt c i .seq)) (λ _. help-kept (withCopy c i a) i started empty) (λ _. refl)
-announcement-kept (AnnouncementAccess.Finish flag next) c i = refl
-
-record-kept : (a : RecordAccess) (c : Card) (i : ℕ) → Kept c (accessRecord a c i)
-unfolding accessRecord
-record-kept RecordAccess.Read c i =
-    on-test (Kept c) (ltb (heldAt c i .seq) (recordAt c (taskAt c i .target) .seq)) (λ _. refl) (λ _. help-kept c i _ _)
-record-kept RecordAccess.Swap c i = refl
-
-perform-kept : (a : Access) (c : Card) (i : ℕ) → Kept c (perform a c i)
-unfolding perform
-perform-kept Access.None c i = refl
-perform-kept (Access.Gate a) c i = gate-kept a c i
-perform-kept (Access.Announcement a) c i = announcement-kept a c i
-perform-kept (Access.Record a) c i = record-kept a c i
-
-pub advance-kept : (c : Card) (i : ℕ) → Kept c (advance c i)
-unfolding advance
-advance-kept c i = perform-kept (accessOf (taskAt c i .place) (exitAt c i)) c i
-
-outcome-kept : (c : Card) {e : Entry} {r : Answered} → Outcome c e r → Kept c (r .card)
+outcome-kept : (c : Card) {e : Entry} {r : Answered} → Outcome c e r → contentsOf (r .card) ≡ contentsOf c
 outcome-kept c (Outcome.turned-back e why) = refl
 outcome-kept c (Outcome.called i k inputs p b) = refl
 outcome-kept c (Outcome.asked i) = refl
-outcome-kept c (Outcome.stepped i p b l) = advance-kept c i
+outcome-kept c (Outcome.stepped i p b l) = sym (one-access c i .text)
 outcome-kept c (Outcome.shown v x) = refl
 
 pub all-kept : (o : Card) (m : Moment) (es : List Entry) → contentsOf (observeAll o m es .card) ≡ contentsOf (m .card)

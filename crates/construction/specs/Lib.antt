@@ -7,6 +7,7 @@ pub mod Parts
 pub mod Machine
 pub mod Answers
 pub mod Requests
+pub mod Locality
 pub mod Lines
 pub mod Opening
 pub mod Writing

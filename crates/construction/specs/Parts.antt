@@ -11,6 +11,7 @@ use Rattle.construction.specs.declared.Simulation.{Simulation}
 use Rattle.construction.specs.declared.Dictionary.{Dictionary}
 use Rattle.construction.specs.declared.Program.{Program}
 use Rattle.construction.specs.declared.Card.{Card}
+use Rattle.construction.specs.declared.Contents.{Contents}
 use Rattle.construction.specs.declared.Holder.the-variants.{Nobody}
 use Rattle.construction.specs.declared.Place.the-variants.{Idle}
 use Rattle.construction.specs.Cells.{zeros, openAnnouncement, openRecord}
@@ -25,6 +26,18 @@ noOperation = record { program = 0; inputs = zeros }
 
 abbrev pub noGate : Gate
 noGate = record { holder = Nobody; seq = 0 }
+
+-- what a card was opened with
+abbrev pub contentsOf : Card → Contents
+contentsOf c =
+    record {
+      processes = c .processes;
+      variables = c .variables;
+      programs = c .programs;
+      limit = c .limit;
+      starts = c .starts;
+      code = c .code;
+    }
 
 -- the shared cells: A[i] and R[v]
 abbrev pub announcementAt : Card → ℕ → Announcement

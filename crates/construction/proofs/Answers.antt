@@ -25,7 +25,7 @@ use Rattle.construction.proofs.Locals.{Local, localAt, fixedOf}
 use Rattle.construction.proofs.Places.{LocAt}
 use Rattle.construction.proofs.Stages.{isAnnounced, Stage, stage}
 use Rattle.construction.proofs.Acting.{worldOf}
-use Rattle.construction.proofs.Invariant.{Inv, at-rest}
+use Rattle.construction.proofs.Invariant.{Inv, good-is, at-rest}
 
 -- a read shows the word of the sequential run
 module _ (c : Card) (w : World) (I : Inv c w) (v : ℕ) (vl : v < c .variables) where
@@ -33,7 +33,7 @@ module _ (c : Card) (w : World) (I : Inv c w) (v : ℕ) (vl : v < c .variables) 
   W = worldOf c w
 
   good : Good (fixedOf c) W
-  good = subst (Good (fixedOf c)) (sym (I .cells)) (I .good)
+  good = good-is I
 
   -- what is read where the test of the gate's holder says b
   abbrev shown : Bool → ℕ

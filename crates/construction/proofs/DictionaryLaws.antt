@@ -71,7 +71,7 @@ keyed-put (e ∷ b) v x q =
     on-test Keyed (eqb (e .variable) v) (λ _. q) (λ _. (has-put b v x (e .variable) ∙ q .0, keyed-put b v x (q .1)))
 
 -- the first item is not that of a variable which the list lacks, and the others lack it
-pub lacks-cons : (x : Item) (b : List Item) (v : ℕ) → hasIn (x ∷ b) v ≡ false → (eqb (x .variable) v ≡ false) × (hasIn b v ≡ false)
+lacks-cons : (x : Item) (b : List Item) (v : ℕ) → hasIn (x ∷ b) v ≡ false → (eqb (x .variable) v ≡ false) × (hasIn b v ≡ false)
 unfolding hasIn
 lacks-cons x b v h =
     ⊎-elim (λ t. absurd (true-false _ (cond-true _ true (hasIn b v) t) h))
@@ -127,7 +127,7 @@ value-snoc-same [] e d h = rw (eqb-refl (e .variable))
 value-snoc-same (x ∷ b) e d h = let l = lacks-cons x b (e .variable) h in rw (l .0) (value-snoc-same b e d (l .1))
 
 -- each item is that of its variable
-has-at : (b : List Item) (k : ℕ) → k < length b → hasIn b (getD b k noItem .variable) ≡ true
+pub has-at : (b : List Item) (k : ℕ) → k < length b → hasIn b (getD b k noItem .variable) ≡ true
 unfolding hasIn
 has-at [] k h = absurd (omega arith)
 has-at (x ∷ b) zero h = rw (eqb-refl (x .variable))
@@ -175,19 +175,19 @@ put-position (e ∷ b) v x =
     ⊎-elim (λ t. rw t) (λ f. rw f (ap {B = List Item} (λ l. e ∷ l) (put-position b v x)))
     (true-or-false (eqb (e .variable) v))
 
+find-below : (d : Dictionary) (v : ℕ) → has d v ≡ true → find d v < d .length
+find-below d v h = omega (arith, ltb-true (find d v) (length (noted d)) h, length-take (d .length) (d .items))
+
 -- the look-up of a dictionary is that of its list
 pub found : (d : Dictionary) (v x : ℕ) → has d v ≡ true → valueAt d (find d v) ≡ valueIn (noted d) v x
 found d v x h =
-    let k : find d v < length (noted d) = ltb-true _ _ h in
-    let l : find d v < d .length = omega (arith, length-take (d .length) (d .items)) in
-    ap (λ (e : Item). e .value) (sym (getD-take (d .length) (d .items) (find d v) noItem l))
+    ap (λ (e : Item). e .value) (sym (getD-take (d .length) (d .items) (find d v) noItem (find-below d v h)))
     ∙ sym (at-position (noted d) v x (sym (has-position (noted d) v) ∙ h) .1)
 
 pub noted-assign : (d : Dictionary) (v x : ℕ) → has d v ≡ true → noted (assign d (find d v) x) ≡ putIn (noted d) v x
 unfolding assign
 noted-assign d v x h =
-    let k : find d v < length (noted d) = ltb-true _ _ h in
-    let l : find d v < d .length = omega (arith, length-take (d .length) (d .items)) in
+    let l = find-below d v h in
     take-set-lt (d .length) (d .items) (find d v) _ l
     ∙ rw (← getD-take (d .length) (d .items) (find d v) noItem l) (put-position (noted d) v x)
 

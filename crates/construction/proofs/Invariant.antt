@@ -54,6 +54,9 @@ module _ {c : Card} {w : World} (I : Inv c w) where
   pub gate-is : c .gate ≡ w .gate
   gate-is = ap (λ (u : World). u .gate) (I .cells)
 
+  pub good-is : Good (fixedOf c) (worldOf c w)
+  good-is = subst (Good (fixedOf c)) (sym (I .cells)) (I .good)
+
   pub announcements-is : c .announcements ≡ w .announcements
   announcements-is = ap (λ (u : World). u .announcements) (I .cells)
 
@@ -133,7 +136,7 @@ inv-step c w i I lt b h = record {
 
     B : Before c w i
     B = record {
-      good = subst (Good (fixedOf c)) (sym (I .cells)) (I .good);
+      good = good-is I;
       sizes = I .sizes;
       inside = lt;
       small = omega (arith, I .numbered, I .capped);

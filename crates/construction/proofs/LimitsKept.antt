@@ -5,7 +5,6 @@ use mathlib.Core.Bool.{true, false, false≢true}
 use mathlib.Core.List.{List, [], _∷_}
 use native.Mathlib.Omega.{arith}
 use lib.ListN.{length, getD}
-use borrow.Author.Tests.{eqb-false}
 use Rattle.construction.specs.declared.Item.{Item}
 use Rattle.construction.specs.declared.Place.{Place}
 use Rattle.construction.specs.declared.Place.the-variants.{Idle, P1, P3, P5, P7, P10, C2, C4, P13, P14, P16, H21, H36, P19, P20, P21, P22, F1, F3}
@@ -14,7 +13,8 @@ use Rattle.construction.specs.Parts.{taskAt, dictionaryAt}
 use Rattle.construction.specs.Opening.{opened}
 use Rattle.construction.specs.Limits.{touching, Distinct, usesDictionary, Limited}
 use Rattle.construction.specs.History.{Entry, run}
-use Rattle.construction.proofs.DictionaryLaws.{hasIn, Keyed, lacks-cons}
+use Rattle.construction.proofs.Basics.{true-false}
+use Rattle.construction.proofs.DictionaryLaws.{hasIn, Keyed, has-at}
 use Rattle.construction.proofs.World.{Fixed, World}
 use Rattle.construction.proofs.Locals.{Local, localAt, fixedOf}
 use Rattle.construction.proofs.Places.{programFor, LocAt}
@@ -23,9 +23,7 @@ use Rattle.construction.proofs.Serialization.{opened-consistent}
 -- a variable that a list lacks stands at none of its places
 lacks-at :
     (b : List Item) (v : ℕ) → hasIn b v ≡ false → (k : ℕ) → k < length b → getD b k noItem .variable ≡ v → ⊥
-lacks-at [] v h k l e = omega arith
-lacks-at (x ∷ b) v h zero l e = eqb-false _ _ (lacks-cons x b v h .0) e
-lacks-at (x ∷ b) v h (suc k) l e = lacks-at b v (lacks-cons x b v h .1) k (omega arith) e
+lacks-at b v h k l e = true-false _ (rw e at (has-at b k l)) h
 
 distinct : (b : List Item) → Keyed b → Distinct b
 distinct [] q j k l m e = absurd (omega arith)

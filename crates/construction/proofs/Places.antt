@@ -34,7 +34,7 @@ pub record Mine (x : View) (o : Operation) : Type 0 where
   pub own : Owned x
   pub called : o ≡ x .call
 
-pub mine-change : {j : ℕ} {o : Operation} {x y : View} → Change j x y → Mine x o → Mine y o
+mine-change : {j : ℕ} {o : Operation} {x y : View} → Change j x y → Mine x o → Mine y o
 mine-change C q = record { own = owned-change C (q .own); called = q .called ∙ call-change C }
 
 -- process j, with its operation o, has read the gate g, held

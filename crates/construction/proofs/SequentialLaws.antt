@@ -47,7 +47,7 @@ abbrev pub Short : Program → Type 0
 Short program = min (program .length) (length (program .lines)) ≤ 32
 
 -- 'a sheet also stops past its end', and at place 32
-pub fetch-end : (program : Program) (k : ℕ) → Short program → min 32 (program .length) ≤ k → fetch program k ≡ Instruction.Stop
+fetch-end : (program : Program) (k : ℕ) → Short program → min 32 (program .length) ≤ k → fetch program k ≡ Instruction.Stop
 unfolding fetch
 fetch-end program k short h =
     on-test (λ (i : Instruction). i ≡ Instruction.Stop) (ltb k (program .length))
@@ -87,7 +87,7 @@ module _ (n : ℕ) (program : Program) (inputs : Words) where
         (h, omega arith)
 
     -- fuel that reaches the end is enough
-    pub enough :
+    enough :
         (fuel : ℕ) (s : Simulation) (mem : List ℕ) →
         32 ≤ fuel + s .counter → runFrom n program inputs (suc fuel) s mem ≡ runFrom n program inputs fuel s mem
     unfolding runFrom withRegister withOutput skipped

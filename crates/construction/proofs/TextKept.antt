@@ -21,7 +21,7 @@ outcome-kept c (Outcome.asked i) = refl
 outcome-kept c (Outcome.stepped i p b l) = sym (one-access c i .text)
 outcome-kept c (Outcome.shown v x) = refl
 
-pub all-kept : (o : Card) (m : Moment) (es : List Entry) → contentsOf (observeAll o m es .card) ≡ contentsOf (m .card)
+all-kept : (o : Card) (m : Moment) (es : List Entry) → contentsOf (observeAll o m es .card) ≡ contentsOf (m .card)
 unfolding observe observeAll
 all-kept o m [] = refl
 all-kept o m (e ∷ es) = all-kept o (observe o m e) es ∙ outcome-kept (m .card) (outcome (m .card) e)

@@ -97,9 +97,9 @@ module _ (t : List ℕ) (at : ℕ) where
       ∙ ap (λ (x : List ℕ). sheetWord ++ x) (field-text t 10 (at + 6) m i (omega arith) (r .field-there))
 
 -- ---- an instruction that was decoded encodes to its numbers
-pub record Decodes (x : Encoded) (y : Instruction) : Type 0 where
-  pub back : encode y ≡ x
-  pub small : Small (x .code) (x .a) (x .b) (x .c)
+record Decodes (x : Encoded) (y : Instruction) : Type 0 where
+  back : encode y ≡ x
+  small : Small (x .code) (x .a) (x .b) (x .c)
 
 module _ (n : ℕ) (x : Encoded) (h : n ≤ 256) (y : Instruction) where
   code-case :
@@ -146,7 +146,7 @@ module _ (n : ℕ) (x : Encoded) (h : n ≤ 256) (y : Instruction) where
         small = record { small-a = omega arith; small-b = omega arith; small-c = omega arith; small-d = omega arith };
       }
 
-  pub decoded-encodes : decode n x ≡ Decoded.Valid y → Decodes x y
+  decoded-encodes : decode n x ≡ Decoded.Valid y → Decodes x y
   unfolding decode encode
   decoded-encodes =
       code-case 1 _ (Instruction.Input (x .a) (x .b)) (pair 1 4 4 _ (omega arith) (omega arith) (omega arith) refl)

@@ -17,7 +17,10 @@ use Rattle.construction.proofs.Basics.{true-false}
 use Rattle.construction.proofs.DictionaryLaws.{hasIn, Keyed, has-at}
 use Rattle.construction.proofs.World.{Fixed, World}
 use Rattle.construction.proofs.Locals.{Local, localAt, fixedOf}
+use Rattle.construction.proofs.Kept.{rounds-few}
 use Rattle.construction.proofs.Places.{programFor, LocAt}
+use Rattle.construction.proofs.Acting.{worldOf}
+use Rattle.construction.proofs.Invariant.{good-is}
 use Rattle.construction.proofs.Serialization.{opened-consistent}
 
 -- a variable that a list lacks stands at none of its places
@@ -61,10 +64,13 @@ limits t es =
     let c = run (opened t .card) es .card in
     let O = opened-consistent t es in
     let I = O .inv in
+    let G = good-is I in
     record {
       steps = omega (arith, I .limited, I .capped);
       counts = λ i. omega (arith, I .counts i, I .limited, I .capped);
       numbers = omega (arith, I .numbered, I .limited, I .capped);
+      announced = G .announcement-below;
+      recorded = λ v. omega (arith, G .recorded .below v, rounds-few (c .gate .holder) (worldOf c (O .world)) (G .phase));
       items = λ i. I .tidy i .short;
       distinct = λ i. distinct (noted (dictionaryAt c i)) (I .tidy i .keyed);
       touched = λ i l u. at-most-touching (taskAt c i .place) (fixedOf c) (O .world) i (localAt c i) u (I .locs i l);

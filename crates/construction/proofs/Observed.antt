@@ -18,7 +18,7 @@ use Rattle.construction.specs.declared.Operation.{Operation}
 use Rattle.construction.specs.declared.Card.{Card}
 use Rattle.construction.specs.declared.Answer.{Answer}
 use Rattle.construction.specs.Cells.{zeros, isDone, openAnnouncement}
-use Rattle.construction.specs.Sequential.{Ending, sequential, commit, payload}
+use Rattle.construction.specs.Sequential.{Ending, sequential}
 use Rattle.construction.specs.Instructions.{noProgram}
 use Rattle.construction.specs.Parts.{noOperation}
 use Rattle.construction.specs.History.{Invocation, Notes, hasCalled, latest, latestCall, turned, benchRun, finishedOne, withReturn, times, outputsOf, hasReturned, Numbered, Agrees, AllAgree, UnderWay}
@@ -195,7 +195,7 @@ module _
       }
 
   own-finished : Own true (ending F w m) (finishedOne o (w .gate .seq) m s) m
-  unfolding times outputsOf payload
+  unfolding times outputsOf
   own-finished =
       record {
         asked = O .asked;
@@ -216,7 +216,7 @@ module _
       out = getD-set-same (w .outs) m _ zeros (omega (arith, size, G .lengths .outs))
 
   pub tracks-finished : announced m ≡ true → Tracks p busy announced (ending F w m) (finishedOne o (w .gate .seq) m s)
-  unfolding times commit
+  unfolding times
   tracks-finished ann =
       record {
         words = ap (λ (e : Ending). e .words) same-run;

@@ -12,7 +12,7 @@ use Rattle.construction.specs.declared.Card.{Card}
 use Rattle.construction.specs.declared.Answer.{Answer}
 use Rattle.construction.specs.declared.Answered.{Answered}
 use Rattle.construction.specs.Cells.{zeros, isDone}
-use Rattle.construction.specs.Sequential.{Ending, sequential, commit, payload}
+use Rattle.construction.specs.Sequential.{Ending, sequential}
 use Rattle.construction.specs.Parts.{programOf}
 use Rattle.construction.specs.Requests.{call, requestExit, step, read}
 
@@ -88,9 +88,9 @@ finishedOne o gate i s =
     let e = benchRun o (suc (length (s .order))) (latestCall (s .operations) i) (s .words) in
     record {
       operations = s .operations;
-      order = record { operation = latest (s .operations) i; gate = gate; outputs = payload e } ∷ s .order;
+      order = record { operation = latest (s .operations) i; gate = gate; outputs = e .outputs } ∷ s .order;
       returns = s .returns;
-      words = commit (s .words) e;
+      words = e .words;
     }
 
 unfoldable pub finished : Card → ℕ → List ℕ → Notes → Notes

@@ -12,7 +12,7 @@ use Rattle.construction.specs.declared.Place.{Place}
 use Rattle.construction.specs.declared.Place.the-variants.{Idle, P1, P3, P5, P7, P10, C2, C4, P13, P14, P16, H21, H36, P19, P20, P21, P22, F1, F3}
 use Rattle.construction.specs.Instructions.{fetch}
 use Rattle.construction.specs.Dictionary.{noItem, noted}
-use Rattle.construction.specs.Parts.{taskAt, countAt, heldAt, copyAt, dictionaryAt, programOf}
+use Rattle.construction.specs.Parts.{announcementAt, recordAt, taskAt, countAt, heldAt, copyAt, dictionaryAt, programOf}
 
 -- an instruction that touches a variable: codes 3 to 6
 abbrev pub isTouching : Instruction → Bool
@@ -66,6 +66,9 @@ pub record Limited (c : Card) : Type 0 where
   pub steps : c .steps < 18446744073709551616
   pub counts : (i : ℕ) → countAt c i < 18446744073709551616
   pub numbers : c .gate .seq < 18446744073709551616
+  -- the numbers in the other cells never pass the gate's
+  pub announced : (i : ℕ) → announcementAt c i .seq ≤ c .gate .seq
+  pub recorded : (v : ℕ) → recordAt c v .seq ≤ c .gate .seq
   pub items : (i : ℕ) → dictionaryAt c i .length ≤ 32
   pub distinct : (i : ℕ) → Distinct (noted (dictionaryAt c i))
   pub touched :

@@ -72,7 +72,7 @@ simulationAt c i = getD (c .simulations) i started
 abbrev pub dictionaryAt : Card → ℕ → Dictionary
 dictionaryAt c i = getD (c .dictionaries) i empty
 
--- the program that an operation with this gate number runs
+-- the program that an operation with this gate number runs: the same under every number, as no request changes a program (docs/DECISIONS, 12)
 abbrev pub programOf : Card → ℕ → ℕ → Program
 programOf c k number = getD (c .code) k noProgram
 

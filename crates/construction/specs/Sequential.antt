@@ -28,10 +28,3 @@ module _ (n : ℕ) (program : Program) (inputs : Words) where
 -- 'It runs each operation handed to it .. from start to stop'. A program has at most 32 instructions and only goes forward.
 unfoldable pub sequential : ℕ → Program → Words → List ℕ → Ending
 sequential n program inputs words = runFrom n program inputs 32 started words
-
--- the words that an operation with this ending leaves to the next one, and what its announcement carries
-unfoldable pub commit : List ℕ → Ending → List ℕ
-commit words e = e .words
-
-unfoldable pub payload : Ending → Words
-payload e = e .outputs

@@ -1,5 +1,6 @@
 // Lines that test programs write to standard output: an answer with the verb and first number of its entry and whether the card changed,
 // and the shared cells. It rests on the crates construction, io and libc. No contract can say what is written.
+use answers::number_of;
 use construction::Announcement;
 use construction::Answer;
 use construction::Card;
@@ -33,22 +34,6 @@ fn write_words(words: Words) {
     write_field(b",", words.w3 as u64);
 }
 
-fn refusal_number(refusal: Refusal) -> u64 {
-    match refusal {
-        Refusal::TooLong => 1,
-        Refusal::Malformed => 2,
-        Refusal::OutOfRange => 3,
-        Refusal::BadInstruction => 4,
-        Refusal::NoProcess => 5,
-        Refusal::NoProgram => 6,
-        Refusal::Busy => 7,
-        Refusal::NotBusy => 8,
-        Refusal::NoPlace => 9,
-        Refusal::LimitReached => 10,
-        Refusal::ShortBuffer => 11,
-    }
-}
-
 fn write_done(outputs: Words, steps: u64) {
     write(b",done");
     write_words(outputs);
@@ -62,7 +47,7 @@ fn write_answer(answer: Answer) {
         Answer::Done { outputs, steps } => write_done(outputs, steps),
         Answer::Exited { steps } => write_field(b",exited,", steps),
         Answer::Value(value) => write_field(b",", value as u64),
-        Answer::Refused(refusal) => write_field(b",refused,", refusal_number(refusal)),
+        Answer::Refused(refusal) => write_field(b",refused,", number_of(refusal)),
     }
 }
 
@@ -90,7 +75,7 @@ pub fn show_runs(process: u32, runs: u64) {
 }
 
 pub fn show_refused_text(refusal: Refusal, line: u64) {
-    write_field(b"card,refused,", refusal_number(refusal));
+    write_field(b"card,refused,", number_of(refusal));
     write_field(b",", line);
     write(b"\n");
 }

@@ -1,6 +1,7 @@
 // The printed lines, put into a buffer at a place as the crate grammar does: bytes that do not fit fall away, and the place told is past
 // the text all the same.
 use crate::Command;
+use answers::number_of;
 use construction::Answer;
 use construction::Refusal;
 use construction::Words;
@@ -14,27 +15,7 @@ ghost use lib.ListN.{length};
 ghost use Rattle.grammar.specs.Writing.{fieldText, Put};
 ghost use Rattle.construction.specs.declared.Answer.{Answer as AnswerOf};
 ghost use Rattle.construction.specs.declared.Verdict.{Verdict as VerdictOf};
-ghost use Rattle.construction.specs.Answers.{numberOf};
 ghost use Rattle.session.specs.Printing.{answerText, headText, lineText, longest, cardRefusal, callsRefusal};
-
-// The number of a refusal.
-pub fn number_of(refusal: Refusal) -> u64
-    ensures { λ r. ⌜ r ≡ numberOf refusal ⌝ }
-{
-    match refusal {
-        Refusal::TooLong => 1,
-        Refusal::Malformed => 2,
-        Refusal::OutOfRange => 3,
-        Refusal::BadInstruction => 4,
-        Refusal::NoProcess => 5,
-        Refusal::NoProgram => 6,
-        Refusal::Busy => 7,
-        Refusal::NotBusy => 8,
-        Refusal::NoPlace => 9,
-        Refusal::LimitReached => 10,
-        Refusal::ShortBuffer => 11,
-    }
-}
 
 // A word and a number after it.
 fn put_number(buffer: &mut [u8], at: usize, word: &[u8], separator: u8, value: u64) -> usize

@@ -1,6 +1,7 @@
 // Card texts opened and written back. Standard input holds the cases, each a decimal length, byte 10 and so many bytes of text; a line is
 // printed for each: its verdict, and what the writer does in a buffer of eight bytes more than the text, of its length, of one byte less and
 // of none. tests/text/make_cases.py makes the cases and, by a judge of its own, the lines that are expected.
+use answers::number_of;
 use construction::Card;
 use construction::Refusal;
 use construction::Verdict;
@@ -14,22 +15,6 @@ use grammar::writing::put_word;
 use libc::STDIN_FILENO;
 use libc::STDOUT_FILENO;
 ghost use Prim.Native.Nat.{_≤_};
-
-fn refusal_number(refusal: Refusal) -> u64 {
-    match refusal {
-        Refusal::TooLong => 1,
-        Refusal::Malformed => 2,
-        Refusal::OutOfRange => 3,
-        Refusal::BadInstruction => 4,
-        Refusal::NoProcess => 5,
-        Refusal::NoProgram => 6,
-        Refusal::Busy => 7,
-        Refusal::NotBusy => 8,
-        Refusal::NoPlace => 9,
-        Refusal::LimitReached => 10,
-        Refusal::ShortBuffer => 11,
-    }
-}
 
 // The byte that a buffer must hold at a place: the text as far as it was written, then what was there before.
 fn expected(text: &[u8], told: usize, k: usize) -> u8 {
@@ -57,7 +42,7 @@ fn put_agreement(line: &mut [u8], at: usize, same: bool) -> usize {
 
 fn put_refusal(line: &mut [u8], at: usize, refusal: Refusal) -> usize {
     let next = put_word(line, at, b",refused,");
-    put_decimal(line, next, refusal_number(refusal))
+    put_decimal(line, next, number_of(refusal))
 }
 
 // What the writer does in the first bytes of a buffer.

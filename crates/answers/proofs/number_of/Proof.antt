@@ -1,7 +1,7 @@
 use Rattle.construction.specs.Answers.{numberOf}
 use borrow.Author.Needs.{needs}
-use Rattle.session.proofs.printing.number_of.Statement.{statement}
-use Rattle.session.proofs.printing.number_of.Tie as tie
+use Rattle.answers.proofs.number_of.Statement.{statement}
+use Rattle.answers.proofs.number_of.Tie as tie
 
 enum-told : tie.Need-enum-told
 enum-told c = search needs

@@ -1,6 +1,7 @@
 pub mod Examples
 pub mod Basics
 pub mod Tests
+pub mod Mapping
 pub mod RequestLaws
 pub mod SequentialLaws
 pub mod DictionaryLaws

@@ -114,10 +114,9 @@ fn play_entry(card: Card, entry: Entry) -> Card {
     let mut runs: u64 = 0;
     for _ in 0..count {
         let answered = ask(card, entry);
-        let after = answered.card;
         let answer = answered.answer;
-        runs = tell(runs, entry, answer, same_card(card, after));
-        card = after;
+        runs = tell(runs, entry, answer, same_card(card, answered.card));
+        card = answered.card;
     }
     show_runs(entry.number, runs);
     card
@@ -148,17 +147,17 @@ fn title_end(line: &[u8]) -> usize {
     line.len()
 }
 
+fn show_verdict(verdict: Verdict) {
+    if let Verdict::Refused { refusal, line } = verdict {
+        show_refused_text(refusal, line);
+    }
+}
+
 // Plays the schedule of a line on the card that a text opens to.
 pub fn play_line(text: &[u8], line: &[u8]) {
     io::write_all(STDOUT_FILENO, line);
     let opened = reader::open(text);
-    let card = opened.card;
     let verdict = opened.verdict;
-    if let Verdict::Refused {
-        refusal,
-        line: number,
-    } = verdict {
-        show_refused_text(refusal, number);
-    }
-    play_entries(card, line, title_end(line));
+    show_verdict(verdict);
+    play_entries(opened.card, line, title_end(line));
 }

@@ -1,4 +1,5 @@
 pub mod Basics
+pub mod Mapping
 pub mod TextLines
 pub mod TextReading
 pub mod TextWriting

@@ -1,7 +1,7 @@
 -- The text of a card put into a buffer, line by line, and what the writer answers.
 use mathlib.Core.Path.{_≡_, refl, _∙_, ap, subst}
 use mathlib.Core.List.{List, [], _∷_, _++_}
-use Prim.Native.Nat.{ℕ, zero, suc, _+_, _-_, _<_, _≤_}
+use Prim.Native.Nat.{ℕ, suc, _+_, _-_, _<_, _≤_}
 use lib.ListN.{length, getD}
 use native.Mathlib.Omega.{arith}
 use native.Mathlib.Numerals.{add-one}
@@ -18,12 +18,6 @@ use Rattle.construction.specs.declared.Refusal.the-variants.{ShortBuffer
 use Rattle.construction.specs.Instructions.{encode, noLine, noProgram}
 use Rattle.construction.specs.Lines.{cardWord, varWord, sheetWord, insWord, cardText, varText, sheetText, encodedText, insText}
 use Rattle.construction.specs.Writing.{varsText, linesText, programText, programsText, textOf, written, writtenInto}
-
--- within a list the default of a read does not matter
-pub any-default : {A : Type 0} (l : List A) (k : ℕ) (d e : A) → k < length l → getD l k d ≡ getD l k e
-any-default [] k d e h = absurd (omega arith)
-any-default (x ∷ xs) zero d e h = refl
-any-default (x ∷ xs) (suc k) d e h = any-default xs k d e (omega arith)
 
 -- ---- texts of pieces one after another: m pieces from place k on
 pub record Series (whole : ℕ → ℕ → List ℕ) (piece : ℕ → List ℕ) : Type 0 where

@@ -11,11 +11,11 @@ use native.Mathlib.Decide.{decLt}
 use Rattle.grammar.specs.Writing.{decimal, fieldText, fourText, largest, placeAfter, Put}
 use Rattle.grammar.proofs.Decimals.{decimal-one, decimal-more}
 
-sets-append : (x y b : List ℕ) (at : ℕ) → sets b at (x ++ y) ≡ sets (sets b at x) (at + length x) y
+pub sets-append : (x y b : List ℕ) (at : ℕ) → sets b at (x ++ y) ≡ sets (sets b at x) (at + length x) y
 sets-append [] y b at = rw (add-zero at)
 sets-append (a ∷ x) y b at =
-    sets-append x y (set b at a) (suc at)
-    ∙ ap (λ (n : ℕ). sets (sets (set b at a) (suc at) x) n y) (let e : suc at + length x ≡ at + suc (length x) = omega arith in e)
+    let e : suc at + length x ≡ at + suc (length x) = omega arith in
+    sets-append x y (set b at a) (suc at) ∙ ap (λ (n : ℕ). sets (sets (set b at a) (suc at) x) n y) e
 
 -- past the end nothing changes
 sets-out : (y b : List ℕ) (at : ℕ) → length b ≤ at → sets b at y ≡ b

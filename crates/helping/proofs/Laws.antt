@@ -6,8 +6,8 @@ use mathlib.Core.Path.{_≡_, refl, sym, _∙_, ap}
 use native.Mathlib.Omega.{arith}
 use native.Mathlib.Numerals.{add-one}
 use lib.Dec.{eqb, ltb}
-use lib.ListN.{length, getD, set, take, drop, length-take, length-set, length-map, drop-of-length-le, List·getD-map}
-use lib.Seq.{drop-cons, getD-take, map-set-same, length-take-le, take-suc, take-suc-set, take-all}
+use lib.ListN.{length, getD, set, take, drop, length-take, length-set, length-map, drop-of-length-le}
+use lib.Seq.{drop-cons, getD-take, map-set-same, length-take-le}
 use borrow.Author.Tests.{eq-eqb, ne-eqb, lt-ltb, le-ltb}
 use Rattle.construction.specs.declared.Words.{Words}
 use Rattle.construction.specs.declared.Program.{Program}
@@ -24,14 +24,6 @@ use Rattle.programs.proofs.Laws.{fetched}
 use Rattle.construction.specs.Dictionary.{noItem, noted, position, find, valueAt, withValue, assign, valueUnder, insert, altered, unaltered, nextWrite}
 use Rattle.helping.specs.Keys.{keys, placeOf}
 use Rattle.construction.specs.Helping.{ended, lacks, simulateFrom, simulate}
-
--- how many items are noted
-module _ (d : Dictionary) (sized : length (d .items) ≡ 32) where
-  pub noted-some : d .length < 32 → d .length ≡ length (noted d)
-  noted-some p = sym (length-take (d .length) (d .items) ∙ rw sized (omega arith))
-
-  pub noted-all : 32 ≤ d .length → 32 ≡ length (noted d)
-  noted-all p = sym (length-take (d .length) (d .items) ∙ rw sized (omega arith))
 
 -- a value assigned, and an item inserted
 module _ (d : Dictionary) where
@@ -112,25 +104,6 @@ module _ (ks : List ℕ) (end v k total : ℕ) (long : end ≤ length ks) (sough
       let q : length (take end ks) ≤ k = rw (length-take-le end ks long) p in
       sym (sought ∙ rw (drop-of-length-le (take end ks) q) (omega arith))
 
--- the array of keys, filled from the front
-module _ (d : Dictionary) (ks : List ℕ) (k : ℕ) (so-far : take k ks ≡ take k (keys d)) (long : length ks ≡ 32) (sized : length (d .items) ≡ 32) where
-  pub keys-more : k < 32 → take (k + 1) (set ks k (getD (d .items) k noItem .variable)) ≡ take (k + 1) (keys d)
-  keys-more p =
-      let q : k < length ks = omega arith in
-      let r : k < length (keys d) = rw (length-map (d .items) (λ (e : Item). e .variable)) (omega arith) in
-      rw (
-        add-one k,
-        take-suc-set ks k (getD (d .items) k noItem .variable) q,
-        take-suc (keys d) k 0 r,
-        so-far,
-        List·getD-map (λ (e : Item). e .variable) (d .items) k noItem,
-      )
-
-  pub keys-end : 32 ≤ k → ks ≡ keys d
-  keys-end p =
-      sym (take-all k ks (omega arith)) ∙
-      (so-far ∙ take-all k (keys d) (rw (length-map (d .items) (λ (e : Item). e .variable)) (omega arith)))
-
 -- the keys find what the dictionary finds
 take-again {ℓ} : {A : Type ℓ} (n : ℕ) (l : List A) → take (length (take n l)) l ≡ take n l
 take-again zero l = refl
@@ -143,74 +116,77 @@ position-is v zero es = refl
 position-is v (suc n) [] = refl
 position-is v (suc n) (e ∷ es) = rw (position-is v n es)
 
-pub enough-keys : (d : Dictionary) (ks : List ℕ) (end : ℕ) → end ≡ length (noted d) → ks ≡ keys d → end ≤ length ks
-enough-keys d ks end e p =
-    rw (e, p, length-map (d .items) (λ (e : Item). e .variable), length-take (d .length) (d .items)) (omega arith)
+-- the keys of all items, and how many items are noted
+abbrev pub Keyed : Dictionary → List ℕ → ℕ → Type 0
+Keyed d ks end = (end ≡ length (noted d)) × (ks ≡ keys d)
 
-find-by-keys :
-    (d : Dictionary) (ks : List ℕ) (v end k : ℕ) → end ≡ length (noted d) → ks ≡ keys d → k ≡ placeOf (take end ks) v →
-    k ≡ find d v
-find-by-keys d ks v end k e p q =
-    q ∙ rw (e, p) (position-is v (length (noted d)) (d .items) ∙ rw (take-again (d .length) (d .items)))
+pub enough-keys : (d : Dictionary) (ks : List ℕ) (end : ℕ) → Keyed d ks end → end ≤ length ks
+enough-keys d ks end h =
+    rw (h .0, h .1, length-map (d .items) (λ (e : Item). e .variable), length-take (d .length) (d .items)) (omega arith)
 
--- a simulation whose result is `total` stands before the effect e, with m instructions left after it
-pub record Here (n : ℕ) (program : Program) (inputs : Words) (fuel m : ℕ) (s : Simulation) (d : Dictionary) (total : Simulated) (e : Effect) : Type 0 where
-  pub so-far : total ≡ simulateFrom n program inputs fuel s d
+find-by-keys : (d : Dictionary) (ks : List ℕ) (v end k : ℕ) → Keyed d ks end → k ≡ placeOf (take end ks) v → k ≡ find d v
+find-by-keys d ks v end k h q =
+    q ∙ rw (h .0, h .1) (position-is v (length (noted d)) (d .items) ∙ rw (take-again (d .length) (d .items)))
+
+-- a simulation whose result is `total` goes on from s and d with so many instructions left
+abbrev pub Going : ℕ → Program → Words → Simulated → List ℕ → ℕ → ℕ → Simulation → Dictionary → Type 0
+Going n program inputs total ks end fuel s d = (total ≡ simulateFrom n program inputs fuel s d) × Keyed d ks end
+
+-- it stands before the effect e, with m instructions left after it
+pub record Here (n : ℕ) (program : Program) (inputs : Words) (total : Simulated) (ks : List ℕ) (end fuel m : ℕ) (s : Simulation) (d : Dictionary) (e : Effect) : Type 0 where
+  pub going : Going n program inputs total ks end fuel s d
   pub left : fuel ≡ suc m
   pub next : e ≡ nextEffect n program inputs s
 
-module _ {n : ℕ} {program : Program} {inputs : Words} {fuel m : ℕ} {s : Simulation} {d : Dictionary} {total : Simulated} {e : Effect} (h : Here n program inputs fuel m s d total e) where
+module _ {n : ℕ} {program : Program} {inputs : Words} {total : Simulated} {ks : List ℕ} {end fuel m : ℕ} {s : Simulation} {d : Dictionary} {e : Effect} (h : Here n program inputs total ks end fuel m s d e) where
   pub stops : e ≡ Effect.Stop → ended s d ≡ total
   unfolding simulateFrom
-  stops p = sym (h .so-far ∙ rw (h .left, ← h .next, p))
+  stops p = sym (h .going .0 ∙ rw (h .left, ← h .next, p))
 
-  pub sets :
-      (a x : ℕ) (t : Simulation) → e ≡ Effect.Set a x → t ≡ withRegister s a x → total ≡ simulateFrom n program inputs m t d
+  pub sets : (a x : ℕ) (t : Simulation) → e ≡ Effect.Set a x → t ≡ withRegister s a x → Going n program inputs total ks end m t d
   unfolding simulateFrom
-  sets a x t p q = h .so-far ∙ rw (h .left, ← h .next, p, q)
+  sets a x t p q = (h .going .0 ∙ rw (h .left, ← h .next, p, q), h .going .1)
 
-  pub outputs :
-      (a x : ℕ) (t : Simulation) → e ≡ Effect.Output a x → t ≡ withOutput s a x → total ≡ simulateFrom n program inputs m t d
+  pub outputs : (a x : ℕ) (t : Simulation) → e ≡ Effect.Output a x → t ≡ withOutput s a x → Going n program inputs total ks end m t d
   unfolding simulateFrom
-  outputs a x t p q = h .so-far ∙ rw (h .left, ← h .next, p, q)
+  outputs a x t p q = (h .going .0 ∙ rw (h .left, ← h .next, p, q), h .going .1)
 
-  pub skips : (c : ℕ) (t : Simulation) → e ≡ Effect.Skip c → t ≡ skipped s c → total ≡ simulateFrom n program inputs m t d
+  pub skips : (c : ℕ) (t : Simulation) → e ≡ Effect.Skip c → t ≡ skipped s c → Going n program inputs total ks end m t d
   unfolding simulateFrom
-  skips c t p q = h .so-far ∙ rw (h .left, ← h .next, p, q)
+  skips c t p q = (h .going .0 ∙ rw (h .left, ← h .next, p, q), h .going .1)
 
-  module _ (ks : List ℕ) (v k end : ℕ) (counted : end ≡ length (noted d)) (keyed : ks ≡ keys d) (place : k ≡ placeOf (take end ks) v) where
+  module _ (v k : ℕ) (place : k ≡ placeOf (take end ks) v) where
     found : k ≡ find d v
-    found = find-by-keys d ks v end k counted keyed place
+    found = find-by-keys d ks v end k (h .going .1) place
+
+    there : k < end → ltb k (length (noted d)) ≡ true
+    there q = lt-ltb _ _ (rw (h .going .1 .0) at q)
+
+    absent : end ≤ k → ltb k (length (noted d)) ≡ false
+    absent q = le-ltb _ _ (rw (h .going .1 .0) at q)
 
     pub loads :
         (a x : ℕ) (t : Simulation) → e ≡ Effect.Load a v → k < end → x ≡ valueAt d k → t ≡ withRegister s a x →
-        total ≡ simulateFrom n program inputs m t d
+        Going n program inputs total ks end m t d
     unfolding simulateFrom
-    loads a x t p q y z =
-        let r : k < length (noted d) = omega arith in
-        h .so-far ∙ rw (h .left, ← h .next, p, ← found, lt-ltb _ _ r, z, y)
+    loads a x t p q y z = (h .going .0 ∙ rw (h .left, ← h .next, p, ← found, there q, z, y), h .going .1)
 
     pub load-lacks : (a : ℕ) → e ≡ Effect.Load a v → end ≤ k → lacks v s d ≡ total
     unfolding simulateFrom
-    load-lacks a p q =
-        let r : length (noted d) ≤ k = omega arith in
-        sym (h .so-far ∙ rw (h .left, ← h .next, p, ← found, le-ltb _ _ r))
+    load-lacks a p q = sym (h .going .0 ∙ rw (h .left, ← h .next, p, ← found, absent q))
 
     pub stores :
         (x : ℕ) (t : Simulation) (b : Dictionary) → e ≡ Effect.Store v x → k < end → b ≡ assign d k x → t ≡ skipped s 0 →
-        (total ≡ simulateFrom n program inputs m t b) × ((end ≡ length (noted b)) × (ks ≡ keys b))
+        Going n program inputs total ks end m t b
     unfolding simulateFrom
-    stores x t b p q y z =
-        let r : k < length (noted d) = omega arith in (
-          h .so-far ∙ rw (h .left, ← h .next, p, ← found, lt-ltb _ _ r, z, y),
-          (rw y (counted ∙ sym (assign-noted d k x)), rw y (assign-keys d k x ks keyed)),
-        )
+    stores x t b p q y z = (
+      h .going .0 ∙ rw (h .left, ← h .next, p, ← found, there q, z, y),
+      (rw y (h .going .1 .0 ∙ sym (assign-noted d k x)), rw y (assign-keys d k x ks (h .going .1 .1))),
+    )
 
     pub store-lacks : (x : ℕ) → e ≡ Effect.Store v x → end ≤ k → lacks v s d ≡ total
     unfolding simulateFrom
-    store-lacks x p q =
-        let r : length (noted d) ≤ k = omega arith in
-        sym (h .so-far ∙ rw (h .left, ← h .next, p, ← found, le-ltb _ _ r))
+    store-lacks x p q = sym (h .going .0 ∙ rw (h .left, ← h .next, p, ← found, absent q))
 
 -- the effect by the line at the counter
 pub effect-is :

@@ -49,6 +49,29 @@ pub fn no_item() -> Item
     }
 }
 
+pub fn open_announcement() -> Announcement
+    ensures { λ r. ⌜ r ≡ openAnnouncement ⌝ }
+{
+    Announcement {
+        program: 0,
+        flag: Flag::Done,
+        seq: 0,
+        words: zeros(),
+    }
+}
+
+// A program of no lines.
+pub fn no_program() -> Program
+    ensures { λ r. ⌜ r ≡ noProgram ⌝ }
+{
+    Program {
+        length: 0,
+        lines: [Line {
+            instruction: Instruction::Stop,
+        }; 32],
+    }
+}
+
 // Announcement m, the opening one past the end.
 pub fn announcement_at(announcements: [Announcement; 8], m: u8) -> Announcement
     ensures { λ r. ⌜ r ≡ getD announcements m openAnnouncement ⌝ }
@@ -57,12 +80,7 @@ pub fn announcement_at(announcements: [Announcement; 8], m: u8) -> Announcement
     if at < 8 {
         return announcements[at];
     }
-    Announcement {
-        program: 0,
-        flag: Flag::Done,
-        seq: 0,
-        words: zeros(),
-    }
+    open_announcement()
 }
 
 // Program k, one of no lines past the end.
@@ -73,12 +91,7 @@ pub fn program_at(code: [Program; 8], k: u8) -> Program
     if at < 8 {
         return code[at];
     }
-    Program {
-        length: 0,
-        lines: [Line {
-            instruction: Instruction::Stop,
-        }; 32],
-    }
+    no_program()
 }
 
 // The state of a program that starts.

@@ -9,7 +9,7 @@ ghost use mathlib.Core.Path.{_≡_};
 ghost use mathlib.Core.Bool.{cond};
 ghost use Rattle.construction.specs.Instructions.{word, withWord, sum, difference, load, store, effectOf};
 ghost use Rattle.programs.specs.Fetching.{instructionAt};
-ghost use Rattle.construction.specs.Instructions.{forward, withRegister, withOutput, skipped, fetch};
+ghost use Rattle.construction.specs.Instructions.{forward, withRegister, withOutput, skipped};
 
 // Word `place` of four.
 pub fn word(words: Words, place: u8) -> u32

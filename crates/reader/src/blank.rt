@@ -1,31 +1,27 @@
 // What a card, a program and a refused reading start from (document 01, "Shared cells" and "Turned back").
-use construction::Announcement;
 use construction::Card;
 use construction::Contents;
-use construction::Dictionary;
-use construction::Flag;
 use construction::Gate;
 use construction::Holder;
 use construction::Instruction;
-use construction::Item;
 use construction::Line;
 use construction::Operation;
 use construction::Place;
-use construction::Program;
 use construction::ProgramReading;
 use construction::Reading;
 use construction::Record;
 use construction::Refusal;
-use construction::Simulation;
 use construction::Task;
 use construction::Verdict;
-use construction::Words;
+use parts::empty;
+use parts::no_program;
+use parts::open_announcement;
+use parts::started;
+use parts::zeros;
 ghost use mathlib.Core.Path.{_≡_};
 ghost use mathlib.Core.List.{map};
-ghost use lib.ListN.{replicate};
-ghost use Rattle.construction.specs.Cells.{zeros, openRecord, openAnnouncement};
-ghost use Rattle.construction.specs.Instructions.{noLine, noProgram, started};
-ghost use Rattle.construction.specs.Dictionary.{empty};
+ghost use Rattle.construction.specs.Cells.{openRecord};
+ghost use Rattle.construction.specs.Instructions.{noLine};
 ghost use Rattle.construction.specs.Opening.{refusedAt, programRefusedAt, fresh};
 ghost use Rattle.reader.specs.Gathering.{begun, freeGate};
 
@@ -35,14 +31,6 @@ pub fn no_line() -> Line
     Line {
         instruction: Instruction::Stop,
     }
-}
-
-pub fn no_program() -> Program
-    ensures { λ r. ⌜ r ≡ noProgram ⌝ }
-{
-    let line = no_line();
-    let lines = [line; 32];
-    Program { length: 0, lines }
 }
 
 // The contents after the `card` line alone.
@@ -88,17 +76,6 @@ pub fn program_refused_at(refusal: Refusal, line: u64) -> ProgramReading
     }
 }
 
-fn zero_words() -> Words
-    ensures { λ r. ⌜ r ≡ zeros ⌝ }
-{
-    Words {
-        w0: 0,
-        w1: 0,
-        w2: 0,
-        w3: 0,
-    }
-}
-
 fn free_gate(seq: u64) -> Gate
     ensures { λ r. ⌜ r ≡ freeGate seq ⌝ }
 {
@@ -119,18 +96,6 @@ fn open_record(start: u32) -> Record
     }
 }
 
-fn open_announcement() -> Announcement
-    ensures { λ r. ⌜ r ≡ openAnnouncement ⌝ }
-{
-    let words = zero_words();
-    Announcement {
-        program: 0,
-        flag: Flag::Done,
-        seq: 0,
-        words,
-    }
-}
-
 // The records of all variables at opening.
 fn open_records(starts: [u32; 64]) -> [Record; 64]
     ensures { λ r. ⌜ r ≡ map openRecord starts ⌝ }
@@ -145,44 +110,19 @@ fn open_records(starts: [u32; 64]) -> [Record; 64]
     records
 }
 
-fn empty_dictionary() -> Dictionary
-    ensures { λ r. ⌜ r ≡ empty ⌝ }
-{
-    let cell = open_record(0);
-    let item = Item {
-        variable: 0,
-        value: 0,
-        cell,
-    };
-    let items = [item; 32];
-    Dictionary { length: 0, items }
-}
-
-fn start_simulation() -> Simulation
-    ensures { λ r. ⌜ r ≡ started ⌝ }
-{
-    let registers = zero_words();
-    let outputs = zero_words();
-    Simulation {
-        counter: 0,
-        registers,
-        outputs,
-    }
-}
-
 // The card as its text opens it.
 pub fn fresh_card(x: Contents) -> Card
     ensures { λ r. ⌜ r ≡ fresh x ⌝ }
 {
     let starts = x.starts;
     let code = x.code;
-    let words = zero_words();
+    let words = zeros();
     let gate = free_gate(1);
     let none = free_gate(0);
     let announcement = open_announcement();
     let records = open_records(starts);
-    let simulation = start_simulation();
-    let dictionary = empty_dictionary();
+    let simulation = started();
+    let dictionary = empty();
     Card {
         processes: x.processes,
         variables: x.variables,

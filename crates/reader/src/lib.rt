@@ -1,5 +1,5 @@
 // The reader of a card text (document 01, "The card text" and "Turned back"): the text is judged by its length, then line by line,
-// and the card is made once, at the end. It rests on the crates lines and construction.
+// and the card is made once, at the end. It rests on the crates lines, parts and construction.
 mod blank; // blank.rt: what a card, a program or a refused reading starts from
 mod refusals; // refusals.rt: the refusal of a line
 

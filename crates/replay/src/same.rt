@@ -3,15 +3,43 @@ use cells::same_announcement;
 use cells::same_gate;
 use cells::same_record;
 use cells::same_words;
+use construction::Announcement;
 use construction::Card;
 use construction::Dictionary;
+use construction::Gate;
 use construction::Instruction;
 use construction::Item;
 use construction::Operation;
 use construction::Place;
 use construction::Program;
+use construction::Record;
 use construction::Simulation;
 use construction::Task;
+ghost use Prim.Native.Nat.{_<_};
+
+// The fields of a card that are no arrays.
+struct Head {
+    processes: u8,
+    variables: u8,
+    programs: u8,
+    limit: u64,
+    gate: Gate,
+    steps: u64,
+}
+
+// What stands at one place of each array of eight: a program, and the announcement and the local state of a process.
+struct Row {
+    program: Program,
+    announcement: Announcement,
+    task: Task,
+    operation: Operation,
+    exit: bool,
+    count: u64,
+    gate: Gate,
+    copy: Announcement,
+    simulation: Simulation,
+    dictionary: Dictionary,
+}
 
 // An instruction is known by its code and operands.
 fn same_instruction(a: Instruction, b: Instruction) -> bool {
@@ -33,33 +61,18 @@ fn same_program(a: Program, b: Program) -> bool {
     a.length == b.length
 }
 
-// What the text says.
-fn same_text(a: Card, b: Card) -> bool {
+fn same_starts(a: [u32; 64], b: [u32; 64]) -> bool {
     for k in 0..64 {
-        if a.starts[k] != b.starts[k] {
-            return false;
-        }
-    }
-    a.processes == b.processes
-        && a.variables == b.variables
-        && a.programs == b.programs
-        && a.limit == b.limit
-}
-
-fn same_code(a: Card, b: Card) -> bool {
-    for k in 0..8 {
-        let left = a.code[k];
-        let right = b.code[k];
-        if !same_program(left, right) {
+        if a[k] != b[k] {
             return false;
         }
     }
     true
 }
 
-fn same_records(a: Card, b: Card) -> bool {
+fn same_records(a: [Record; 64], b: [Record; 64]) -> bool {
     for k in 0..64 {
-        if !same_record(a.records[k], b.records[k]) {
+        if !same_record(a[k], b[k]) {
             return false;
         }
     }
@@ -67,9 +80,7 @@ fn same_records(a: Card, b: Card) -> bool {
 }
 
 fn same_item(a: Item, b: Item) -> bool {
-    let left = a.cell;
-    let right = b.cell;
-    a.variable == b.variable && a.value == b.value && same_record(left, right)
+    a.variable == b.variable && a.value == b.value && same_record(a.cell, b.cell)
 }
 
 fn same_dictionary(a: Dictionary, b: Dictionary) -> bool {
@@ -79,17 +90,6 @@ fn same_dictionary(a: Dictionary, b: Dictionary) -> bool {
         }
     }
     a.length == b.length
-}
-
-fn same_dictionaries(a: Card, b: Card) -> bool {
-    for k in 0..8 {
-        let left = a.dictionaries[k];
-        let right = b.dictionaries[k];
-        if !same_dictionary(left, right) {
-            return false;
-        }
-    }
-    true
 }
 
 fn place_number(place: Place) -> u8 {
@@ -123,61 +123,75 @@ fn same_task(a: Task, b: Task) -> bool {
 }
 
 fn same_operation(a: Operation, b: Operation) -> bool {
-    let left = a.inputs;
-    let right = b.inputs;
-    a.program == b.program && same_words(left, right)
+    a.program == b.program && same_words(a.inputs, b.inputs)
 }
 
 fn same_simulation(a: Simulation, b: Simulation) -> bool {
-    let first = a.registers;
-    let second = b.registers;
-    let left = a.outputs;
-    let right = b.outputs;
-    a.counter == b.counter && same_words(first, second) && same_words(left, right)
+    a.counter == b.counter
+        && same_words(a.registers, b.registers)
+        && same_words(a.outputs, b.outputs)
 }
 
-// What a process was asked for, and where it stands.
-fn same_course(a: Card, b: Card, i: usize) -> bool {
-    if i < 8 {
-        return same_task(a.tasks[i], b.tasks[i])
-            && same_operation(a.operations[i], b.operations[i])
-            && a.exits[i] == b.exits[i]
-            && a.counts[i] == b.counts[i];
+fn row_at(card: Card, i: usize) -> Row
+    requires { ⌜ i < 8 ⌝ }
+{
+    Row {
+        program: card.code[i],
+        announcement: card.announcements[i],
+        task: card.tasks[i],
+        operation: card.operations[i],
+        exit: card.exits[i],
+        count: card.counts[i],
+        gate: card.gates[i],
+        copy: card.copies[i],
+        simulation: card.simulations[i],
+        dictionary: card.dictionaries[i],
     }
-    true
 }
 
-// What a process read, and its simulation.
-fn same_copies(a: Card, b: Card, i: usize) -> bool {
-    if i < 8 {
-        return same_gate(a.gates[i], b.gates[i])
-            && same_announcement(a.copies[i], b.copies[i])
-            && same_simulation(a.simulations[i], b.simulations[i]);
-    }
-    true
+fn same_row(a: Row, b: Row) -> bool {
+    same_program(a.program, b.program)
+        && same_announcement(a.announcement, b.announcement)
+        && same_task(a.task, b.task)
+        && same_operation(a.operation, b.operation)
+        && a.exit == b.exit
+        && a.count == b.count
+        && same_gate(a.gate, b.gate)
+        && same_announcement(a.copy, b.copy)
+        && same_simulation(a.simulation, b.simulation)
+        && same_dictionary(a.dictionary, b.dictionary)
 }
 
-// The announcements and the local state of all processes.
-fn same_processes(a: Card, b: Card) -> bool {
-    for i in 0..8 {
-        if !same_announcement(a.announcements[i], b.announcements[i]) {
-            return false;
-        }
-        if !(same_course(a, b, i) && same_copies(a, b, i)) {
-            return false;
-        }
+fn head_of(card: Card) -> Head {
+    let gate = card.gate;
+    Head {
+        processes: card.processes,
+        variables: card.variables,
+        programs: card.programs,
+        limit: card.limit,
+        gate,
+        steps: card.steps,
     }
-    true
+}
+
+fn same_head(a: Head, b: Head) -> bool {
+    a.processes == b.processes
+        && a.variables == b.variables
+        && a.programs == b.programs
+        && a.limit == b.limit
+        && same_gate(a.gate, b.gate)
+        && a.steps == b.steps
 }
 
 pub fn same_card(a: Card, b: Card) -> bool {
-    let left = a.gate;
-    let right = b.gate;
-    same_text(a, b)
-        && same_code(a, b)
-        && same_gate(left, right)
-        && same_records(a, b)
-        && a.steps == b.steps
-        && same_processes(a, b)
-        && same_dictionaries(a, b)
+    for i in 0..8 {
+        if !same_row(row_at(a, i), row_at(b, i)) {
+            return false;
+        }
+    }
+    let left = a.starts;
+    let right = b.starts;
+    let first = a.records;
+    let second = b.records;
+    same_head(head_of(a), head_of(b)) && same_starts(left, right) && same_records(first, second)
 }

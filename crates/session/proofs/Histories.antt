@@ -1,15 +1,15 @@
 -- Demand 3 speaks of the session: the card after its lines is the card after the list of entries that its commands name, act by act.
-use mathlib.Core.Path.{_≡_, refl, sym, _∙_, ap}
-use mathlib.Core.List.{List, [], _∷_, _++_}
+use mathlib.Core.Path.{_≡_, refl, sym, _∙_}
+use mathlib.Core.List.{List, [], _∷_}
 use Prim.Native.Nat.{ℕ}
 use Rattle.construction.specs.declared.Card.{Card}
 use Rattle.construction.specs.Opening.{opened}
-use Rattle.construction.specs.History.{Entry, act, Moment, observe, observeAll, opening, run}
+use Rattle.construction.specs.History.{Entry, Moment, observe, observeAll, opening, run}
 use Rattle.construction.specs.Examples.{cardAfter}
 use Rattle.session.specs.declared.Command.{Command}
 use Rattle.session.specs.declared.State.{State}
 use Rattle.session.specs.Commands.{commands}
-use Rattle.session.specs.Session.{entriesOf, execute, afterLine, lastState, entries, firstState}
+use Rattle.session.specs.Session.{execute, afterLine, lastState, entries, firstState}
 
 pub card-after : (ms : List Command) (s : State) → lastState s ms .card ≡ cardAfter (s .card) (entries ms)
 unfolding lastState entries afterLine execute

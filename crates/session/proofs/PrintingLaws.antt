@@ -1,15 +1,15 @@
 -- Printed lines put into a buffer part by part, and how far they reach.
 use mathlib.Core.Bool.{Bool, true, false}
-use mathlib.Core.Path.{_≡_, refl, sym, _∙_, ap, subst}
-use mathlib.Core.List.{List, [], _∷_, _++_, append-nil}
-use Prim.Native.Nat.{ℕ, zero, suc, _+_, _*_, _/_, _%_, _<_, _≤_}
+use mathlib.Core.Path.{_≡_, refl}
+use mathlib.Core.List.{List, _++_, append-nil}
+use Prim.Native.Nat.{ℕ, zero, suc, _+_, _*_, _/_, _<_, _≤_}
 use lib.ListN.{length, length-append}
 use lib.Dec.{ltb}
 use native.Mathlib.Omega.{arith}
 use borrow.Author.Tests.{ltb-true, ltb-false}
 use Rattle.grammar.specs.Writing.{decimal, fieldText, fourText, largest, Put}
 use Rattle.grammar.proofs.Decimals.{decimal-one, decimal-more}
-use Rattle.grammar.proofs.Puts.{Room, rest-all, rest-step, rest-last, rest-none, put-both}
+use Rattle.grammar.proofs.Puts.{Room, put-both}
 use Rattle.construction.specs.declared.Words.{Words}
 use Rattle.construction.specs.declared.Answer.{Answer}
 use Rattle.construction.specs.declared.Verdict.{Verdict}
@@ -79,52 +79,30 @@ module _ {b : List ℕ} {at j : ℕ} {z : List ℕ} where
       (rw (append-nil (fieldText 10 k)) (put-both h (p .0) q), omega arith)
 
   module _ (a : Answer) where
-    said : (y : Answer) → a ≡ y → PutWithin b at (answerText y) j z 110 → PutWithin b at (answerText a) j z 110
-    said y e p = subst (λ (w : Answer). PutWithin b at (answerText w) j z 110) (sym e) p
-
     pub said-taken : a ≡ Answer.Taken → Put b at takenWord j z → PutWithin b at (answerText a) j z 110
     unfolding answerText valuesOf valuesText
-    said-taken e p = said Answer.Taken e (p, put-short 110 p (omega arith))
+    said-taken e p = rw e (p, put-short 110 p (omega arith))
 
     pub said-run : a ≡ Answer.Run → Put b at runWord j z → PutWithin b at (answerText a) j z 110
     unfolding answerText valuesOf valuesText
-    said-run e p = said Answer.Run e (p, put-short 110 p (omega arith))
+    said-run e p = rw e (p, put-short 110 p (omega arith))
 
-    pub said-outputs :
-        {o : Words} {k : ℕ} → a ≡ Answer.Done o k → PutWithin b at (answerText (Answer.Done o k)) j z 110 →
-        PutWithin b at (answerText a) j z 110
-    said-outputs {o} {k} e p = said (Answer.Done o k) e p
-
-    pub said-exited :
-        {k : ℕ} → a ≡ Answer.Exited k → Room b at → PutWithin b at (exitedWord ++ fieldText 10 k) j z 28 →
-        PutWithin b at (answerText a) j z 110
+    pub said-exited : {k : ℕ} → a ≡ Answer.Exited k → PutWithin b at (exitedWord ++ fieldText 10 k) j z 28 → PutWithin b at (answerText a) j z 110
     unfolding answerText valuesOf valuesText
-    said-exited {k} e h p =
-        let l = p .1 in
-        said (Answer.Exited k) e (rest-none (rest-step (rest-all b at (answerText (Answer.Exited k)) h) (p .0)), omega arith)
+    said-exited {k} e p = let l = p .1 in rw (e, append-nil (fieldText 10 k)) (p .0, omega arith)
 
-    pub said-value :
-        {x : ℕ} → a ≡ Answer.Value x → Room b at → x ≤ largest → Put b at (fieldText 10 x) j z →
-        PutWithin b at (answerText a) j z 110
+    pub said-value : {x : ℕ} → a ≡ Answer.Value x → x ≤ largest → Put b at (fieldText 10 x) j z → PutWithin b at (answerText a) j z 110
     unfolding answerText valuesOf valuesText
-    said-value {x} e h l p =
-        let m = put-short 21 p (field-short 10 x l) in
-        said (Answer.Value x) e (rest-none (rest-step (rest-all b at (answerText (Answer.Value x)) h) p), omega arith)
+    said-value {x} e l p = let m = put-short 21 p (field-short 10 x l) in rw (e, append-nil (fieldText 10 x)) (p, omega arith)
 
     pub said-refused :
-        {r : Refusal} {n : ℕ} → a ≡ Answer.Refused r → n ≡ numberOf r → Room b at →
-        PutWithin b at (refusedWord ++ fieldText 10 n) j z 29 → PutWithin b at (answerText a) j z 110
+        {r : Refusal} {n : ℕ} → a ≡ Answer.Refused r → n ≡ numberOf r → PutWithin b at (refusedWord ++ fieldText 10 n) j z 29 →
+        PutWithin b at (answerText a) j z 110
     unfolding answerText valuesOf valuesText
-    said-refused {r} {n} e f h p =
-        let l = p .1 in
-        let q : Put b at (refusedWord ++ fieldText 10 (numberOf r)) j z = subst (λ (v : ℕ). Put b at (refusedWord ++ fieldText 10 v) j z) f (p .0) in
-        said (Answer.Refused r) e (rest-none (rest-step (rest-all b at (answerText (Answer.Refused r)) h) q), omega arith)
+    said-refused {r} {n} e f p = let l = p .1 in rw (e, append-nil (fieldText 10 (numberOf r)), ← f) (p .0, omega arith)
 
 -- ---- a command's verb and number, and the whole line
 module _ {b : List ℕ} {at j : ℕ} {z : List ℕ} where
-  pub headed : (line : ℕ) (m : Command) {y : Command} → m ≡ y → PutWithin b at (headText line y) j z 26 → PutWithin b at (headText line m) j z 26
-  headed line m e p = subst (λ (x : Command). PutWithin b at (headText line x) j z 26) (sym e) p
-
   pub put-both-parts :
       {i : ℕ} {y : List ℕ} (line : ℕ) (m : Command) (a : Answer) → Room b at → PutWithin b at (headText line m) i y 26 →
       PutWithin y i (answerText a) j z 110 → PutWithin b at (lineText line m a) j z longest

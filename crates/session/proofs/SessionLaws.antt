@@ -4,17 +4,17 @@ use mathlib.Core.Logic.{_⊎_, inl, inr}
 use mathlib.Core.Path.{_≡_, refl, sym, _∙_, ap, subst}
 use mathlib.Core.List.{List, [], _∷_, _++_, append-assoc, append-nil}
 use Prim.Native.Nat.{ℕ, zero, suc, _+_, _-_, _<_, _≤_}
-use lib.Dec.{ltb, leb, eqb}
-use lib.ListN.{length, take, drop, getD, set, length-append, length-take, take-append-drop}
-use lib.Seq.{sets, sets-eq, length-sets, take-at, drop-at, drop-drop, drop-cons, take-set-le}
+use lib.Dec.{ltb, eqb}
+use lib.ListN.{length, take, drop, getD, set, length-append, take-append-drop}
+use lib.Seq.{sets, length-take-le, sets-eq, length-sets, take-at, drop-at, drop-drop, drop-cons, take-set-le}
 use native.Mathlib.Omega.{arith}
-use native.Mathlib.Nat.{add-zero}
 use borrow.Author.Tests.{lt-ltb, le-ltb, ltb-true, ltb-false, le-leb, lt-leb}
 use Rattle.grammar.specs.declared.Number.{Number}
 use Rattle.grammar.specs.Reading.{field, hasWord}
 use Rattle.grammar.specs.Writing.{placeAfter, largest, Put}
 use Rattle.grammar.proofs.Cases.{on-test}
 use Rattle.grammar.proofs.Fields.{field-within}
+use Rattle.grammar.proofs.Puts.{sets-append, put-front}
 use Rattle.construction.specs.declared.Words.{Words}
 use Rattle.construction.specs.declared.Answered.{Answered}
 use Rattle.construction.specs.declared.Card.{Card}
@@ -132,10 +132,6 @@ module _ (t : List ℕ) where
       let n = command-past t at h in
       fuel (length t) (suc (length t)) at (omega arith) (omega arith) ∙ from-more (length t) at h
 
--- ---- the answer to a command, by its kind
-pub executed : (c : Card) {m n : Command} {a : Answered} → m ≡ n → a ≡ execute c n → a ≡ execute c m
-executed c e f = f ∙ ap (λ (x : Command). execute c x) (sym e)
-
 -- ---- the text of the lines
 module _ (t : List ℕ) (s : State) where
   pub text-end : length t ≤ s .at → linesText t s ≡ []
@@ -154,12 +150,6 @@ take-sets x b n = go x b n n (omega arith)
     go [] b n i h = refl
     go (a ∷ x) b n i h = go x (set b i a) n (suc i) (omega arith) ∙ take-set-le n b i a h
 
-sets-append : (x y b : List ℕ) (at : ℕ) → sets b at (x ++ y) ≡ sets (sets b at x) (at + length x) y
-sets-append [] y b at = rw (add-zero at)
-sets-append (a ∷ x) y b at =
-    let e : suc at + length x ≡ at + suc (length x) = omega arith in
-    sets-append x y (set b at a) (suc at) ∙ ap (λ (n : ℕ). sets (sets (set b at a) (suc at) x) n y) e
-
 -- ---- the loop that prints: s₀ and b₀ as it began, s and b as they stand, n bytes printed
 pub record Going (t : List ℕ) (s₀ : State) (b₀ : List ℕ) (s : State) (n : ℕ) (b : List ℕ) : Type 0 where
   pub text : linesText t s₀ ≡ take n b ++ linesText t s
@@ -172,15 +162,6 @@ pub record Going (t : List ℕ) (s₀ : State) (b₀ : List ℕ) (s : State) (n 
 pub going : (t : List ℕ) (s₀ : State) (b₀ : List ℕ) → Going t s₀ b₀ s₀ 0 b₀
 going t s₀ b₀ =
     record { text = refl; gathered = refl; kept = refl; within = omega arith; same = refl; onward = inl (refl, refl) }
-
--- what was printed stands at the front, and the rest is as it was
-so-far : {t : List ℕ} {s₀ : State} {b₀ : List ℕ} {s : State} {n : ℕ} {b : List ℕ} → Going t s₀ b₀ s n b → sets b₀ 0 (take n b) ≡ b
-so-far {n = n} {b = b} g =
-    let k = g .within in
-    let l = g .same in
-    let e : length (take n b) ≡ n = omega (arith, length-take n b) in
-    let z : 0 + length (take n b) ≡ n = omega arith in
-    sets-eq (take n b) _ 0 (omega arith) ∙ rw (z, ← g .kept) (take-append-drop n b)
 
 module _ (t : List ℕ) (room : ℕ) (w : List ℕ) (s : State) where
   gather-end : length t ≤ s .at → gather room (record { text = w; state = s }) (commands t (s .at)) ≡ record { text = w; state = s }
@@ -203,7 +184,15 @@ module _ (t : List ℕ) (room : ℕ) (w : List ℕ) (s : State) where
 
 module _ {t : List ℕ} {s₀ : State} {b₀ : List ℕ} {s : State} {n : ℕ} {b : List ℕ} (g : Going t s₀ b₀ s n b) where
   front : length (take n b) ≡ n
-  front = let k = g .within in let l = g .same in omega (arith, length-take n b)
+  front = let k = g .within in let l = g .same in length-take-le n b (omega arith)
+
+  -- what was printed stands at the front, and the rest is as it was
+  so-far : sets b₀ 0 (take n b) ≡ b
+  so-far =
+      let k = g .within in
+      let e = front in
+      let z : 0 + length (take n b) ≡ n = omega arith in
+      sets-eq (take n b) _ 0 (omega arith) ∙ rw (z, ← g .kept) (take-append-drop n b)
 
   -- the loop ends at the end of the calls
   at-end : length t ≤ s .at → Prints t s₀ b₀ (record { state = s; length = n }) b
@@ -212,7 +201,7 @@ module _ {t : List ℕ} {s₀ : State} {b₀ : List ℕ} {s : State} {n : ℕ} {
       let f : fitting t s₀ (length b₀) ≡ record { text = take n b; state = s } = g .gathered ∙ gather-end t (length b₀) (take n b) s h in
       record {
         answer = rw (f, front);
-        bytes = rw (f, commands-end t (s .at) h, append-nil (take n b)) (sym (so-far g));
+        bytes = rw (f, commands-end t (s .at) h, append-nil (take n b)) (sym so-far);
         text = g .text;
         within = g .within;
         onward = λ k l. past (g .onward) l;
@@ -286,7 +275,7 @@ module _ {t : List ℕ} {s₀ : State} {b₀ : List ℕ} {s : State} {n : ℕ} {
           bytes =
               rw (f, commands-more t (s .at) h)
               (p .bytes
-              ∙ ap (λ (l : List ℕ). sets l n x) (sym (so-far g))
+              ∙ ap (λ (l : List ℕ). sets l n x) (sym so-far)
               ∙ ap (λ (i : ℕ). sets (sets b₀ 0 (take n b)) i x) (sym k)
               ∙ sym (sets-append (take n b) x b₀ 0));
           text = g .text ∙ ap (λ (l : List ℕ). l ++ linesText t s) (sym (ap (λ (l : List ℕ). take n l) (p .bytes) ∙ take-sets x b n));
@@ -359,11 +348,10 @@ module _ (calls : List ℕ) (c : Card) where
   whole (Verdict.Refused why line) = rw (over, append-nil (cardRefusal (Verdict.Refused why line)))
 
 -- a text that was put into a buffer that has room stands at its front
-put-front : {b x : List ℕ} {n : ℕ} {z : List ℕ} → Put b 0 x n z → n ≤ longest → longest ≤ length b → take n z ≡ x
-put-front {b} {x} {n} {z} p h l =
+front-text : {b x : List ℕ} {n : ℕ} {z : List ℕ} → Put b 0 x n z → n ≤ longest → longest ≤ length b → take n z ≡ x
+front-text {b} {x} {n} p h l =
     let e = p .place in
-    let k : n ≡ length x = omega arith in
-    ap (λ (y : List ℕ). take n y) (p .bytes ∙ sets-eq x b 0 (omega arith)) ∙ take-at x (drop (0 + length x) b) n (sym k)
+    ap (λ (y : List ℕ). take n y) (put-front (omega arith) p) ∙ take-at x (drop (length x) b) n (omega arith)
 
 pub starts :
     {card calls b : List ℕ} {o : Opened} {v : Verdict} {r : Printed} {z : List ℕ} → o ≡ opened card → o .verdict ≡ v →
@@ -376,14 +364,11 @@ starts {card} {calls} {b} {o} {v} {r} {z} e f g =
       text =
           λ l.
           whole calls (opened card .card) (opened card .verdict)
-          ∙ ap (λ (x : List ℕ). x ++ linesText calls (beginning card calls .state)) (sym (put-front (q .put) (q .short) l))
+          ∙ ap (λ (x : List ℕ). x ++ linesText calls (beginning card calls .state)) (sym (front-text (q .put) (q .short) l))
           ∙ ap (λ (s : State). take (r .length) z ++ linesText calls s) (sym (q .state));
     }
 
 -- ---- what a caller needs of a buffer that was printed into: the printed bytes stand in it, and the session after them
-count-is : (n : ℕ) (z : List ℕ) → n ≤ length z → n ≡ length (take n z)
-count-is n z h = let e = length-take n z in omega arith
-
 module _ {t : List ℕ} {s : State} {b : List ℕ} {r : Printed} {z : List ℕ} (p : Prints t s b r z) where
   pub prints-count : r .length ≡ length (take (r .length) z)
   unfolding printedInto
@@ -391,7 +376,7 @@ module _ {t : List ℕ} {s : State} {b : List ℕ} {r : Printed} {z : List ℕ} 
       let g = fitting t s (length b) in
       let e : length z ≡ length b = ap length (p .bytes) ∙ length-sets b 0 (g .text ++ firstLine (g .state) (commands t (g .state .at))) in
       let h = p .within in
-      count-is (r .length) z (omega arith)
+      sym (length-take-le (r .length) z (omega arith))
 
   pub prints-state : {n : ℕ} → n ≡ length b → r .state ≡ fitting t s n .state
   unfolding printed
@@ -401,4 +386,4 @@ pub starts-count : {card calls b : List ℕ} {r : Printed} {z : List ℕ} → St
 starts-count {card} {calls} {b} {r} {z} p h =
     let e : length z ≡ length b = ap length (p .begins .put .bytes) ∙ length-sets b 0 (beginning card calls .text) in
     let l = p .begins .short in
-    count-is (r .length) z (omega arith)
+    sym (length-take-le (r .length) z (omega arith))

@@ -1,5 +1,5 @@
 -- A session of the bench program (document 01, 'The bench program'): from a card text and a calls text to the printed text.
-use Prim.Native.Nat.{ℕ, _+_, _≤_, _<_}
+use Prim.Native.Nat.{ℕ, _≤_, _<_}
 use mathlib.Core.Bool.{cond}
 use mathlib.Core.Path.{_≡_}
 use mathlib.Core.List.{List, [], _∷_, _++_}
@@ -9,7 +9,6 @@ use lib.Dec.{ltb, leb}
 use Rattle.grammar.specs.Writing.{placeAfter, Put}
 use Rattle.construction.specs.declared.Card.{Card}
 use Rattle.construction.specs.declared.Answered.{Answered}
-use Rattle.construction.specs.declared.Opened.{Opened}
 use Rattle.construction.specs.declared.Verdict.{Verdict}
 use Rattle.construction.specs.declared.Refusal.the-variants.{Malformed}
 use Rattle.construction.specs.Requests.{refused}
@@ -18,7 +17,7 @@ use Rattle.construction.specs.Opening.{opened}
 use Rattle.session.specs.declared.Command.{Command}
 use Rattle.session.specs.declared.State.{State}
 use Rattle.session.specs.declared.Printed.{Printed}
-use Rattle.session.specs.Commands.{command, nextOf, commands}
+use Rattle.session.specs.Commands.{nextOf, commands}
 use Rattle.session.specs.Printing.{lineText, longest, cardRefusal, callsRefusal}
 
 -- the entries that a command names: one, or none where it is malformed

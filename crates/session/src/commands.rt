@@ -7,8 +7,7 @@ use grammar::Number;
 use grammar::reading::field_at;
 use grammar::reading::has_word;
 ghost use mathlib.Core.Path.{_≡_};
-ghost use Prim.Native.Nat.{_≤_};
-ghost use lib.ListN.{drop, length};
+ghost use lib.ListN.{drop};
 ghost use Rattle.session.specs.Commands.{word, inputs as inputsOf, lineEnd, callAt, command};
 
 // A field that has 32 bits, ended by a separator that belongs to it.

@@ -1,5 +1,5 @@
 -- The definitions of the loop's lines by the tests that decide them, over plain values
-use Prim.Native.Nat.{ℕ, suc, _+_, _%_, _≤_, _<_}
+use Prim.Native.Nat.{ℕ, _%_, _≤_, _<_}
 use lib.ListN.{length, length-take}
 use mathlib.Core.Bool.{false}
 use mathlib.Core.List.{[], _∷_}

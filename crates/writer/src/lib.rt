@@ -1,5 +1,5 @@
 // The writer of a card text (document 01, "Turned back"): the card as it was opened, after any steps, put into a lent buffer.
-// It rests on the crates grammar and construction.
+// It rests on the crates grammar, parts and construction.
 use construction::Card;
 use construction::Encoded;
 use construction::Instruction;
@@ -10,10 +10,11 @@ use construction::Written;
 use grammar::writing::put_field;
 use grammar::writing::put_four;
 use grammar::writing::put_word;
+use parts::program_at;
 ghost use mathlib.Core.Path.{_≡_};
 ghost use lib.ListN.{getD};
 ghost use Rattle.grammar.specs.Writing.{Put};
-ghost use Rattle.construction.specs.Instructions.{noLine, noProgram, encoded as encodedAs, encode as encodedOf};
+ghost use Rattle.construction.specs.Instructions.{noLine, encoded as encodedAs, encode as encodedOf};
 ghost use Rattle.construction.specs.Lines.{varText, insText};
 ghost use Rattle.construction.specs.Writing.{varsText, linesText, programText, programsText, textOf};
 ghost use Rattle.writer.specs.Written.{Writes};
@@ -54,35 +55,22 @@ pub fn encode(x: Instruction) -> Encoded
     }
 }
 
-fn start_at(starts: [u32; 64], k: usize) -> u32
+fn start_at(starts: [u32; 64], k: u8) -> u32
     ensures { λ r. ⌜ r ≡ getD starts k 0 ⌝ }
 {
-    if k < 64 { starts[k] } else { 0 }
+    let at = k as usize;
+    if at < 64 { starts[at] } else { 0 }
 }
 
-fn line_at(lines: [Line; 32], k: usize) -> Line
+fn line_at(lines: [Line; 32], k: u8) -> Line
     ensures { λ r. ⌜ r ≡ getD lines k noLine ⌝ }
 {
-    if k < 32 {
-        lines[k]
+    let at = k as usize;
+    if at < 32 {
+        lines[at]
     } else {
         Line {
             instruction: Instruction::Stop,
-        }
-    }
-}
-
-fn program_at(code: [Program; 8], k: usize) -> Program
-    ensures { λ r. ⌜ r ≡ getD code k noProgram ⌝ }
-{
-    if k < 8 {
-        code[k]
-    } else {
-        Program {
-            length: 0,
-            lines: [Line {
-                instruction: Instruction::Stop,
-            }; 32],
         }
     }
 }
@@ -97,10 +85,9 @@ fn put_var(buffer: &mut [u8], at: usize, value: u32) -> usize
 fn put_vars(buffer: &mut [u8], at: usize, count: u8, starts: [u32; 64]) -> usize
     ensures { λ r. ⌜ Put (now (buffer .entry)) at (varsText count 0 starts) r (now (buffer .exit)) ⌝ }
 {
-    let all = count as usize;
     let mut i = at;
-    let mut k: usize = 0;
-    while k < all {
+    let mut k: u8 = 0;
+    while k < count {
         i = put_var(buffer, i, start_at(starts, k));
         k = k + 1;
     }
@@ -118,10 +105,9 @@ fn put_instruction(buffer: &mut [u8], at: usize, x: Instruction) -> usize
 fn put_lines(buffer: &mut [u8], at: usize, count: u8, lines: [Line; 32]) -> usize
     ensures { λ r. ⌜ Put (now (buffer .entry)) at (linesText count 0 lines) r (now (buffer .exit)) ⌝ }
 {
-    let all = count as usize;
     let mut i = at;
-    let mut k: usize = 0;
-    while k < all {
+    let mut k: u8 = 0;
+    while k < count {
         let line = line_at(lines, k);
         let instruction = line.instruction;
         i = put_instruction(buffer, i, instruction);
@@ -143,10 +129,9 @@ fn put_program(buffer: &mut [u8], at: usize, x: Program) -> usize
 fn put_programs(buffer: &mut [u8], at: usize, count: u8, code: [Program; 8]) -> usize
     ensures { λ r. ⌜ Put (now (buffer .entry)) at (programsText count 0 code) r (now (buffer .exit)) ⌝ }
 {
-    let all = count as usize;
     let mut i = at;
-    let mut k: usize = 0;
-    while k < all {
+    let mut k: u8 = 0;
+    while k < count {
         let program = program_at(code, k);
         i = put_program(buffer, i, program);
         k = k + 1;

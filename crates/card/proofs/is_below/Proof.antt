@@ -1,5 +1,4 @@
 use borrow.Author.Tests.{lt-ltb, le-ltb}
-use borrow.Author.Needs.{needs}
 use Rattle.card.proofs.is_below.Statement.{statement}
 use Rattle.card.proofs.is_below.Tie as tie
 

@@ -1,5 +1,4 @@
-use Rattle.construction.specs.Helping.{simulate, simulateFrom}
-use Rattle.helping.specs.Keys.{keys as keysOf}
+use Rattle.construction.specs.Helping.{simulate}
 use Rattle.construction.specs.Dictionary.{noted, assign}
 use lib.ListN.{length, length-map}
 use mathlib.Core.Path.{_≡_, refl, _∙_}
@@ -12,7 +11,7 @@ use Rattle.helping.proofs.simulate.Tie as tie
 
 abbrev Inv-loop : tie.InvT-loop
 Inv-loop n inputs program keys end s₀ d₀ fuel₀ s d fuel =
-    (simulate n program inputs s₀ d₀ ≡ simulateFrom n program inputs fuel s d) × ((end ≡ length (noted d)) × (keys ≡ keysOf d))
+    laws.Going n program inputs (simulate n program inputs s₀ d₀) keys end fuel s d
 
 abbrev μ-loop : tie.MeasureT-loop
 μ-loop n inputs program keys end s₀ d₀ fuel₀ s d fuel = fuel
@@ -21,16 +20,14 @@ abbrev μ-loop : tie.MeasureT-loop
 here :
     (c : tie.After-next-effect Inv-loop μ-loop) → let a = c .before .before .before .before .before .before .before .args in
     let l = c .before .before .before .before .loop in
-    laws.Here (a .n) (a .t2) (a .inputs) (l .fuel) (l .fuel - 1) (l .s) (l .d)
-    (simulate (a .n) (a .t2) (a .inputs) (a .s) (a .d)) (c .next-effect .result)
+    laws.Here (a .n) (a .t2) (a .inputs) (simulate (a .n) (a .t2) (a .inputs) (a .s) (a .d))
+    (c .before .before .before .before .before .before .keys .result) (c .before .before .before .before .before .noted .result) (l .fuel) (l .fuel - 1) (l .s) (l .d)
+    (c .next-effect .result)
 here c =
     let a = c .before .before .before .before .before .before .before .args in
+    let l = c .before .before .before .before .loop in
     let e : length (a .t2 .lines) ≡ 32 = simp length-map at (c .before .before .before .before .before .before .before .good .1 .0 .1 .1 .1 .0 .1 .0 .1) in
-    record {
-      so-far = c .before .before .before .before .loop .inv .0;
-      left = omega arith;
-      next = laws.effect-is (a .n) (a .t2) (a .inputs) (c .before .before .before .before .loop .s) _ e (c .next-effect .ensures);
-    }
+    record { going = l .inv; left = omega arith; next = laws.effect-is (a .n) (a .t2) (a .inputs) (l .s) _ e (c .next-effect .ensures) }
 
 keys-requires : tie.Need-keys-requires Inv-loop μ-loop
 keys-requires c κs = search needs
@@ -39,7 +36,7 @@ noted-requires : tie.Need-noted-requires Inv-loop μ-loop
 noted-requires c κs = search needs
 
 loop-holds : tie.Need-loop-holds Inv-loop μ-loop
-loop-holds c = (laws.simulate-start _ _ _ _ _, ((c .noted .ensures .0), (c .before .keys .ensures)))
+loop-holds c = (laws.simulate-start _ _ _ _ _, (c .noted .ensures .0, c .before .keys .ensures))
 
 sub-fuel : tie.Need-sub-fuel Inv-loop μ-loop
 sub-fuel c = omega arith
@@ -75,19 +72,19 @@ loop-less : tie.Need-loop-less Inv-loop μ-loop
 loop-less c = omega arith
 
 loop-again : tie.Need-loop-again Inv-loop μ-loop
-loop-again c = (laws.sets (here (c .before .before .before .before)) _ _ _ (c .before .before .effect .given .1) (c .with-register .ensures), (c .before .before .before .before .before .before .before .before .loop .inv .1))
+loop-again c = laws.sets (here (c .before .before .before .before)) _ _ _ (c .before .before .effect .given .1) (c .with-register .ensures)
 
 enum-known-effect-2 : tie.Need-enum-known-effect-2 Inv-loop μ-loop
 enum-known-effect-2 c = search needs
 
 find-requires : tie.Need-find-requires Inv-loop μ-loop
-find-requires c κs = (omega arith, laws.enough-keys ((c .before .before .before .before .before .before .before .before .loop .d)) _ _ (c .before .before .before .before .before .before .before .before .loop .inv .1 .0) (c .before .before .before .before .before .before .before .before .loop .inv .1 .1))
+find-requires c κs = (omega arith, laws.enough-keys (c .before .before .before .before .before .before .before .before .loop .d) _ _ (c .before .before .before .before .before .before .before .before .loop .inv .1))
 
 lacks-requires : tie.Need-lacks-requires Inv-loop μ-loop
 lacks-requires c κs = search needs
 
 returns-2 : tie.Need-returns-2 Inv-loop μ-loop
-returns-2 c = (c .lacks .ensures) ∙ laws.load-lacks (here (c .before .before .before .before .before .before .before)) _ _ _ _ (c .before .before .before .before .before .before .before .before .before .before .before .loop .inv .1 .0) (c .before .before .before .before .before .before .before .before .before .before .before .loop .inv .1 .1) (c .before .before .find .ensures) _ (c .before .before .before .before .before .effect2 .given .1) (c .before .if1 .taken)
+returns-2 c = (c .lacks .ensures) ∙ laws.load-lacks (here (c .before .before .before .before .before .before .before)) _ _ (c .before .before .find .ensures) _ (c .before .before .before .before .before .effect2 .given .1) (c .before .if1 .taken)
 
 cast-with-register : tie.Need-cast-with-register Inv-loop μ-loop
 cast-with-register c = omega arith
@@ -105,19 +102,19 @@ loop-less-2 : tie.Need-loop-less-2 Inv-loop μ-loop
 loop-less-2 c = omega arith
 
 loop-again-2 : tie.Need-loop-again-2 Inv-loop μ-loop
-loop-again-2 c = (laws.loads (here (c .before .before .before .before .before .before .before)) _ _ _ _ (c .before .before .before .before .before .before .before .before .before .before .before .loop .inv .1 .0) (c .before .before .before .before .before .before .before .before .before .before .before .loop .inv .1 .1) (c .before .before .find .ensures) _ _ _ (c .before .before .before .before .before .effect2 .given .1) (c .before .if1 .left) refl (c .with-register2 .ensures), (c .before .before .before .before .before .before .before .before .before .before .before .loop .inv .1))
+loop-again-2 c = laws.loads (here (c .before .before .before .before .before .before .before)) _ _ (c .before .before .find .ensures) _ _ _ (c .before .before .before .before .before .effect2 .given .1) (c .before .if1 .left) refl (c .with-register2 .ensures)
 
 enum-known-effect-3 : tie.Need-enum-known-effect-3 Inv-loop μ-loop
 enum-known-effect-3 c = search needs
 
 find-requires-2 : tie.Need-find-requires-2 Inv-loop μ-loop
-find-requires-2 c κs = (omega arith, laws.enough-keys ((c .before .before .before .before .before .before .before .before .loop .d)) _ _ (c .before .before .before .before .before .before .before .before .loop .inv .1 .0) (c .before .before .before .before .before .before .before .before .loop .inv .1 .1))
+find-requires-2 c κs = (omega arith, laws.enough-keys (c .before .before .before .before .before .before .before .before .loop .d) _ _ (c .before .before .before .before .before .before .before .before .loop .inv .1))
 
 lacks-requires-2 : tie.Need-lacks-requires-2 Inv-loop μ-loop
 lacks-requires-2 c κs = search needs
 
 returns-3 : tie.Need-returns-3 Inv-loop μ-loop
-returns-3 c = (c .lacks2 .ensures) ∙ laws.store-lacks (here (c .before .before .before .before .before .before .before)) _ _ _ _ (c .before .before .before .before .before .before .before .before .before .before .before .loop .inv .1 .0) (c .before .before .before .before .before .before .before .before .before .before .before .loop .inv .1 .1) (c .before .before .find2 .ensures) _ (c .before .before .before .before .before .effect3 .given .1) (c .before .if2 .taken)
+returns-3 c = (c .lacks2 .ensures) ∙ laws.store-lacks (here (c .before .before .before .before .before .before .before)) _ _ (c .before .before .find2 .ensures) _ (c .before .before .before .before .before .effect3 .given .1) (c .before .if2 .taken)
 
 cast-d : tie.Need-cast-d Inv-loop μ-loop
 cast-d c = omega arith
@@ -136,7 +133,7 @@ loop-less-3 c = omega arith
 
 loop-again-3 : tie.Need-loop-again-3 Inv-loop μ-loop
 unfolding assign
-loop-again-3 c = laws.stores (here (c .before .before .before .before .before .before .before .before)) _ _ _ _ (c .before .before .before .before .before .before .before .before .before .before .before .before .loop .inv .1 .0) (c .before .before .before .before .before .before .before .before .before .before .before .before .loop .inv .1 .1) (c .before .before .before .find2 .ensures) _ _ _ (c .before .before .before .before .before .before .effect3 .given .1) (c .before .before .if2 .left) refl (c .skipped .ensures)
+loop-again-3 c = laws.stores (here (c .before .before .before .before .before .before .before .before)) _ _ (c .before .before .before .find2 .ensures) _ _ _ (c .before .before .before .before .before .before .effect3 .given .1) (c .before .before .if2 .left) refl (c .skipped .ensures)
 
 enum-known-effect-4 : tie.Need-enum-known-effect-4 Inv-loop μ-loop
 enum-known-effect-4 c = search needs
@@ -148,7 +145,7 @@ loop-less-4 : tie.Need-loop-less-4 Inv-loop μ-loop
 loop-less-4 c = omega arith
 
 loop-again-4 : tie.Need-loop-again-4 Inv-loop μ-loop
-loop-again-4 c = (laws.outputs (here (c .before .before .before .before)) _ _ _ (c .before .before .effect4 .given .1) (c .with-output .ensures), (c .before .before .before .before .before .before .before .before .loop .inv .1))
+loop-again-4 c = laws.outputs (here (c .before .before .before .before)) _ _ _ (c .before .before .effect4 .given .1) (c .with-output .ensures)
 
 enum-known-effect-5 : tie.Need-enum-known-effect-5 Inv-loop μ-loop
 enum-known-effect-5 c = search needs
@@ -160,7 +157,7 @@ loop-less-5 : tie.Need-loop-less-5 Inv-loop μ-loop
 loop-less-5 c = omega arith
 
 loop-again-5 : tie.Need-loop-again-5 Inv-loop μ-loop
-loop-again-5 c = (laws.skips (here (c .before .before .before .before)) _ _ (c .before .before .effect5 .given .1) (c .skipped2 .ensures), (c .before .before .before .before .before .before .before .before .loop .inv .1))
+loop-again-5 c = laws.skips (here (c .before .before .before .before)) _ _ (c .before .before .effect5 .given .1) (c .skipped2 .ensures)
 
 ended-requires-2 : tie.Need-ended-requires-2 Inv-loop μ-loop
 ended-requires-2 c κs = search needs

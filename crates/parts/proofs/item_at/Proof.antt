@@ -1,7 +1,6 @@
-use Rattle.construction.specs.Dictionary.{noItem}
-use lib.ListN.{length, length-map}
-use mathlib.Core.Path.{_≡_}
-use Rattle.parts.proofs.Laws as laws
+use lib.ListN.{length-map, List·getD-eq-default}
+use mathlib.Core.Path.{sym, _∙_}
+use native.Mathlib.Omega.{arith}
 use borrow.Author.Needs.{needs}
 use Rattle.parts.proofs.item_at.Statement.{statement}
 use Rattle.parts.proofs.item_at.Tie as tie
@@ -19,11 +18,7 @@ no-item-requires : tie.Need-no-item-requires
 no-item-requires c κs = search needs
 
 returns-2 : tie.Need-returns-2
-returns-2 c =
-    let e : length (c .before .before .args .t1 .items) ≡ 32 =
-    simp length-map at (c .before .before .good .0 .1 .1 .1 .0 .1 .0 .1) in
-    laws.outside (c .before .before .args .t1 .items) 32 (c .before .before .args .place) noItem e
-    (c .before .if1 .left) (c .no-item .ensures)
+returns-2 c = (c .no-item .ensures) ∙ sym (List·getD-eq-default (c .before .before .args .t1 .items) _ (omega (arith, simp length-map at (c .before .before .good .0 .1 .1 .1 .0 .1 .0 .1))))
 
 pub item-at-spec : {M : Type 1} → statement M
 item-at-spec =

@@ -1,8 +1,7 @@
-use Rattle.construction.specs.Instructions.{noProgram}
-use mathlib.Core.Path.{refl}
-use lib.ListN.{length, length-map}
-use mathlib.Core.Path.{_≡_}
+use lib.ListN.{List·getD-eq-default}
+use mathlib.Core.Path.{sym, _∙_}
 use Rattle.parts.proofs.Laws as laws
+use native.Mathlib.Omega.{arith}
 use borrow.Author.Needs.{needs}
 use Rattle.parts.proofs.program_at.Statement.{statement}
 use Rattle.parts.proofs.program_at.Tie as tie
@@ -16,11 +15,12 @@ array-copy-out-result c = search needs
 returns : tie.Need-returns
 returns c = laws.inside (c .before .before .args .t1) (c .before .before .args .k) _ _ (search needs)
 
+no-program-requires : tie.Need-no-program-requires
+no-program-requires c κs = search needs
+
 returns-2 : tie.Need-returns-2
-returns-2 c =
-    let e : length (c .before .args .t1) ≡ 8 =
-    search needs in
-    laws.outside (c .before .args .t1) 8 (c .before .args .k) noProgram e (c .if1 .left) refl
+returns-2 c = (c .no-program .ensures) ∙ sym (List·getD-eq-default (c .before .before .args .t1) _ (omega arith))
 
 pub program-at-spec : {M : Type 1} → statement M
-program-at-spec = tie.close (tie.spec mul-result array-copy-out-result returns returns-2)
+program-at-spec =
+    tie.close (tie.spec mul-result array-copy-out-result returns no-program-requires returns-2)

@@ -1,7 +1,6 @@
-use Rattle.construction.specs.Cells.{openRecord}
-use lib.ListN.{length, length-map}
-use mathlib.Core.Path.{_≡_}
-use Rattle.parts.proofs.Laws as laws
+use lib.ListN.{List·getD-eq-default}
+use mathlib.Core.Path.{sym, _∙_}
+use native.Mathlib.Omega.{arith}
 use borrow.Author.Needs.{needs}
 use Rattle.parts.proofs.record_at.Statement.{statement}
 use Rattle.parts.proofs.record_at.Tie as tie
@@ -19,11 +18,7 @@ open-record-requires : tie.Need-open-record-requires
 open-record-requires c κs = search needs
 
 returns-2 : tie.Need-returns-2
-returns-2 c =
-    let e : length (c .before .before .args .t1) ≡ 64 =
-    search needs in
-    laws.outside (c .before .before .args .t1) 64 (c .before .before .args .v) (openRecord 0) e
-    (c .before .if1 .left) (c .open-record .ensures)
+returns-2 c = (c .open-record .ensures) ∙ sym (List·getD-eq-default (c .before .before .args .t1) _ (omega arith))
 
 pub record-at-spec : {M : Type 1} → statement M
 record-at-spec =

@@ -1,8 +1,7 @@
 use Rattle.reader.specs.Gathering.{soFar}
-use Rattle.construction.specs.Opening.{thenEnd, thenPrograms}
 use Rattle.construction.specs.declared.Reading.{Reading}
 use Rattle.construction.proofs.TextReading as laws
-use mathlib.Core.Path.{_∙_, ap}
+use mathlib.Core.Path.{ap}
 use native.Mathlib.Omega.{arith}
 use borrow.Author.Needs.{needs}
 use Rattle.reader.proofs.read_body.Statement.{statement}
@@ -18,7 +17,7 @@ enum-told-2 : tie.Need-enum-told-2
 enum-told-2 c = search needs
 
 returns : tie.Need-returns
-returns c = laws.body-no-vars _ _ (c .before .before .read-vars .result) (c .enum-told2 .given .1) ∙ ap (λ (z : Reading). thenEnd (c .before .before .before .before .args .text .now) (thenPrograms (c .before .before .before .before .args .text .now) (c .before .before .before .before .args .programs) z)) (c .before .before .read-vars .ensures)
+returns c = rw (← c .before .before .read-vars .ensures) (laws.body-no-vars _ _ (c .before .before .read-vars .result) (c .enum-told2 .given .1))
 
 read-programs-requires : tie.Need-read-programs-requires
 read-programs-requires c κs = omega (arith, ap (λ (z : Reading). z .line) (c .before .before .before .read-vars .ensures), laws.vars-line (c .before .before .before .before .before .args .text .now) (c .before .before .before .before .before .args .variables) 0 (soFar (c .before .before .before .before .before .args .contents) (c .before .before .before .before .before .args .at) 2))
@@ -30,16 +29,16 @@ enum-told-4 : tie.Need-enum-told-4
 enum-told-4 c = search needs
 
 returns-2 : tie.Need-returns-2
-returns-2 c = laws.body-no-programs _ _ (c .before .before .before .before .before .before .read-vars .result) (c .before .before .read-programs .result) (c .before .before .before .before .enum-told .given .1) (c .before .before .read-programs .ensures) (c .enum-told4 .given .1) ∙ ap (λ (z : Reading). thenEnd (c .before .before .before .before .before .before .before .before .args .text .now) (thenPrograms (c .before .before .before .before .before .before .before .before .args .text .now) (c .before .before .before .before .before .before .before .before .args .programs) z)) (c .before .before .before .before .before .before .read-vars .ensures)
+returns-2 c = rw (← c .before .before .before .before .before .before .read-vars .ensures) (laws.body-no-programs _ _ (c .before .before .before .before .before .before .read-vars .result) (c .before .before .read-programs .result) (c .before .before .before .before .enum-told .given .1) (c .before .before .read-programs .ensures) (c .enum-told4 .given .1))
 
 refused-at-requires : tie.Need-refused-at-requires
 refused-at-requires c κs = search needs
 
 returns-3 : tie.Need-returns-3
-returns-3 c = laws.body-whole _ _ (c .before .before .before .before .before .before .before .before .read-vars .result) (c .before .before .before .before .read-programs .result) (c .before .before .before .before .before .before .enum-told .given .1) (c .before .before .before .before .read-programs .ensures) (c .before .before .enum-told3 .given .1) (c .if1 .taken) ∙ ap (λ (z : Reading). thenEnd (c .before .before .before .before .before .before .before .before .before .before .args .text .now) (thenPrograms (c .before .before .before .before .before .before .before .before .before .before .args .text .now) (c .before .before .before .before .before .before .before .before .before .before .args .programs) z)) (c .before .before .before .before .before .before .before .before .read-vars .ensures)
+returns-3 c = rw (← c .before .before .before .before .before .before .before .before .read-vars .ensures) (laws.body-whole _ _ (c .before .before .before .before .before .before .before .before .read-vars .result) (c .before .before .before .before .read-programs .result) (c .before .before .before .before .before .before .enum-told .given .1) (c .before .before .before .before .read-programs .ensures) (c .before .before .enum-told3 .given .1) (c .if1 .taken))
 
 returns-4 : tie.Need-returns-4
-returns-4 c = (c .refused-at .ensures) ∙ laws.body-left _ _ (c .before .before .before .before .before .before .before .before .before .read-vars .result) (c .before .before .before .before .before .read-programs .result) (c .before .before .before .before .before .before .before .enum-told .given .1) (c .before .before .before .before .before .read-programs .ensures) (c .before .before .before .enum-told3 .given .1) (c .before .if1 .left) ∙ ap (λ (z : Reading). thenEnd (c .before .before .before .before .before .before .before .before .before .before .before .args .text .now) (thenPrograms (c .before .before .before .before .before .before .before .before .before .before .before .args .text .now) (c .before .before .before .before .before .before .before .before .before .before .before .args .programs) z)) (c .before .before .before .before .before .before .before .before .before .read-vars .ensures)
+returns-4 c = rw (c .refused-at .ensures, ← c .before .before .before .before .before .before .before .before .before .read-vars .ensures) (laws.body-left _ _ (c .before .before .before .before .before .before .before .before .before .read-vars .result) (c .before .before .before .before .before .read-programs .result) (c .before .before .before .before .before .before .before .enum-told .given .1) (c .before .before .before .before .before .read-programs .ensures) (c .before .before .before .enum-told3 .given .1) (c .before .if1 .left))
 
 pub read-body-spec : {M : Type 1} → statement M
 read-body-spec =

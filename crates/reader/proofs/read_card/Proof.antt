@@ -1,10 +1,6 @@
-use Rattle.reader.specs.Gathering.{soFar, cardRefusal}
-use Rattle.construction.specs.Opening.{thenEnd, thenPrograms, varsFrom, refusedAt}
-use Rattle.construction.specs.declared.Contents.{Contents}
-use Rattle.construction.specs.declared.Refusal.{Refusal}
 use Rattle.construction.proofs.TextLines.{card-read}
 use Rattle.construction.proofs.TextReading as laws
-use mathlib.Core.Path.{sym, _∙_, ap}
+use mathlib.Core.Path.{sym, _∙_}
 use borrow.Author.Needs.{needs}
 use Rattle.reader.proofs.read_card.Statement.{statement}
 use Rattle.reader.proofs.read_card.Tie as tie
@@ -31,7 +27,7 @@ refused-at-requires-2 : tie.Need-refused-at-requires-2
 refused-at-requires-2 c κs = search needs
 
 returns-2 : tie.Need-returns-2
-returns-2 c = (c .refused-at2 .ensures) ∙ ap (λ (w : Refusal). refusedAt w 1) ((c .before .card-refusal .ensures) ∙ ap cardRefusal (c .before .before .enum-told .given .1)) ∙ laws.card-lines _ (c .before .before .before .before .before .if1 .left) (sym (c .before .before .enum-told .given .1) ∙ (c .before .before .before .before .card-line .ensures))
+returns-2 c = rw (c .refused-at2 .ensures, c .before .card-refusal .ensures, c .before .before .enum-told .given .1) (laws.card-lines _ (c .before .before .before .before .before .if1 .left) (sym (c .before .before .enum-told .given .1) ∙ (c .before .before .before .before .card-line .ensures)))
 
 begun-contents-requires : tie.Need-begun-contents-requires
 begun-contents-requires c κs = search needs
@@ -40,7 +36,7 @@ read-body-requires : tie.Need-read-body-requires
 read-body-requires c κs = let f = card-read (c .before .before .before .before .before .before .before .args .text .now) 0 (c .before .before .line .given .0 .0) (c .before .before .line .given .0 .1 .0) (c .before .before .line .given .0 .1 .1 .0) (c .before .before .line .given .0 .1 .1 .1 .0) (c .before .before .line .given .0 .1 .1 .1 .1 .0) (sym (c .before .before .before .before .card-line .ensures) ∙ (c .before .before .line .given .1)) .fits in (f .variables .1, f .programs .1)
 
 returns-3 : tie.Need-returns-3
-returns-3 c = (c .read-body .ensures) ∙ ap (λ (x : Contents). thenEnd (c .before .before .before .before .before .before .before .before .args .text .now) (thenPrograms (c .before .before .before .before .before .before .before .before .args .text .now) (c .before .before .before .line .given .0 .1 .1 .0) (varsFrom (c .before .before .before .before .before .before .before .before .args .text .now) (c .before .before .before .line .given .0 .1 .0) 0 (soFar x (c .before .before .before .line .given .0 .1 .1 .1 .1 .0) 2)))) (c .before .begun-contents .ensures) ∙ laws.card-lines _ (c .before .before .before .before .before .before .if1 .left) (sym (c .before .before .before .line .given .1) ∙ (c .before .before .before .before .before .card-line .ensures))
+returns-3 c = rw (c .read-body .ensures, c .before .begun-contents .ensures) (laws.card-lines _ (c .before .before .before .before .before .before .if1 .left) (sym (c .before .before .before .line .given .1) ∙ (c .before .before .before .before .before .card-line .ensures)))
 
 pub read-card-spec : {M : Type 1} → statement M
 read-card-spec =

@@ -1,11 +1,10 @@
-use Rattle.reader.specs.Gathering.{programSoFar, insRefusal}
-use Rattle.construction.specs.Opening.{insFrom, programRefusedAt}
+use Rattle.reader.specs.Gathering.{programSoFar}
+use Rattle.construction.specs.Opening.{insFrom}
 use Rattle.construction.specs.Instructions.{noLine}
 use Rattle.construction.proofs.TextReading as laws
-use Rattle.construction.specs.declared.Refusal.{Refusal}
 use lib.ListN as list
 use lib.ListN.{replicate, length-set}
-use mathlib.Core.Path.{_≡_, refl, sym, _∙_, ap}
+use mathlib.Core.Path.{_≡_, refl, sym, _∙_}
 use Prim.Native.Nat.{_+_, _-_, _≤_}
 use native.Mathlib.Numerals.{add-one}
 use native.Mathlib.Omega.{arith}
@@ -41,7 +40,7 @@ program-refused-at-requires : tie.Need-program-refused-at-requires Inv-loop μ-l
 program-refused-at-requires c κs = search needs
 
 returns : tie.Need-returns Inv-loop μ-loop
-returns c = (c .program-refused-at .ensures) ∙ ap (λ (w : Refusal). programRefusedAt w (c .before .before .before .before .before .before .loop .number)) ((c .before .ins-refusal .ensures) ∙ ap insRefusal (c .before .before .enum-told .given .1)) ∙ sym ((c .before .before .before .before .before .before .loop .inv .0) ∙ laws.ins-refused _ _ _ _ _ (c .before .before .before .before .before .loop-test .taken) (c .before .before .before .before .ins-line .ensures) (c .before .before .enum-told .given .1))
+returns c = rw (c .program-refused-at .ensures, c .before .ins-refusal .ensures, c .before .before .enum-told .given .1) (sym ((c .before .before .before .before .before .before .loop .inv .0) ∙ laws.ins-refused _ _ _ _ _ (c .before .before .before .before .before .loop-test .taken) (c .before .before .before .before .ins-line .ensures) (c .before .before .enum-told .given .1)))
 
 mul-lines : tie.Need-mul-lines Inv-loop μ-loop
 mul-lines c = search needs

@@ -1,9 +1,6 @@
-use Rattle.reader.specs.Gathering.{sheetRefusal}
-use Rattle.construction.specs.declared.Refusal.{Refusal}
-use Rattle.construction.specs.Opening.{programRefusedAt}
 use Rattle.construction.proofs.TextLines.{sheet-read}
 use Rattle.construction.proofs.TextReading as laws
-use mathlib.Core.Path.{sym, _∙_, ap}
+use mathlib.Core.Path.{sym, _∙_}
 use native.Mathlib.Omega.{arith}
 use borrow.Author.Needs.{needs}
 use Rattle.reader.proofs.read_program.Statement.{statement}
@@ -25,7 +22,7 @@ program-refused-at-requires : tie.Need-program-refused-at-requires
 program-refused-at-requires c κs = search needs
 
 returns : tie.Need-returns
-returns c = (c .program-refused-at .ensures) ∙ ap (λ (w : Refusal). programRefusedAt w (c .before .before .before .before .before .before .args .number)) ((c .before .sheet-refusal .ensures) ∙ ap sheetRefusal (c .before .before .enum-told .given .1)) ∙ laws.program-refused _ _ _ _ (c .before .before .before .before .sheet-line .ensures) (c .before .before .enum-told .given .1)
+returns c = rw (c .program-refused-at .ensures, c .before .sheet-refusal .ensures, c .before .before .enum-told .given .1) (laws.program-refused _ _ _ _ (c .before .before .before .before .sheet-line .ensures) (c .before .before .enum-told .given .1))
 
 add-read-lines : tie.Need-add-read-lines
 add-read-lines c = search needs

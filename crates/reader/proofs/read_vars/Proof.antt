@@ -1,10 +1,9 @@
-use Rattle.reader.specs.Gathering.{soFar, withStarts, varRefusal}
-use Rattle.construction.specs.Opening.{varsFrom, refusedAt}
+use Rattle.reader.specs.Gathering.{soFar, withStarts}
+use Rattle.construction.specs.Opening.{varsFrom}
 use Rattle.construction.proofs.TextReading as laws
-use Rattle.construction.specs.declared.Refusal.{Refusal}
 use lib.ListN as list
 use lib.ListN.{length-set}
-use mathlib.Core.Path.{_≡_, sym, _∙_, ap}
+use mathlib.Core.Path.{_≡_, sym, _∙_}
 use Prim.Native.Nat.{_+_, _-_, _≤_}
 use native.Mathlib.Numerals.{add-one}
 use native.Mathlib.Omega.{arith}
@@ -37,7 +36,7 @@ refused-at-requires : tie.Need-refused-at-requires Inv-loop μ-loop
 refused-at-requires c κs = search needs
 
 returns : tie.Need-returns Inv-loop μ-loop
-returns c = (c .refused-at .ensures) ∙ ap (λ (w : Refusal). refusedAt w (c .before .before .before .before .before .before .loop .number)) ((c .before .var-refusal .ensures) ∙ ap varRefusal (c .before .before .enum-told .given .1)) ∙ sym ((c .before .before .before .before .before .before .loop .inv .0) ∙ laws.vars-refused _ _ _ _ (c .before .before .before .before .before .loop-test .taken) (c .before .before .before .before .var-line .ensures) (c .before .before .enum-told .given .1))
+returns c = rw (c .refused-at .ensures, c .before .var-refusal .ensures, c .before .before .enum-told .given .1) (sym ((c .before .before .before .before .before .before .loop .inv .0) ∙ laws.vars-refused _ _ _ _ (c .before .before .before .before .before .loop-test .taken) (c .before .before .before .before .var-line .ensures) (c .before .before .enum-told .given .1)))
 
 mul-starts : tie.Need-mul-starts Inv-loop μ-loop
 mul-starts c = search needs

@@ -4,58 +4,18 @@ use lib.ListN.{length}
 use Prim.Native.Nat.{_-_}
 use Rattle.replay.proofs.line_end.Statement.{statement}
 use Rattle.replay.proofs.line_end.Tie as tie
-use Rattle.replay.proofs.line_end.Reads as reads
-use Rattle.replay.proofs.line_end.Lts as lts
-
-abbrev Inv-loop : tie.InvT-loop
-Inv-loop input start at₀ at-end at = at-end ≡ length input
-
-abbrev μ-loop : tie.MeasureT-loop
-μ-loop input start at₀ at-end at = at-end - at
-
--- src/main.rt:16:5
-loop-holds : tie.Need-loop-holds Inv-loop μ-loop
-loop-holds c = search needs
-
--- src/main.rt:17:12
-shared-slice-read-if1 : tie.Need-shared-slice-read-if1 Inv-loop μ-loop
-shared-slice-read-if1 c = search needs
-
--- src/main.rt:18:20
-add-result : tie.Need-add-result Inv-loop μ-loop
-add-result c = search needs
-
--- src/main.rt:18:13
-returns : tie.Need-returns Inv-loop μ-loop
-returns c = search needs
-
--- src/main.rt:16:9
-add-at : tie.Need-add-at Inv-loop μ-loop
-add-at c = search needs
-
--- src/main.rt:16:5
-loop-less : tie.Need-loop-less Inv-loop μ-loop
-loop-less c = search needs
-
--- src/main.rt:16:5
-loop-again : tie.Need-loop-again Inv-loop μ-loop
-loop-again c = search needs
-
--- src/main.rt:15:1
-returns-2 : tie.Need-returns-2 Inv-loop μ-loop
-returns-2 c = search needs
 
 pub line-end-spec : {M : Type 1} → statement M
 line-end-spec =
     tie.close
     (tie.spec
-    Inv-loop
-    μ-loop
-    loop-holds
-    shared-slice-read-if1
-    add-result
-    returns
-    add-at
-    loop-less
-    loop-again
-    returns-2)
+    (λ input start at₀ at-end at. at-end ≡ length input)
+    (λ input start at₀ at-end at. at-end - at)
+    (λ c. search needs)
+    (λ c. search needs)
+    (λ c. search needs)
+    (λ c. search needs)
+    (λ c. search needs)
+    (λ c. search needs)
+    (λ c. search needs)
+    (λ c. search needs))

@@ -2,11 +2,6 @@ use borrow.Author.Needs.{needs}
 use Prim.Native.Nat.{_-_, _≤_}
 use Rattle.report.proofs.show_cells.Statement.{statement}
 use Rattle.report.proofs.show_cells.Tie as tie
-use Rattle.report.proofs.show_cells.Reads as reads
-use Rattle.report.proofs.show_cells.Lts as lts
-use Rattle.report.proofs.show_announcement.Reads as show-announcement-reads
-use Rattle.report.proofs.show_gate.Reads as show-gate-reads
-use Rattle.report.proofs.show_record.Reads as show-record-reads
 
 abbrev Inv-loop : tie.InvT-loop
 Inv-loop variable card i₀ i = i ≤ 8

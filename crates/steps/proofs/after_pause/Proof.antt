@@ -1,6 +1,3 @@
-use lib.ListN.{length, length-map}
-use mathlib.Core.Path.{_≡_}
-use Rattle.steps.proofs.Laws as laws
 use borrow.Author.Needs.{needs}
 use Rattle.steps.proofs.after_pause.Statement.{statement}
 use Rattle.steps.proofs.after_pause.Tie as tie

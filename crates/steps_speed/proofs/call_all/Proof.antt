@@ -2,9 +2,6 @@ use borrow.Author.Needs.{needs}
 use Prim.Native.Nat.{_-_, _≤_}
 use Rattle.steps_speed.proofs.call_all.Statement.{statement}
 use Rattle.steps_speed.proofs.call_all.Tie as tie
-use Rattle.steps_speed.proofs.call_all.Reads as reads
-use Rattle.steps_speed.proofs.call_all.Lts as lts
-use Rattle.steps_speed.proofs.call.Reads as call-reads
 
 abbrev Inv-loop : tie.InvT-loop
 Inv-loop card₀ process₀ card process = process ≤ 8

@@ -2,10 +2,6 @@ use borrow.Author.Needs.{needs}
 use Prim.Native.Nat.{_-_}
 use Rattle.steps_speed.proofs.run.Statement.{statement}
 use Rattle.steps_speed.proofs.run.Tie as tie
-use Rattle.steps_speed.proofs.run.Reads as reads
-use Rattle.steps_speed.proofs.run.Lts as lts
-use Rattle.steps_speed.proofs.next_random.Reads as next-random-reads
-use Rattle.steps_speed.proofs.step.Reads as step-reads
 
 abbrev Inv-loop : tie.InvT-loop
 Inv-loop count card₀ random₀ k₀ card random k = Unit

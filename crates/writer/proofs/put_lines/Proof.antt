@@ -11,10 +11,10 @@ use Rattle.writer.proofs.put_lines.Statement.{statement}
 use Rattle.writer.proofs.put_lines.Tie as tie
 
 abbrev Inv-loop : tie.InvT-loop
-Inv-loop buffer₀ at count lines all i₀ k₀ buffer i k = puts.Rest buffer₀ at (linesText count 0 lines) buffer i (linesText (all - k) k lines) × (k ≤ all)
+Inv-loop buffer₀ at count lines i₀ k₀ buffer i k = puts.Rest buffer₀ at (linesText count 0 lines) buffer i (linesText (count - k) k lines) × (k ≤ count)
 
 abbrev μ-loop : tie.MeasureT-loop
-μ-loop buffer₀ at count lines all i₀ k₀ buffer i k = all - k
+μ-loop buffer₀ at count lines i₀ k₀ buffer i k = count - k
 
 loop-holds : tie.Need-loop-holds Inv-loop μ-loop
 loop-holds c = (laws.series-begin (laws.lines-series (c .before .args .lines)) _ _ _ (omega arith), omega arith)

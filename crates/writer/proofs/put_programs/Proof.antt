@@ -9,10 +9,10 @@ use Rattle.writer.proofs.put_programs.Statement.{statement}
 use Rattle.writer.proofs.put_programs.Tie as tie
 
 abbrev Inv-loop : tie.InvT-loop
-Inv-loop buffer₀ at count code all i₀ k₀ buffer i k = puts.Rest buffer₀ at (programsText count 0 code) buffer i (programsText (all - k) k code) × (k ≤ all)
+Inv-loop buffer₀ at count code i₀ k₀ buffer i k = puts.Rest buffer₀ at (programsText count 0 code) buffer i (programsText (count - k) k code) × (k ≤ count)
 
 abbrev μ-loop : tie.MeasureT-loop
-μ-loop buffer₀ at count code all i₀ k₀ buffer i k = all - k
+μ-loop buffer₀ at count code i₀ k₀ buffer i k = count - k
 
 loop-holds : tie.Need-loop-holds Inv-loop μ-loop
 loop-holds c = (laws.series-begin (laws.programs-series (c .before .args .code)) _ _ _ (omega arith), omega arith)

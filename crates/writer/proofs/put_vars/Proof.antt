@@ -10,10 +10,10 @@ use Rattle.writer.proofs.put_vars.Statement.{statement}
 use Rattle.writer.proofs.put_vars.Tie as tie
 
 abbrev Inv-loop : tie.InvT-loop
-Inv-loop buffer₀ at count starts all i₀ k₀ buffer i k = puts.Rest buffer₀ at (varsText count 0 starts) buffer i (varsText (all - k) k starts) × (k ≤ all)
+Inv-loop buffer₀ at count starts i₀ k₀ buffer i k = puts.Rest buffer₀ at (varsText count 0 starts) buffer i (varsText (count - k) k starts) × (k ≤ count)
 
 abbrev μ-loop : tie.MeasureT-loop
-μ-loop buffer₀ at count starts all i₀ k₀ buffer i k = all - k
+μ-loop buffer₀ at count starts i₀ k₀ buffer i k = count - k
 
 loop-holds : tie.Need-loop-holds Inv-loop μ-loop
 loop-holds c = (laws.series-begin (laws.vars-series (c .before .args .starts)) _ _ _ (omega arith), omega arith)

@@ -20,13 +20,27 @@ same-length : tie.Need-same-length
 same-length c = search needs
 
 returns : tie.Need-returns
-returns c = record { answer = laws.written-bytes (c .before .before .before .before .before .before .before .before .before .before .args .card) (c .before .before .before .before .before .before .before .before .before .before .args .buffer .now) (laws.no-front (c .before .before .before .before .before .before .before .put-text .last .0) (c .before .before .before .before .before .before .before .before .before .before .args .buffer .now) (c .before .before .before .before .before .before .before .put-text .kept .0)) (c .before .before .before .before .before .before .before .put-text .ensures) (omega arith) (omega arith); bytes = laws.text-there (c .before .before .before .before .before .before .before .before .before .before .args .card) (c .before .before .before .before .before .before .before .before .before .before .args .buffer .now) (laws.no-front (c .before .before .before .before .before .before .before .put-text .last .0) (c .before .before .before .before .before .before .before .before .before .before .args .buffer .now) (c .before .before .before .before .before .before .before .put-text .kept .0)) (c .before .before .before .before .before .before .before .put-text .ensures) (omega arith) (omega arith) (c .before .before .put-text2 .ensures) }
+returns c =
+    let told = c .before .before .before .before .before .before .before .put-text in
+    let a = c .before .before .before .before .before .before .before .before .before .before .args in
+    let same = laws.no-front (told .last .0) (a .buffer .now) (told .kept .0) in
+    record {
+      answer = laws.written-bytes (a .card) (a .buffer .now) same (told .ensures) (omega arith) (omega arith);
+      bytes = laws.text-there (a .card) (a .buffer .now) same (told .ensures) (omega arith) (omega arith) (c .before .before .put-text2 .ensures);
+    }
 
 same-length-2 : tie.Need-same-length-2
 same-length-2 c = search needs
 
 returns-2 : tie.Need-returns-2
-returns-2 c = record { answer = laws.written-short (c .before .before .before .before .before .before .args .card) (c .before .before .before .before .before .before .args .buffer .now) (laws.no-front (c .before .before .before .put-text .last .0) (c .before .before .before .before .before .before .args .buffer .now) (c .before .before .before .put-text .kept .0)) (c .before .before .before .put-text .ensures) (omega arith) (omega arith); bytes = laws.bytes-kept (c .before .before .before .before .before .before .args .card) (c .before .before .before .before .before .before .args .buffer .now) (laws.no-front (c .before .before .before .put-text .last .0) (c .before .before .before .before .before .before .args .buffer .now) (c .before .before .before .put-text .kept .0)) (c .before .before .before .put-text .ensures) (omega arith) (omega arith) }
+returns-2 c =
+    let told = c .before .before .before .put-text in
+    let a = c .before .before .before .before .before .before .args in
+    let same = laws.no-front (told .last .0) (a .buffer .now) (told .kept .0) in
+    record {
+      answer = laws.written-short (a .card) (a .buffer .now) same (told .ensures) (omega arith) (omega arith);
+      bytes = laws.bytes-kept (a .card) (a .buffer .now) same (told .ensures) (omega arith) (omega arith);
+    }
 
 pub write-spec : {M : Type 1} → statement M
 write-spec =

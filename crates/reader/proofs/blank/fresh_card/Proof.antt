@@ -3,8 +3,8 @@ use borrow.Author.Needs.{needs}
 use Rattle.reader.proofs.blank.fresh_card.Statement.{statement}
 use Rattle.reader.proofs.blank.fresh_card.Tie as tie
 
-zero-words-requires : tie.Need-zero-words-requires
-zero-words-requires c κs = search needs
+zeros-requires : tie.Need-zeros-requires
+zeros-requires c κs = search needs
 
 free-gate-requires : tie.Need-free-gate-requires
 free-gate-requires c κs = search needs
@@ -18,24 +18,24 @@ open-announcement-requires c κs = search needs
 open-records-requires : tie.Need-open-records-requires
 open-records-requires c κs = search needs
 
-start-simulation-requires : tie.Need-start-simulation-requires
-start-simulation-requires c κs = search needs
+started-requires : tie.Need-started-requires
+started-requires c κs = search needs
 
-empty-dictionary-requires : tie.Need-empty-dictionary-requires
-empty-dictionary-requires c κs = search needs
+empty-requires : tie.Need-empty-requires
+empty-requires c κs = search needs
 
 returns : tie.Need-returns
-returns c = laws.fresh-made (c .before .before .before .before .before .before .before .before .before .args .x) (c .before .before .before .before .before .before .zero-words .ensures) (c .before .before .before .before .before .free-gate .ensures) (c .before .before .before .before .free-gate2 .ensures) (c .before .before .before .open-announcement .ensures) (c .before .before .open-records .ensures) (c .before .start-simulation .ensures) (c .empty-dictionary .ensures)
+returns c = laws.fresh-made (c .before .before .before .before .before .before .before .before .before .args .x) (c .before .before .before .before .before .before .zeros .ensures) (c .before .before .before .before .before .free-gate .ensures) (c .before .before .before .before .free-gate2 .ensures) (c .before .before .before .open-announcement .ensures) (c .before .before .open-records .ensures) (c .before .started .ensures) (c .empty .ensures)
 
 pub fresh-card-spec : {M : Type 1} → statement M
 fresh-card-spec =
     tie.close
     (tie.spec
-    zero-words-requires
+    zeros-requires
     free-gate-requires
     free-gate-requires-2
     open-announcement-requires
     open-records-requires
-    start-simulation-requires
-    empty-dictionary-requires
+    started-requires
+    empty-requires
     returns)

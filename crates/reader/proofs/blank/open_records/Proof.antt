@@ -1,4 +1,4 @@
-use Rattle.reader.proofs.Mapping as mapping
+use Rattle.construction.proofs.Mapping as mapping
 use Rattle.construction.specs.Cells.{openRecord}
 use lib.ListN.{length, take, length-set}
 use mathlib.Core.List.{map}

@@ -2,74 +2,21 @@ use borrow.Author.Needs.{needs}
 use Prim.Native.Nat.{_-_, _≤_}
 use Rattle.replay.proofs.same.same_program.Statement.{statement}
 use Rattle.replay.proofs.same.same_program.Tie as tie
-use Rattle.replay.proofs.same.same_program.Reads as reads
-use Rattle.replay.proofs.same.same_program.Lts as lts
-use Rattle.replay.proofs.same.same_instruction.Reads as same-instruction-reads
-
-abbrev Inv-loop : tie.InvT-loop
-Inv-loop a b k₀ k = k ≤ 32
-
-abbrev μ-loop : tie.MeasureT-loop
-μ-loop a b k₀ k = 32 - k
-
--- src/same.rt:24:5
-loop-holds : tie.Need-loop-holds Inv-loop μ-loop
-loop-holds c = search needs
-
--- src/same.rt:25:20
-mul-left : tie.Need-mul-left Inv-loop μ-loop
-mul-left c = search needs
-
--- src/same.rt:25:20
-element-copy-out-left : tie.Need-element-copy-out-left Inv-loop μ-loop
-element-copy-out-left c = search needs
-
--- src/same.rt:26:21
-mul-right : tie.Need-mul-right Inv-loop μ-loop
-mul-right c = search needs
-
--- src/same.rt:26:21
-element-copy-out-right : tie.Need-element-copy-out-right Inv-loop μ-loop
-element-copy-out-right c = search needs
-
--- src/same.rt:29:13
-same-instruction-requires : tie.Need-same-instruction-requires Inv-loop μ-loop
-same-instruction-requires c κs = search needs
-
--- src/same.rt:30:13
-returns : tie.Need-returns Inv-loop μ-loop
-returns c = search needs
-
--- src/same.rt:24:9
-add-k : tie.Need-add-k Inv-loop μ-loop
-add-k c = search needs
-
--- src/same.rt:24:5
-loop-less : tie.Need-loop-less Inv-loop μ-loop
-loop-less c = search needs
-
--- src/same.rt:24:5
-loop-again : tie.Need-loop-again Inv-loop μ-loop
-loop-again c = search needs
-
--- src/same.rt:23:1
-returns-2 : tie.Need-returns-2 Inv-loop μ-loop
-returns-2 c = search needs
 
 pub same-program-spec : {M : Type 1} → statement M
 same-program-spec =
     tie.close
     (tie.spec
-    Inv-loop
-    μ-loop
-    loop-holds
-    mul-left
-    element-copy-out-left
-    mul-right
-    element-copy-out-right
-    same-instruction-requires
-    returns
-    add-k
-    loop-less
-    loop-again
-    returns-2)
+    (λ a b k₀ k. k ≤ 32)
+    (λ a b k₀ k. 32 - k)
+    (λ c. search needs)
+    (λ c. search needs)
+    (λ c. search needs)
+    (λ c. search needs)
+    (λ c. search needs)
+    (λ c κs. search needs)
+    (λ c. search needs)
+    (λ c. search needs)
+    (λ c. search needs)
+    (λ c. search needs)
+    (λ c. search needs))

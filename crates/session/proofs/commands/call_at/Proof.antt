@@ -1,5 +1,5 @@
 use Rattle.session.proofs.CommandLaws as laws
-use mathlib.Core.Path.{_≡_, sym, _∙_}
+use mathlib.Core.Path.{sym, _∙_}
 use borrow.Author.Needs.{needs}
 use Rattle.session.proofs.commands.call_at.Statement.{statement}
 use Rattle.session.proofs.commands.call_at.Tie as tie

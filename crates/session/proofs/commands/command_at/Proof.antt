@@ -1,7 +1,7 @@
 use Rattle.session.proofs.CommandLaws as laws
 use Rattle.session.specs.Commands as commands
 use Rattle.grammar.proofs.Bytes as bytes
-use mathlib.Core.Path.{_≡_, sym, _∙_}
+use mathlib.Core.Path.{sym, _∙_}
 use native.Mathlib.Omega.{arith}
 use borrow.Author.Needs.{needs}
 use Rattle.session.proofs.commands.command_at.Statement.{statement}

@@ -74,25 +74,25 @@ same-length-3 : tie.Need-same-length-3
 same-length-3 c = search needs
 
 returns-3 : tie.Need-returns-3
-returns-3 c = laws.said-outputs _ (c .before .before .before .before .before .answer .given .1) (c .before .before .put-done .ensures)
+returns-3 c = rw (c .before .before .before .before .before .answer .given .1) (c .before .before .put-done .ensures)
 
 same-length-4 : tie.Need-same-length-4
 same-length-4 c = search needs
 
 returns-4 : tie.Need-returns-4
-returns-4 c = laws.said-exited _ (c .before .before .before .before .before .before .answer2 .given .1) (omega arith) (c .before .before .put-number .ensures)
+returns-4 c = laws.said-exited _ (c .before .before .before .before .before .before .answer2 .given .1) (c .before .before .put-number .ensures)
 
 same-length-5 : tie.Need-same-length-5
 same-length-5 c = search needs
 
 returns-5 : tie.Need-returns-5
-returns-5 c = laws.said-value _ (c .before .before .before .before .before .answer3 .given .1) (omega arith) (omega arith) (c .before .before .put-field .ensures)
+returns-5 c = laws.said-value _ (c .before .before .before .before .before .answer3 .given .1) (omega arith) (c .before .before .put-field .ensures)
 
 same-length-6 : tie.Need-same-length-6
 same-length-6 c = search needs
 
 returns-6 : tie.Need-returns-6
-returns-6 c = laws.said-refused _ (c .before .before .before .before .before .before .before .answer4 .given .1) (c .before .before .before .number-of .ensures) (omega arith) (c .before .before .put-number2 .ensures)
+returns-6 c = laws.said-refused _ (c .before .before .before .before .before .before .before .answer4 .given .1) (c .before .before .before .number-of .ensures) (c .before .before .put-number2 .ensures)
 
 pub put-answer-spec : {M : Type 1} → statement M
 put-answer-spec =

@@ -1,5 +1,4 @@
 use Rattle.session.proofs.PrintingLaws as laws
-use native.Mathlib.Omega.{arith}
 use borrow.Author.Needs.{needs}
 use Rattle.session.proofs.printing.put_calls_refusal.Statement.{statement}
 use Rattle.session.proofs.printing.put_calls_refusal.Tie as tie

@@ -1,7 +1,4 @@
 use Rattle.session.specs.Printing.{headText}
-use mathlib.Core.Path.{_≡_, sym, _∙_}
-use Rattle.session.proofs.PrintingLaws as laws
-use native.Mathlib.Omega.{arith}
 use borrow.Author.Needs.{needs}
 use Rattle.session.proofs.printing.put_head.Statement.{statement}
 use Rattle.session.proofs.printing.put_head.Tie as tie
@@ -68,35 +65,35 @@ same-length c = search needs
 
 returns : tie.Need-returns
 unfolding headText
-returns c = laws.headed _ _ (c .before .before .before .before .before .before .command .given .1) (c .before .before .put-number .ensures)
+returns c = rw (c .before .before .before .before .before .before .command .given .1) (c .before .before .put-number .ensures)
 
 same-length-2 : tie.Need-same-length-2
 same-length-2 c = search needs
 
 returns-2 : tie.Need-returns-2
 unfolding headText
-returns-2 c = laws.headed _ _ (c .before .before .before .before .before .before .command2 .given .1) (c .before .before .put-number2 .ensures)
+returns-2 c = rw (c .before .before .before .before .before .before .command2 .given .1) (c .before .before .put-number2 .ensures)
 
 same-length-3 : tie.Need-same-length-3
 same-length-3 c = search needs
 
 returns-3 : tie.Need-returns-3
 unfolding headText
-returns-3 c = laws.headed _ _ (c .before .before .before .before .before .before .command3 .given .1) (c .before .before .put-number3 .ensures)
+returns-3 c = rw (c .before .before .before .before .before .before .command3 .given .1) (c .before .before .put-number3 .ensures)
 
 same-length-4 : tie.Need-same-length-4
 same-length-4 c = search needs
 
 returns-4 : tie.Need-returns-4
 unfolding headText
-returns-4 c = laws.headed _ _ (c .before .before .before .before .before .before .command4 .given .1) (c .before .before .put-number4 .ensures)
+returns-4 c = rw (c .before .before .before .before .before .before .command4 .given .1) (c .before .before .put-number4 .ensures)
 
 same-length-5 : tie.Need-same-length-5
 same-length-5 c = search needs
 
 returns-5 : tie.Need-returns-5
 unfolding headText
-returns-5 c = laws.headed _ _ (c .before .before .before .before .before .enum-told .given .1) (c .before .before .put-number5 .ensures)
+returns-5 c = rw (c .before .before .before .before .before .enum-told .given .1) (c .before .before .put-number5 .ensures)
 
 pub put-head-spec : {M : Type 1} → statement M
 put-head-spec =

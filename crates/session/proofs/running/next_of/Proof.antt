@@ -1,4 +1,4 @@
-use mathlib.Core.Path.{_≡_, sym, _∙_, refl, ap}
+use mathlib.Core.Path.{sym, ap}
 use Rattle.session.specs.Commands.{nextOf}
 use borrow.Author.Needs.{needs}
 use Rattle.session.proofs.running.next_of.Statement.{statement}

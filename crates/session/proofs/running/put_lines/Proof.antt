@@ -1,5 +1,4 @@
 use Rattle.session.proofs.SessionLaws as laws
-use mathlib.Core.Path.{_≡_, sym, _∙_, refl}
 use lib.ListN.{length}
 use Prim.Native.Nat.{_-_}
 use borrow.Author.Needs.{needs}

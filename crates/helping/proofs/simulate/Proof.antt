@@ -1,5 +1,5 @@
 use Rattle.construction.specs.Helping.{simulate}
-use Rattle.construction.specs.Dictionary.{noted, assign}
+use Rattle.construction.specs.Dictionary.{assign}
 use lib.ListN.{length, length-map}
 use mathlib.Core.Path.{_≡_, refl, _∙_}
 use Prim.Native.Nat.{_-_}

@@ -2,30 +2,6 @@ use borrow.Author.Needs.{needs}
 use Rattle.card.proofs.answer_of.Statement.{statement}
 use Rattle.card.proofs.answer_of.Tie as tie
 
-mul-task : tie.Need-mul-task
-mul-task c = search needs
-
-element-copy-out-task : tie.Need-element-copy-out-task
-element-copy-out-task c = search needs
-
-is-idle-requires : tie.Need-is-idle-requires
-is-idle-requires c κs = search needs
-
-mul-copy : tie.Need-mul-copy
-mul-copy c = search needs
-
-element-copy-out-copy : tie.Need-element-copy-out-copy
-element-copy-out-copy c = search needs
-
-mul-returned : tie.Need-mul-returned
-mul-returned c = search needs
-
-element-copy-out-returned : tie.Need-element-copy-out-returned
-element-copy-out-returned c = search needs
-
-returned-requires : tie.Need-returned-requires
-returned-requires c κs = search needs
-
 returns : tie.Need-returns
 returns c =
     rw (
@@ -40,13 +16,13 @@ pub answer-of-spec : {M : Type 1} → statement M
 answer-of-spec =
     tie.close
     (tie.spec
-    mul-task
-    element-copy-out-task
-    is-idle-requires
-    mul-copy
-    element-copy-out-copy
-    mul-returned
-    element-copy-out-returned
-    returned-requires
+    (λ c. search needs)
+    (λ c. search needs)
+    (λ c κs. search needs)
+    (λ c. search needs)
+    (λ c. search needs)
+    (λ c. search needs)
+    (λ c. search needs)
+    (λ c κs. search needs)
     returns
     returns-2)

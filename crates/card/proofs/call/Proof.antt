@@ -6,21 +6,9 @@ use borrow.Author.Needs.{needs}
 use Rattle.card.proofs.call.Statement.{statement}
 use Rattle.card.proofs.call.Tie as tie
 
-is-below-requires : tie.Need-is-below-requires
-is-below-requires c κs = search needs
-
-refused-requires : tie.Need-refused-requires
-refused-requires c κs = search needs
-
 returns : tie.Need-returns
 unfolding call
 returns c = rw (← c .before .before .is-below .ensures, c .before .if1 .taken) (c .refused .ensures)
-
-is-below-requires-2 : tie.Need-is-below-requires-2
-is-below-requires-2 c κs = search needs
-
-refused-requires-2 : tie.Need-refused-requires-2
-refused-requires-2 c κs = search needs
 
 returns-2 : tie.Need-returns-2
 unfolding call
@@ -32,18 +20,9 @@ returns-2 c =
       c .before .if2 .taken,
     ) (c .refused2 .ensures)
 
-mul-task : tie.Need-mul-task
-mul-task c = search needs
-
 element-copy-out-task : tie.Need-element-copy-out-task
 element-copy-out-task c =
     laws.in-room _ _ _ (c .before .before .before .is-below .ensures) (c .before .before .if1 .left)
-
-is-idle-requires : tie.Need-is-idle-requires
-is-idle-requires c κs = search needs
-
-refused-requires-3 : tie.Need-refused-requires-3
-refused-requires-3 c κs = search needs
 
 returns-3 : tie.Need-returns-3
 unfolding call
@@ -84,16 +63,16 @@ pub call-spec : {M : Type 1} → statement M
 call-spec =
     tie.close
     (tie.spec
-    is-below-requires
-    refused-requires
+    (λ c κs. search needs)
+    (λ c κs. search needs)
     returns
-    is-below-requires-2
-    refused-requires-2
+    (λ c κs. search needs)
+    (λ c κs. search needs)
     returns-2
-    mul-task
+    (λ c. search needs)
     element-copy-out-task
-    is-idle-requires
-    refused-requires-3
+    (λ c κs. search needs)
+    (λ c κs. search needs)
     returns-3
     cast-begin
     begin-requires

@@ -5,8 +5,5 @@ use Rattle.card.proofs.is_unfinished.Tie as tie
 returns : tie.Need-returns
 returns c = rw (c .before .before .if1 .taken)
 
-returns-2 : tie.Need-returns-2
-returns-2 c = search needs
-
 pub is-unfinished-spec : {M : Type 1} → statement M
-is-unfinished-spec = tie.close (tie.spec returns returns-2)
+is-unfinished-spec = tie.close (tie.spec returns (λ c. search needs))

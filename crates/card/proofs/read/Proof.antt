@@ -4,12 +4,6 @@ use borrow.Author.Needs.{needs}
 use Rattle.card.proofs.read.Statement.{statement}
 use Rattle.card.proofs.read.Tie as tie
 
-is-below-requires : tie.Need-is-below-requires
-is-below-requires c κs = search needs
-
-refused-requires : tie.Need-refused-requires
-refused-requires c κs = search needs
-
 returns : tie.Need-returns
 unfolding read
 returns c = rw (← c .before .before .is-below .ensures, c .before .if1 .taken) (c .refused .ensures)
@@ -23,4 +17,4 @@ returns-2 c = rw (← c .before .before .is-below .ensures, c .before .if1 .left
 
 pub read-spec : {M : Type 1} → statement M
 read-spec =
-    tie.close (tie.spec is-below-requires refused-requires returns value-of-requires returns-2)
+    tie.close (tie.spec (λ c κs. search needs) (λ c κs. search needs) returns value-of-requires returns-2)

@@ -4,27 +4,12 @@ use borrow.Author.Needs.{needs}
 use Rattle.card.proofs.request_exit.Statement.{statement}
 use Rattle.card.proofs.request_exit.Tie as tie
 
-is-below-requires : tie.Need-is-below-requires
-is-below-requires c κs = search needs
-
-refused-requires : tie.Need-refused-requires
-refused-requires c κs = search needs
-
 returns : tie.Need-returns
 unfolding requestExit
 returns c = rw (← c .before .before .is-below .ensures, c .before .if1 .taken) (c .refused .ensures)
 
-mul-task : tie.Need-mul-task
-mul-task c = search needs
-
 element-copy-out-task : tie.Need-element-copy-out-task
 element-copy-out-task c = laws.in-room _ _ _ (c .before .is-below .ensures) (c .if1 .left)
-
-is-idle-requires : tie.Need-is-idle-requires
-is-idle-requires c κs = search needs
-
-refused-requires-2 : tie.Need-refused-requires-2
-refused-requires-2 c κs = search needs
 
 returns-2 : tie.Need-returns-2
 unfolding requestExit
@@ -54,13 +39,13 @@ pub request-exit-spec : {M : Type 1} → statement M
 request-exit-spec =
     tie.close
     (tie.spec
-    is-below-requires
-    refused-requires
+    (λ c κs. search needs)
+    (λ c κs. search needs)
     returns
-    mul-task
+    (λ c. search needs)
     element-copy-out-task
-    is-idle-requires
-    refused-requires-2
+    (λ c κs. search needs)
+    (λ c κs. search needs)
     returns-2
     element-write-after
     returns-3)

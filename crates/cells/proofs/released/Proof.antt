@@ -3,12 +3,9 @@ use borrow.Author.Needs.{needs}
 use Rattle.cells.proofs.released.Statement.{statement}
 use Rattle.cells.proofs.released.Tie as tie
 
-wrapping-add-u64-requires : tie.Need-wrapping-add-u64-requires
-wrapping-add-u64-requires c κs = search needs
-
 returns : tie.Need-returns
 unfolding released
 returns c = rw (c .wrapping-add-u64 .ensures)
 
 pub released-spec : {M : Type 1} → statement M
-released-spec = tie.close (tie.spec wrapping-add-u64-requires returns)
+released-spec = tie.close (tie.spec (λ c κs. search needs) returns)

@@ -4,12 +4,6 @@ use borrow.Author.Needs.{needs}
 use Rattle.cells.proofs.same_announcement.Statement.{statement}
 use Rattle.cells.proofs.same_announcement.Tie as tie
 
-same-flag-requires : tie.Need-same-flag-requires
-same-flag-requires c κs = search needs
-
-same-words-requires : tie.Need-same-words-requires
-same-words-requires c κs = search needs
-
 returns : tie.Need-returns
 unfolding sameAnnouncement
 returns c =
@@ -33,4 +27,4 @@ returns-4 c = rw (ne-eqb _ _ (c .if1 .left))
 pub same-announcement-spec : {M : Type 1} → statement M
 same-announcement-spec =
     tie.close
-    (tie.spec same-flag-requires same-words-requires returns returns-2 returns-3 returns-4)
+    (tie.spec (λ c κs. search needs) (λ c κs. search needs) returns returns-2 returns-3 returns-4)

@@ -3,9 +3,6 @@ use borrow.Author.Needs.{needs}
 use Rattle.cells.proofs.same_gate.Statement.{statement}
 use Rattle.cells.proofs.same_gate.Tie as tie
 
-same-holder-requires : tie.Need-same-holder-requires
-same-holder-requires c κs = search needs
-
 returns : tie.Need-returns
 unfolding sameGate
 returns c = rw (← c .before .before .before .same-holder .ensures, c .before .before .if1 .taken)
@@ -15,4 +12,4 @@ unfolding sameGate
 returns-2 c = rw (← c .before .same-holder .ensures, c .if1 .left)
 
 pub same-gate-spec : {M : Type 1} → statement M
-same-gate-spec = tie.close (tie.spec same-holder-requires returns returns-2)
+same-gate-spec = tie.close (tie.spec (λ c κs. search needs) returns returns-2)

@@ -3,9 +3,6 @@ use borrow.Author.Needs.{needs}
 use Rattle.cells.proofs.swap_announcement.Statement.{statement}
 use Rattle.cells.proofs.swap_announcement.Tie as tie
 
-same-announcement-requires : tie.Need-same-announcement-requires
-same-announcement-requires c κs = search needs
-
 returns : tie.Need-returns
 unfolding swapAnnouncement
 returns c = rw (← c .before .same-announcement .ensures, c .if1 .taken)
@@ -15,4 +12,4 @@ unfolding swapAnnouncement
 returns-2 c = rw (← c .before .same-announcement .ensures, c .if1 .left)
 
 pub swap-announcement-spec : {M : Type 1} → statement M
-swap-announcement-spec = tie.close (tie.spec same-announcement-requires returns returns-2)
+swap-announcement-spec = tie.close (tie.spec (λ c κs. search needs) returns returns-2)

@@ -3,9 +3,6 @@ use borrow.Author.Needs.{needs}
 use Rattle.cells.proofs.swap_gate.Statement.{statement}
 use Rattle.cells.proofs.swap_gate.Tie as tie
 
-same-gate-requires : tie.Need-same-gate-requires
-same-gate-requires c κs = search needs
-
 returns : tie.Need-returns
 unfolding swapGate
 returns c = rw (← c .before .same-gate .ensures, c .if1 .taken)
@@ -15,4 +12,4 @@ unfolding swapGate
 returns-2 c = rw (← c .before .same-gate .ensures, c .if1 .left)
 
 pub swap-gate-spec : {M : Type 1} → statement M
-swap-gate-spec = tie.close (tie.spec same-gate-requires returns returns-2)
+swap-gate-spec = tie.close (tie.spec (λ c κs. search needs) returns returns-2)

@@ -3,9 +3,6 @@ use borrow.Author.Needs.{needs}
 use Rattle.cells.proofs.swap_record.Statement.{statement}
 use Rattle.cells.proofs.swap_record.Tie as tie
 
-same-record-requires : tie.Need-same-record-requires
-same-record-requires c κs = search needs
-
 returns : tie.Need-returns
 unfolding swapRecord
 returns c = rw (← c .before .same-record .ensures, c .if1 .taken)
@@ -15,4 +12,4 @@ unfolding swapRecord
 returns-2 c = rw (← c .before .same-record .ensures, c .if1 .left)
 
 pub swap-record-spec : {M : Type 1} → statement M
-swap-record-spec = tie.close (tie.spec same-record-requires returns returns-2)
+swap-record-spec = tie.close (tie.spec (λ c κs. search needs) returns returns-2)

@@ -3,9 +3,6 @@ use borrow.Author.Needs.{needs}
 use Rattle.helping.proofs.altered.Statement.{statement}
 use Rattle.helping.proofs.altered.Tie as tie
 
-current-requires : tie.Need-current-requires
-current-requires c κs = search needs
-
 returns : tie.Need-returns
 returns c = laws.altered-by _ ((c .before .before .before .before .before .args .item)) _ (c .before .before .if1 .taken) (c .before .current .ensures)
 
@@ -13,4 +10,4 @@ returns-2 : tie.Need-returns-2
 returns-2 c = laws.altered-not _ ((c .before .before .before .args .item)) (c .if1 .left)
 
 pub altered-spec : {M : Type 1} → statement M
-altered-spec = tie.close (tie.spec current-requires returns returns-2)
+altered-spec = tie.close (tie.spec (λ c κs. search needs) returns returns-2)

@@ -7,29 +7,11 @@ use borrow.Author.Needs.{needs}
 use Rattle.lines.proofs.card_line.Statement.{statement}
 use Rattle.lines.proofs.card_line.Tie as tie
 
-slice-aggregate-has-word : tie.Need-slice-aggregate-has-word
-slice-aggregate-has-word c = search needs
-
-has-word-requires : tie.Need-has-word-requires
-has-word-requires c κs = search needs
-
 add-four-at : tie.Need-add-four-at
 add-four-at c = omega (arith, bytes.word-within (c .before .before .before .before .args .text .now) lines.cardWord (c .before .before .before .before .args .at) (omega arith) (sym (c .before .has-word .ensures) ∙ (c .if1 .taken)))
 
-four-at-requires : tie.Need-four-at-requires
-four-at-requires c κs = search needs
-
-enum-known-a : tie.Need-enum-known-a
-enum-known-a c = search needs
-
-enum-told : tie.Need-enum-told
-enum-told c = search needs
-
 returns : tie.Need-returns
 returns c = laws.card-malformed _ _ (c .before .before .before .before .has-word .ensures) (c .before .before .before .if1 .taken) (sym (c .enum-told .given .1) ∙ (c .before .before .four-at .ensures))
-
-card-fits-requires : tie.Need-card-fits-requires
-card-fits-requires c κs = search needs
 
 cast-t18 : tie.Need-cast-t18
 cast-t18 c = let h = laws.card-fits (c .before .before .before .a .given .0 .0) (c .before .before .before .a .given .0 .1 .0) (c .before .before .before .a .given .0 .1 .1 .0) (c .before .before .before .a .given .0 .1 .1 .1 .0) (sym (c .before .card-fits .ensures) ∙ (c .if2 .taken)) in omega (arith, h .processes)
@@ -53,14 +35,14 @@ pub card-line-spec : {M : Type 1} → statement M
 card-line-spec =
     tie.close
     (tie.spec
-    slice-aggregate-has-word
-    has-word-requires
+    (λ c. search needs)
+    (λ c κs. search needs)
     add-four-at
-    four-at-requires
-    enum-known-a
-    enum-told
+    (λ c κs. search needs)
+    (λ c. search needs)
+    (λ c. search needs)
     returns
-    card-fits-requires
+    (λ c κs. search needs)
     cast-t18
     cast-t19
     cast-t20

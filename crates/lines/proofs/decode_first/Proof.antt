@@ -6,39 +6,6 @@ use borrow.Author.Needs.{needs}
 use Rattle.lines.proofs.decode_first.Statement.{statement}
 use Rattle.lines.proofs.decode_first.Tie as tie
 
-low-byte-requires : tie.Need-low-byte-requires
-low-byte-requires c κs = search needs
-
-low-byte-requires-2 : tie.Need-low-byte-requires-2
-low-byte-requires-2 c κs = search needs
-
-pair-requires : tie.Need-pair-requires
-pair-requires c κs = search needs
-
-valid-requires : tie.Need-valid-requires
-valid-requires c κs = search needs
-
-pair-requires-2 : tie.Need-pair-requires-2
-pair-requires-2 c κs = search needs
-
-low-word-requires : tie.Need-low-word-requires
-low-word-requires c κs = search needs
-
-valid-requires-2 : tie.Need-valid-requires-2
-valid-requires-2 c κs = search needs
-
-pair-requires-3 : tie.Need-pair-requires-3
-pair-requires-3 c κs = search needs
-
-valid-requires-3 : tie.Need-valid-requires-3
-valid-requires-3 c κs = search needs
-
-pair-requires-4 : tie.Need-pair-requires-4
-pair-requires-4 c κs = search needs
-
-valid-requires-4 : tie.Need-valid-requires-4
-valid-requires-4 c κs = search needs
-
 returns : tie.Need-returns
 returns c = laws.valid-pair (λ u v. Instruction.Input u v) 4 4 256 256 (c .before .before .before .before .before .args .x .a) (c .before .before .before .before .before .args .x .b) (c .before .before .before .before .before .args .x .c) (omega arith) (omega arith) (c .before .pair .ensures) (c .before .before .before .before .low-byte .ensures) (c .before .before .before .low-byte2 .ensures) (c .valid .ensures) ∙ sym (laws.decode-1 (c .before .before .before .before .before .args .variables) (c .before .before .before .before .before .args .x) (c .before .before .match .keys1))
 
@@ -58,17 +25,17 @@ pub decode-first-spec : {M : Type 1} → statement M
 decode-first-spec =
     tie.close
     (tie.spec
-    low-byte-requires
-    low-byte-requires-2
-    pair-requires
-    valid-requires
-    pair-requires-2
-    low-word-requires
-    valid-requires-2
-    pair-requires-3
-    valid-requires-3
-    pair-requires-4
-    valid-requires-4
+    (λ c κs. search needs)
+    (λ c κs. search needs)
+    (λ c κs. search needs)
+    (λ c κs. search needs)
+    (λ c κs. search needs)
+    (λ c κs. search needs)
+    (λ c κs. search needs)
+    (λ c κs. search needs)
+    (λ c κs. search needs)
+    (λ c κs. search needs)
+    (λ c κs. search needs)
     returns
     returns-2
     returns-3

@@ -8,39 +8,6 @@ use borrow.Author.Needs.{needs}
 use Rattle.lines.proofs.decode_last.Statement.{statement}
 use Rattle.lines.proofs.decode_last.Tie as tie
 
-low-byte-requires : tie.Need-low-byte-requires
-low-byte-requires c κs = search needs
-
-low-byte-requires-2 : tie.Need-low-byte-requires-2
-low-byte-requires-2 c κs = search needs
-
-low-byte-requires-3 : tie.Need-low-byte-requires-3
-low-byte-requires-3 c κs = search needs
-
-skip-requires : tie.Need-skip-requires
-skip-requires c κs = search needs
-
-valid-requires : tie.Need-valid-requires
-valid-requires c κs = search needs
-
-skip-requires-2 : tie.Need-skip-requires-2
-skip-requires-2 c κs = search needs
-
-valid-requires-2 : tie.Need-valid-requires-2
-valid-requires-2 c κs = search needs
-
-pair-requires : tie.Need-pair-requires
-pair-requires c κs = search needs
-
-valid-requires-3 : tie.Need-valid-requires-3
-valid-requires-3 c κs = search needs
-
-unused-requires : tie.Need-unused-requires
-unused-requires c κs = search needs
-
-valid-requires-4 : tie.Need-valid-requires-4
-valid-requires-4 c κs = search needs
-
 returns : tie.Need-returns
 returns c = λ n. laws.valid-skip (λ u v w. Instruction.SkipEqual u v w) (c .before .before .before .before .before .before .args .x .a) (c .before .before .before .before .before .before .args .x .b) (c .before .before .before .before .before .before .args .x .c) (c .before .skip .ensures) (c .before .before .before .before .before .low-byte .ensures) (c .before .before .before .before .low-byte2 .ensures) (c .before .before .before .low-byte3 .ensures) (c .valid .ensures) ∙ sym (laws.decode-9 n (c .before .before .before .before .before .before .args .x) (c .before .before .match .keys1))
 
@@ -60,17 +27,17 @@ pub decode-last-spec : {M : Type 1} → statement M
 decode-last-spec =
     tie.close
     (tie.spec
-    low-byte-requires
-    low-byte-requires-2
-    low-byte-requires-3
-    skip-requires
-    valid-requires
-    skip-requires-2
-    valid-requires-2
-    pair-requires
-    valid-requires-3
-    unused-requires
-    valid-requires-4
+    (λ c κs. search needs)
+    (λ c κs. search needs)
+    (λ c κs. search needs)
+    (λ c κs. search needs)
+    (λ c κs. search needs)
+    (λ c κs. search needs)
+    (λ c κs. search needs)
+    (λ c κs. search needs)
+    (λ c κs. search needs)
+    (λ c κs. search needs)
+    (λ c κs. search needs)
     returns
     returns-2
     returns-3

@@ -6,27 +6,6 @@ use borrow.Author.Needs.{needs}
 use Rattle.lines.proofs.decode_registers.Statement.{statement}
 use Rattle.lines.proofs.decode_registers.Tie as tie
 
-pair-requires : tie.Need-pair-requires
-pair-requires c κs = search needs
-
-low-byte-requires : tie.Need-low-byte-requires
-low-byte-requires c κs = search needs
-
-low-byte-requires-2 : tie.Need-low-byte-requires-2
-low-byte-requires-2 c κs = search needs
-
-valid-requires : tie.Need-valid-requires
-valid-requires c κs = search needs
-
-valid-requires-2 : tie.Need-valid-requires-2
-valid-requires-2 c κs = search needs
-
-valid-requires-3 : tie.Need-valid-requires-3
-valid-requires-3 c κs = search needs
-
-valid-requires-4 : tie.Need-valid-requires-4
-valid-requires-4 c κs = search needs
-
 returns : tie.Need-returns
 returns c = λ n. laws.valid-pair (λ u v. Instruction.LoadAt u v) 4 4 256 256 (c .before .before .before .before .before .args .x .a) (c .before .before .before .before .before .args .x .b) (c .before .before .before .before .before .args .x .c) (omega arith) (omega arith) (c .before .before .before .before .pair .ensures) (c .before .before .before .low-byte .ensures) (c .before .before .low-byte2 .ensures) (c .valid .ensures) ∙ sym (laws.decode-5 n (c .before .before .before .before .before .args .x) (c .before .match .keys1))
 
@@ -43,13 +22,13 @@ pub decode-registers-spec : {M : Type 1} → statement M
 decode-registers-spec =
     tie.close
     (tie.spec
-    pair-requires
-    low-byte-requires
-    low-byte-requires-2
-    valid-requires
-    valid-requires-2
-    valid-requires-3
-    valid-requires-4
+    (λ c κs. search needs)
+    (λ c κs. search needs)
+    (λ c κs. search needs)
+    (λ c κs. search needs)
+    (λ c κs. search needs)
+    (λ c κs. search needs)
+    (λ c κs. search needs)
     returns
     returns-2
     returns-3

@@ -7,32 +7,11 @@ use borrow.Author.Needs.{needs}
 use Rattle.lines.proofs.ins_line.Statement.{statement}
 use Rattle.lines.proofs.ins_line.Tie as tie
 
-slice-aggregate-has-word : tie.Need-slice-aggregate-has-word
-slice-aggregate-has-word c = search needs
-
-has-word-requires : tie.Need-has-word-requires
-has-word-requires c κs = search needs
-
 add-four-at : tie.Need-add-four-at
 add-four-at c = omega (arith, bytes.word-within (c .before .before .before .before .args .text .now) lines.insWord (c .before .before .before .before .args .at) (omega arith) (sym (c .before .has-word .ensures) ∙ (c .if1 .taken)))
 
-four-at-requires : tie.Need-four-at-requires
-four-at-requires c κs = search needs
-
-enum-known-a : tie.Need-enum-known-a
-enum-known-a c = search needs
-
-enum-told : tie.Need-enum-told
-enum-told c = search needs
-
 returns : tie.Need-returns
 returns c = laws.ins-malformed _ _ _ (c .before .before .before .before .has-word .ensures) (c .before .before .before .if1 .taken) (sym (c .enum-told .given .1) ∙ (c .before .before .four-at .ensures))
-
-decode-requires : tie.Need-decode-requires
-decode-requires c κs = search needs
-
-ins-of-requires : tie.Need-ins-of-requires
-ins-of-requires c κs = search needs
 
 returns-2 : tie.Need-returns-2
 returns-2 c = laws.ins-decoded _ _ _ (c .before .before .before .before .before .before .before .has-word .ensures) (c .before .before .before .before .before .before .if1 .taken) (sym (c .before .before .before .a .given .1) ∙ (c .before .before .before .before .before .four-at .ensures)) (c .before .decode .ensures) (c .ins-of .ensures)
@@ -44,14 +23,14 @@ pub ins-line-spec : {M : Type 1} → statement M
 ins-line-spec =
     tie.close
     (tie.spec
-    slice-aggregate-has-word
-    has-word-requires
+    (λ c. search needs)
+    (λ c κs. search needs)
     add-four-at
-    four-at-requires
-    enum-known-a
-    enum-told
+    (λ c κs. search needs)
+    (λ c. search needs)
+    (λ c. search needs)
     returns
-    decode-requires
-    ins-of-requires
+    (λ c κs. search needs)
+    (λ c κs. search needs)
     returns-2
     returns-3)

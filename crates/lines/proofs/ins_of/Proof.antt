@@ -2,12 +2,6 @@ use borrow.Author.Needs.{needs}
 use Rattle.lines.proofs.ins_of.Statement.{statement}
 use Rattle.lines.proofs.ins_of.Tie as tie
 
-enum-known-decoded : tie.Need-enum-known-decoded
-enum-known-decoded c = search needs
-
-enum-known-decoded-2 : tie.Need-enum-known-decoded-2
-enum-known-decoded-2 c = search needs
-
 returns : tie.Need-returns
 returns c = rw ((c .before .decoded .given .1))
 
@@ -15,4 +9,4 @@ returns-2 : tie.Need-returns-2
 returns-2 c = rw ((c .before .decoded2 .given .1))
 
 pub ins-of-spec : {M : Type 1} → statement M
-ins-of-spec = tie.close (tie.spec enum-known-decoded enum-known-decoded-2 returns returns-2)
+ins-of-spec = tie.close (tie.spec (λ c. search needs) (λ c. search needs) returns returns-2)

@@ -2,14 +2,8 @@ use borrow.Author.Needs.{needs}
 use Rattle.lines.proofs.pair.Statement.{statement}
 use Rattle.lines.proofs.pair.Tie as tie
 
-both-requires : tie.Need-both-requires
-both-requires c κs = search needs
-
-both-requires-2 : tie.Need-both-requires-2
-both-requires-2 c κs = search needs
-
 returns : tie.Need-returns
 returns c = cc
 
 pub pair-spec : {M : Type 1} → statement M
-pair-spec = tie.close (tie.spec both-requires both-requires-2 returns)
+pair-spec = tie.close (tie.spec (λ c κs. search needs) (λ c κs. search needs) returns)

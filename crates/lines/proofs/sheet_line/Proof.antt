@@ -7,29 +7,11 @@ use borrow.Author.Needs.{needs}
 use Rattle.lines.proofs.sheet_line.Statement.{statement}
 use Rattle.lines.proofs.sheet_line.Tie as tie
 
-slice-aggregate-has-word : tie.Need-slice-aggregate-has-word
-slice-aggregate-has-word c = search needs
-
-has-word-requires : tie.Need-has-word-requires
-has-word-requires c κs = search needs
-
 add-field-at : tie.Need-add-field-at
 add-field-at c = omega (arith, bytes.word-within (c .before .before .before .before .args .text .now) lines.sheetWord (c .before .before .before .before .args .at) (omega arith) (sym (c .before .has-word .ensures) ∙ (c .if1 .taken)))
 
-field-at-requires : tie.Need-field-at-requires
-field-at-requires c κs = search needs
-
-enum-known-value : tie.Need-enum-known-value
-enum-known-value c = search needs
-
-enum-told : tie.Need-enum-told
-enum-told c = search needs
-
 returns : tie.Need-returns
 returns c = laws.sheet-malformed _ _ (c .before .before .before .before .has-word .ensures) (c .before .before .before .if1 .taken) (sym (c .enum-told .given .1) ∙ (c .before .before .field-at .ensures))
-
-in-range-requires : tie.Need-in-range-requires
-in-range-requires c κs = search needs
 
 cast-t15 : tie.Need-cast-t15
 cast-t15 c = let h = laws.range-true 1 32 (c .before .before .before .value .given .0 .0) (sym (c .before .in-range .ensures) ∙ (c .if2 .taken)) in omega arith
@@ -47,14 +29,14 @@ pub sheet-line-spec : {M : Type 1} → statement M
 sheet-line-spec =
     tie.close
     (tie.spec
-    slice-aggregate-has-word
-    has-word-requires
+    (λ c. search needs)
+    (λ c κs. search needs)
     add-field-at
-    field-at-requires
-    enum-known-value
-    enum-told
+    (λ c κs. search needs)
+    (λ c. search needs)
+    (λ c. search needs)
     returns
-    in-range-requires
+    (λ c κs. search needs)
     cast-t15
     returns-2
     returns-3

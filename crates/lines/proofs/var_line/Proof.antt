@@ -7,29 +7,11 @@ use borrow.Author.Needs.{needs}
 use Rattle.lines.proofs.var_line.Statement.{statement}
 use Rattle.lines.proofs.var_line.Tie as tie
 
-slice-aggregate-has-word : tie.Need-slice-aggregate-has-word
-slice-aggregate-has-word c = search needs
-
-has-word-requires : tie.Need-has-word-requires
-has-word-requires c κs = search needs
-
 add-field-at : tie.Need-add-field-at
 add-field-at c = omega (arith, bytes.word-within (c .before .before .before .before .args .text .now) lines.varWord (c .before .before .before .before .args .at) (omega arith) (sym (c .before .has-word .ensures) ∙ (c .if1 .taken)))
 
-field-at-requires : tie.Need-field-at-requires
-field-at-requires c κs = search needs
-
-enum-known-value : tie.Need-enum-known-value
-enum-known-value c = search needs
-
-enum-told : tie.Need-enum-told
-enum-told c = search needs
-
 returns : tie.Need-returns
 returns c = laws.var-malformed _ _ (c .before .before .before .before .has-word .ensures) (c .before .before .before .if1 .taken) (sym (c .enum-told .given .1) ∙ (c .before .before .field-at .ensures))
-
-cast-t15 : tie.Need-cast-t15
-cast-t15 c = search needs
 
 returns-2 : tie.Need-returns-2
 returns-2 c = laws.var-start _ _ (c .before .before .before .before .before .before .has-word .ensures) (c .before .before .before .before .before .if1 .taken) (sym (c .before .before .value .given .1) ∙ (c .before .before .before .before .field-at .ensures)) (c .if2 .taken)
@@ -44,14 +26,14 @@ pub var-line-spec : {M : Type 1} → statement M
 var-line-spec =
     tie.close
     (tie.spec
-    slice-aggregate-has-word
-    has-word-requires
+    (λ c. search needs)
+    (λ c κs. search needs)
     add-field-at
-    field-at-requires
-    enum-known-value
-    enum-told
+    (λ c κs. search needs)
+    (λ c. search needs)
+    (λ c. search needs)
     returns
-    cast-t15
+    (λ c. search needs)
     returns-2
     returns-3
     returns-4)

@@ -5,14 +5,8 @@ use Rattle.machine.proofs.Laws as laws
 use Rattle.machine.proofs.advance.Statement.{statement}
 use Rattle.machine.proofs.advance.Tie as tie
 
-advance-at-requires : tie.Need-advance-at-requires
-advance-at-requires c κs = search needs
-
 returns : tie.Need-returns
 returns c = c .advance-at .ensures
-
-wrapping-add-u64-requires : tie.Need-wrapping-add-u64-requires
-wrapping-add-u64-requires c κs = search needs
 
 returns-2 : tie.Need-returns-2
 returns-2 c =
@@ -24,4 +18,4 @@ returns-2 c =
     rw (c .wrapping-add-u64 .ensures) (laws.past-room (s .args .card) (s .args .process) e f (c .before .if1 .left))
 
 pub advance-spec : {M : Type 1} → statement M
-advance-spec = tie.close (tie.spec advance-at-requires returns wrapping-add-u64-requires returns-2)
+advance-spec = tie.close (tie.spec (λ c κs. search needs) returns (λ c κs. search needs) returns-2)

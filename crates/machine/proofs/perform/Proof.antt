@@ -3,27 +3,6 @@ use borrow.Author.Needs.{needs}
 use Rattle.machine.proofs.perform.Statement.{statement}
 use Rattle.machine.proofs.perform.Tie as tie
 
-enum-told : tie.Need-enum-told
-enum-told c = search needs
-
-enum-known-access : tie.Need-enum-known-access
-enum-known-access c = search needs
-
-access-gate-requires : tie.Need-access-gate-requires
-access-gate-requires c κs = search needs
-
-enum-known-access-2 : tie.Need-enum-known-access-2
-enum-known-access-2 c = search needs
-
-access-announcement-requires : tie.Need-access-announcement-requires
-access-announcement-requires c κs = search needs
-
-enum-known-access-3 : tie.Need-enum-known-access-3
-enum-known-access-3 c = search needs
-
-access-record-requires : tie.Need-access-record-requires
-access-record-requires c κs = search needs
-
 returns : tie.Need-returns
 unfolding perform
 returns c = rw (c .enum-told .given .1)
@@ -44,13 +23,13 @@ pub perform-spec : {M : Type 1} → statement M
 perform-spec =
     tie.close
     (tie.spec
-    enum-told
-    enum-known-access
-    access-gate-requires
-    enum-known-access-2
-    access-announcement-requires
-    enum-known-access-3
-    access-record-requires
+    (λ c. search needs)
+    (λ c. search needs)
+    (λ c κs. search needs)
+    (λ c. search needs)
+    (λ c κs. search needs)
+    (λ c. search needs)
+    (λ c κs. search needs)
     returns
     returns-2
     returns-3

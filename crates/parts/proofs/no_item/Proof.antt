@@ -2,11 +2,8 @@ use borrow.Author.Needs.{needs}
 use Rattle.parts.proofs.no_item.Statement.{statement}
 use Rattle.parts.proofs.no_item.Tie as tie
 
-open-record-requires : tie.Need-open-record-requires
-open-record-requires c κs = search needs
-
 returns : tie.Need-returns
 returns c = rw (c .open-record .ensures)
 
 pub no-item-spec : {M : Type 1} → statement M
-no-item-spec = tie.close (tie.spec open-record-requires returns)
+no-item-spec = tie.close (tie.spec (λ c κs. search needs) returns)

@@ -2,11 +2,8 @@ use borrow.Author.Needs.{needs}
 use Rattle.parts.proofs.open_announcement.Statement.{statement}
 use Rattle.parts.proofs.open_announcement.Tie as tie
 
-zeros-requires : tie.Need-zeros-requires
-zeros-requires c κs = search needs
-
 returns : tie.Need-returns
 returns c = rw (c .zeros .ensures)
 
 pub open-announcement-spec : {M : Type 1} → statement M
-open-announcement-spec = tie.close (tie.spec zeros-requires returns)
+open-announcement-spec = tie.close (tie.spec (λ c κs. search needs) returns)

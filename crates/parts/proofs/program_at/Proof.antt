@@ -6,21 +6,12 @@ use borrow.Author.Needs.{needs}
 use Rattle.parts.proofs.program_at.Statement.{statement}
 use Rattle.parts.proofs.program_at.Tie as tie
 
-mul-result : tie.Need-mul-result
-mul-result c = search needs
-
-array-copy-out-result : tie.Need-array-copy-out-result
-array-copy-out-result c = search needs
-
 returns : tie.Need-returns
 returns c = laws.inside (c .before .before .args .t1) (c .before .before .args .k) _ _ (search needs)
-
-no-program-requires : tie.Need-no-program-requires
-no-program-requires c κs = search needs
 
 returns-2 : tie.Need-returns-2
 returns-2 c = (c .no-program .ensures) ∙ sym (List·getD-eq-default (c .before .before .args .t1) _ (omega arith))
 
 pub program-at-spec : {M : Type 1} → statement M
 program-at-spec =
-    tie.close (tie.spec mul-result array-copy-out-result returns no-program-requires returns-2)
+    tie.close (tie.spec (λ c. search needs) (λ c. search needs) returns (λ c κs. search needs) returns-2)

@@ -2,14 +2,8 @@ use borrow.Author.Needs.{needs}
 use Rattle.parts.proofs.started.Statement.{statement}
 use Rattle.parts.proofs.started.Tie as tie
 
-zeros-requires : tie.Need-zeros-requires
-zeros-requires c κs = search needs
-
-zeros-requires-2 : tie.Need-zeros-requires-2
-zeros-requires-2 c κs = search needs
-
 returns : tie.Need-returns
 returns c = rw (c .before .zeros .ensures, c .zeros2 .ensures)
 
 pub started-spec : {M : Type 1} → statement M
-started-spec = tie.close (tie.spec zeros-requires zeros-requires-2 returns)
+started-spec = tie.close (tie.spec (λ c κs. search needs) (λ c κs. search needs) returns)

@@ -3,12 +3,9 @@ use borrow.Author.Needs.{needs}
 use Rattle.programs.proofs.skipped.Statement.{statement}
 use Rattle.programs.proofs.skipped.Tie as tie
 
-forward-requires : tie.Need-forward-requires
-forward-requires c κs = search needs
-
 returns : tie.Need-returns
 unfolding skipped
 returns c = cc
 
 pub skipped-spec : {M : Type 1} → statement M
-skipped-spec = tie.close (tie.spec forward-requires returns)
+skipped-spec = tie.close (tie.spec (λ c κs. search needs) returns)

@@ -6,11 +6,8 @@ use Rattle.programs.proofs.store.Tie as tie
 returns : tie.Need-returns
 returns c = laws.store-none _ _ _ (c .if1 .taken)
 
-cast-t6 : tie.Need-cast-t6
-cast-t6 c = search needs
-
 returns-2 : tie.Need-returns-2
 returns-2 c = laws.store-there _ _ _ (c .if1 .left)
 
 pub store-spec : {M : Type 1} → statement M
-store-spec = tie.close (tie.spec returns cast-t6 returns-2)
+store-spec = tie.close (tie.spec returns (λ c. search needs) returns-2)

@@ -3,22 +3,10 @@ use borrow.Author.Needs.{needs}
 use Rattle.programs.proofs.with_word.Statement.{statement}
 use Rattle.programs.proofs.with_word.Tie as tie
 
-choose-requires : tie.Need-choose-requires
-choose-requires c κs = search needs
-
-choose-requires-2 : tie.Need-choose-requires-2
-choose-requires-2 c κs = search needs
-
-choose-requires-3 : tie.Need-choose-requires-3
-choose-requires-3 c κs = search needs
-
-choose-requires-4 : tie.Need-choose-requires-4
-choose-requires-4 c κs = search needs
-
 returns : tie.Need-returns
 returns c = laws.with-word _ _ _ _ _ _ _ (c .before .before .before .choose .ensures) (c .before .before .choose2 .ensures) (c .before .choose3 .ensures) (c .choose4 .ensures)
 
 pub with-word-spec : {M : Type 1} → statement M
 with-word-spec =
     tie.close
-    (tie.spec choose-requires choose-requires-2 choose-requires-3 choose-requires-4 returns)
+    (tie.spec (λ c κs. search needs) (λ c κs. search needs) (λ c κs. search needs) (λ c κs. search needs) returns)

@@ -7,32 +7,14 @@ use borrow.Author.Needs.{needs}
 use Rattle.reader.proofs.read_body.Statement.{statement}
 use Rattle.reader.proofs.read_body.Tie as tie
 
-read-vars-requires : tie.Need-read-vars-requires
-read-vars-requires c κs = search needs
-
-enum-told : tie.Need-enum-told
-enum-told c = search needs
-
-enum-told-2 : tie.Need-enum-told-2
-enum-told-2 c = search needs
-
 returns : tie.Need-returns
 returns c = rw (← c .before .before .read-vars .ensures) (laws.body-no-vars _ _ (c .before .before .read-vars .result) (c .enum-told2 .given .1))
 
 read-programs-requires : tie.Need-read-programs-requires
 read-programs-requires c κs = omega (arith, ap (λ (z : Reading). z .line) (c .before .before .before .read-vars .ensures), laws.vars-line (c .before .before .before .before .before .args .text .now) (c .before .before .before .before .before .args .variables) 0 (soFar (c .before .before .before .before .before .args .contents) (c .before .before .before .before .before .args .at) 2))
 
-enum-told-3 : tie.Need-enum-told-3
-enum-told-3 c = search needs
-
-enum-told-4 : tie.Need-enum-told-4
-enum-told-4 c = search needs
-
 returns-2 : tie.Need-returns-2
 returns-2 c = rw (← c .before .before .before .before .before .before .read-vars .ensures) (laws.body-no-programs _ _ (c .before .before .before .before .before .before .read-vars .result) (c .before .before .read-programs .result) (c .before .before .before .before .enum-told .given .1) (c .before .before .read-programs .ensures) (c .enum-told4 .given .1))
-
-refused-at-requires : tie.Need-refused-at-requires
-refused-at-requires c κs = search needs
 
 returns-3 : tie.Need-returns-3
 returns-3 c = rw (← c .before .before .before .before .before .before .before .before .read-vars .ensures) (laws.body-whole _ _ (c .before .before .before .before .before .before .before .before .read-vars .result) (c .before .before .before .before .read-programs .result) (c .before .before .before .before .before .before .enum-told .given .1) (c .before .before .before .before .read-programs .ensures) (c .before .before .enum-told3 .given .1) (c .if1 .taken))
@@ -44,14 +26,14 @@ pub read-body-spec : {M : Type 1} → statement M
 read-body-spec =
     tie.close
     (tie.spec
-    read-vars-requires
-    enum-told
-    enum-told-2
+    (λ c κs. search needs)
+    (λ c. search needs)
+    (λ c. search needs)
     returns
     read-programs-requires
-    enum-told-3
-    enum-told-4
+    (λ c. search needs)
+    (λ c. search needs)
     returns-2
-    refused-at-requires
+    (λ c κs. search needs)
     returns-3
     returns-4)

@@ -5,32 +5,11 @@ use borrow.Author.Needs.{needs}
 use Rattle.reader.proofs.read_card.Statement.{statement}
 use Rattle.reader.proofs.read_card.Tie as tie
 
-refused-at-requires : tie.Need-refused-at-requires
-refused-at-requires c κs = search needs
-
 returns : tie.Need-returns
 returns c = (c .refused-at .ensures) ∙ laws.card-long _ (c .before .if1 .taken)
 
-card-line-requires : tie.Need-card-line-requires
-card-line-requires c κs = search needs
-
-enum-known-line : tie.Need-enum-known-line
-enum-known-line c = search needs
-
-enum-told : tie.Need-enum-told
-enum-told c = search needs
-
-card-refusal-requires : tie.Need-card-refusal-requires
-card-refusal-requires c κs = search needs
-
-refused-at-requires-2 : tie.Need-refused-at-requires-2
-refused-at-requires-2 c κs = search needs
-
 returns-2 : tie.Need-returns-2
 returns-2 c = rw (c .refused-at2 .ensures, c .before .card-refusal .ensures, c .before .before .enum-told .given .1) (laws.card-lines _ (c .before .before .before .before .before .if1 .left) (sym (c .before .before .enum-told .given .1) ∙ (c .before .before .before .before .card-line .ensures)))
-
-begun-contents-requires : tie.Need-begun-contents-requires
-begun-contents-requires c κs = search needs
 
 read-body-requires : tie.Need-read-body-requires
 read-body-requires c κs = let f = card-read (c .before .before .before .before .before .before .before .args .text .now) 0 (c .before .before .line .given .0 .0) (c .before .before .line .given .0 .1 .0) (c .before .before .line .given .0 .1 .1 .0) (c .before .before .line .given .0 .1 .1 .1 .0) (c .before .before .line .given .0 .1 .1 .1 .1 .0) (sym (c .before .before .before .before .card-line .ensures) ∙ (c .before .before .line .given .1)) .fits in (f .variables .1, f .programs .1)
@@ -42,14 +21,14 @@ pub read-card-spec : {M : Type 1} → statement M
 read-card-spec =
     tie.close
     (tie.spec
-    refused-at-requires
+    (λ c κs. search needs)
     returns
-    card-line-requires
-    enum-known-line
-    enum-told
-    card-refusal-requires
-    refused-at-requires-2
+    (λ c κs. search needs)
+    (λ c. search needs)
+    (λ c. search needs)
+    (λ c κs. search needs)
+    (λ c κs. search needs)
     returns-2
-    begun-contents-requires
+    (λ c κs. search needs)
     read-body-requires
     returns-3)

@@ -6,26 +6,8 @@ use borrow.Author.Needs.{needs}
 use Rattle.reader.proofs.read_program.Statement.{statement}
 use Rattle.reader.proofs.read_program.Tie as tie
 
-sheet-line-requires : tie.Need-sheet-line-requires
-sheet-line-requires c κs = search needs
-
-enum-known-line : tie.Need-enum-known-line
-enum-known-line c = search needs
-
-enum-told : tie.Need-enum-told
-enum-told c = search needs
-
-sheet-refusal-requires : tie.Need-sheet-refusal-requires
-sheet-refusal-requires c κs = search needs
-
-program-refused-at-requires : tie.Need-program-refused-at-requires
-program-refused-at-requires c κs = search needs
-
 returns : tie.Need-returns
 returns c = rw (c .program-refused-at .ensures, c .before .sheet-refusal .ensures, c .before .before .enum-told .given .1) (laws.program-refused _ _ _ _ (c .before .before .before .before .sheet-line .ensures) (c .before .before .enum-told .given .1))
-
-add-read-lines : tie.Need-add-read-lines
-add-read-lines c = search needs
 
 read-lines-requires : tie.Need-read-lines-requires
 read-lines-requires c κs = omega (arith, sheet-read (c .before .before .before .before .before .args .text .now) (c .before .before .before .before .before .args .at) (c .before .line .given .0 .0) (c .before .line .given .0 .1 .0) (sym (c .before .before .before .sheet-line .ensures) ∙ (c .before .line .given .1)) .fits)
@@ -37,12 +19,12 @@ pub read-program-spec : {M : Type 1} → statement M
 read-program-spec =
     tie.close
     (tie.spec
-    sheet-line-requires
-    enum-known-line
-    enum-told
-    sheet-refusal-requires
-    program-refused-at-requires
+    (λ c κs. search needs)
+    (λ c. search needs)
+    (λ c. search needs)
+    (λ c κs. search needs)
+    (λ c κs. search needs)
     returns
-    add-read-lines
+    (λ c. search needs)
     read-lines-requires
     returns-2)

@@ -3,96 +3,6 @@ use borrow.Author.Needs.{needs}
 use Rattle.steps.proofs.access_of.Statement.{statement}
 use Rattle.steps.proofs.access_of.Tie as tie
 
-enum-told : tie.Need-enum-told
-enum-told c = search needs
-
-enum-told-2 : tie.Need-enum-told-2
-enum-told-2 c = search needs
-
-read-gate-requires : tie.Need-read-gate-requires
-read-gate-requires c κs = search needs
-
-enum-told-3 : tie.Need-enum-told-3
-enum-told-3 c = search needs
-
-enum-told-4 : tie.Need-enum-told-4
-enum-told-4 c = search needs
-
-top-requires : tie.Need-top-requires
-top-requires c κs = search needs
-
-enum-told-5 : tie.Need-enum-told-5
-enum-told-5 c = search needs
-
-read-own-requires : tie.Need-read-own-requires
-read-own-requires c κs = search needs
-
-enum-told-6 : tie.Need-enum-told-6
-enum-told-6 c = search needs
-
-read-gate-requires-2 : tie.Need-read-gate-requires-2
-read-gate-requires-2 c κs = search needs
-
-enum-told-7 : tie.Need-enum-told-7
-enum-told-7 c = search needs
-
-enum-told-8 : tie.Need-enum-told-8
-enum-told-8 c = search needs
-
-read-own-requires-2 : tie.Need-read-own-requires-2
-read-own-requires-2 c κs = search needs
-
-enum-told-9 : tie.Need-enum-told-9
-enum-told-9 c = search needs
-
-enum-told-10 : tie.Need-enum-told-10
-enum-told-10 c = search needs
-
-read-gate-requires-3 : tie.Need-read-gate-requires-3
-read-gate-requires-3 c κs = search needs
-
-enum-told-11 : tie.Need-enum-told-11
-enum-told-11 c = search needs
-
-enum-told-12 : tie.Need-enum-told-12
-enum-told-12 c = search needs
-
-enum-told-13 : tie.Need-enum-told-13
-enum-told-13 c = search needs
-
-enum-told-14 : tie.Need-enum-told-14
-enum-told-14 c = search needs
-
-finish-requires : tie.Need-finish-requires
-finish-requires c κs = search needs
-
-enum-told-15 : tie.Need-enum-told-15
-enum-told-15 c = search needs
-
-finish-requires-2 : tie.Need-finish-requires-2
-finish-requires-2 c κs = search needs
-
-enum-told-16 : tie.Need-enum-told-16
-enum-told-16 c = search needs
-
-release-requires : tie.Need-release-requires
-release-requires c κs = search needs
-
-enum-told-17 : tie.Need-enum-told-17
-enum-told-17 c = search needs
-
-read-own-requires-3 : tie.Need-read-own-requires-3
-read-own-requires-3 c κs = search needs
-
-enum-told-18 : tie.Need-enum-told-18
-enum-told-18 c = search needs
-
-enum-told-19 : tie.Need-enum-told-19
-enum-told-19 c = search needs
-
-release-requires-2 : tie.Need-release-requires-2
-release-requires-2 c κs = search needs
-
 returns : tie.Need-returns
 unfolding accessOf
 returns c = rw (c .enum-told .given .1)
@@ -173,36 +83,36 @@ pub access-of-spec : {M : Type 1} → statement M
 access-of-spec =
     tie.close
     (tie.spec
-    enum-told
-    enum-told-2
-    read-gate-requires
-    enum-told-3
-    enum-told-4
-    top-requires
-    enum-told-5
-    read-own-requires
-    enum-told-6
-    read-gate-requires-2
-    enum-told-7
-    enum-told-8
-    read-own-requires-2
-    enum-told-9
-    enum-told-10
-    read-gate-requires-3
-    enum-told-11
-    enum-told-12
-    enum-told-13
-    enum-told-14
-    finish-requires
-    enum-told-15
-    finish-requires-2
-    enum-told-16
-    release-requires
-    enum-told-17
-    read-own-requires-3
-    enum-told-18
-    enum-told-19
-    release-requires-2
+    (λ c. search needs)
+    (λ c. search needs)
+    (λ c κs. search needs)
+    (λ c. search needs)
+    (λ c. search needs)
+    (λ c κs. search needs)
+    (λ c. search needs)
+    (λ c κs. search needs)
+    (λ c. search needs)
+    (λ c κs. search needs)
+    (λ c. search needs)
+    (λ c. search needs)
+    (λ c κs. search needs)
+    (λ c. search needs)
+    (λ c. search needs)
+    (λ c κs. search needs)
+    (λ c. search needs)
+    (λ c. search needs)
+    (λ c. search needs)
+    (λ c. search needs)
+    (λ c κs. search needs)
+    (λ c. search needs)
+    (λ c κs. search needs)
+    (λ c. search needs)
+    (λ c κs. search needs)
+    (λ c. search needs)
+    (λ c κs. search needs)
+    (λ c. search needs)
+    (λ c. search needs)
+    (λ c κs. search needs)
     returns
     returns-2
     returns-3

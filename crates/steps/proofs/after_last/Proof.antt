@@ -2,9 +2,6 @@ use borrow.Author.Needs.{needs}
 use Rattle.steps.proofs.after_last.Statement.{statement}
 use Rattle.steps.proofs.after_last.Tie as tie
 
-same-holder-requires : tie.Need-same-holder-requires
-same-holder-requires c κs = search needs
-
 returns : tie.Need-returns
 returns c = rw (← c .before .same-holder .ensures, c .if1 .taken)
 
@@ -12,4 +9,4 @@ returns-2 : tie.Need-returns-2
 returns-2 c = rw (← c .before .same-holder .ensures, c .if1 .left)
 
 pub after-last-spec : {M : Type 1} → statement M
-after-last-spec = tie.close (tie.spec same-holder-requires returns returns-2)
+after-last-spec = tie.close (tie.spec (λ c κs. search needs) returns returns-2)

@@ -3,9 +3,6 @@ use borrow.Author.Needs.{needs}
 use Rattle.steps.proofs.first_choice.Statement.{statement}
 use Rattle.steps.proofs.first_choice.Tie as tie
 
-rem-m : tie.Need-rem-m
-rem-m c = search needs
-
 cast-result : tie.Need-cast-result
 cast-result c = record { fits = laws.choice-small _ _ (c .if1 .taken) (search needs) }
 
@@ -16,4 +13,4 @@ returns-2 : tie.Need-returns-2
 returns-2 c = laws.choice-none _ _ (c .if1 .left)
 
 pub first-choice-spec : {M : Type 1} → statement M
-first-choice-spec = tie.close (tie.spec rem-m cast-result returns returns-2)
+first-choice-spec = tie.close (tie.spec (λ c. search needs) cast-result returns returns-2)

@@ -3,9 +3,6 @@ use borrow.Author.Needs.{needs}
 use Rattle.steps.proofs.is_idle.Statement.{statement}
 use Rattle.steps.proofs.is_idle.Tie as tie
 
-enum-told : tie.Need-enum-told
-enum-told c = search needs
-
 returns : tie.Need-returns
 returns c = rw (c .enum-told .given .1)
 
@@ -13,4 +10,4 @@ returns-2 : tie.Need-returns-2
 returns-2 c = laws.under-way (c .before .args .place) (c .match .keys2)
 
 pub is-idle-spec : {M : Type 1} → statement M
-is-idle-spec = tie.close (tie.spec enum-told returns returns-2)
+is-idle-spec = tie.close (tie.spec (λ c. search needs) returns returns-2)

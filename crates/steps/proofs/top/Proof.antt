@@ -7,12 +7,9 @@ returns : tie.Need-returns
 unfolding accessOf
 returns c = rw (c .if1 .taken)
 
-read-gate-requires : tie.Need-read-gate-requires
-read-gate-requires c κs = search needs
-
 returns-2 : tie.Need-returns-2
 unfolding accessOf
 returns-2 c = rw (c .before .if1 .left) (c .read-gate .ensures)
 
 pub top-spec : {M : Type 1} → statement M
-top-spec = tie.close (tie.spec returns read-gate-requires returns-2)
+top-spec = tie.close (tie.spec returns (λ c κs. search needs) returns-2)

@@ -7,12 +7,6 @@ use borrow.Author.Needs.{needs}
 use Rattle.steps.proofs.write_after.Statement.{statement}
 use Rattle.steps.proofs.write_after.Tie as tie
 
-add-write-from : tie.Need-add-write-from
-add-write-from c = search needs
-
-write-from-requires : tie.Need-write-from-requires
-write-from-requires c κs = search needs
-
 returns : tie.Need-returns
 returns c = rw add-one at (c .write-from .ensures)
 
@@ -23,4 +17,4 @@ returns-2 c =
     laws.write-past _ _ _ e (omega (arith, c .if1 .left))
 
 pub write-after-spec : {M : Type 1} → statement M
-write-after-spec = tie.close (tie.spec add-write-from write-from-requires returns returns-2)
+write-after-spec = tie.close (tie.spec (λ c. search needs) (λ c κs. search needs) returns returns-2)

@@ -5,9 +5,6 @@ use borrow.Author.Needs.{needs}
 use Rattle.steps.proofs.write_from.Statement.{statement}
 use Rattle.steps.proofs.write_from.Tie as tie
 
-next-write-requires : tie.Need-next-write-requires
-next-write-requires c κs = search needs
-
 returns : tie.Need-returns
 returns c =
     let e : length (c .before .before .before .before .args .dictionary .items) ≡ 32 =
@@ -27,4 +24,4 @@ returns-3 c =
     laws.write-none _ _ _ e _ (c .before .before .next-write .ensures) (c .if1 .left)
 
 pub write-from-spec : {M : Type 1} → statement M
-write-from-spec = tie.close (tie.spec next-write-requires returns returns-2 returns-3)
+write-from-spec = tie.close (tie.spec (λ c κs. search needs) returns returns-2 returns-3)

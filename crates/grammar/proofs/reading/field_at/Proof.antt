@@ -6,20 +6,8 @@ use borrow.Author.Needs.{needs}
 use Rattle.grammar.proofs.reading.field_at.Statement.{statement}
 use Rattle.grammar.proofs.reading.field_at.Tie as tie
 
-number-at-requires : tie.Need-number-at-requires
-number-at-requires c κs = search needs
-
-enum-known-value : tie.Need-enum-known-value
-enum-known-value c = search needs
-
-enum-told : tie.Need-enum-told
-enum-told c = search needs
-
 returns : tie.Need-returns
 returns c = laws.field-malformed _ _ _ (sym (c .enum-told .given .1) ∙ (c .before .before .number-at .ensures))
-
-has-byte-requires : tie.Need-has-byte-requires
-has-byte-requires c κs = search needs
 
 add-t9 : tie.Need-add-t9
 add-t9 c = let h = bytes.byte-true (c .before .before .before .before .before .before .before .args .text .now) (c .before .before .before .value .given .0 .1 .0) (c .before .before .before .before .before .before .before .args .separator) (sym (c .before .has-byte .ensures) ∙ (c .if1 .taken)) in omega arith
@@ -34,11 +22,11 @@ pub field-at-spec : {M : Type 1} → statement M
 field-at-spec =
     tie.close
     (tie.spec
-    number-at-requires
-    enum-known-value
-    enum-told
+    (λ c κs. search needs)
+    (λ c. search needs)
+    (λ c. search needs)
     returns
-    has-byte-requires
+    (λ c κs. search needs)
     add-t9
     returns-2
     returns-3)

@@ -10,9 +10,6 @@ mul-more c = omega arith
 sub-wide : tie.Need-sub-wide
 sub-wide c = let h = digits.digit-true (c .args .digit) (c .pre .1) in omega arith
 
-wide-requires : tie.Need-wide-requires
-wide-requires c κs = search needs
-
 add-more : tie.Need-add-more
 add-more c = omega arith
 
@@ -23,4 +20,4 @@ returns-2 : tie.Need-returns-2
 returns-2 c = omega arith
 
 pub grown-spec : {M : Type 1} → statement M
-grown-spec = tie.close (tie.spec mul-more sub-wide wide-requires add-more returns returns-2)
+grown-spec = tie.close (tie.spec mul-more sub-wide (λ c κs. search needs) add-more returns returns-2)

@@ -3,9 +3,6 @@ use borrow.Author.Needs.{needs}
 use Rattle.grammar.proofs.reading.has_byte.Statement.{statement}
 use Rattle.grammar.proofs.reading.has_byte.Tie as tie
 
-shared-slice-read-result : tie.Need-shared-slice-read-result
-shared-slice-read-result c = search needs
-
 returns : tie.Need-returns
 returns c = bytes.byte-inside (c .before .before .args .text .now) (c .before .before .args .at) (c .before .before .args .byte) (c .before .if1 .taken)
 
@@ -13,4 +10,4 @@ returns-2 : tie.Need-returns-2
 returns-2 c = bytes.byte-past (c .before .args .text .now) (c .before .args .at) (c .before .args .byte) (c .if1 .left)
 
 pub has-byte-spec : {M : Type 1} → statement M
-has-byte-spec = tie.close (tie.spec shared-slice-read-result returns returns-2)
+has-byte-spec = tie.close (tie.spec (λ c. search needs) returns returns-2)

@@ -5,20 +5,11 @@ use borrow.Author.Needs.{needs}
 use Rattle.grammar.proofs.reading.number_at.Statement.{statement}
 use Rattle.grammar.proofs.reading.number_at.Tie as tie
 
-byte-at-requires : tie.Need-byte-at-requires
-byte-at-requires c κs = search needs
-
 add-t5 : tie.Need-add-t5
 add-t5 c = let h = bytes.inside (c .before .before .before .args .text .now) (c .before .before .before .args .at) (c .before .byte-at .result) (c .before .byte-at .ensures) (omega arith) in omega arith
 
 returns : tie.Need-returns
 returns c = laws.number-zero _ _ _ (c .before .byte-at .ensures) (c .if1 .taken)
-
-is-digit-requires : tie.Need-is-digit-requires
-is-digit-requires c κs = search needs
-
-digits-at-requires : tie.Need-digits-at-requires
-digits-at-requires c κs = search needs
 
 returns-2 : tie.Need-returns-2
 returns-2 c = laws.number-digits _ _ _ (c .before .before .before .before .byte-at .ensures) (c .before .before .before .if1 .left) (c .before .before .is-digit .ensures) (c .before .if2 .taken) (c .digits-at .ensures)
@@ -30,10 +21,10 @@ pub number-at-spec : {M : Type 1} → statement M
 number-at-spec =
     tie.close
     (tie.spec
-    byte-at-requires
+    (λ c κs. search needs)
     add-t5
     returns
-    is-digit-requires
-    digits-at-requires
+    (λ c κs. search needs)
+    (λ c κs. search needs)
     returns-2
     returns-3)

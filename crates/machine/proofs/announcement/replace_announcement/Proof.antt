@@ -5,33 +5,6 @@ use borrow.Author.Needs.{needs}
 use Rattle.machine.proofs.announcement.replace_announcement.Statement.{statement}
 use Rattle.machine.proofs.announcement.replace_announcement.Tie as tie
 
-mul-task : tie.Need-mul-task
-mul-task c = search needs
-
-element-copy-out-task : tie.Need-element-copy-out-task
-element-copy-out-task c = search needs
-
-mul-t15 : tie.Need-mul-t15
-mul-t15 c = search needs
-
-element-set-from-after : tie.Need-element-set-from-after
-element-set-from-after c = search needs
-
-mul-cell : tie.Need-mul-cell
-mul-cell c = search needs
-
-element-copy-out-cell : tie.Need-element-copy-out-cell
-element-copy-out-cell c = search needs
-
-swap-announcement-requires : tie.Need-swap-announcement-requires
-swap-announcement-requires c κs = search needs
-
-mul-stored : tie.Need-mul-stored
-mul-stored c = search needs
-
-element-set-from-stored : tie.Need-element-set-from-stored
-element-set-from-stored c = search needs
-
 returns : tie.Need-returns
 returns c = rw (c .before .swap-announcement .ensures)
 
@@ -48,14 +21,14 @@ pub replace-announcement-spec : {M : Type 1} → statement M
 replace-announcement-spec =
     tie.close
     (tie.spec
-    mul-task
-    element-copy-out-task
-    mul-t15
-    element-set-from-after
-    mul-cell
-    element-copy-out-cell
-    swap-announcement-requires
-    mul-stored
-    element-set-from-stored
+    (λ c. search needs)
+    (λ c. search needs)
+    (λ c. search needs)
+    (λ c. search needs)
+    (λ c. search needs)
+    (λ c. search needs)
+    (λ c κs. search needs)
+    (λ c. search needs)
+    (λ c. search needs)
     returns
     returns-2)

@@ -4,20 +4,8 @@ use borrow.Author.Needs.{needs}
 use Rattle.session.proofs.commands.word_at.Statement.{statement}
 use Rattle.session.proofs.commands.word_at.Tie as tie
 
-field-at-requires : tie.Need-field-at-requires
-field-at-requires c κs = search needs
-
-enum-known-value : tie.Need-enum-known-value
-enum-known-value c = search needs
-
-enum-told : tie.Need-enum-told
-enum-told c = search needs
-
 returns : tie.Need-returns
 returns c = laws.word-malformed _ _ _ (sym (c .enum-told .given .1) ∙ (c .before .before .field-at .ensures))
-
-cast-t9 : tie.Need-cast-t9
-cast-t9 c = search needs
 
 returns-2 : tie.Need-returns-2
 returns-2 c = laws.word-value _ _ _ (sym (c .before .before .value .given .1) ∙ (c .before .before .before .before .field-at .ensures)) (c .if1 .taken)
@@ -28,4 +16,4 @@ returns-3 c = laws.word-large _ _ _ (sym (c .before .before .value .given .1) �
 pub word-at-spec : {M : Type 1} → statement M
 word-at-spec =
     tie.close
-    (tie.spec field-at-requires enum-known-value enum-told returns cast-t9 returns-2 returns-3)
+    (tie.spec (λ c κs. search needs) (λ c. search needs) (λ c. search needs) returns (λ c. search needs) returns-2 returns-3)

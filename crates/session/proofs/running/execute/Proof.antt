@@ -3,33 +3,6 @@ use borrow.Author.Needs.{needs}
 use Rattle.session.proofs.running.execute.Statement.{statement}
 use Rattle.session.proofs.running.execute.Tie as tie
 
-enum-known-command : tie.Need-enum-known-command
-enum-known-command c = search needs
-
-call-requires : tie.Need-call-requires
-call-requires c κs = search needs
-
-enum-known-command-2 : tie.Need-enum-known-command-2
-enum-known-command-2 c = search needs
-
-request-exit-requires : tie.Need-request-exit-requires
-request-exit-requires c κs = search needs
-
-enum-known-command-3 : tie.Need-enum-known-command-3
-enum-known-command-3 c = search needs
-
-step-requires : tie.Need-step-requires
-step-requires c κs = search needs
-
-enum-known-command-4 : tie.Need-enum-known-command-4
-enum-known-command-4 c = search needs
-
-read-requires : tie.Need-read-requires
-read-requires c κs = search needs
-
-enum-told : tie.Need-enum-told
-enum-told c = search needs
-
 returns : tie.Need-returns
 unfolding execute
 returns c = rw (c .before .before .command .given .1) (c .call .ensures)
@@ -54,15 +27,15 @@ pub execute-spec : {M : Type 1} → statement M
 execute-spec =
     tie.close
     (tie.spec
-    enum-known-command
-    call-requires
-    enum-known-command-2
-    request-exit-requires
-    enum-known-command-3
-    step-requires
-    enum-known-command-4
-    read-requires
-    enum-told
+    (λ c. search needs)
+    (λ c κs. search needs)
+    (λ c. search needs)
+    (λ c κs. search needs)
+    (λ c. search needs)
+    (λ c κs. search needs)
+    (λ c. search needs)
+    (λ c κs. search needs)
+    (λ c. search needs)
     returns
     returns-2
     returns-3

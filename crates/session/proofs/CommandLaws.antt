@@ -1,20 +1,22 @@
 -- Commands by the fields and tests that decide them.
-use mathlib.Core.Bool.{true, false, cond}
+use mathlib.Core.Bool.{Bool, true, false, cond}
 use mathlib.Core.Path.{_≡_, _∙_}
 use mathlib.Core.List.{List}
 use Prim.Native.Nat.{ℕ, suc, _+_, _<_, _≤_}
-use lib.Dec.{eqb}
+use lib.Dec.{eqb, ltb}
 use lib.ListN.{getD, drop, length, drop-of-length-le}
 use lib.Seq.{drop-cons}
 use native.Mathlib.Numerals.{add-one}
-use borrow.Author.Tests.{eq-eqb, ne-eqb, lt-ltb, le-ltb}
+use borrow.Author.Tests.{eq-eqb, ne-eqb, lt-ltb, le-ltb, ltb-true}
 use Rattle.grammar.specs.declared.Number.{Number}
-use Rattle.grammar.specs.Reading.{field, hasWord}
+use Rattle.grammar.specs.declared.Numbers.{Numbers}
+use Rattle.grammar.specs.Reading.{field, four, hasWord}
+use Rattle.grammar.proofs.Cases.{and-true}
 use Rattle.construction.specs.declared.Words.{Words}
 use Rattle.session.specs.declared.Word.{Word}
 use Rattle.session.specs.declared.Inputs.{Inputs}
 use Rattle.session.specs.declared.Command.{Command}
-use Rattle.session.specs.Commands.{callWord, wishWord, stepWord, lookWord, word, inputs, lineEnd, callAt, withNumber, command}
+use Rattle.session.specs.Commands.{callWord, wishWord, stepWord, lookWord, word, areWords, inputs, lineEnd, callAt, withNumber, command}
 
 -- ---- the end of a line
 module _ (t : List ℕ) (i : ℕ) where
@@ -48,31 +50,37 @@ module _ (t : List ℕ) (s at : ℕ) where
     word-large h = rw (← e, le-ltb v 4294967296 h)
 
 -- ---- the four inputs
+pub record AreWords (a b c d : ℕ) : Type 0 where
+  pub first : a < 4294967296
+  pub second : b < 4294967296
+  pub third : c < 4294967296
+  pub last : d < 4294967296
+
+pub are-words : (a b c d : ℕ) → areWords a b c d ≡ true → AreWords a b c d
+are-words a b c d e =
+    let x = and-true (ltb a 4294967296) _ e in
+    let y = and-true (ltb b 4294967296) _ (x .1) in
+    let z = and-true (ltb c 4294967296) _ (y .1) in
+    record {
+      first = ltb-true _ _ (x .0);
+      second = ltb-true _ _ (y .0);
+      third = ltb-true _ _ (z .0);
+      last = ltb-true _ _ (z .1);
+    }
+
 module _ (t : List ℕ) (at : ℕ) where
-  pub inputs-no-first : Word.Malformed ≡ word t 44 at → Inputs.Malformed ≡ inputs t at
+  pub inputs-malformed : Numbers.Malformed ≡ four t at → Inputs.Malformed ≡ inputs t at
   unfolding inputs
-  inputs-no-first e = rw (← e)
+  inputs-malformed e = rw (← e)
 
-  module _ {a i : ℕ} (ea : Word.Value a i ≡ word t 44 at) where
-    pub inputs-no-second : Word.Malformed ≡ word t 44 i → Inputs.Malformed ≡ inputs t at
+  module _ {a b c d i : ℕ} (e : Numbers.Values a b c d i ≡ four t at) {r : Bool} (f : r ≡ areWords a b c d) where
+    pub inputs-values : r ≡ true → Inputs.Values (record { w0 = a; w1 = b; w2 = c; w3 = d }) i ≡ inputs t at
     unfolding inputs
-    inputs-no-second e = rw (← ea, ← e)
+    inputs-values h = rw (← e, ← f, h)
 
-    module _ {b j : ℕ} (eb : Word.Value b j ≡ word t 44 i) where
-      pub inputs-no-third : Word.Malformed ≡ word t 44 j → Inputs.Malformed ≡ inputs t at
-      unfolding inputs
-      inputs-no-third e = rw (← ea, ← eb, ← e)
-
-      module _ {c k : ℕ} (ec : Word.Value c k ≡ word t 44 j) where
-        pub inputs-no-last : Word.Malformed ≡ word t 10 k → Inputs.Malformed ≡ inputs t at
-        unfolding inputs
-        inputs-no-last e = rw (← ea, ← eb, ← ec, ← e)
-
-        pub inputs-values :
-            {d l : ℕ} → Word.Value d l ≡ word t 10 k →
-            Inputs.Values (record { w0 = a; w1 = b; w2 = c; w3 = d }) l ≡ inputs t at
-        unfolding inputs
-        inputs-values e = rw (← ea, ← eb, ← ec, ← e)
+    pub inputs-large : r ≡ false → Inputs.Malformed ≡ inputs t at
+    unfolding inputs
+    inputs-large h = rw (← e, ← f, h)
 
 -- ---- a call after its verb
 module _ (t : List ℕ) (past at : ℕ) where

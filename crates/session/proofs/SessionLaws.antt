@@ -10,10 +10,11 @@ use lib.Seq.{sets, length-take-le, sets-eq, length-sets, take-at, drop-at, drop-
 use native.Mathlib.Omega.{arith}
 use borrow.Author.Tests.{lt-ltb, le-ltb, ltb-true, ltb-false, le-leb, lt-leb}
 use Rattle.grammar.specs.declared.Number.{Number}
-use Rattle.grammar.specs.Reading.{field, hasWord}
+use Rattle.grammar.specs.declared.Numbers.{Numbers}
+use Rattle.grammar.specs.Reading.{field, four, hasWord}
 use Rattle.grammar.specs.Writing.{placeAfter, largest, Put}
 use Rattle.grammar.proofs.Cases.{on-test}
-use Rattle.grammar.proofs.Fields.{field-within}
+use Rattle.grammar.proofs.Fields.{field-within, four-within}
 use Rattle.grammar.proofs.Puts.{sets-append, put-front}
 use Rattle.construction.specs.declared.Words.{Words}
 use Rattle.construction.specs.declared.Answered.{Answered}
@@ -27,7 +28,7 @@ use Rattle.session.specs.declared.Inputs.{Inputs}
 use Rattle.session.specs.declared.Command.{Command}
 use Rattle.session.specs.declared.State.{State}
 use Rattle.session.specs.declared.Printed.{Printed}
-use Rattle.session.specs.Commands.{callWord, wishWord, stepWord, lookWord, word, withFirst, withSecond, withThird, withLast, inputs, lineEnd, limited, withInputs, withProgram, withProcess, callAt, withNumber, command, nextOf, commandsFrom, commands}
+use Rattle.session.specs.Commands.{callWord, wishWord, stepWord, lookWord, word, areWords, limitedFour, inputs, lineEnd, limited, withInputs, withProgram, withProcess, callAt, withNumber, command, nextOf, commandsFrom, commands}
 use Rattle.session.specs.Printing.{lineText, longest, cardRefusal, callsRefusal}
 use Rattle.session.specs.Session.{execute, lineOf, afterLine, linesOf, linesText, Gathered, gather, fitting, firstLine, printed, printedInto, Prints, overState, firstState, callsBeginning, verdictBeginning, verdictText, beginning, session, Begins, Starts}
 
@@ -56,16 +57,14 @@ module _ {κ} (t : List ℕ) where
 
   on-inputs : (P : Inputs → Type κ) (at : ℕ) → ((x : Words) (i : ℕ) → at < i → P (Inputs.Values x i)) → P Inputs.Malformed → P (inputs t at)
   unfolding inputs
-  on-inputs P at f m =
-      on-word (λ (w : Word). P (withFirst t w)) 44 at
-      (λ a i h.
-      on-word (λ (w : Word). P (withSecond t a w)) 44 i
-      (λ b j g.
-      on-word (λ (w : Word). P (withThird t a b w)) 44 j
-      (λ c k e. on-word (λ (w : Word). P (withLast a b c w)) 10 k (λ d l n. f (record { w0 = a; w1 = b; w2 = c; w3 = d }) l (omega arith)) m)
-      m)
-      m)
-      m
+  on-inputs P at f m = go (four t at) refl
+    where
+      go : (n : Numbers) → four t at ≡ n → P (limitedFour n)
+      go (Numbers.Values a b c d i) e =
+          on-test P (areWords a b c d)
+          (λ _. f (record { w0 = a; w1 = b; w2 = c; w3 = d }) i (four-within t at a b c d i e .0))
+          (λ _. m)
+      go Numbers.Malformed e = m
 
 module _ (t : List ℕ) (at : ℕ) where
   call-past : (past : ℕ) → at < past → at < nextOf (callAt t past (at + 5))

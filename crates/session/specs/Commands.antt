@@ -1,12 +1,13 @@
 -- The commands of a calls text (document 01, 'The bench program'): `call,process,sheet,i0,i1,i2,i3`, `wish,process`, `step,process`,
 -- `look,variable`, 'with fields and line ends as in the card text'.
 use Prim.Native.Nat.{ℕ, zero, suc, _+_}
-use mathlib.Core.Bool.{cond}
+use mathlib.Core.Bool.{Bool, cond, _&&_}
 use mathlib.Core.List.{List, [], _∷_}
 use lib.ListN.{length, drop}
 use lib.Dec.{eqb, ltb}
 use Rattle.grammar.specs.declared.Number.{Number}
-use Rattle.grammar.specs.Reading.{field, hasWord}
+use Rattle.grammar.specs.declared.Numbers.{Numbers}
+use Rattle.grammar.specs.Reading.{field, four, hasWord}
 use Rattle.session.specs.declared.Word.{Word}
 use Rattle.session.specs.declared.Inputs.{Inputs}
 use Rattle.session.specs.declared.Command.{Command}
@@ -32,25 +33,17 @@ limited Number.Malformed = Word.Malformed
 unfoldable pub word : List ℕ → ℕ → ℕ → Word
 word t s at = limited (field t s at)
 
--- the inputs i0 to i3, each given what its field yields; byte 10 ends the last
-abbrev pub withLast : ℕ → ℕ → ℕ → Word → Inputs
-withLast a b c (Word.Value d i) = Inputs.Values (record { w0 = a; w1 = b; w2 = c; w3 = d }) i
-withLast a b c Word.Malformed = Inputs.Malformed
+-- the inputs i0 to i3: four fields, byte 10 after the last, and again no number of 4,294,967,296 or more
+abbrev pub areWords : ℕ → ℕ → ℕ → ℕ → Bool
+areWords a b c d = ltb a 4294967296 && (ltb b 4294967296 && (ltb c 4294967296 && ltb d 4294967296))
 
-abbrev pub withThird : List ℕ → ℕ → ℕ → Word → Inputs
-withThird t a b (Word.Value c i) = withLast a b c (word t 10 i)
-withThird t a b Word.Malformed = Inputs.Malformed
-
-abbrev pub withSecond : List ℕ → ℕ → Word → Inputs
-withSecond t a (Word.Value b i) = withThird t a b (word t 44 i)
-withSecond t a Word.Malformed = Inputs.Malformed
-
-abbrev pub withFirst : List ℕ → Word → Inputs
-withFirst t (Word.Value a i) = withSecond t a (word t 44 i)
-withFirst t Word.Malformed = Inputs.Malformed
+abbrev pub limitedFour : Numbers → Inputs
+limitedFour (Numbers.Values a b c d i) =
+    cond (areWords a b c d) (Inputs.Values (record { w0 = a; w1 = b; w2 = c; w3 = d }) i) Inputs.Malformed
+limitedFour Numbers.Malformed = Inputs.Malformed
 
 unfoldable pub inputs : List ℕ → ℕ → Inputs
-inputs t at = withFirst t (word t 44 at)
+inputs t at = limitedFour (four t at)
 
 -- 'and the next line follows': the place past the next byte 10, or the end of the text
 unfoldable pub lineEnd : ℕ → List ℕ → ℕ

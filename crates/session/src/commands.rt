@@ -4,11 +4,13 @@ use crate::Inputs;
 use crate::Word;
 use construction::Words;
 use grammar::Number;
+use grammar::Numbers;
 use grammar::reading::field_at;
+use grammar::reading::four_at;
 use grammar::reading::has_word;
 ghost use mathlib.Core.Path.{_≡_};
 ghost use lib.ListN.{drop};
-ghost use Rattle.session.specs.Commands.{word, inputs as inputsOf, lineEnd, callAt, command};
+ghost use Rattle.session.specs.Commands.{word, areWords, inputs as inputsOf, lineEnd, callAt, command};
 
 // A field that has 32 bits, ended by a separator that belongs to it.
 pub fn word_at(calls: &[u8], separator: u8, at: usize) -> Word
@@ -27,24 +29,30 @@ pub fn word_at(calls: &[u8], separator: u8, at: usize) -> Word
     }
 }
 
+// Whether four numbers have 32 bits each.
+fn are_words(a: u64, b: u64, c: u64, d: u64) -> bool
+    ensures { λ r. ⌜ r ≡ areWords a b c d ⌝ }
+{
+    a < 4_294_967_296 && (b < 4_294_967_296 && (c < 4_294_967_296 && d < 4_294_967_296))
+}
+
 // The four inputs that a call ends with.
 pub fn inputs_at(calls: &[u8], at: usize) -> Inputs
     ensures { λ r. ⌜ r ≡ inputsOf (now (calls .entry)) at ⌝ }
 {
-    let Word::Value { value: w0, next: i } = word_at(calls, b',', at) else {
+    let Numbers::Values { a, b, c, d, next } = four_at(calls, at) else {
         return Inputs::Malformed;
     };
-    let Word::Value { value: w1, next: j } = word_at(calls, b',', i) else {
-        return Inputs::Malformed;
-    };
-    let Word::Value { value: w2, next: k } = word_at(calls, b',', j) else {
-        return Inputs::Malformed;
-    };
-    let Word::Value { value: w3, next } = word_at(calls, b'\n', k) else {
-        return Inputs::Malformed;
-    };
-    let inputs = Words { w0, w1, w2, w3 };
-    Inputs::Values { inputs, next }
+    if are_words(a, b, c, d) {
+        let inputs = Words {
+            w0: a as u32,
+            w1: b as u32,
+            w2: c as u32,
+            w3: d as u32,
+        };
+        return Inputs::Values { inputs, next };
+    }
+    Inputs::Malformed
 }
 
 // A call after its verb; `past` is the place past its line.

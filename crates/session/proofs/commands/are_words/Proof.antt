@@ -1,0 +1,18 @@
+use borrow.Author.Tests.{lt-ltb, le-ltb}
+use Rattle.session.proofs.commands.are_words.Statement.{statement}
+use Rattle.session.proofs.commands.are_words.Tie as tie
+
+returns : tie.Need-returns
+returns c = rw (lt-ltb _ _ (c .before .before .if1 .taken), lt-ltb _ _ (c .before .if2 .taken), lt-ltb _ _ (c .if3 .taken))
+
+returns-2 : tie.Need-returns-2
+returns-2 c = rw (lt-ltb _ _ (c .before .before .if1 .taken), lt-ltb _ _ (c .before .if2 .taken), le-ltb _ _ (c .if3 .left))
+
+returns-3 : tie.Need-returns-3
+returns-3 c = rw (lt-ltb _ _ (c .before .if1 .taken), le-ltb _ _ (c .if2 .left))
+
+returns-4 : tie.Need-returns-4
+returns-4 c = rw (le-ltb _ _ (c .if1 .left))
+
+pub are-words-spec : {M : Type 1} → statement M
+are-words-spec = tie.close (tie.spec returns returns-2 returns-3 returns-4)

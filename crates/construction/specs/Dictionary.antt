@@ -1,5 +1,5 @@
 -- The dictionary D of the paper (document 01: 'a book of at most 32 noted records, in order of first touch').
-use Prim.Native.Nat.{ℕ, zero, suc, _+_}
+use Prim.Native.Nat.{ℕ, suc, _+_}
 use mathlib.Core.Bool.{Bool, cond, not, _&&_}
 use mathlib.Core.List.{List, [], _∷_}
 use lib.Dec.{eqb, ltb}

@@ -1,7 +1,6 @@
 -- Helping (lines H1 to H36): the operation is simulated on the dictionary as far as it goes.
 use Prim.Native.Nat.{ℕ, zero, suc}
 use mathlib.Core.Bool.{cond}
-use lib.ListN.{length}
 use Rattle.construction.specs.declared.Words.{Words}
 use Rattle.construction.specs.declared.Program.{Program}
 use Rattle.construction.specs.declared.Dictionary.{Dictionary}

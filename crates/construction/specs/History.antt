@@ -1,5 +1,5 @@
 -- Card and bench side by side (document 01, 'Card and bench side by side'): entries, the run over a list of them, what an observer notes, and demand 3.
-use Prim.Native.Nat.{ℕ, zero, suc, _≤_, _<_}
+use Prim.Native.Nat.{ℕ, suc, _≤_, _<_}
 use mathlib.Core.Path.{_≡_}
 use mathlib.Core.Bool.{Bool, true, false, cond, not, _&&_}
 use mathlib.Core.Logic.{_⊎_}

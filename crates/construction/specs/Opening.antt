@@ -8,7 +8,6 @@ use Rattle.construction.specs.declared.CardLine.{CardLine}
 use Rattle.construction.specs.declared.VarLine.{VarLine}
 use Rattle.construction.specs.declared.SheetLine.{SheetLine}
 use Rattle.construction.specs.declared.InsLine.{InsLine}
-use Rattle.construction.specs.declared.Program.{Program}
 use Rattle.construction.specs.declared.Contents.{Contents}
 use Rattle.construction.specs.declared.Verdict.{Verdict}
 use Rattle.construction.specs.declared.ProgramReading.{ProgramReading}

@@ -25,7 +25,7 @@ ghost use Rattle.construction.specs.Instructions.{noLine};
 ghost use Rattle.construction.specs.Opening.{refusedAt, programRefusedAt, fresh};
 ghost use Rattle.reader.specs.Gathering.{begun, freeGate};
 
-pub fn no_line() -> Line
+pub(crate) fn no_line() -> Line
     ensures { λ r. ⌜ r ≡ noLine ⌝ }
 {
     Line {
@@ -34,7 +34,7 @@ pub fn no_line() -> Line
 }
 
 // The contents after the `card` line alone.
-pub fn begun_contents(processes: u8, variables: u8, programs: u8, limit: u64) -> Contents
+pub(crate) fn begun_contents(processes: u8, variables: u8, programs: u8, limit: u64) -> Contents
     ensures { λ r. ⌜ r ≡ begun processes variables programs limit ⌝ }
 {
     let program = no_program();
@@ -50,7 +50,7 @@ pub fn begun_contents(processes: u8, variables: u8, programs: u8, limit: u64) ->
     }
 }
 
-pub fn refused_at(refusal: Refusal, line: u64) -> Reading
+pub(crate) fn refused_at(refusal: Refusal, line: u64) -> Reading
     ensures { λ r. ⌜ r ≡ refusedAt refusal line ⌝ }
 {
     let contents = begun_contents(0, 0, 0, 0);
@@ -63,7 +63,7 @@ pub fn refused_at(refusal: Refusal, line: u64) -> Reading
     }
 }
 
-pub fn program_refused_at(refusal: Refusal, line: u64) -> ProgramReading
+pub(crate) fn program_refused_at(refusal: Refusal, line: u64) -> ProgramReading
     ensures { λ r. ⌜ r ≡ programRefusedAt refusal line ⌝ }
 {
     let program = no_program();
@@ -111,7 +111,7 @@ fn open_records(starts: [u32; 64]) -> [Record; 64]
 }
 
 // The card as its text opens it.
-pub fn fresh_card(x: Contents) -> Card
+pub(crate) fn fresh_card(x: Contents) -> Card
     ensures { λ r. ⌜ r ≡ fresh x ⌝ }
 {
     let starts = x.starts;

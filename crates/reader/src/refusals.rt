@@ -7,7 +7,7 @@ use construction::VarLine;
 ghost use mathlib.Core.Path.{_≡_};
 ghost use Rattle.reader.specs.Gathering.{cardRefusal, varRefusal, sheetRefusal, insRefusal};
 
-pub fn card_refusal(line: CardLine) -> Refusal
+pub(crate) fn card_refusal(line: CardLine) -> Refusal
     ensures { λ r. ⌜ r ≡ cardRefusal line ⌝ }
 {
     match line {
@@ -22,7 +22,7 @@ pub fn card_refusal(line: CardLine) -> Refusal
     }
 }
 
-pub fn var_refusal(line: VarLine) -> Refusal
+pub(crate) fn var_refusal(line: VarLine) -> Refusal
     ensures { λ r. ⌜ r ≡ varRefusal line ⌝ }
 {
     match line {
@@ -31,7 +31,7 @@ pub fn var_refusal(line: VarLine) -> Refusal
     }
 }
 
-pub fn sheet_refusal(line: SheetLine) -> Refusal
+pub(crate) fn sheet_refusal(line: SheetLine) -> Refusal
     ensures { λ r. ⌜ r ≡ sheetRefusal line ⌝ }
 {
     match line {
@@ -40,7 +40,7 @@ pub fn sheet_refusal(line: SheetLine) -> Refusal
     }
 }
 
-pub fn ins_refusal(line: InsLine) -> Refusal
+pub(crate) fn ins_refusal(line: InsLine) -> Refusal
     ensures { λ r. ⌜ r ≡ insRefusal line ⌝ }
 {
     match line {

@@ -15,9 +15,6 @@ abbrev μ-loop : tie.MeasureT-loop
 loop-holds : tie.Need-loop-holds Inv-loop μ-loop
 loop-holds c = refl
 
-print-piece-requires : tie.Need-print-piece-requires Inv-loop μ-loop
-print-piece-requires c κs = search needs
-
 loop-less : tie.Need-loop-less Inv-loop μ-loop
 loop-less c = let h = (c .print-piece .ensures .1) (omega arith) in omega arith
 
@@ -30,4 +27,4 @@ returns c = tt
 pub print-lines-spec : {M : Type 1} → statement M
 print-lines-spec =
     tie.close
-    (tie.spec Inv-loop μ-loop loop-holds print-piece-requires loop-less loop-again returns)
+    (tie.spec Inv-loop μ-loop loop-holds (λ c κs. search needs) loop-less loop-again returns)

@@ -14,9 +14,6 @@ Inv-loop seq from dictionary end k₀ k =
 abbrev μ-loop : tie.MeasureT-loop
 μ-loop seq from dictionary end k₀ k = end - k
 
-noted-requires : tie.Need-noted-requires Inv-loop μ-loop
-noted-requires c κs = search needs
-
 loop-holds : tie.Need-loop-holds Inv-loop μ-loop
 loop-holds c = refl
 
@@ -28,9 +25,6 @@ mul-item c = omega arith
 
 element-copy-out-item : tie.Need-element-copy-out-item Inv-loop μ-loop
 element-copy-out-item c = omega arith
-
-altered-requires : tie.Need-altered-requires Inv-loop μ-loop
-altered-requires c κs = search needs
 
 returns : tie.Need-returns Inv-loop μ-loop
 returns c = laws.write-here _ ((c .before .before .before .before .before .before .args .t2)) _ _ (c .before .before .before .before .loop .inv) (omega arith) (sym (c .before .altered .ensures) ∙ (c .if1 .taken))
@@ -53,12 +47,12 @@ next-write-spec =
     (tie.spec
     Inv-loop
     μ-loop
-    noted-requires
+    (λ c κs. search needs)
     loop-holds
     cast-at
     mul-item
     element-copy-out-item
-    altered-requires
+    (λ c κs. search needs)
     returns
     add-k
     loop-less

@@ -29,12 +29,6 @@ here c =
     let e : length (a .t2 .lines) ≡ 32 = simp length-map at (c .before .before .before .before .before .before .before .good .1 .0 .1 .1 .1 .0 .1 .0 .1) in
     record { going = l .inv; left = omega arith; next = laws.effect-is (a .n) (a .t2) (a .inputs) (l .s) _ e (c .next-effect .ensures) }
 
-keys-requires : tie.Need-keys-requires Inv-loop μ-loop
-keys-requires c κs = search needs
-
-noted-requires : tie.Need-noted-requires Inv-loop μ-loop
-noted-requires c κs = search needs
-
 loop-holds : tie.Need-loop-holds Inv-loop μ-loop
 loop-holds c = (laws.simulate-start _ _ _ _ _, (c .noted .ensures .0, c .before .keys .ensures))
 
@@ -50,23 +44,8 @@ mul-line c = omega arith
 element-copy-out-line : tie.Need-element-copy-out-line Inv-loop μ-loop
 element-copy-out-line c = omega arith
 
-next-effect-requires : tie.Need-next-effect-requires Inv-loop μ-loop
-next-effect-requires c κs = search needs
-
-enum-told : tie.Need-enum-told Inv-loop μ-loop
-enum-told c = search needs
-
-ended-requires : tie.Need-ended-requires Inv-loop μ-loop
-ended-requires c κs = search needs
-
 returns : tie.Need-returns Inv-loop μ-loop
 returns c = (c .ended .ensures) ∙ laws.stops (here (c .before .before .before)) (c .before .enum-told .given .1)
-
-enum-known-effect : tie.Need-enum-known-effect Inv-loop μ-loop
-enum-known-effect c = search needs
-
-with-register-requires : tie.Need-with-register-requires Inv-loop μ-loop
-with-register-requires c κs = search needs
 
 loop-less : tie.Need-loop-less Inv-loop μ-loop
 loop-less c = omega arith
@@ -74,14 +53,8 @@ loop-less c = omega arith
 loop-again : tie.Need-loop-again Inv-loop μ-loop
 loop-again c = laws.sets (here (c .before .before .before .before)) _ _ _ (c .before .before .effect .given .1) (c .with-register .ensures)
 
-enum-known-effect-2 : tie.Need-enum-known-effect-2 Inv-loop μ-loop
-enum-known-effect-2 c = search needs
-
 find-requires : tie.Need-find-requires Inv-loop μ-loop
 find-requires c κs = (omega arith, laws.enough-keys (c .before .before .before .before .before .before .before .before .loop .d) _ _ (c .before .before .before .before .before .before .before .before .loop .inv .1))
-
-lacks-requires : tie.Need-lacks-requires Inv-loop μ-loop
-lacks-requires c κs = search needs
 
 returns-2 : tie.Need-returns-2 Inv-loop μ-loop
 returns-2 c = (c .lacks .ensures) ∙ laws.load-lacks (here (c .before .before .before .before .before .before .before)) _ _ (c .before .before .find .ensures) _ (c .before .before .before .before .before .effect2 .given .1) (c .before .if1 .taken)
@@ -95,23 +68,14 @@ mul-with-register c = omega arith
 element-copy-out-with-register : tie.Need-element-copy-out-with-register Inv-loop μ-loop
 element-copy-out-with-register c = omega arith
 
-with-register-requires-2 : tie.Need-with-register-requires-2 Inv-loop μ-loop
-with-register-requires-2 c κs = search needs
-
 loop-less-2 : tie.Need-loop-less-2 Inv-loop μ-loop
 loop-less-2 c = omega arith
 
 loop-again-2 : tie.Need-loop-again-2 Inv-loop μ-loop
 loop-again-2 c = laws.loads (here (c .before .before .before .before .before .before .before)) _ _ (c .before .before .find .ensures) _ _ _ (c .before .before .before .before .before .effect2 .given .1) (c .before .if1 .left) refl (c .with-register2 .ensures)
 
-enum-known-effect-3 : tie.Need-enum-known-effect-3 Inv-loop μ-loop
-enum-known-effect-3 c = search needs
-
 find-requires-2 : tie.Need-find-requires-2 Inv-loop μ-loop
 find-requires-2 c κs = (omega arith, laws.enough-keys (c .before .before .before .before .before .before .before .before .loop .d) _ _ (c .before .before .before .before .before .before .before .before .loop .inv .1))
-
-lacks-requires-2 : tie.Need-lacks-requires-2 Inv-loop μ-loop
-lacks-requires-2 c κs = search needs
 
 returns-3 : tie.Need-returns-3 Inv-loop μ-loop
 returns-3 c = (c .lacks2 .ensures) ∙ laws.store-lacks (here (c .before .before .before .before .before .before .before)) _ _ (c .before .before .find2 .ensures) _ (c .before .before .before .before .before .effect3 .given .1) (c .before .if2 .taken)
@@ -125,9 +89,6 @@ mul-d c = omega arith
 way-write-given-d : tie.Need-way-write-given-d Inv-loop μ-loop
 way-write-given-d c = omega arith
 
-skipped-requires : tie.Need-skipped-requires Inv-loop μ-loop
-skipped-requires c κs = search needs
-
 loop-less-3 : tie.Need-loop-less-3 Inv-loop μ-loop
 loop-less-3 c = omega arith
 
@@ -135,32 +96,17 @@ loop-again-3 : tie.Need-loop-again-3 Inv-loop μ-loop
 unfolding assign
 loop-again-3 c = laws.stores (here (c .before .before .before .before .before .before .before .before)) _ _ (c .before .before .before .find2 .ensures) _ _ _ (c .before .before .before .before .before .before .effect3 .given .1) (c .before .before .if2 .left) refl (c .skipped .ensures)
 
-enum-known-effect-4 : tie.Need-enum-known-effect-4 Inv-loop μ-loop
-enum-known-effect-4 c = search needs
-
-with-output-requires : tie.Need-with-output-requires Inv-loop μ-loop
-with-output-requires c κs = search needs
-
 loop-less-4 : tie.Need-loop-less-4 Inv-loop μ-loop
 loop-less-4 c = omega arith
 
 loop-again-4 : tie.Need-loop-again-4 Inv-loop μ-loop
 loop-again-4 c = laws.outputs (here (c .before .before .before .before)) _ _ _ (c .before .before .effect4 .given .1) (c .with-output .ensures)
 
-enum-known-effect-5 : tie.Need-enum-known-effect-5 Inv-loop μ-loop
-enum-known-effect-5 c = search needs
-
-skipped-requires-2 : tie.Need-skipped-requires-2 Inv-loop μ-loop
-skipped-requires-2 c κs = search needs
-
 loop-less-5 : tie.Need-loop-less-5 Inv-loop μ-loop
 loop-less-5 c = omega arith
 
 loop-again-5 : tie.Need-loop-again-5 Inv-loop μ-loop
 loop-again-5 c = laws.skips (here (c .before .before .before .before)) _ _ (c .before .before .effect5 .given .1) (c .skipped2 .ensures)
-
-ended-requires-2 : tie.Need-ended-requires-2 Inv-loop μ-loop
-ended-requires-2 c κs = search needs
 
 returns-4 : tie.Need-returns-4 Inv-loop μ-loop
 returns-4 c = (c .ended2 .ensures) ∙ laws.simulate-end _ _ _ _ _ _ _ (c .before .before .loop .inv .0) (c .before .loop-test .left)
@@ -171,48 +117,48 @@ simulate-spec =
     (tie.spec
     Inv-loop
     μ-loop
-    keys-requires
-    noted-requires
+    (λ c κs. search needs)
+    (λ c κs. search needs)
     loop-holds
     sub-fuel
     cast-at
     mul-line
     element-copy-out-line
-    next-effect-requires
-    enum-told
-    ended-requires
+    (λ c κs. search needs)
+    (λ c. search needs)
+    (λ c κs. search needs)
     returns
-    enum-known-effect
-    with-register-requires
+    (λ c. search needs)
+    (λ c κs. search needs)
     loop-less
     loop-again
-    enum-known-effect-2
+    (λ c. search needs)
     find-requires
-    lacks-requires
+    (λ c κs. search needs)
     returns-2
     cast-with-register
     mul-with-register
     element-copy-out-with-register
-    with-register-requires-2
+    (λ c κs. search needs)
     loop-less-2
     loop-again-2
-    enum-known-effect-3
+    (λ c. search needs)
     find-requires-2
-    lacks-requires-2
+    (λ c κs. search needs)
     returns-3
     cast-d
     mul-d
     way-write-given-d
-    skipped-requires
+    (λ c κs. search needs)
     loop-less-3
     loop-again-3
-    enum-known-effect-4
-    with-output-requires
+    (λ c. search needs)
+    (λ c κs. search needs)
     loop-less-4
     loop-again-4
-    enum-known-effect-5
-    skipped-requires-2
+    (λ c. search needs)
+    (λ c κs. search needs)
     loop-less-5
     loop-again-5
-    ended-requires-2
+    (λ c κs. search needs)
     returns-4)

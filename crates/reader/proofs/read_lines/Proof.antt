@@ -18,44 +18,11 @@ Inv-loop variables text length start first lines₀ at₀ number₀ count k₀ l
 abbrev μ-loop : tie.MeasureT-loop
 μ-loop variables text length start first lines₀ at₀ number₀ count k₀ lines at number k = count - k
 
-no-line-requires : tie.Need-no-line-requires Inv-loop μ-loop
-no-line-requires c κs = search needs
-
 loop-holds : tie.Need-loop-holds Inv-loop μ-loop
 loop-holds c = (rw (c .no-line .ensures) (laws.ins-start _ _ _ _), omega arith, omega arith, refl)
 
-ins-line-requires : tie.Need-ins-line-requires Inv-loop μ-loop
-ins-line-requires c κs = search needs
-
-enum-known-line : tie.Need-enum-known-line Inv-loop μ-loop
-enum-known-line c = search needs
-
-enum-told : tie.Need-enum-told Inv-loop μ-loop
-enum-told c = search needs
-
-ins-refusal-requires : tie.Need-ins-refusal-requires Inv-loop μ-loop
-ins-refusal-requires c κs = search needs
-
-program-refused-at-requires : tie.Need-program-refused-at-requires Inv-loop μ-loop
-program-refused-at-requires c κs = search needs
-
 returns : tie.Need-returns Inv-loop μ-loop
 returns c = rw (c .program-refused-at .ensures, c .before .ins-refusal .ensures, c .before .before .enum-told .given .1) (sym ((c .before .before .before .before .before .before .loop .inv .0) ∙ laws.ins-refused _ _ _ _ _ (c .before .before .before .before .before .loop-test .taken) (c .before .before .before .before .ins-line .ensures) (c .before .before .enum-told .given .1)))
-
-mul-lines : tie.Need-mul-lines Inv-loop μ-loop
-mul-lines c = search needs
-
-array-set-from-lines : tie.Need-array-set-from-lines Inv-loop μ-loop
-array-set-from-lines c = search needs
-
-add-number : tie.Need-add-number Inv-loop μ-loop
-add-number c = search needs
-
-add-k : tie.Need-add-k Inv-loop μ-loop
-add-k c = search needs
-
-loop-less : tie.Need-loop-less Inv-loop μ-loop
-loop-less c = search needs
 
 loop-again : tie.Need-loop-again Inv-loop μ-loop
 loop-again c = ((c .before .before .before .before .before .loop .inv .0) ∙ laws.ins-more _ _ _ _ _ (c .before .before .before .before .loop-test .taken) (c .before .before .before .ins-line .ensures) (c .before .line .given .1) (rw add-one), omega arith, omega arith, simp length-set (c .before .before .before .before .before .loop .inv .3))
@@ -69,18 +36,18 @@ read-lines-spec =
     (tie.spec
     Inv-loop
     μ-loop
-    no-line-requires
+    (λ c κs. search needs)
     loop-holds
-    ins-line-requires
-    enum-known-line
-    enum-told
-    ins-refusal-requires
-    program-refused-at-requires
+    (λ c κs. search needs)
+    (λ c. search needs)
+    (λ c. search needs)
+    (λ c κs. search needs)
+    (λ c κs. search needs)
     returns
-    mul-lines
-    array-set-from-lines
-    add-number
-    add-k
-    loop-less
+    (λ c. search needs)
+    (λ c. search needs)
+    (λ c. search needs)
+    (λ c. search needs)
+    (λ c. search needs)
     loop-again
     returns-2)

@@ -24,29 +24,8 @@ loop-holds c = (laws.programs-start _ _ _, omega arith, omega arith, (let e : li
 read-program-requires : tie.Need-read-program-requires Inv-loop μ-loop
 read-program-requires c κs = omega arith
 
-enum-known-verdict : tie.Need-enum-known-verdict Inv-loop μ-loop
-enum-known-verdict c = search needs
-
-refused-at-requires : tie.Need-refused-at-requires Inv-loop μ-loop
-refused-at-requires c κs = search needs
-
 returns : tie.Need-returns Inv-loop μ-loop
 returns c = (c .refused-at .ensures) ∙ sym ((c .before .before .before .before .before .before .loop .inv .0) ∙ laws.programs-refused _ _ _ _ (c .before .before .before .before .before .loop-test .taken) (c .before .before .before .before .read-program .ensures) (c .before .before .verdict .given .1))
-
-enum-told : tie.Need-enum-told Inv-loop μ-loop
-enum-told c = search needs
-
-mul-code : tie.Need-mul-code Inv-loop μ-loop
-mul-code c = search needs
-
-array-set-from-code : tie.Need-array-set-from-code Inv-loop μ-loop
-array-set-from-code c = search needs
-
-add-k : tie.Need-add-k Inv-loop μ-loop
-add-k c = search needs
-
-loop-less : tie.Need-loop-less Inv-loop μ-loop
-loop-less c = search needs
 
 loop-again : tie.Need-loop-again Inv-loop μ-loop
 loop-again c = ((c .before .before .before .before .before .loop .inv .0) ∙ laws.programs-more _ _ _ _ (c .before .before .before .before .loop-test .taken) (c .before .before .before .read-program .ensures) (c .before .enum-told .given .1), omega arith, omega (arith, ap (λ (y : ProgramReading). y .line) (c .before .before .before .read-program .ensures), laws.program-line (c .before .before .before .before .before .before .before .before .args .contents .variables) (c .before .before .before .before .before .before .before .before .args .text .now) (c .before .before .before .before .before .loop .at) (c .before .before .before .before .before .loop .number)), simp length-set ((c .before .before .before .before .before .loop .inv .3)))
@@ -62,13 +41,13 @@ read-programs-spec =
     μ-loop
     loop-holds
     read-program-requires
-    enum-known-verdict
-    refused-at-requires
+    (λ c. search needs)
+    (λ c κs. search needs)
     returns
-    enum-told
-    mul-code
-    array-set-from-code
-    add-k
-    loop-less
+    (λ c. search needs)
+    (λ c. search needs)
+    (λ c. search needs)
+    (λ c. search needs)
+    (λ c. search needs)
     loop-again
     returns-2)

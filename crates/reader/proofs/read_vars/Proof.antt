@@ -20,38 +20,8 @@ abbrev μ-loop : tie.MeasureT-loop
 loop-holds : tie.Need-loop-holds Inv-loop μ-loop
 loop-holds c = (laws.vars-start _ _ _, omega arith, omega arith, search needs)
 
-var-line-requires : tie.Need-var-line-requires Inv-loop μ-loop
-var-line-requires c κs = search needs
-
-enum-known-line : tie.Need-enum-known-line Inv-loop μ-loop
-enum-known-line c = search needs
-
-enum-told : tie.Need-enum-told Inv-loop μ-loop
-enum-told c = search needs
-
-var-refusal-requires : tie.Need-var-refusal-requires Inv-loop μ-loop
-var-refusal-requires c κs = search needs
-
-refused-at-requires : tie.Need-refused-at-requires Inv-loop μ-loop
-refused-at-requires c κs = search needs
-
 returns : tie.Need-returns Inv-loop μ-loop
 returns c = rw (c .refused-at .ensures, c .before .var-refusal .ensures, c .before .before .enum-told .given .1) (sym ((c .before .before .before .before .before .before .loop .inv .0) ∙ laws.vars-refused _ _ _ _ (c .before .before .before .before .before .loop-test .taken) (c .before .before .before .before .var-line .ensures) (c .before .before .enum-told .given .1)))
-
-mul-starts : tie.Need-mul-starts Inv-loop μ-loop
-mul-starts c = search needs
-
-array-write-starts : tie.Need-array-write-starts Inv-loop μ-loop
-array-write-starts c = search needs
-
-add-number : tie.Need-add-number Inv-loop μ-loop
-add-number c = search needs
-
-add-k : tie.Need-add-k Inv-loop μ-loop
-add-k c = search needs
-
-loop-less : tie.Need-loop-less Inv-loop μ-loop
-loop-less c = search needs
 
 loop-again : tie.Need-loop-again Inv-loop μ-loop
 loop-again c = ((c .before .before .before .before .before .loop .inv .0) ∙ laws.vars-more _ _ _ _ (c .before .before .before .before .loop-test .taken) (c .before .before .before .var-line .ensures) (c .before .line .given .1) (rw add-one), omega arith, omega arith, simp length-set (c .before .before .before .before .before .loop .inv .3))
@@ -66,16 +36,16 @@ read-vars-spec =
     Inv-loop
     μ-loop
     loop-holds
-    var-line-requires
-    enum-known-line
-    enum-told
-    var-refusal-requires
-    refused-at-requires
+    (λ c κs. search needs)
+    (λ c. search needs)
+    (λ c. search needs)
+    (λ c κs. search needs)
+    (λ c κs. search needs)
     returns
-    mul-starts
-    array-write-starts
-    add-number
-    add-k
-    loop-less
+    (λ c. search needs)
+    (λ c. search needs)
+    (λ c. search needs)
+    (λ c. search needs)
+    (λ c. search needs)
     loop-again
     returns-2)

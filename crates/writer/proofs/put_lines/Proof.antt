@@ -19,18 +19,6 @@ abbrev μ-loop : tie.MeasureT-loop
 loop-holds : tie.Need-loop-holds Inv-loop μ-loop
 loop-holds c = (laws.series-begin (laws.lines-series (c .before .args .lines)) _ _ _ (omega arith), omega arith)
 
-line-at-requires : tie.Need-line-at-requires Inv-loop μ-loop
-line-at-requires c κs = search needs
-
-put-instruction-requires : tie.Need-put-instruction-requires Inv-loop μ-loop
-put-instruction-requires c κs = search needs
-
-add-k : tie.Need-add-k Inv-loop μ-loop
-add-k c = search needs
-
-loop-less : tie.Need-loop-less Inv-loop μ-loop
-loop-less c = search needs
-
 loop-again : tie.Need-loop-again Inv-loop μ-loop
 loop-again c = (laws.series-turn (laws.lines-series (c .before .before .before .before .before .before .before .before .args .lines)) _ _ (c .before .before .before .before .before .loop-test .taken) (c .before .before .before .before .before .before .loop .inv .0) (ap (λ (x : Line). insText (x .instruction)) (c .before .before .before .before .line-at .ensures)) (c .before .before .put-instruction .ensures), omega arith)
 
@@ -47,10 +35,10 @@ put-lines-spec =
     Inv-loop
     μ-loop
     loop-holds
-    line-at-requires
-    put-instruction-requires
-    add-k
-    loop-less
+    (λ c κs. search needs)
+    (λ c κs. search needs)
+    (λ c. search needs)
+    (λ c. search needs)
     loop-again
     same-length
     returns)

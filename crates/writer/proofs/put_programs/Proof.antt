@@ -17,18 +17,6 @@ abbrev μ-loop : tie.MeasureT-loop
 loop-holds : tie.Need-loop-holds Inv-loop μ-loop
 loop-holds c = (laws.series-begin (laws.programs-series (c .before .args .code)) _ _ _ (omega arith), omega arith)
 
-program-at-requires : tie.Need-program-at-requires Inv-loop μ-loop
-program-at-requires c κs = search needs
-
-put-program-requires : tie.Need-put-program-requires Inv-loop μ-loop
-put-program-requires c κs = search needs
-
-add-k : tie.Need-add-k Inv-loop μ-loop
-add-k c = search needs
-
-loop-less : tie.Need-loop-less Inv-loop μ-loop
-loop-less c = search needs
-
 loop-again : tie.Need-loop-again Inv-loop μ-loop
 loop-again c = (laws.series-turn (laws.programs-series (c .before .before .before .before .before .before .before .before .args .code)) _ _ (c .before .before .before .before .before .loop-test .taken) (c .before .before .before .before .before .before .loop .inv .0) (ap programText (c .before .before .before .before .program-at .ensures)) (c .before .before .put-program .ensures), omega arith)
 
@@ -45,10 +33,10 @@ put-programs-spec =
     Inv-loop
     μ-loop
     loop-holds
-    program-at-requires
-    put-program-requires
-    add-k
-    loop-less
+    (λ c κs. search needs)
+    (λ c κs. search needs)
+    (λ c. search needs)
+    (λ c. search needs)
     loop-again
     same-length
     returns)

@@ -18,18 +18,6 @@ abbrev μ-loop : tie.MeasureT-loop
 loop-holds : tie.Need-loop-holds Inv-loop μ-loop
 loop-holds c = (laws.series-begin (laws.vars-series (c .before .args .starts)) _ _ _ (omega arith), omega arith)
 
-start-at-requires : tie.Need-start-at-requires Inv-loop μ-loop
-start-at-requires c κs = search needs
-
-put-var-requires : tie.Need-put-var-requires Inv-loop μ-loop
-put-var-requires c κs = search needs
-
-add-k : tie.Need-add-k Inv-loop μ-loop
-add-k c = search needs
-
-loop-less : tie.Need-loop-less Inv-loop μ-loop
-loop-less c = search needs
-
 loop-again : tie.Need-loop-again Inv-loop μ-loop
 loop-again c = (laws.series-turn (laws.vars-series (c .before .before .before .before .before .before .before .before .args .starts)) _ _ (c .before .before .before .before .before .loop-test .taken) (c .before .before .before .before .before .before .loop .inv .0) (ap varText (c .before .before .before .start-at .ensures)) (c .before .before .put-var .ensures), omega arith)
 
@@ -46,10 +34,10 @@ put-vars-spec =
     Inv-loop
     μ-loop
     loop-holds
-    start-at-requires
-    put-var-requires
-    add-k
-    loop-less
+    (λ c κs. search needs)
+    (λ c κs. search needs)
+    (λ c. search needs)
+    (λ c. search needs)
     loop-again
     same-length
     returns)

@@ -20,9 +20,6 @@ loop-holds c = (refl, omega arith)
 shared-slice-read-byte : tie.Need-shared-slice-read-byte Inv-loop μ-loop
 shared-slice-read-byte c = omega arith
 
-is-digit-requires : tie.Need-is-digit-requires Inv-loop μ-loop
-is-digit-requires c κs = search needs
-
 grown-requires : tie.Need-grown-requires Inv-loop μ-loop
 grown-requires c κs = ((c .before .before .before .before .loop .inv .1), sym (c .before .is-digit .ensures) ∙ (c .if1 .taken))
 
@@ -49,7 +46,7 @@ digits-at-spec =
     μ-loop
     loop-holds
     shared-slice-read-byte
-    is-digit-requires
+    (λ c κs. search needs)
     grown-requires
     add-i
     loop-less

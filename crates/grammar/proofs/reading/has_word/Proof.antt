@@ -20,9 +20,6 @@ loop-holds c = (refl, omega arith)
 shared-slice-read-has-byte : tie.Need-shared-slice-read-has-byte Inv-loop μ-loop
 shared-slice-read-has-byte c = omega arith
 
-has-byte-requires : tie.Need-has-byte-requires Inv-loop μ-loop
-has-byte-requires c κs = search needs
-
 add-i : tie.Need-add-i Inv-loop μ-loop
 add-i c = let h = bytes.byte-true (c .before .before .before .before .before .before .before .args .text .now) (c .before .before .before .before .loop .i) (getD (c .before .before .before .before .before .before .before .args .word .now) (c .before .before .before .before .loop .k) 0) (sym (c .before .has-byte .ensures) ∙ (c .if1 .taken)) in omega arith
 
@@ -49,7 +46,7 @@ has-word-spec =
     μ-loop
     loop-holds
     shared-slice-read-has-byte
-    has-byte-requires
+    (λ c κs. search needs)
     add-i
     add-k
     loop-less

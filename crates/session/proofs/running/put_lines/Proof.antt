@@ -16,38 +16,17 @@ abbrev μ-loop : tie.MeasureT-loop
 loop-holds : tie.Need-loop-holds Inv-loop μ-loop
 loop-holds c = laws.going _ _ _
 
-command-at-requires : tie.Need-command-at-requires Inv-loop μ-loop
-command-at-requires c κs = search needs
-
-execute-requires : tie.Need-execute-requires Inv-loop μ-loop
-execute-requires c κs = search needs
-
-put-line-requires : tie.Need-put-line-requires Inv-loop μ-loop
-put-line-requires c κs = search needs
-
-printed-requires : tie.Need-printed-requires Inv-loop μ-loop
-printed-requires c κs = search needs
-
 same-length : tie.Need-same-length Inv-loop μ-loop
 same-length c = laws.stopped-length (c .before .before .before .before .before .before .before .before .before .loop .inv) (c .before .before .before .before .before .before .before .before .loop-test .taken) (c .before .before .before .before .before .before .before .command-at .ensures) (c .before .before .before .before .before .before .execute .ensures) (c .before .before .before .before .put-line .ensures)
 
 returns : tie.Need-returns Inv-loop μ-loop
 returns c = laws.stopped (c .before .before .before .before .before .before .before .before .before .loop .inv) (c .before .before .before .before .before .before .before .before .loop-test .taken) (c .before .before .before .before .before .before .before .command-at .ensures) (c .before .before .before .before .before .before .execute .ensures) (c .before .before .before .before .put-line .ensures) (c .printed .ensures) (c .before .if1 .taken)
 
-next-of-requires : tie.Need-next-of-requires Inv-loop μ-loop
-next-of-requires c κs = search needs
-
-next-line-requires : tie.Need-next-line-requires Inv-loop μ-loop
-next-line-requires c κs = search needs
-
 loop-less : tie.Need-loop-less Inv-loop μ-loop
 loop-less c = laws.less (c .before .before .before .before .before .before .before .before .before .before .before .loop .inv) (c .before .before .before .before .before .before .before .before .before .before .loop-test .taken) (c .before .before .before .before .before .before .before .before .before .command-at .ensures) (c .before .before .before .before .before .before .before .before .execute .ensures) (c .before .before .before .before .before .before .put-line .ensures) (c .before .next-of .ensures)
 
 loop-again : tie.Need-loop-again Inv-loop μ-loop
 loop-again c = laws.again (c .before .before .before .before .before .before .before .before .before .before .before .loop .inv) (c .before .before .before .before .before .before .before .before .before .before .loop-test .taken) (c .before .before .before .before .before .before .before .before .before .command-at .ensures) (c .before .before .before .before .before .before .before .before .execute .ensures) (c .before .before .before .before .before .before .put-line .ensures) (c .before .next-of .ensures) (c .next-line .ensures) (omega arith) (c .before .before .before .if1 .left)
-
-printed-requires-2 : tie.Need-printed-requires-2 Inv-loop μ-loop
-printed-requires-2 c κs = search needs
 
 same-length-2 : tie.Need-same-length-2 Inv-loop μ-loop
 same-length-2 c = (c .before .before .loop .inv .same)
@@ -62,16 +41,16 @@ put-lines-spec =
     Inv-loop
     μ-loop
     loop-holds
-    command-at-requires
-    execute-requires
-    put-line-requires
-    printed-requires
+    (λ c κs. search needs)
+    (λ c κs. search needs)
+    (λ c κs. search needs)
+    (λ c κs. search needs)
     same-length
     returns
-    next-of-requires
-    next-line-requires
+    (λ c κs. search needs)
+    (λ c κs. search needs)
     loop-less
     loop-again
-    printed-requires-2
+    (λ c κs. search needs)
     same-length-2
     returns-2)

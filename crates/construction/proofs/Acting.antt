@@ -1,19 +1,22 @@
 -- A step of process i: what is known before it, and what is to be shown of the card after its access.
-use Prim.Native.Nat.{ℕ, _≤_, _<_}
+use Prim.Native.Nat.{ℕ, _+_, _%_, _≤_, _<_}
 use mathlib.Core.Path.{_≡_, refl}
+use mathlib.Core.List.{List}
 use native.Mathlib.Omega.{arith}
+use Rattle.construction.specs.declared.Gate.{Gate}
 use Rattle.construction.specs.declared.Announcement.{Announcement}
+use Rattle.construction.specs.declared.Record.{Record}
 use Rattle.construction.specs.declared.Task.{Task}
+use Rattle.construction.specs.declared.Simulation.{Simulation}
 use Rattle.construction.specs.declared.Dictionary.{Dictionary}
 use Rattle.construction.specs.declared.Card.{Card}
-use Rattle.construction.specs.declared.Place.{Place}
 use Rattle.construction.specs.Dictionary.{noted}
-use Rattle.construction.specs.Parts.{taskAt, dictionaryAt, withTask, withCopy}
-use Rattle.construction.specs.Machine.{goTo, readGate}
+use Rattle.construction.specs.Parts.{Local, localAt, contentsOf, withCells, withLocal}
+use Rattle.construction.specs.Machine.{after}
 use Rattle.construction.proofs.DictionaryLaws.{Keyed}
 use Rattle.construction.proofs.World.{World, Good, Move}
 use Rattle.construction.proofs.World.Move.{stay}
-use Rattle.construction.proofs.Locals.{Local, localAt, atTask, atGate, atCopy, fixedOf, Sizes, Updated, unchanged, task-updated, held-updated, copy-updated}
+use Rattle.construction.proofs.Locals.{Sizes}
 use Rattle.construction.proofs.Places.{Loc}
 
 -- a world whose shared cells are those of a card
@@ -38,60 +41,67 @@ pub record Tidy (d : Dictionary) : Type 0 where
   pub keyed : Keyed (noted d)
 
 pub record Before (c : Card) (w : World) (i : ℕ) : Type 0 where
-  pub good : Good (fixedOf c) (worldOf c w)
+  pub good : Good (contentsOf c) (worldOf c w)
   pub sizes : Sizes c
   pub inside : i < c .processes
   pub small : c .gate .seq ≤ 1000000000000000000
-  pub tidy : Tidy (dictionaryAt c i)
+  pub tidy : Tidy (localAt c i .dictionary)
+
+-- process i goes on with another task: no cell read; the gate read; an announcement read; and its simulation gone on
+abbrev pub atTask : Local → Task → Local
+atTask l x = after l x (l .gate) (l .announcement) (l .simulation) (l .dictionary)
+
+abbrev pub atGate : Local → Gate → Task → Local
+atGate l g x = after l x g (l .announcement) (l .simulation) (l .dictionary)
+
+abbrev pub atAnnouncement : Local → Announcement → Task → Local
+atAnnouncement l a x = after l x (l .gate) a (l .simulation) (l .dictionary)
+
+abbrev pub atSimulation : Local → Announcement → Task → Simulation → Dictionary → Local
+atSimulation l a x s d = after l x (l .gate) a s d
 
 -- the card v comes from c by a move of process i, which then knows what its place asks for
 pub record Acted (c : Card) (w : World) (i : ℕ) (v : Card) : Type 0 where
   pub after : World
-  pub move : Move (fixedOf c) i w after
+  pub move : Move (contentsOf c) i w after
   pub gate-is : v .gate ≡ after .gate
   pub announcements-is : v .announcements ≡ after .announcements
   pub records-is : v .records ≡ after .records
   pub calls-is : after .calls ≡ w .calls
   pub local : Local
-  pub updated : Updated c i v local
+  pub put : v ≡ withLocal (withCells c (v .gate) (v .announcements) (v .records)) i local
+  pub counted : local .steps ≡ (localAt c i .steps + 1) % 18446744073709551616
   pub tidy : Tidy (local .dictionary)
-  pub loc : Loc (fixedOf c) after i local
+  pub loc : Loc (contentsOf c) after i local
 
 module _ {c : Card} {w : World} {i : ℕ} (B : Before c w i) where
   pub place-fits : i < 8
   place-fits = omega (arith, B .good .fits .few, B .inside)
 
-  pub untouched : Updated c i c (localAt c i)
-  untouched = unchanged c i (B .sizes)
-
   -- no shared cell is changed
   pub keeps :
-      {v : Card} {u : Local} → Updated c i v u → v .gate ≡ c .gate → v .announcements ≡ c .announcements →
-      v .records ≡ c .records → Tidy (u .dictionary) → Loc (fixedOf c) (worldOf c w) i u → Acted c (worldOf c w) i v
-  keeps U g a r y q =
+      {g : Gate} {l : List Announcement} {r : List Record} → g ≡ c .gate → l ≡ c .announcements → r ≡ c .records →
+      (x : Task) (h : Gate) (a : Announcement) (s : Simulation) (d : Dictionary) → Tidy d →
+      Loc (contentsOf c) (worldOf c w) i (after (localAt c i) x h a s d) →
+      Acted c (worldOf c w) i (withLocal (withCells c g l r) i (after (localAt c i) x h a s d))
+  keeps g l r x h a s d y q =
       record {
         after = worldOf c w;
         move = stay;
         gate-is = g;
-        announcements-is = a;
+        announcements-is = l;
         records-is = r;
         calls-is = refl;
         local = _;
-        updated = U;
+        put = refl;
+        counted = refl;
         tidy = y;
         loc = q;
       }
 
-  -- the gate is read
-  pub reads-gate :
-      (next : Place) → Loc (fixedOf c) (worldOf c w) i (atTask (atGate (localAt c i) (c .gate)) (goTo (taskAt c i) next)) →
-      Acted c (worldOf c w) i (readGate c i next)
-  reads-gate next q =
-      keeps (task-updated (held-updated untouched place-fits (c .gate)) place-fits (goTo (taskAt c i) next)) refl refl refl (B .tidy) q
-
-  -- an announcement is read
-  pub reads-announcement :
-      (a : Announcement) (x : Task) → Loc (fixedOf c) (worldOf c w) i (atTask (atCopy (localAt c i) a) x) →
-      Acted c (worldOf c w) i (withTask (withCopy c i a) i x)
-  reads-announcement a x q =
-      keeps (task-updated (copy-updated untouched place-fits a) place-fits x) refl refl refl (B .tidy) q
+  -- only the task changes
+  pub goes-on :
+      (x : Task) → Loc (contentsOf c) (worldOf c w) i (atTask (localAt c i) x) →
+      {g : Gate} {l : List Announcement} {r : List Record} → g ≡ c .gate → l ≡ c .announcements → r ≡ c .records →
+      Acted c (worldOf c w) i (withLocal (withCells c g l r) i (atTask (localAt c i) x))
+  goes-on x q g l r = keeps g l r x _ _ _ _ (B .tidy) q

@@ -19,15 +19,16 @@ use Rattle.construction.specs.declared.Place.{Place}
 use Rattle.construction.specs.declared.Place.the-variants.{Idle, P3, P5, P7, P10, C2, C4, P13, P19, P20, P21, P22, F1}
 use Rattle.construction.specs.declared.AnnouncementAccess.{AnnouncementAccess}
 use Rattle.construction.specs.Cells.{openAnnouncement, sameAnnouncement, swapAnnouncement}
-use Rattle.construction.specs.Parts.{announcementAt, recordAt, taskAt, operationAt, heldAt, copyAt, simulationAt, withAnnouncement, withTask}
-use Rattle.construction.specs.Machine.{goTo, byFlag, holderOf, firstChoice, announced, flagged, withdrawn, finished, accessAnnouncement}
+use Rattle.construction.specs.Parts.{announcementAt, recordAt, withAnnouncement, localAt, Local, contentsOf, withLocal}
+use Rattle.construction.specs.Machine.{goTo, byFlag, holderOf, firstChoice, announced, flagged, withdrawn, finished, accessAnnouncement, perform, after}
 use Rattle.construction.proofs.Basics.{on-test, announcement-path, sameAnnouncement-true, sameAnnouncement-false, active-not-done, active-not-exit, exit-not-done, else-done}
-use Rattle.construction.proofs.World.{Fixed, endingIn, World, announcementIn, roundIn, wordAt, operationOf, announcing, leaving, ending, Move}
+use Rattle.construction.proofs.World.{endingIn, World, announcementIn, roundIn, wordAt, operationOf, announcing, leaving, ending, Move}
 use Rattle.construction.proofs.World.Move.{announce, leave, end}
 use Rattle.construction.proofs.Claims.{viewOf, Change, end-change}
-use Rattle.construction.proofs.Locals.{Local, localAt, atTask, atCopy, fixedOf, Updated, announcement-updated, copy-updated, task-updated}
 use Rattle.construction.proofs.Places.{Mine, Helper, Plan, Ready, LocAt, Loc, helper-stays, plan-stays, ready-stays}
-use Rattle.construction.proofs.Acting.{worldOf, Before, Acted, place-fits, untouched, keeps, reads-announcement}
+use Rattle.construction.proofs.Acting.{worldOf, Before, Acted, keeps, atTask, goes-on, atAnnouncement}
+use Rattle.construction.specs.declared.Contents.{Contents}
+use Rattle.construction.specs.declared.Access.{Access}
 
 -- line C1 names a process
 first-inside : (s p i : ℕ) → i < p → firstChoice s p < p
@@ -38,8 +39,8 @@ module _ {c : Card} {w : World} {i : ℕ} (B : Before c w i) where
   abbrev W : World
   W = worldOf c w
 
-  abbrev F : Fixed
-  F = fixedOf c
+  abbrev F : Contents
+  F = contentsOf c
 
   abbrev L : Place → Type 0
   L l = LocAt l F W i (localAt c i)
@@ -49,12 +50,12 @@ module _ {c : Card} {w : World} {i : ℕ} (B : Before c w i) where
   set-is m a lt =
       getD-set-same (c .announcements) m a openAnnouncement (omega (arith, B .good .fits .few, B .good .lengths .announcements))
 
-  pub at-P3 : L P3 → Acted c W i (accessAnnouncement AnnouncementAccess.Announce c i)
-  unfolding accessAnnouncement
+  pub at-P3 : L P3 → Acted c W i (perform (Access.Announcement AnnouncementAccess.Announce) c i .card)
+  unfolding perform accessAnnouncement
   at-P3 q =
-      let a : Announcement = announced (operationAt c i) (heldAt c i) in
-      let z : getD (set (c .announcements) i (announced (operationAt c i) (heldAt c i))) i openAnnouncement ≡ announced (operationAt c i) (heldAt c i) =
-      set-is i (announced (operationAt c i) (heldAt c i)) (B .inside) in
+      let a : Announcement = announced (localAt c i .operation) (localAt c i .gate) in
+      let z : getD (set (c .announcements) i (announced (localAt c i .operation) (localAt c i .gate))) i openAnnouncement ≡ announced (localAt c i .operation) (localAt c i .gate) =
+      set-is i (announced (localAt c i .operation) (localAt c i .gate)) (B .inside) in
       record {
         after = announcing W i a;
         move = announce a (B .inside) (q .0) refl (q .1) (q .2) (q .3);
@@ -63,9 +64,8 @@ module _ {c : Card} {w : World} {i : ℕ} (B : Before c w i) where
         records-is = refl;
         calls-is = refl;
         local = _;
-        updated =
-            task-updated (copy-updated (announcement-updated (untouched B) i a) (place-fits B) a) (place-fits B)
-            (goTo (taskAt c i) P5);
+        put = refl;
+        counted = refl;
         tidy = B .tidy;
         loc = (
           record {
@@ -80,30 +80,36 @@ module _ {c : Card} {w : World} {i : ℕ} (B : Before c w i) where
         );
       }
 
-  -- process i with its own announcement read, and at a place
-  abbrev read : Place → Local
-  read l = atTask (atCopy (localAt c i) (announcementAt c i)) (record { place = l; target = i })
+  -- process i with the announcement of m read, and at a place
+  abbrev read : ℕ → Place → Local
+  read m l = atAnnouncement (localAt c i) (announcementAt c m) (record { place = l; target = m })
+
+  -- the announcement of m is read
+  reads :
+      (m : ℕ) (l : Place) → Loc F W i (read m l) →
+      Acted c W i (withLocal (withAnnouncement c m (announcementAt c m)) i (read m l))
+  reads m l q = keeps B refl (set-getD (c .announcements) m openAnnouncement) refl _ _ _ _ _ (B .tidy) q
 
   -- lines P7, C4 and P22: by the flag that is read
   at-own :
-      (active exit : Place) → Mine (viewOf W i) (operationAt c i) → (announcementAt c i .flag ≡ Active → Loc F W i (read active)) →
-      (announcementAt c i .flag ≡ Exit → Loc F W i (read exit)) →
-      Acted c W i (accessAnnouncement (AnnouncementAccess.ReadOwn F1 active exit) c i)
-  unfolding accessAnnouncement
-  at-own active exit mine a x = reads-announcement B (announcementAt c i) _ (go (announcementAt c i .flag) refl)
+      (active exit : Place) → Mine (viewOf W i) (localAt c i .operation) → (announcementAt c i .flag ≡ Active → Loc F W i (read i active)) →
+      (announcementAt c i .flag ≡ Exit → Loc F W i (read i exit)) →
+      Acted c W i (perform (Access.Announcement (AnnouncementAccess.ReadOwn F1 active exit)) c i .card)
+  unfolding perform accessAnnouncement
+  at-own active exit mine a x = reads i _ (go (announcementAt c i .flag) refl)
     where
-      go : (f : Flag) → announcementAt c i .flag ≡ f → Loc F W i (read (byFlag f F1 active exit))
+      go : (f : Flag) → announcementAt c i .flag ≡ f → Loc F W i (read i (byFlag f F1 active exit))
       go Done e = record { done = e; same = refl; out = mine .own .out e }
       go Active e = a e
       go Exit e = x e
 
-  pub at-P7 : L P7 → Acted c W i (accessAnnouncement (AnnouncementAccess.ReadOwn F1 P10 P10) c i)
+  pub at-P7 : L P7 → Acted c W i (perform (Access.Announcement (AnnouncementAccess.ReadOwn F1 P10 P10)) c i .card)
   at-P7 q = at-own P10 P10 q (λ _. q) (λ _. q)
 
-  pub at-C4 : L C4 → Acted c W i (accessAnnouncement (AnnouncementAccess.ReadOwn F1 P13 P13) c i)
+  pub at-C4 : L C4 → Acted c W i (perform (Access.Announcement (AnnouncementAccess.ReadOwn F1 P13 P13)) c i .card)
   at-C4 q = at-own P13 P13 (q .0) (λ e. self (active-not-done e)) (λ e. self (exit-not-done e))
     where
-      self : announcementAt c i .flag ≢ Done → Loc F W i (read P13)
+      self : announcementAt c i .flag ≢ Done → Loc F W i (read i P13)
       self nd = (
         q .0,
         q .1,
@@ -112,7 +118,7 @@ module _ {c : Card} {w : World} {i : ℕ} (B : Before c w i) where
         q .3,
       )
 
-  pub at-P22 : L P22 → Acted c W i (accessAnnouncement (AnnouncementAccess.ReadOwn F1 P5 Idle) c i)
+  pub at-P22 : L P22 → Acted c W i (perform (Access.Announcement (AnnouncementAccess.ReadOwn F1 P5 Idle)) c i .card)
   at-P22 q =
       at-own P5 Idle (q .0)
       (λ e. (
@@ -127,7 +133,7 @@ module _ {c : Card} {w : World} {i : ℕ} (B : Before c w i) where
 
   read-C2 :
       (m : ℕ) → m < c .processes → (f : Flag) → announcementAt c m .flag ≡ f → L C2 →
-      Loc F W i (atTask (atCopy (localAt c i) (announcementAt c m)) (record { place = byFlag f C4 P13 C4; target = m }))
+      Loc F W i (read m (byFlag f C4 P13 C4))
   read-C2 m ml Done e q = q
   read-C2 m ml Active e q = (
     q .0,
@@ -145,40 +151,35 @@ module _ {c : Card} {w : World} {i : ℕ} (B : Before c w i) where
   )
   read-C2 m ml Exit e q = q
 
-  pub at-C2 : L C2 → Acted c W i (accessAnnouncement AnnouncementAccess.ReadFirst c i)
-  unfolding accessAnnouncement
+  pub at-C2 : L C2 → Acted c W i (perform (Access.Announcement AnnouncementAccess.ReadFirst) c i .card)
+  unfolding perform accessAnnouncement
   at-C2 q =
-      let m : ℕ = firstChoice (heldAt c i .seq) (c .processes) in
-      reads-announcement B (announcementAt c m) _
-      (read-C2 m (first-inside (heldAt c i .seq) (c .processes) i (B .inside)) (announcementAt c m .flag) refl q)
+      let m : ℕ = firstChoice (localAt c i .gate .seq) (c .processes) in
+      reads m _
+      (read-C2 m (first-inside (localAt c i .gate .seq) (c .processes) i (B .inside)) (announcementAt c m .flag) refl q)
 
-  -- the card after a swap of announcement m, with process i at a place
+  -- process i at a place, and the card after a swap of announcement m
+  abbrev at : Place → Local
+  at l = atTask (localAt c i) (goTo (localAt c i .task) l)
+
   abbrev swapped : ℕ → Announcement → Place → Card
-  swapped m a l = withTask (withAnnouncement c m a) i (goTo (taskAt c i) l)
-
-  swapped-updated :
-      (m : ℕ) (a : Announcement) (l : Place) → Updated c i (swapped m a l) (atTask (localAt c i) (goTo (taskAt c i) l))
-  swapped-updated m a l = task-updated (announcement-updated (untouched B) m a) (place-fits B) (goTo (taskAt c i) l)
+  swapped m a l = withLocal (withAnnouncement c m a) i (at l)
 
   -- a swap that was lost
-  lost :
-      (m : ℕ) (l : Place) → Loc F W i (atTask (localAt c i) (goTo (taskAt c i) l)) →
-      Acted c W i (swapped m (announcementAt c m) l)
-  lost m l q =
-      keeps B (swapped-updated m (announcementAt c m) l) refl (set-getD (c .announcements) m openAnnouncement) refl
-      (B .tidy) q
+  lost : (m : ℕ) (l : Place) → Loc F W i (at l) → Acted c W i (swapped m (announcementAt c m) l)
+  lost m l q = goes-on B _ q refl (set-getD (c .announcements) m openAnnouncement) refl
 
-  pub at-P6 : L P5 → Acted c W i (accessAnnouncement AnnouncementAccess.Withdraw c i)
-  unfolding accessAnnouncement swapAnnouncement
+  pub at-P6 : L P5 → Acted c W i (perform (Access.Announcement AnnouncementAccess.Withdraw) c i .card)
+  unfolding perform accessAnnouncement swapAnnouncement
   at-P6 q =
-      on-test (λ a. Acted c W i (swapped i a P7)) (sameAnnouncement (announcementAt c i) (copyAt c i)) won
+      on-test (λ a. Acted c W i (swapped i a P7)) (sameAnnouncement (announcementAt c i) (localAt c i .announcement)) won
       (λ _. lost i P7 (q .0))
     where
-      won : sameAnnouncement (announcementAt c i) (copyAt c i) ≡ true → Acted c W i (swapped i (withdrawn (copyAt c i) (operationAt c i)) P7)
+      won : sameAnnouncement (announcementAt c i) (localAt c i .announcement) ≡ true → Acted c W i (swapped i (withdrawn (localAt c i .announcement) (localAt c i .operation)) P7)
       won e =
-          let z = sameAnnouncement-true (announcementAt c i) (copyAt c i) e in
+          let z = sameAnnouncement-true (announcementAt c i) (localAt c i .announcement) e in
           let fa : announcementAt c i .flag ≡ Active = ap (λ (r : Announcement). r .flag) z ∙ q .1 in
-          let zw : announcementAt c i .words ≡ operationAt c i .inputs = ap (λ (r : Announcement). r .words) z ∙ q .2 in
+          let zw : announcementAt c i .words ≡ localAt c i .operation .inputs = ap (λ (r : Announcement). r .words) z ∙ q .2 in
           let y = set-is i (flagged (announcementAt c i) Exit) (B .inside) in
           record {
             after = leaving W i;
@@ -191,7 +192,8 @@ module _ {c : Card} {w : World} {i : ℕ} (B : Before c w i) where
             records-is = refl;
             calls-is = refl;
             local = _;
-            updated = swapped-updated i (withdrawn (copyAt c i) (operationAt c i)) P7;
+            put = refl;
+            counted = refl;
             tidy = B .tidy;
             loc = record {
               own = record {
@@ -204,26 +206,26 @@ module _ {c : Card} {w : World} {i : ℕ} (B : Before c w i) where
 
   -- the process that is helped
   abbrev helped : ℕ
-  helped = holderOf (heldAt c i .holder)
+  helped = holderOf (localAt c i .gate .holder)
 
   -- a helper that swaps the flag to done, from the flag f that it expects
-  module _ (l : Place) (f : Flag) (nf : f ≢ Done) (helper : Helper F W i (operationAt c i) (heldAt c i))
-      (plan : Plan F W (heldAt c i) (copyAt c i)) (rd : Ready F W (heldAt c i .seq) (simulationAt c i .outputs)) where
+  module _ (l : Place) (f : Flag) (nf : f ≢ Done) (helper : Helper F W i (localAt c i .operation) (localAt c i .gate))
+      (plan : Plan F W (localAt c i .gate) (localAt c i .announcement)) (rd : Ready F W (localAt c i .gate .seq) (localAt c i .simulation .outputs)) where
     ends :
-        announcementAt c helped ≡ flagged (copyAt c i) f →
+        announcementAt c helped ≡ flagged (localAt c i .announcement) f →
         (Move F i W (ending F W helped) → Change i (viewOf W i) (viewOf (ending F W helped) i) →
-        Loc F (ending F W helped) i (atTask (localAt c i) (goTo (taskAt c i) l))) →
-        Acted c W i (swapped helped (finished (copyAt c i) (simulationAt c i)) l)
+        Loc F (ending F W helped) i (at l)) →
+        Acted c W i (swapped helped (finished (localAt c i .announcement) (localAt c i .simulation .outputs)) l)
     ends z loc =
         let nd : announcementAt c helped .flag ≢ Done = λ d. nf (sym (ap (λ (r : Announcement). r .flag) z) ∙ d) in
-        let zq : announcementAt c helped .seq ≡ copyAt c i .seq = ap (λ (r : Announcement). r .seq) z in
+        let zq : announcementAt c helped .seq ≡ localAt c i .announcement .seq = ap (λ (r : Announcement). r .seq) z in
         let still = helper .seen .still (omega (arith, B .good .fresh helped nd, plan .early)) in
-        let zs : c .gate .seq ≡ heldAt c i .seq = still .1 in
+        let zs : c .gate .seq ≡ localAt c i .gate .seq = still .1 in
         let all :
         (v : ℕ) → v < c .variables → recordAt c v .seq < c .gate .seq →
         wordAt (endingIn F W (c .gate .seq) .words) v ≡ wordAt (roundIn W (c .gate .seq) .words) v =
         ⊎-elim (λ b. absurd (omega arith)) (λ g. rw zs g) (rd .all) in
-        let outs : simulationAt c i .outputs ≡ endingIn F W (c .gate .seq) .outputs =
+        let outs : localAt c i .simulation .outputs ≡ endingIn F W (c .gate .seq) .outputs =
         ⊎-elim (λ b. absurd (omega arith)) (λ g. rw zs g) (rd .outs) in
         let M : Move F i W (ending F W helped) = end helped (helper .inside) (still .0) nd all in
         record {
@@ -236,15 +238,16 @@ module _ {c : Card} {w : World} {i : ℕ} (B : Before c w i) where
           records-is = refl;
           calls-is = refl;
           local = _;
-          updated = swapped-updated helped (finished (copyAt c i) (simulationAt c i)) l;
+          put = refl;
+          counted = refl;
           tidy = B .tidy;
           loc = loc M (end-change (B .good) helped i (helper .inside) (still .0) nd);
         }
 
     -- where the swap is lost, the flag is not f
     missed :
-        sameAnnouncement (announcementAt c helped) (flagged (copyAt c i) f) ≡ false →
-        c .gate .holder ≡ Process helped → c .gate .seq ≡ heldAt c i .seq → announcementAt c helped .flag ≢ f
+        sameAnnouncement (announcementAt c helped) (flagged (localAt c i .announcement) f) ≡ false →
+        c .gate .holder ≡ Process helped → c .gate .seq ≡ localAt c i .gate .seq → announcementAt c helped .flag ≢ f
     missed e h z a =
         let y = plan .working .alike h z (λ d. nf (sym a ∙ d)) in
         sameAnnouncement-false _ _ e (announcement-path (y .program) a (y .seq) (y .words))
@@ -253,25 +256,25 @@ module _ {c : Card} {w : World} {i : ℕ} (B : Before c w i) where
   is-done : (m : ℕ) → m < c .processes → announcementIn (ending F W m) m .flag ≡ Done
   is-done m ml = ap (λ (r : Announcement). r .flag) (set-is m _ ml)
 
-  pub at-P19 : L P19 → Acted c W i (accessAnnouncement (AnnouncementAccess.Finish Active P20) c i)
-  unfolding accessAnnouncement swapAnnouncement
+  pub at-P19 : L P19 → Acted c W i (perform (Access.Announcement (AnnouncementAccess.Finish Active P20)) c i .card)
+  unfolding perform accessAnnouncement swapAnnouncement
   at-P19 q =
       on-test (λ a. Acted c W i (swapped helped a P20))
-      (sameAnnouncement (announcementAt c helped) (flagged (copyAt c i) Active))
+      (sameAnnouncement (announcementAt c helped) (flagged (localAt c i .announcement) Active))
       (λ e. ends P20 Active (active-not-done refl) (q .0) (q .1) (q .2) (sameAnnouncement-true _ _ e) (λ M C. (
         helper-stays (B .good) M C (q .0),
-        plan-stays (B .good) M (heldAt c i) (copyAt c i) (q .0 .seen) (q .1),
-        ready-stays (B .good) M (heldAt c i .seq) (q .1 .number) (q .1 .below) (simulationAt c i .outputs) (q .2),
+        plan-stays (B .good) M (localAt c i .gate) (localAt c i .announcement) (q .0 .seen) (q .1),
+        ready-stays (B .good) M (localAt c i .gate .seq) (q .1 .number) (q .1 .below) (localAt c i .simulation .outputs) (q .2),
         record { isnt = λ _ _ a. active-not-done a (is-done helped (q .0 .inside)) },
       )))
       (λ e. lost helped P20
       (q .0, q .1, q .2, record { isnt = missed P20 Active (active-not-done refl) (q .0) (q .1) (q .2) e }))
 
-  pub at-P20 : L P20 → Acted c W i (accessAnnouncement (AnnouncementAccess.Finish Exit P21) c i)
-  unfolding accessAnnouncement swapAnnouncement
+  pub at-P20 : L P20 → Acted c W i (perform (Access.Announcement (AnnouncementAccess.Finish Exit P21)) c i .card)
+  unfolding perform accessAnnouncement swapAnnouncement
   at-P20 q =
       on-test (λ a. Acted c W i (swapped helped a P21))
-      (sameAnnouncement (announcementAt c helped) (flagged (copyAt c i) Exit))
+      (sameAnnouncement (announcementAt c helped) (flagged (localAt c i .announcement) Exit))
       (λ e. ends P21 Exit (exit-not-done refl) (q .0) (q .1) (q .2) (sameAnnouncement-true _ _ e)
       (λ M C. (helper-stays (B .good) M C (q .0), record { over = λ _ _. is-done helped (q .0 .inside) })))
       (λ e. lost helped P21

@@ -5,7 +5,7 @@ use mathlib.Core.Bool.{Bool, true, false, cond, not, _&&_}
 use mathlib.Core.Logic.{_≢_, _⊎_, inl, inr, ⊎-elim}
 use native.Mathlib.Omega.{arith}
 use lib.Dec.{eqb}
-use borrow.Author.Tests.{eqb-true, eqb-false}
+use borrow.Author.Tests.{eqb-true, eqb-false, not-false}
 use Rattle.construction.specs.declared.Announcement.{Announcement}
 use Rattle.construction.specs.declared.Words.{Words}
 use Rattle.construction.specs.declared.Card.{Card}
@@ -17,22 +17,22 @@ use Rattle.construction.specs.declared.Place.{Place}
 use Rattle.construction.specs.declared.Place.the-variants.{Idle}
 use Rattle.construction.specs.declared.Answer.{Answer}
 use Rattle.construction.specs.Cells.{isDone, current, previous}
-use Rattle.construction.specs.Parts.{announcementAt, recordAt, taskAt, countAt, copyAt}
-use Rattle.construction.specs.Requests.{isBusy, isPending, valueOf, returned, answerOf}
+use Rattle.construction.specs.Parts.{announcementAt, recordAt, localAt, Local, contentsOf}
+use Rattle.construction.specs.Requests.{isBusy, isPending, valueOf, returned, answerOf, isIdle}
 use Rattle.construction.proofs.Basics.{on-test, true-false, true-or-false, active-not-done, exit-not-done}
-use Rattle.construction.proofs.World.{Fixed, Round, World, announcementIn, outputsIn, roundIn, wordAt, Phase, Good, Quiet}
-use Rattle.construction.proofs.Locals.{Local, localAt, fixedOf}
-use Rattle.construction.proofs.Places.{LocAt}
+use Rattle.construction.proofs.World.{Round, World, announcementIn, outputsIn, roundIn, wordAt, Phase, Good, Quiet}
+use Rattle.construction.proofs.Places.{LocAt, known}
 use Rattle.construction.proofs.Stages.{isAnnounced, Stage, stage}
 use Rattle.construction.proofs.Acting.{worldOf}
 use Rattle.construction.proofs.Invariant.{Inv, good-is, at-rest}
+use Rattle.construction.specs.declared.Contents.{Contents}
 
 -- a read shows the word of the sequential run
 module _ (c : Card) (w : World) (I : Inv c w) (v : ℕ) (vl : v < c .variables) where
   abbrev W : World
   W = worldOf c w
 
-  good : Good (fixedOf c) W
+  good : Good (contentsOf c) W
   good = good-is I
 
   -- what is read where the test of the gate's holder says b
@@ -70,26 +70,29 @@ module _ {c : Card} {w : World} (I : Inv c w) (i : ℕ) (lt : i < c .processes) 
   -- what the announcement says, and the answer
   abbrev pub Returned : Answer → Type 0
   Returned a =
-      ((announcementIn w i .flag ≡ Done) × (a ≡ Answer.Done (outputsIn w i) (countAt c i)))
-      ⊎ ((announcementIn w i .flag ≡ Exit) × (a ≡ Answer.Exited (countAt c i)))
+      ((announcementIn w i .flag ≡ Done) × (a ≡ Answer.Done (outputsIn w i) (localAt c i .steps)))
+      ⊎ ((announcementIn w i .flag ≡ Exit) × (a ≡ Answer.Exited (localAt c i .steps)))
 
-  pub answer-is : Returned (answerOf c i)
-  answer-is = go (copyAt c i .flag) (ap (λ (a : Announcement). a .flag) (q .1 .same))
+  pub answer-is : Returned (answerOf (localAt c i))
+  answer-is = go (localAt c i .announcement .flag) (ap (λ (a : Announcement). a .flag) (q .1 .same))
     where
-      q : LocAt Idle (fixedOf c) w i (localAt c i)
+      q : LocAt Idle (contentsOf c) w i (localAt c i)
       q = at-rest I i lt b
 
-      words : announcementIn w i .flag ≡ Done → copyAt c i .words ≡ outputsIn w i
+      idle : isIdle (localAt c i .task .place) ≡ true
+      idle = not-false _ b
+
+      words : announcementIn w i .flag ≡ Done → localAt c i .announcement .words ≡ outputsIn w i
       words e = sym (ap (λ (a : Announcement). a .words) (q .1 .same)) ∙ q .1 .out e
 
       go :
           (f : Flag) → announcementIn w i .flag ≡ f →
-          Returned (cond (isBusy c i) Answer.Run (returned (copyAt c i) f (countAt c i)))
-      go Done e = inl (e, rw b (ap (λ (o : Words). Answer.Done o (countAt c i)) (words e)))
+          Returned (cond (isIdle (localAt c i .task .place)) (returned (localAt c i .announcement) f (localAt c i .steps)) Answer.Run)
+      go Done e = inl (e, rw idle (ap (λ (o : Words). Answer.Done o (localAt c i .steps)) (words e)))
       go Active e = absurd (q .0 .not-active e)
-      go Exit e = inr (e, rw b)
+      go Exit e = inr (e, rw idle)
 
-module _ (F : Fixed) (w : World) (i : ℕ) (t : Local) where
+module _ (F : Contents) (w : World) (i : ℕ) (t : Local) where
   quiet-at : {l : Place} → Stage l → isAnnounced l ≡ false → LocAt l F w i t → Quiet w i
   quiet-at Stage.idle e q = q .0
   quiet-at Stage.called e q = q .0
@@ -98,10 +101,10 @@ module _ (F : Fixed) (w : World) (i : ℕ) (t : Local) where
 
 module _ {c : Card} {w : World} (I : Inv c w) (i : ℕ) (lt : i < c .processes) where
   -- an operation that is not announced is not active and does not hold the gate
-  quiet-is : isAnnounced (taskAt c i .place) ≡ false → Quiet w i
-  quiet-is e = quiet-at (fixedOf c) w i (localAt c i) (stage (taskAt c i .place)) e (I .locs i lt)
+  quiet-is : isAnnounced (localAt c i .task .place) ≡ false → Quiet w i
+  quiet-is e = quiet-at (contentsOf c) w i (known (localAt c i)) (stage (localAt c i .task .place)) e (I .locs i lt)
 
   -- the holder of the gate is announced
-  pub holder-announced : w .gate .holder ≡ Process i → isAnnounced (taskAt c i .place) ≡ true
+  pub holder-announced : w .gate .holder ≡ Process i → isAnnounced (localAt c i .task .place) ≡ true
   holder-announced h =
-      ⊎-elim (λ z. z) (λ z. absurd (quiet-is z .free-of h)) (true-or-false (isAnnounced (taskAt c i .place)))
+      ⊎-elim (λ z. z) (λ z. absurd (quiet-is z .free-of h)) (true-or-false (isAnnounced (localAt c i .task .place)))

@@ -10,10 +10,10 @@ use Rattle.construction.specs.declared.Answer.{Answer}
 use Rattle.construction.specs.declared.Answered.{Answered}
 use Rattle.construction.specs.declared.Refusal.{Refusal}
 use Rattle.construction.specs.declared.Refusal.the-variants.{NoProcess, NoProgram, Busy, NotBusy, NoPlace, LimitReached}
-use Rattle.construction.specs.Parts.{withExit}
 use Rattle.construction.specs.Machine.{advance}
-use Rattle.construction.specs.Requests.{isProcess, isProgram, isVariable, isBusy, refused, begun, call, requestExit, answerOf, step, valueOf, read}
+use Rattle.construction.specs.Requests.{isProcess, isProgram, isVariable, isBusy, refused, call, requestExit, answerOf, step, valueOf, read, invoked, exiting}
 use Rattle.construction.proofs.Basics.{on-test, and-true}
+use Rattle.construction.specs.Parts.{withLocal, localAt}
 
 -- by cases on a test that is denied
 on-not {ℓ κ} : {A : Type ℓ} (P : A → Type κ) (b : Bool) {x y : A} → P x → (b ≡ true → P y) → P (cond (not b) x y)
@@ -27,7 +27,7 @@ module _ {κ} (P : Answered → Type κ) (c : Card) (turned-back : (r : Refusal)
   pub on-call :
       (i k : ℕ) (inputs : Words) →
       (i < c .processes → isProgram c k ≡ true → isBusy c i ≡ false →
-      P (record { card = begun c i k inputs; answer = Answer.Taken })) →
+      P (record { card = withLocal c i (invoked (localAt c i) k inputs); answer = Answer.Taken })) →
       P (call c i k inputs)
   unfolding call
   on-call i k inputs taken =
@@ -37,7 +37,7 @@ module _ {κ} (P : Answered → Type κ) (c : Card) (turned-back : (r : Refusal)
 
   pub on-exit :
       (i : ℕ) →
-      (i < c .processes → isBusy c i ≡ true → P (record { card = withExit c i true; answer = Answer.Taken })) →
+      (i < c .processes → isBusy c i ≡ true → P (record { card = withLocal c i (exiting (localAt c i)); answer = Answer.Taken })) →
       P (requestExit c i)
   unfolding requestExit
   on-exit i taken =
@@ -46,7 +46,7 @@ module _ {κ} (P : Answered → Type κ) (c : Card) (turned-back : (r : Refusal)
   pub on-step :
       (i : ℕ) →
       (i < c .processes → isBusy c i ≡ true → c .steps < c .limit →
-      P (record { card = advance c i; answer = answerOf (advance c i) i })) →
+      P (record { card = advance c i; answer = answerOf (localAt (advance c i) i) })) →
       P (step c i)
   unfolding step
   on-step i taken =

@@ -5,7 +5,7 @@ use Rattle.construction.specs.Opening.{opened, readCard, varsFrom, progr
 use Rattle.construction.specs.Lines.{cardLine, judgeCard, varLine, judgeVar, sheetLine, judgeSheet, insLine, judgeIns, cardText, varText, sheetText, insText}
 use Rattle.construction.specs.Instructions.{decode, encode, effectOf, fetch, word, withWord, sum, difference, load, store, forward, withRegister, withOutput, skipped}
 use Rattle.construction.specs.Requests.{call, requestExit, step, read, valueOf}
-use Rattle.construction.specs.Machine.{advance, perform, accessOf, accessGate, accessAnnouncement, accessRecord, firstChoice, help}
+use Rattle.construction.specs.Machine.{advance, perform, accessOf, accessGate, accessAnnouncement, firstChoice, beginHelp, note, writing}
 use Rattle.construction.specs.Helping.{simulate, simulateFrom}
 use Rattle.construction.specs.Dictionary.{position, assign, valueUnder, insert, altered, unaltered, nextWrite}
 use Rattle.construction.specs.Cells.{sameWords, sameGate, sameAnnouncement, sameRecord, swapGate, swapAnnouncement, swapRecord, released, current, previous, rewritten}
@@ -15,7 +15,7 @@ use Rattle.grammar.specs.Writing.{decimal, decimals}
 use Rattle.construction.specs.Examples.{AllHold, rows, AllTextsRefused, refusedTexts, AllEntriesRefused, refusedEntries, BufferRefused}
 
 pub rows-hold : AllHold rows
-unfolding opened readCard cardLine judgeCard four field number digits hasWord varsFrom varLine judgeVar programsFrom readProgram sheetLine judgeSheet insFrom insLine judgeIns decode fresh call requestExit step read valueOf advance perform accessOf accessGate accessAnnouncement accessRecord firstChoice help simulate simulateFrom effectOf fetch word withWord sum difference load store forward withRegister withOutput skipped position assign valueUnder insert altered unaltered nextWrite sameWords sameGate sameAnnouncement sameRecord swapGate swapAnnouncement swapRecord released current previous rewritten
+unfolding opened readCard cardLine judgeCard four field number digits hasWord varsFrom varLine judgeVar programsFrom readProgram sheetLine judgeSheet insFrom insLine judgeIns decode fresh call requestExit step read valueOf advance perform accessOf accessGate accessAnnouncement firstChoice beginHelp note writing simulate simulateFrom effectOf fetch word withWord sum difference load store forward withRegister withOutput skipped position assign valueUnder insert altered unaltered nextWrite sameWords sameGate sameAnnouncement sameRecord swapGate swapAnnouncement swapRecord released current previous rewritten
 rows-hold =
     ((refl, (refl, refl, refl)), ((refl, (refl, refl, refl)), ((refl, (refl, refl, refl)), ((refl, (refl, refl, refl)), ((refl, (refl, refl, refl)), ((refl, (refl, refl, refl)), ((refl, (refl, refl, refl)), ((refl, (refl, refl, refl)), ((refl, (refl, refl, refl)), ((refl, (refl, refl, refl)), ((refl, (refl, refl, refl)), ((refl, (refl, refl, refl)), ((refl, (refl, refl, refl)), ((refl, (refl, refl, refl)), ((refl, (refl, refl, refl)), ((refl, (refl, refl, refl)), tt))))))))))))))))
 
@@ -24,7 +24,7 @@ unfolding opened readCard cardLine judgeCard four field number digits hasWord va
 texts-refused = (refl, (refl, (refl, tt)))
 
 pub entries-refused : AllEntriesRefused refusedEntries
-unfolding opened readCard cardLine judgeCard four field number digits hasWord varsFrom varLine judgeVar programsFrom readProgram sheetLine judgeSheet insFrom insLine judgeIns decode fresh call requestExit step read valueOf advance perform accessOf accessGate accessAnnouncement accessRecord firstChoice help simulate simulateFrom effectOf fetch word withWord forward withRegister skipped position assign valueUnder insert sameWords sameGate sameAnnouncement sameRecord swapGate swapAnnouncement swapRecord valuesOf numberOf
+unfolding opened readCard cardLine judgeCard four field number digits hasWord varsFrom varLine judgeVar programsFrom readProgram sheetLine judgeSheet insFrom insLine judgeIns decode fresh call requestExit step read valueOf advance perform accessOf accessGate accessAnnouncement firstChoice beginHelp note writing simulate simulateFrom effectOf fetch word withWord forward withRegister skipped position assign valueUnder insert sameWords sameGate sameAnnouncement sameRecord swapGate swapAnnouncement swapRecord valuesOf numberOf
 entries-refused =
     (record { refusal = refl; kept = refl }, (record { refusal = refl; kept = refl }, (record { refusal = refl; kept = refl }, (record { refusal = refl; kept = refl }, (record { refusal = refl; kept = refl }, (record { refusal = refl; kept = refl }, tt))))))
 

@@ -1,13 +1,13 @@
 -- The invariant of a card beside a world, and that fresh cards have it and every taken call, exit request and step keeps it.
 use Prim.Native.Nat.{ℕ, suc, _+_, _≤_, _<_, _%_}
 use mathlib.Core.Path.{_≡_, refl, sym, subst, ap, _∙_}
-use mathlib.Core.Bool.{Bool, true, false}
+use mathlib.Core.Bool.{true, false}
 use mathlib.Core.Logic.{_≢_}
-use mathlib.Core.List.{[], _∷_, map}
+use mathlib.Core.List.{[], _∷_, map, List}
 use native.Mathlib.Omega.{arith}
 use native.Mathlib.Decide.{ℕ-discrete}
-use lib.ListN.{length, getD, take, replicate, length-set, length-map, List·getD-map}
-use lib.Seq.{getD-set-same, getD-set-other, getD-take, length-take-le}
+use lib.ListN.{length, getD, take, replicate, length-map, List·getD-map}
+use lib.Seq.{getD-set-same, getD-take, length-take-le}
 use borrow.Author.Tests.{not-true, not-false}
 use Rattle.construction.specs.declared.Gate.{Gate}
 use Rattle.construction.specs.declared.Announcement.{Announcement}
@@ -18,85 +18,82 @@ use Rattle.construction.specs.declared.Card.{Card}
 use Rattle.construction.specs.declared.Contents.{Contents}
 use Rattle.construction.specs.declared.Flag.the-variants.{Done}
 use Rattle.construction.specs.declared.Place.{Place}
-use Rattle.construction.specs.declared.Place.the-variants.{Idle, P1}
+use Rattle.construction.specs.declared.Place.the-variants.{Idle}
 use Rattle.construction.specs.Cells.{zeros, openAnnouncement, openRecord, current}
 use Rattle.construction.specs.Instructions.{noProgram}
 use Rattle.construction.specs.Dictionary.{empty}
-use Rattle.construction.specs.Parts.{idleTask, noOperation, taskAt, exitAt, countAt, heldAt, copyAt, simulationAt, dictionaryAt, withExit}
-use Rattle.construction.specs.Machine.{accessOf, perform, counted, advance}
-use Rattle.construction.specs.Requests.{isBusy, begun}
+use Rattle.construction.specs.Parts.{idleTask, noOperation, localAt, withLocal, Local, contentsOf, withCells, withSteps}
+use Rattle.construction.specs.Machine.{perform, advance, accessIn}
+use Rattle.construction.specs.Requests.{isBusy, invoked, exiting}
 use Rattle.construction.specs.Opening.{fresh}
-use Rattle.construction.proofs.Basics.{on-set, getD-replicate-same, active-not-done, exit-not-done, nobody-process}
+use Rattle.construction.proofs.Basics.{getD-replicate-same, active-not-done, exit-not-done, nobody-process}
 use Rattle.construction.proofs.SequentialLaws.{Short}
-use Rattle.construction.proofs.World.{Fixed, World, Good, asking, Quiet, Move}
-use Rattle.construction.proofs.World.Move.{ask}
+use Rattle.construction.proofs.World.{World, Good, asking, Quiet, Move}
+use Rattle.construction.proofs.World.Move.{ask, stay}
 use Rattle.construction.proofs.Kept.{good-move, seq-move}
-use Rattle.construction.proofs.Locals.{Local, localAt, fixedOf, Sizes}
-use Rattle.construction.proofs.Places.{LocAt, Loc, loc-stays}
+use Rattle.construction.proofs.Locals.{Sizes, local-same, local-other, sizes-put}
+use Rattle.construction.proofs.Places.{LocAt, Loc, loc-stays, known}
 use Rattle.construction.proofs.Stages.{stage, is-idle}
-use Rattle.construction.proofs.Acting.{worldOf, Tidy, Before, Acted}
+use Rattle.construction.proofs.Acting.{worldOf, Tidy, Acted, Before}
 use Rattle.construction.proofs.Steps.{at-place}
+use Rattle.construction.specs.declared.Record.{Record}
 
 -- the cells of the card are those of a good world, every process knows what its place asks for, and the numbers keep their bounds
 pub record Inv (c : Card) (w : World) : Type 0 where
   pub cells : worldOf c w ≡ w
-  pub good : Good (fixedOf c) w
+  pub good : Good (contentsOf c) w
   pub sizes : Sizes c
-  pub locs : (j : ℕ) → j < c .processes → Loc (fixedOf c) w j (localAt c j)
-  pub tidy : (j : ℕ) → Tidy (dictionaryAt c j)
+  pub locs : (j : ℕ) → j < c .processes → Loc (contentsOf c) w j (localAt c j)
+  pub tidy : (j : ℕ) → Tidy (localAt c j .dictionary)
   pub numbered : c .gate .seq ≤ suc (c .steps)
   pub limited : c .steps ≤ c .limit
   pub capped : c .limit ≤ 1000000000000000000
-  pub counts : (j : ℕ) → countAt c j ≤ c .steps
+  pub counts : (j : ℕ) → localAt c j .steps ≤ c .steps
 
 -- the shared cells of the card are those of the world
 module _ {c : Card} {w : World} (I : Inv c w) where
   pub gate-is : c .gate ≡ w .gate
   gate-is = ap (λ (u : World). u .gate) (I .cells)
 
-  pub good-is : Good (fixedOf c) (worldOf c w)
-  good-is = subst (Good (fixedOf c)) (sym (I .cells)) (I .good)
+  pub good-is : Good (contentsOf c) (worldOf c w)
+  good-is = subst (Good (contentsOf c)) (sym (I .cells)) (I .good)
 
   pub announcements-is : c .announcements ≡ w .announcements
   announcements-is = ap (λ (u : World). u .announcements) (I .cells)
 
--- a card v after a move to the world u: all but process i is as in c
-module _ {c : Card} {w : World} {i : ℕ} (I : Inv c w) {u : World} (M : Move (fixedOf c) i w u) (v : Card) (t : Local) where
-  moved :
-      worldOf v u ≡ u → Sizes v → localAt v i ≡ t → ((j : ℕ) → j ≢ i → localAt v j ≡ localAt c j) →
-      fixedOf v ≡ fixedOf c → Loc (fixedOf c) u i t → Tidy (t .dictionary) → u .gate .seq ≤ suc (v .steps) → v .steps ≤ c .limit →
-      ((j : ℕ) → countAt v j ≤ v .steps) → Inv v u
-  moved cells sizes here elsewhere fixed loc tidy numbered limited counts = record {
-    cells = cells;
-    good = subst (λ (K : Fixed). Good K u) (sym fixed) (good-move (I .good) M);
-    sizes = sizes;
-    locs =
-        subst (λ (K : Fixed). (j : ℕ) → j < K .processes → Loc K u j (localAt v j)) (sym fixed)
-        (λ j h. at-process j h (ℕ-discrete j i));
-    tidy = λ j. at-dictionary j (ℕ-discrete j i);
-    numbered = subst (λ (g : Gate). g .seq ≤ suc (v .steps)) (sym (ap (λ (x : World). x .gate) cells)) numbered;
-    limited = subst (λ (K : Fixed). v .steps ≤ K .limit) (sym fixed) limited;
-    capped = subst (λ (K : Fixed). K .limit ≤ 1000000000000000000) (sym fixed) (I .capped);
-    counts = counts;
-  }
-    where
-      at-process : (j : ℕ) → j < c .processes → Dec (j ≡ i) → Loc (fixedOf c) u j (localAt v j)
-      at-process j h (yes e) =
-          subst (λ (k : ℕ). Loc (fixedOf c) u k (localAt v k)) (sym e) (subst (Loc (fixedOf c) u i) (sym here) loc)
-      at-process j h (no ne) =
-          subst (Loc (fixedOf c) u j) (sym (elsewhere j ne))
-          (loc-stays (I .good) M j ne (localAt c j) (I .locs j h))
+-- a card after a move to the world u: other shared cells, process i with the own state t, and k accepted steps
+module _ {c : Card} {w : World} {i : ℕ} (I : Inv c w) (lt : i < 8) {u : World} (M : Move (contentsOf c) i w u) (g : Gate) (l : List Announcement)
+    (r : List Record) (t : Local) (k : ℕ) where
+  abbrev v : Card
+  v = withSteps (withLocal (withCells c g l r) i t) k
 
-      at-dictionary : (j : ℕ) → Dec (j ≡ i) → Tidy (dictionaryAt v j)
-      at-dictionary j (yes e) =
-          subst (λ (k : ℕ). Tidy (dictionaryAt v k)) (sym e)
-          (subst (λ (l : Local). Tidy (l .dictionary)) (sym here) tidy)
-      at-dictionary j (no ne) = subst (λ (l : Local). Tidy (l .dictionary)) (sym (elsewhere j ne)) (I .tidy j)
+  at-process : (P : ℕ → Local → Type 0) → P i t → ((j : ℕ) → j ≢ i → P j (localAt c j)) → (j : ℕ) → P j (localAt v j)
+  at-process P a b j = go (ℕ-discrete j i)
+    where
+      go : Dec (j ≡ i) → P j (localAt v j)
+      go (yes e) = subst (λ (n : ℕ). P n (localAt v n)) (sym e) (subst (P i) (sym (local-same c i t (I .sizes) lt)) a)
+      go (no ne) = subst (P j) (sym (local-other c i j t ne)) (b j ne)
+
+  moved :
+      worldOf v u ≡ u → Loc (contentsOf c) u i t → Tidy (t .dictionary) → u .gate .seq ≤ suc k → c .steps ≤ k → k ≤ c .limit →
+      t .steps ≤ k → Inv v u
+  moved cells loc tidy numbered more limited own = record {
+    cells = cells;
+    good = good-move (I .good) M;
+    sizes = sizes-put c i t (I .sizes);
+    locs = λ j h. at-process (λ n x. n < c .processes → Loc (contentsOf c) u n x) (λ _. loc)
+        (λ n ne m. loc-stays (I .good) M n ne (localAt c n) (I .locs n m)) j h;
+    tidy = at-process (λ n x. Tidy (x .dictionary)) tidy (λ n ne. I .tidy n);
+    numbered = subst (λ (x : Gate). x .seq ≤ suc k) (sym (ap (λ (x : World). x .gate) cells)) numbered;
+    limited = limited;
+    capped = I .capped;
+    counts = at-process (λ n x. x .steps ≤ k) own (λ n ne. omega (arith, I .counts n));
+  }
 
 -- what an accepted step of process i comes to
 pub record Stepped (c : Card) (w : World) (i : ℕ) : Type 0 where
   pub after : World
-  pub move : Move (fixedOf c) i w after
+  pub move : Move (contentsOf c) i w after
   pub inv : Inv (advance c i) after
   pub calls-is : after .calls ≡ w .calls
   pub elsewhere : (j : ℕ) → j ≢ i → localAt (advance c i) j ≡ localAt c j
@@ -109,11 +106,12 @@ unfolding advance
 inv-step c w i I lt b h = record {
   after = A .after;
   move = M;
-  inv = moved I M (counted v i) (A .local)
-      (λ k. record {
-        gate = A .gate-is k;
-        announcements = A .announcements-is k;
-        records = A .records-is k;
+  inv = subst (λ (x : Card). Inv (withSteps x k) (A .after)) (sym (A .put))
+      (moved I few M (v .gate) (v .announcements) (v .records) (A .local) k
+      (λ n. record {
+        gate = A .gate-is n;
+        announcements = A .announcements-is n;
+        records = A .records-is n;
         words = A .after .words;
         calls = A .after .calls;
         outs = A .after .outs;
@@ -122,17 +120,20 @@ inv-step c w i I lt b h = record {
         rounds = A .after .rounds;
         count = A .after .count;
       })
-      (rw length-set Z)
-      (A .updated .here) (A .updated .elsewhere) (A .updated .fixed-is) (A .loc) (A .tidy)
-      (rw steps (omega (arith, seq-move M, ap (λ (g : Gate). g .seq) (gate-is I), I .numbered)))
-      (rw steps (omega arith))
-      (λ j. rw steps (counts j));
+      (A .loc) (A .tidy) (omega (arith, seq-move M, ap (λ (g : Gate). g .seq) (gate-is I), I .numbered, steps)) (omega (arith, steps))
+      (omega (arith, steps)) (omega (arith, A .counted, I .counts i, I .capped, steps)));
   calls-is = A .calls-is;
-  elsewhere = A .updated .elsewhere;
+  elsewhere = λ j ne. ap (λ (x : Card). localAt x j) (A .put) ∙ local-other c i j (A .local) ne;
 }
   where
     v : Card
-    v = perform (accessOf (taskAt c i .place) (exitAt c i)) c i
+    v = perform (accessIn (localAt c i)) c i .card
+
+    k : ℕ
+    k = (c .steps + 1) % 18446744073709551616
+
+    few : i < 8
+    few = omega (arith, I .good .fits .few)
 
     B : Before c w i
     B = record {
@@ -145,29 +146,21 @@ inv-step c w i I lt b h = record {
 
     A : Acted c (worldOf c w) i v
     A =
-        at-place B (taskAt c i .place) (exitAt c i) (not-true _ b)
-        (subst (λ (x : World). Loc (fixedOf c) x i (localAt c i)) (sym (I .cells)) (I .locs i lt))
+        at-place B (localAt c i .task .place) (localAt c i .exit) (not-true _ b)
+        (subst (λ (x : World). Loc (contentsOf c) x i (localAt c i)) (sym (I .cells)) (I .locs i lt))
 
-    Z : Sizes v
-    Z = A .updated .sizes
+    M : Move (contentsOf c) i w (A .after)
+    M = subst (λ (x : World). Move (contentsOf c) i x (A .after)) (I .cells) (A .move)
 
-    M : Move (fixedOf c) i w (A .after)
-    M = subst (λ (x : World). Move (fixedOf c) i x (A .after)) (I .cells) (A .move)
-
-    steps : (v .steps + 1) % 18446744073709551616 ≡ suc (c .steps)
-    steps = rw (A .updated .steps-is) (omega (arith, I .capped))
-
-    counts : (j : ℕ) → countAt (counted v i) j ≤ suc (c .steps)
-    counts j = on-set (λ n. n ≤ suc (c .steps)) (v .counts) i j _ 0 (omega (arith, Z .counts, I .good .fits .few, lt))
-        (λ _. rw (A .updated .counts-is) (omega (arith, I .counts i, I .capped)))
-        (λ _. rw (A .updated .counts-is) (omega (arith, I .counts j)))
+    steps : k ≡ suc (c .steps)
+    steps = omega (arith, I .capped)
 
 -- what is known of a process that has no operation under way
 pub at-rest :
     {c : Card} {w : World} (I : Inv c w) (i : ℕ) →
-    i < c .processes → isBusy c i ≡ false → LocAt Idle (fixedOf c) w i (localAt c i)
+    i < c .processes → isBusy c i ≡ false → LocAt Idle (contentsOf c) w i (localAt c i)
 at-rest {c} {w} I i lt b =
-    subst (λ (l : Place). LocAt l (fixedOf c) w i (localAt c i)) (is-idle (stage (taskAt c i .place)) (not-false _ b)) (I .locs i lt)
+    subst (λ (l : Place). LocAt l (contentsOf c) w i (known (localAt c i))) (is-idle (stage (localAt c i .task .place)) (not-false _ b)) (I .locs i lt)
 
 -- a call that is taken
 abbrev pub called : ℕ → Words → Operation
@@ -175,45 +168,20 @@ called k inputs = record { program = k; inputs = inputs }
 
 call-move :
     (c : Card) (w : World) (i k : ℕ) (inputs : Words) → Inv c w → i < c .processes → isBusy c i ≡ false →
-    Move (fixedOf c) i w (asking w i (called k inputs))
+    Move (contentsOf c) i w (asking w i (called k inputs))
 call-move c w i k inputs I lt b = ask (called k inputs) lt (at-rest I i lt b .0)
 
 pub inv-call :
     (c : Card) (w : World) (i k : ℕ) (inputs : Words) → Inv c w → i < c .processes → isBusy c i ≡ false →
-    Inv (begun c i k inputs) (asking w i (called k inputs))
+    Inv (withLocal c i (invoked (localAt c i) k inputs)) (asking w i (called k inputs))
 inv-call c w i k inputs I lt b =
-    moved I (call-move c w i k inputs I lt b) (begun c i k inputs)
-    (record {
-      place = P1;
-      target = 0;
-      operation = called k inputs;
-      gate = heldAt c i;
-      copy = copyAt c i;
-      simulation = simulationAt c i;
-      dictionary = dictionaryAt c i;
-    })
-    (ap (λ (x : World). asking x i (called k inputs)) (I .cells))
-    (simp length-set Z)
-    (rw (
-      getD-set-same (c .tasks) i (record { place = P1; target = 0 }) idleTask (omega (arith, few, Z .tasks)),
-      getD-set-same (c .operations) i (called k inputs) noOperation (omega (arith, few, Z .operations)),
-    ))
-    (λ j ne. rw (
-      getD-set-other (c .tasks) i j (record { place = P1; target = 0 }) idleTask ne,
-      getD-set-other (c .operations) i j (called k inputs) noOperation ne,
-    ))
-    refl (
+    moved I few (call-move c w i k inputs I lt b) (c .gate) (c .announcements) (c .records) (invoked (localAt c i) k inputs) (c .steps)
+    (ap (λ (x : World). asking x i (called k inputs)) (I .cells)) (
       record { not-active = Q .not-active; free-of = Q .free-of; late = Q .late },
       sym (getD-set-same (w .calls) i (called k inputs) noOperation (omega (arith, few, I .good .lengths .calls))),
     )
-    (I .tidy i) (subst (λ (g : Gate). g .seq ≤ suc (c .steps)) (gate-is I) (I .numbered)) (I .limited)
-    (λ j.
-    on-set (λ n. n ≤ c .steps) (c .counts) i j 0 0 (omega (arith, few, Z .counts)) (λ _. omega arith)
-    (λ _. I .counts j))
+    (I .tidy i) (subst (λ (g : Gate). g .seq ≤ suc (c .steps)) (gate-is I) (I .numbered)) (omega arith) (I .limited) (omega arith)
   where
-    Z : Sizes c
-    Z = I .sizes
-
     few : i < 8
     few = omega (arith, I .good .fits .few)
 
@@ -221,18 +189,11 @@ inv-call c w i k inputs I lt b =
     Q = at-rest I i lt b .0
 
 -- an exit request that is taken: no assertion speaks of it
-pub inv-exit : (c : Card) (w : World) (i : ℕ) (b : Bool) → Inv c w → Inv (withExit c i b) w
-inv-exit c w i b I = record {
-  cells = I .cells;
-  good = I .good;
-  sizes = rw length-set (I .sizes);
-  locs = I .locs;
-  tidy = I .tidy;
-  numbered = I .numbered;
-  limited = I .limited;
-  capped = I .capped;
-  counts = I .counts;
-}
+pub inv-exit : (c : Card) (w : World) (i : ℕ) → Inv c w → i < c .processes → Inv (withLocal c i (exiting (localAt c i))) w
+inv-exit c w i I lt =
+    moved I (omega (arith, I .good .fits .few)) stay (c .gate) (c .announcements) (c .records) (exiting (localAt c i)) (c .steps) (I .cells)
+    (I .locs i lt) (I .tidy i) (subst (λ (g : Gate). g .seq ≤ suc (c .steps)) (gate-is I) (I .numbered)) (omega arith) (I .limited)
+    (I .counts i)
 
 -- a card as opened
 abbrev pub firstWorld : Contents → World
@@ -261,7 +222,7 @@ module _ (x : Contents) (few : x .processes ≤ 8) (narrow : x .variables ≤ 64
   open-words : length (take (x .variables) (x .starts)) ≡ x .variables
   open-words = length-take-le (x .variables) (x .starts) (omega arith)
 
-  good-fresh : Good (fixedOf (fresh x)) (firstWorld x)
+  good-fresh : Good (contentsOf (fresh x)) (firstWorld x)
   unfolding fresh current
   good-fresh = record {
     fits = record { few = few; narrow = narrow; short = λ k number. short k };
@@ -306,7 +267,7 @@ module _ (x : Contents) (few : x .processes ≤ 8) (narrow : x .variables ≤ 64
       simulations = refl;
       dictionaries = refl;
     };
-    locs = λ j h. subst (λ (l : Place). LocAt l (fixedOf (fresh x)) (firstWorld x) j (localAt (fresh x) j))
+    locs = λ j h. subst (λ (l : Place). LocAt l (contentsOf (fresh x)) (firstWorld x) j (known (localAt (fresh x) j)))
         (sym (ap (λ (t : Task). t .place) (getD-replicate-same 8 j idleTask))) (
           record {
             not-active = λ a. active-not-done a (open-flag j);

@@ -17,13 +17,14 @@ use Rattle.construction.specs.declared.Flag.the-variants.{Done, Active}
 use Rattle.construction.specs.Cells.{openAnnouncement, openRecord, current, previous, rewritten}
 use Rattle.construction.specs.Instructions.{started}
 use Rattle.construction.specs.Sequential.{sequential}
-use Rattle.construction.specs.Parts.{noOperation}
+use Rattle.construction.specs.Parts.{noOperation, programOf}
 use Rattle.construction.proofs.Basics.{on-set, active-not-done, active-not-exit, exit-not-done, nobody-process, process-same, done-or-not}
 use Rattle.construction.proofs.SequentialLaws.{run-length}
-use Rattle.construction.proofs.World.{Fixed, Round, noRound, endingOf, endingIn, programIn, World, announcementIn, recordIn, leftIn, callIn, roundIn, wordAt, operationOf, doneWith, Pending, Phase, Recorded, Good, asking, announcing, leaving, taking, writing, ending, freeing, Quiet, Move}
+use Rattle.construction.proofs.World.{Round, noRound, endingOf, endingIn, World, announcementIn, recordIn, leftIn, callIn, roundIn, wordAt, operationOf, doneWith, Pending, Phase, Recorded, Good, asking, announcing, leaving, taking, storing, ending, freeing, Quiet, Move}
 use Rattle.construction.proofs.World.Move.{stay, ask, announce, leave, take, write, end, free}
+use Rattle.construction.specs.declared.Contents.{Contents}
 
-ending-length : (F : Fixed) (s : ℕ) (r : Round) → length (endingOf F s r .words) ≡ length (r .words)
+ending-length : (F : Contents) (s : ℕ) (r : Round) → length (endingOf F s r .words) ≡ length (r .words)
 unfolding endingOf sequential
 ending-length F s r = run-length (F .variables) _ (r .call .inputs) 32 started (r .words)
 
@@ -43,7 +44,7 @@ previous-rewritten r x s = go (r .toggle)
     go true = refl
     go false = refl
 
-module _ {F : Fixed} {w : World} (G : Good F w) where
+module _ {F : Contents} {w : World} (G : Good F w) where
   -- after announcement i was set to a: by cases on whose is meant
   pub announcements-set :
       (P : Announcement → Type 0) (i j : ℕ) (a : Announcement) →
@@ -199,7 +200,7 @@ module _ {F : Fixed} {w : World} (G : Good F w) where
         };
       }
 
-  phase-write : (v x : ℕ) (h : Holder) → Phase h w → Phase h (writing w v x)
+  phase-write : (v x : ℕ) (h : Holder) → Phase h w → Phase h (storing w v x)
   phase-write v x Nobody ph = ph
   phase-write v x (Process m) ph = (
     ph .0,
@@ -224,11 +225,11 @@ module _ {F : Fixed} {w : World} (G : Good F w) where
         (ex : x ≡ wordAt (endingIn F w (w .gate .seq) .words) v) where
       set-record :
           (P : Record → Type 0) (u : ℕ) → (u ≡ v → P (rewritten (recordIn w v) x (w .gate .seq))) → (u ≢ v → P (recordIn w u)) →
-          P (recordIn (writing w v x) u)
+          P (recordIn (storing w v x) u)
       set-record P u =
           on-set P (w .records) v u (rewritten (recordIn w v) x (w .gate .seq)) (openRecord 0) (omega (arith, G .lengths, G .fits))
 
-      recorded-write : Recorded F (writing w v x .records) (w .rounds) (w .count) (w .words)
+      recorded-write : Recorded F (storing w v x .records) (w .rounds) (w .count) (w .words)
       unfolding rewritten
       recorded-write =
           let R = G .recorded in
@@ -253,7 +254,7 @@ module _ {F : Fixed} {w : World} (G : Good F w) where
             words-are = λ u ul e. absurd (omega (arith, many, counted));
           }
 
-      good-write : Good F (writing w v x)
+      good-write : Good F (storing w v x)
       good-write = record {
         fits = G .fits;
         lengths = rw length-set (G .lengths);
@@ -341,7 +342,7 @@ module _ {F : Fixed} {w : World} (G : Good F w) where
         recorded = G .recorded;
       }
 
-pub good-move : {F : Fixed} {i : ℕ} {w v : World} → Good F w → Move F i w v → Good F v
+pub good-move : {F : Contents} {i : ℕ} {w v : World} → Good F w → Move F i w v → Good F v
 good-move G stay = G
 good-move G (ask q lt Q) = good-ask G _ q lt Q
 good-move G (announce a lt Q fa op l b) = good-announce G _ a lt Q fa op l b
@@ -352,7 +353,7 @@ good-move G (end m lt hm fl all) = good-end G m hm fl lt all
 good-move G (free m lt hm d) = good-free G m lt hm d
 
 -- a move takes the gate's number up by one at most
-pub seq-move : {F : Fixed} {i : ℕ} {w v : World} → Move F i w v → v .gate .seq ≤ suc (w .gate .seq)
+pub seq-move : {F : Contents} {i : ℕ} {w v : World} → Move F i w v → v .gate .seq ≤ suc (w .gate .seq)
 seq-move stay = omega arith
 seq-move (ask c lt Q) = omega arith
 seq-move (announce a lt Q fa op l b) = omega arith
@@ -364,10 +365,10 @@ seq-move (free m lt hm d) = omega arith
 
 -- the operation that a gate is held for runs on the words so far, and its number is the next
 pub ends-now :
-    {F : Fixed} {w : World} → Good F w → (m : ℕ) → w .gate .holder ≡ Process m → announcementIn w m .flag ≢ Done →
+    {F : Contents} {w : World} → Good F w → (m : ℕ) → w .gate .holder ≡ Process m → announcementIn w m .flag ≢ Done →
     (w .count ≡ w .gate .seq)
     × (endingIn F w (w .gate .seq)
-    ≡ sequential (F .variables) (programIn F (callIn w m .program) (w .gate .seq)) (callIn w m .inputs) (w .words))
+    ≡ sequential (F .variables) (programOf F (callIn w m .program) (w .gate .seq)) (callIn w m .inputs) (w .words))
 unfolding endingOf
 ends-now {F} {w} G m hm fl = (counted G m hm fl, ap (endingOf F (w .gate .seq)) (held G m hm fl .2 fl .now))
 

@@ -5,10 +5,10 @@ pub mod TextReading
 pub mod TextWriting
 pub mod TextRoundTrip
 pub mod OpenedBounds
-pub mod Locality
+pub mod OneAccess
 pub mod SequentialLaws
 pub mod DictionaryLaws
-pub mod Touching
+pub mod WeightLaws
 pub mod SimulationLaws
 pub mod World
 pub mod Kept

@@ -6,8 +6,8 @@ use mathlib.Core.Logic.{_≢_, _⊎_, inl, inr, ⊎-elim}
 use mathlib.Core.List.{List, [], _∷_}
 use native.Mathlib.Omega.{arith}
 use lib.ListN.{length, getD}
-use lib.Seq.{getD-set-same, getD-set-other}
-use borrow.Author.Tests.{lt-ltb}
+use lib.Seq.{getD-set-same, getD-set-other, set-getD}
+use borrow.Author.Tests.{lt-ltb, not-true}
 use Rattle.construction.specs.declared.Flag.{Flag}
 use Rattle.construction.specs.declared.Flag.the-variants.{Done, Active, Exit}
 use Rattle.construction.specs.declared.Words.{Words}
@@ -22,16 +22,15 @@ use Rattle.construction.specs.declared.Task.{Task}
 use Rattle.construction.specs.declared.Place.{Place}
 use Rattle.construction.specs.declared.Place.the-variants.{P1, P3, P5}
 use Rattle.construction.specs.Cells.{isDone, openAnnouncement}
-use Rattle.construction.specs.Parts.{idleTask, contentsOf, taskAt, withExit}
-use Rattle.construction.specs.Machine.{advance}
-use Rattle.construction.specs.Requests.{isVariable, isIdle, isBusy, refused, begun, answerOf, read}
+use Rattle.construction.specs.Parts.{idleTask, contentsOf, localAt, withLocal, Local}
+use Rattle.construction.specs.Machine.{advance, accessOf}
+use Rattle.construction.specs.Requests.{isVariable, isIdle, isBusy, refused, answerOf, read, invoked, exiting}
 use Rattle.construction.specs.History.{Entry, act, Invocation, Notes, turned, finishing, finished, withReturn, ended, noted, Moment, observe, FinishesOne, FinishesAtMostOne}
-use Rattle.construction.proofs.Basics.{true-or-false, true-false, cond-true, cond-false}
+use Rattle.construction.proofs.Basics.{true-or-false, true-false, cond-false}
 use Rattle.construction.proofs.NotesLaws.{turned-same}
-use Rattle.construction.proofs.Locality.{one-access}
+use Rattle.construction.proofs.OneAccess.{one-access}
 use Rattle.construction.proofs.Outcomes.{Outcome, outcome}
 use Rattle.construction.proofs.World.{World, announcementIn, outputsIn, ending, asking}
-use Rattle.construction.proofs.Locals.{Local, fixedOf}
 use Rattle.construction.proofs.Stages.{isAnnounced, stage, announced-busy, busy-stage}
 use Rattle.construction.proofs.Invariant.{Inv, Stepped, gate-is, announcements-is, inv-call, inv-exit, inv-step}
 use Rattle.construction.proofs.Answers.{read-is, answer-is, holder-announced}
@@ -41,7 +40,7 @@ use Rattle.construction.proofs.Observed.{requestOf, Own, Tracks, under-
 
 -- the processes of a card that have announced their operation
 abbrev announcedIn : Card → ℕ → Bool
-announcedIn c j = isAnnounced (taskAt c j .place)
+announcedIn c j = isAnnounced (localAt c j .task .place)
 
 abbrev Follows : Card → Card → World → Notes → Type 0
 Follows o c w s = Tracks (o .processes) (isBusy c) (announcedIn c) w s
@@ -98,21 +97,28 @@ module _ (o : Card) (m : Moment) (O : Consistent o m) where
   read-kept : (v x : ℕ) → Consistent o (after o m (Entry.Read v) (record { card = c; answer = Answer.Value x }))
   read-kept v x = unturned c (Entry.Read v) (Answer.Value x) refl O
 
-  exit-kept : (i : ℕ) → Consistent o (after o m (Entry.Exit i) (record { card = withExit c i true; answer = Answer.Taken }))
-  exit-kept i =
-      unturned (withExit c i true) (Entry.Exit i) Answer.Taken refl
-      (record { world = w; inv = inv-exit c w i true (O .inv); tracks = O .tracks; text = O .text })
+  exit-kept : (i : ℕ) → i < c .processes → Consistent o (after o m (Entry.Exit i) (record { card = withLocal c i (exiting (localAt c i)); answer = Answer.Taken }))
+  exit-kept i lt =
+      unturned (withLocal c i (exiting (localAt c i))) (Entry.Exit i) Answer.Taken refl
+      (record { world = w; inv = inv-exit c w i (O .inv) lt; tracks = kept; text = O .text })
+    where
+      kept : Follows o (withLocal c i (exiting (localAt c i))) w s
+      kept =
+          subst
+          (λ (l : List Task).
+          Tracks (o .processes) (λ j. not (isIdle (getD l j idleTask .place))) (λ j. isAnnounced (getD l j idleTask .place)) w s)
+          (sym (set-getD (c .tasks) i idleTask)) (O .tracks)
 
   -- a call
   call-kept :
       (i k : ℕ) (inputs : Words) → i < c .processes → isBusy c i ≡ false →
-      Consistent o (after o m (Entry.Call i k inputs) (record { card = begun c i k inputs; answer = Answer.Taken }))
+      Consistent o (after o m (Entry.Call i k inputs) (record { card = withLocal c i (invoked (localAt c i) k inputs); answer = Answer.Taken }))
   call-kept i k inputs lt f =
       let x : Invocation = record { process = i; program = k; inputs = inputs } in
-      let d = begun c i k inputs in
+      let d = withLocal c i (invoked (localAt c i) k inputs) in
       let others : (j : ℕ) → j ≢ i → (isBusy d j ≡ isBusy c j) × (announcedIn d j ≡ announcedIn c j) =
       λ j ne. rw (getD-set-other (c .tasks) i j (record { place = P1; target = 0 }) idleTask ne) (refl, refl) in
-      let here : taskAt d i ≡ record { place = P1; target = 0 } =
+      let here : localAt d i .task ≡ record { place = P1; target = 0 } =
       getD-set-same (c .tasks) i _ idleTask (omega (arith, O .inv .sizes .tasks, O .inv .good .fits .few)) in
       unturned d (Entry.Call i k inputs) Answer.Taken refl
       (record {
@@ -143,11 +149,11 @@ module _ (o : Card) (m : Moment) (O : Consistent o m) where
         let flag : List Announcement → Flag = λ x. getD x i openAnnouncement .flag in
         ap flag (sym (announcements-is (O .inv))) ∙ active-before c i t (ap flag (announcements-is (S .inv)) ∙ h)
 
-    kind : Calm (announcedIn c) w (S .after) ⊎ Ends (fixedOf c) w (S .after)
+    kind : Calm (announcedIn c) w (S .after) ⊎ Ends (contentsOf c) w (S .after)
     kind = kind-of (announcedIn c) (O .inv .good) (S .move) only
 
     -- the operation that an ending move finishes
-    module _ (E : Ends (fixedOf c) w (S .after)) where
+    module _ (E : Ends (contentsOf c) w (S .after)) where
       ends-announced : announcedIn c (E .process) ≡ true
       ends-announced = holder-announced (O .inv) (E .process) (E .inside) (E .held)
 
@@ -155,7 +161,7 @@ module _ (o : Card) (m : Moment) (O : Consistent o m) where
       ends-own =
           subst (λ (a : Bool). Own a w s (E .process)) ends-announced
           (O .tracks .own (E .process) (subst (λ (n : ℕ). E .process < n) processes-is (E .inside))
-          (announced-busy (stage (taskAt c (E .process) .place)) ends-announced))
+          (announced-busy (stage (localAt c (E .process) .task .place)) ends-announced))
 
       ends-one : finishing c d ≡ E .process ∷ []
       ends-one = finishing-is ∙ turned-ends (O .inv .good) E
@@ -173,25 +179,25 @@ module _ (o : Card) (m : Moment) (O : Consistent o m) where
             subst (λ (is : List ℕ). Moved (c .gate .seq) is (S .after)) (sym (finishing-is ∙ C .none))
             (tracks-calm C (S .calls-is) (O .tracks))
 
-        ends : Ends (fixedOf c) w (S .after) → Moved (c .gate .seq) (finishing c d) (S .after)
+        ends : Ends (contentsOf c) w (S .after) → Moved (c .gate .seq) (finishing c d) (S .after)
         ends E =
             subst (λ (is : List ℕ). Moved (c .gate .seq) is (S .after)) (sym (ends-one E))
             (subst (λ (v : World). Moved (c .gate .seq) (E .process ∷ []) v) (sym (E .becomes))
-            (subst (λ (g : Gate). Moved (g .seq) (E .process ∷ []) (ending (fixedOf c) w (E .process))) (sym (gate-is (O .inv)))
+            (subst (λ (g : Gate). Moved (g .seq) (E .process ∷ []) (ending (contentsOf c) w (E .process))) (sym (gate-is (O .inv)))
             (tracks-finished o (O .inv .good) (O .tracks) (E .process) (E .inside) (E .held) (E .undone) (ends-own E)
             (ap (λ (x : Contents). x .variables) (sym (O .text)))
             (ap (λ (x : Contents). x .code) (sym (O .text))) (ends-announced E))))
 
     others : (j : ℕ) → j ≢ i → (isBusy d j ≡ isBusy c j) × (announcedIn d j ≡ announcedIn c j)
     others j ne =
-        let h : taskAt d j .place ≡ taskAt c j .place = ap (λ (t : Local). t .place) (S .elsewhere j ne) in
+        let h : localAt d j .task .place ≡ localAt c j .task .place = ap (λ (t : Local). t .task .place) (S .elsewhere j ne) in
         rw h (refl, refl)
 
     abbrev own-place : Place
-    own-place = taskAt c i .place
+    own-place = localAt c i .task .place
 
     abbrev next-place : Place
-    next-place = taskAt d i .place
+    next-place = localAt d i .task .place
 
     -- the operation of i itself
     own-moved : Own (announcedIn c i) (S .after) noticed i
@@ -215,6 +221,7 @@ module _ (o : Card) (m : Moment) (O : Consistent o m) where
 
     -- it was unannounced if it is so still
     unannounced : isBusy d i ≡ true → isAnnounced next-place ≡ false → isAnnounced own-place ≡ false
+    unfolding accessOf
     unannounced busy h =
         ⊎-elim (λ z. ap isAnnounced z)
         (⊎-elim (λ z. ap isAnnounced z)
@@ -233,6 +240,7 @@ module _ (o : Card) (m : Moment) (O : Consistent o m) where
 
     -- one that returns was announced
     returning : isBusy d i ≡ false → isAnnounced own-place ≡ true
+    unfolding accessOf
     returning idle =
         ⊎-elim (λ z. absurd (true-false _ (ap (λ (l : Place). not (isIdle l)) (at-P1 z)) idle))
         (⊎-elim (λ z. absurd (true-false _ (ap (λ (l : Place). not (isIdle l)) (at-P3 z)) idle)) (λ z. z)) own-stage
@@ -253,26 +261,26 @@ module _ (o : Card) (m : Moment) (O : Consistent o m) where
         isBusy d i ≡ false → announcementIn (S .after) i .flag ≡ Exit → (k : ℕ) → Follows o d (S .after) (withReturn noticed i (Answer.Exited k))
     ended-exited idle h k = tracks-returned i others moved (Answer.Exited k) own-moved (own-moved .pending (ap isDone h)) idle
 
-    answered : Follows o d (S .after) (ended noticed i (answerOf d i))
+    answered : Follows o d (S .after) (ended noticed i (answerOf (localAt d i)))
     answered =
-        ⊎-elim (λ busy. by-answer (cond-true (isBusy d i) _ _ busy) (running busy))
+        ⊎-elim (λ busy. by-answer (cond-false (isIdle next-place) _ _ (not-true _ busy)) (running busy))
         (λ idle. ⊎-elim (λ z. by-answer (z .1) (ended-done idle (z .0) _)) (λ z. by-answer (z .1) (ended-exited idle (z .0) _))
         (answer-is (S .inv) i (subst (λ (x : Contents). i < x .processes) (one-access c i .text) lt) idle))
         (true-or-false (isBusy d i))
       where
         by-answer :
-            {a : Answer} → answerOf d i ≡ a → Follows o d (S .after) (ended noticed i a) →
-            Follows o d (S .after) (ended noticed i (answerOf d i))
+            {a : Answer} → answerOf (localAt d i) ≡ a → Follows o d (S .after) (ended noticed i a) →
+            Follows o d (S .after) (ended noticed i (answerOf (localAt d i)))
         by-answer z f = subst (λ (x : Answer). Follows o d (S .after) (ended noticed i x)) (sym z) f
 
-    step-kept : Consistent o (after o m (Entry.Step i) (record { card = d; answer = answerOf d i }))
+    step-kept : Consistent o (after o m (Entry.Step i) (record { card = d; answer = answerOf (localAt d i) }))
     step-kept = record { world = S .after; inv = S .inv; tracks = answered; text = text-moved }
 
   -- every entry
   outcome-kept : {e : Entry} {r : Answered} → Outcome c e r → Consistent o (after o m e r)
   outcome-kept (Outcome.turned-back e why) = refused-kept e why
   outcome-kept (Outcome.called i k inputs p b) = call-kept i k inputs p b
-  outcome-kept (Outcome.asked i) = exit-kept i
+  outcome-kept (Outcome.asked i p) = exit-kept i p
   outcome-kept (Outcome.stepped i p b l) = step-kept i p b l
   outcome-kept (Outcome.shown v x) = read-kept v x
 
@@ -285,7 +293,7 @@ module _ (o : Card) (m : Moment) (O : Consistent o m) where
   AtMostOne e r = (finishing c (r .card) ≡ []) ⊎ (act c e ≡ r → FinishesOne m e)
 
   step-finishes : (i : ℕ) → i < c .processes → isBusy c i ≡ true → c .steps < c .limit →
-      AtMostOne (Entry.Step i) (record { card = advance c i; answer = answerOf (advance c i) i })
+      AtMostOne (Entry.Step i) (record { card = advance c i; answer = answerOf (localAt (advance c i) i) })
   step-finishes i p b l =
       ⊎-elim (λ C. inl (finishing-is i p b l ∙ C .none))
       (λ E. inr (λ is. record {
@@ -298,7 +306,7 @@ module _ (o : Card) (m : Moment) (O : Consistent o m) where
   outcome-finishes : {e : Entry} {r : Answered} → Outcome c e r → AtMostOne e r
   outcome-finishes (Outcome.turned-back e why) = inl (turned-same 0 (c .announcements))
   outcome-finishes (Outcome.called i k inputs p b) = inl (turned-same 0 (c .announcements))
-  outcome-finishes (Outcome.asked i) = inl (turned-same 0 (c .announcements))
+  outcome-finishes (Outcome.asked i p) = inl (turned-same 0 (c .announcements))
   outcome-finishes (Outcome.stepped i p b l) = step-finishes i p b l
   outcome-finishes (Outcome.shown v x) = inl (turned-same 0 (c .announcements))
 

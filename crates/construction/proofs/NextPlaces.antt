@@ -1,5 +1,5 @@
 -- Where a step leads: the place of its process afterwards.
-use Prim.Native.Nat.{ℕ, suc, _<_}
+use Prim.Native.Nat.{ℕ, _<_, suc}
 use mathlib.Core.Path.{_≡_, refl, sym, subst}
 use mathlib.Core.Bool.{Bool, true, false, false≢true}
 use mathlib.Core.Logic.{_⊎_, inl, inr}
@@ -8,8 +8,6 @@ use lib.Seq.{getD-set-same}
 use lib.Dec.{ltb}
 use Rattle.construction.specs.declared.Announcement.{Announcement}
 use Rattle.construction.specs.declared.Task.{Task}
-use Rattle.construction.specs.declared.Simulation.{Simulation}
-use Rattle.construction.specs.declared.Simulated.{Simulated}
 use Rattle.construction.specs.declared.Dictionary.{Dictionary}
 use Rattle.construction.specs.declared.Pause.{Pause}
 use Rattle.construction.specs.declared.Pause.the-variants.{Ended, Lacks}
@@ -23,15 +21,23 @@ use Rattle.construction.specs.declared.Place.the-variants.{Idle, P1, P3,
 use Rattle.construction.specs.declared.Access.{Access}
 use Rattle.construction.specs.declared.GateAccess.{GateAccess}
 use Rattle.construction.specs.declared.AnnouncementAccess.{AnnouncementAccess}
-use Rattle.construction.specs.declared.RecordAccess.{RecordAccess}
 use Rattle.construction.specs.Cells.{openAnnouncement, sameHolder}
-use Rattle.construction.specs.Dictionary.{empty, noted, nextWrite}
-use Rattle.construction.specs.Instructions.{started}
-use Rattle.construction.specs.Helping.{simulate}
-use Rattle.construction.specs.Parts.{idleTask, announcementAt, recordAt, taskAt, operationAt, exitAt, heldAt, copyAt, dictionaryAt, programOf, withCopy}
-use Rattle.construction.specs.Machine.{byHolder, byFlag, holderOf, firstChoice, helps, help, writeFrom, afterPause, announced, accessOf, accessGate, accessAnnouncement, accessRecord, perform, advance}
+use Rattle.construction.specs.Dictionary.{noted, nextWrite, insert, itemOf, empty}
+use Rattle.construction.specs.Parts.{idleTask, announcementAt, localAt}
+use Rattle.construction.specs.Machine.{byHolder, byFlag, writeFrom, afterPause, announced, accessOf, accessGate, accessAnnouncement, perform, advance, beginHelp, note, writing, helps, helped}
 use Rattle.construction.proofs.Basics.{on-test}
 use Rattle.construction.proofs.Stages.{isAnnounced}
+use Rattle.construction.specs.declared.Began.{Began}
+use Rattle.construction.specs.declared.Helped.{Helped}
+use Rattle.construction.specs.declared.Operation.{Operation}
+use Rattle.construction.specs.declared.Words.{Words}
+use Rattle.construction.specs.declared.Gate.{Gate}
+use Rattle.construction.specs.declared.Simulated.{Simulated}
+use Rattle.construction.specs.declared.Record.{Record}
+use Rattle.construction.specs.declared.Program.{Program}
+use Rattle.construction.specs.declared.Simulation.{Simulation}
+use Rattle.construction.specs.Helping.{simulate}
+use Rattle.construction.specs.Instructions.{started}
 
 -- what is so of every place that an access can lead to; no step makes the access None
 module _ (Q : Place → Type 0) where
@@ -46,18 +52,15 @@ module _ (Q : Place → Type 0) where
   AnnouncementLeads AnnouncementAccess.Withdraw = Q P7
   AnnouncementLeads (AnnouncementAccess.ReadOwn done active exit) = Q done × Q active × Q exit
   AnnouncementLeads AnnouncementAccess.ReadFirst = Q C4 × Q P13
-  AnnouncementLeads AnnouncementAccess.Help = Q P21 × Q H21 × Q H36 × Q P19
   AnnouncementLeads (AnnouncementAccess.Finish flag next) = Q next
-
-  abbrev RecordLeads : RecordAccess → Type 0
-  RecordLeads RecordAccess.Read = Q P19 × Q H21 × Q H36
-  RecordLeads RecordAccess.Swap = Q H36 × Q P19
 
   abbrev Leads : Access → Type 0
   Leads Access.None = ⊥
   Leads (Access.Gate a) = GateLeads a
   Leads (Access.Announcement a) = AnnouncementLeads a
-  Leads (Access.Record a) = RecordLeads a
+  Leads Access.Help = Q P21 × Q H21 × Q H36 × Q P19
+  Leads Access.Note = Q P19 × Q H21 × Q H36
+  Leads Access.Write = Q H36 × Q P19
 
   by-holder : (h : Holder) (held free : Place) → Q held → Q free → Q (byHolder h held free)
   by-holder Nobody held free a b = b
@@ -76,61 +79,61 @@ module _ (Q : Place → Type 0) where
   by-pause seq d Ended a b c = by-write seq d 0 b c
   by-pause seq d (Lacks v) a b c = a
 
+  gate-leads : (a : GateAccess) → GateLeads a → (i : ℕ) (cell g : Gate) (t : Task) → Q (accessGate a i cell g t .task .place)
+  unfolding accessGate
+  gate-leads (GateAccess.Read held free) q i cell g t = by-holder (cell .holder) held free (q .0) (q .1)
+  gate-leads GateAccess.ReadLast q i cell g t = on-test Q (sameHolder (cell .holder) (Process i)) (λ _. q .0) (λ _. q .1)
+  gate-leads GateAccess.Nominate q i cell g t = q
+  gate-leads (GateAccess.Release next) q i cell g t = q
+
+  announcement-leads :
+      (a : AnnouncementAccess) → AnnouncementLeads a → (m : ℕ) (cell : Announcement) (o : Operation) (g : Gate) (r : Announcement)
+      (outputs : Words) (t : Task) → Q (accessAnnouncement a m cell o g r outputs t .task .place)
+  unfolding accessAnnouncement
+  announcement-leads AnnouncementAccess.Announce q m cell o g r outputs t = q
+  announcement-leads AnnouncementAccess.Withdraw q m cell o g r outputs t = q
+  announcement-leads (AnnouncementAccess.ReadOwn done active exit) q m cell o g r outputs t =
+      by-flag (cell .flag) done active exit (q .0) (q .1) (q .2)
+  announcement-leads AnnouncementAccess.ReadFirst q m cell o g r outputs t =
+      by-flag (cell .flag) C4 P13 C4 (q .0) (q .1) (q .0)
+  announcement-leads (AnnouncementAccess.Finish flag next) q m cell o g r outputs t = q
+
+  helped-leads : (number : ℕ) (x : Simulated) → Q H21 → Q H36 → Q P19 → Q (helped number x .task .place)
+  helped-leads number x a b e = by-pause number (x .dictionary) (x .pause) a b e
+
+  help-leads :
+      Q P21 × Q H21 × Q H36 × Q P19 → (n : ℕ) (program : Program) (cell : Announcement) (number : ℕ) (t : Task) (s : Simulation) →
+      Q (beginHelp n program cell number t s .task .place)
+  unfolding beginHelp
+  help-leads q n program cell number t s =
+      on-test (λ (x : Began). Q (x .task .place)) (helps cell number)
+      (λ _. helped-leads number (simulate n program (cell .words) started empty) (q .1) (q .2) (q .3)) (λ _. q .0)
+
+  note-leads :
+      Q P19 × Q H21 × Q H36 → (n : ℕ) (program : Program) (inputs : Words) (cell : Record) (number : ℕ) (t : Task) (s : Simulation)
+      (d : Dictionary) → Q (note n program inputs cell number t s d .task .place)
+  unfolding note
+  note-leads q n program inputs cell number t s d =
+      on-test (λ (x : Helped). Q (x .task .place)) (ltb number (cell .seq)) (λ _. q .0)
+      (λ _. helped-leads number (simulate n program inputs s (insert d (itemOf number (t .target) cell))) (q .1) (q .2) (q .0))
+
+  write-leads : Q H36 × Q P19 → (number : ℕ) (t : Task) (d : Dictionary) → Q (writing number t d .task .place)
+  unfolding writing
+  write-leads q number t d = by-write number d (suc (t .target)) (q .0) (q .1)
+
   module _ (c : Card) (i : ℕ) (lt : i < length (c .tasks)) where
-    -- the task that was set
+    -- the task that was put back
     placed : (x : Task) → Q (x .place) → Q (getD (set (c .tasks) i x) i idleTask .place)
     placed x q = subst (λ (y : Task). Q (y .place)) (sym (getD-set-same (c .tasks) i x idleTask lt)) q
 
-    help-leads : (s : Simulation) (d : Dictionary) → Q H21 → Q H36 → Q P19 → Q (taskAt (help c i s d) i .place)
-    unfolding help
-    help-leads s d a b e =
-        let x : Simulated =
-        simulate (c .variables) (programOf c (copyAt c i .program) (heldAt c i .seq)) (copyAt c i .words) s d in
-        placed (afterPause (heldAt c i .seq) (x .dictionary) (x .pause))
-        (by-pause (heldAt c i .seq) (x .dictionary) (x .pause) a b e)
-
-  module _ (c : Card) (i : ℕ) (lt : i < length (c .tasks)) where
-    gate-leads : (a : GateAccess) → GateLeads a → Q (taskAt (accessGate a c i) i .place)
-    unfolding accessGate
-    gate-leads (GateAccess.Read held free) q = placed c i lt _ (by-holder (c .gate .holder) held free (q .0) (q .1))
-    gate-leads GateAccess.ReadLast q =
-        placed c i lt _
-        (on-test Q (sameHolder (c .gate .holder) (Process i)) (λ _. q .0) (λ _. q .1))
-    gate-leads GateAccess.Nominate q = placed c i lt _ q
-    gate-leads (GateAccess.Release next) q = placed c i lt _ q
-
-    announcement-leads : (a : AnnouncementAccess) → AnnouncementLeads a → Q (taskAt (accessAnnouncement a c i) i .place)
-    unfolding accessAnnouncement
-    announcement-leads AnnouncementAccess.Announce q = placed c i lt _ q
-    announcement-leads AnnouncementAccess.Withdraw q = placed c i lt _ q
-    announcement-leads (AnnouncementAccess.ReadOwn done active exit) q =
-        placed c i lt _ (by-flag (announcementAt c i .flag) done active exit (q .0) (q .1) (q .2))
-    announcement-leads AnnouncementAccess.ReadFirst q =
-        let m : ℕ = firstChoice (heldAt c i .seq) (c .processes) in
-        placed c i lt _ (by-flag (announcementAt c m .flag) C4 P13 C4 (q .0) (q .1) (q .0))
-    announcement-leads AnnouncementAccess.Help q =
-        let a : Announcement = announcementAt c (holderOf (heldAt c i .holder)) in
-        on-test (λ (v : Card). Q (taskAt v i .place)) (helps a (heldAt c i .seq))
-        (λ _. help-leads (withCopy c i a) i lt started empty (q .1) (q .2) (q .3))
-        (λ _. placed c i lt _ (q .0))
-    announcement-leads (AnnouncementAccess.Finish flag next) q = placed c i lt _ q
-
-    record-leads : (a : RecordAccess) → RecordLeads a → Q (taskAt (accessRecord a c i) i .place)
-    unfolding accessRecord
-    record-leads RecordAccess.Read q =
-        on-test (λ (v : Card). Q (taskAt v i .place)) (ltb (heldAt c i .seq) (recordAt c (taskAt c i .target) .seq))
-        (λ _. placed c i lt _ (q .0))
-        (λ _. help-leads c i lt _ _ (q .1) (q .2) (q .0))
-    record-leads RecordAccess.Swap q =
-        placed c i lt _
-        (by-write (heldAt c i .seq) (dictionaryAt c i) (suc (taskAt c i .target)) (q .0) (q .1))
-
-    leads : (a : Access) → Leads a → Q (taskAt (perform a c i) i .place)
+    leads : (a : Access) → Leads a → Q (localAt (perform a c i .card) i .task .place)
     unfolding perform
     leads Access.None q = absurd q
-    leads (Access.Gate a) q = gate-leads a q
-    leads (Access.Announcement a) q = announcement-leads a q
-    leads (Access.Record a) q = record-leads a q
+    leads (Access.Gate a) q = placed _ (gate-leads a q _ _ _ _)
+    leads (Access.Announcement a) q = placed _ (announcement-leads a q _ _ _ _ _ _ _)
+    leads Access.Help q = placed _ (help-leads q _ _ _ _ _ _)
+    leads Access.Note q = placed _ (note-leads q _ _ _ _ _ _ _ _)
+    leads Access.Write q = placed _ (write-leads q _ _ _)
 
 -- an announced operation stays announced until it returns
 abbrev pub Onward : Place → Type 0
@@ -160,20 +163,20 @@ onward F1 exit e = (inl refl, inr refl)
 onward F3 exit e = inr refl
 
 module _ (c : Card) (i : ℕ) (lt : i < length (c .tasks)) where
-  pub announced-next : isAnnounced (taskAt c i .place) ≡ true → Onward (taskAt (advance c i) i .place)
+  pub announced-next : isAnnounced (localAt c i .task .place) ≡ true → Onward (localAt (advance c i) i .task .place)
   unfolding advance
-  announced-next e = leads Onward c i lt _ (onward (taskAt c i .place) (exitAt c i) e)
+  announced-next e = leads Onward c i lt _ (onward (localAt c i .task .place) (localAt c i .exit) e)
 
   -- P1 leads to P3
-  pub P1-next : taskAt c i .place ≡ P1 → taskAt (advance c i) i .place ≡ P3
+  pub P1-next : localAt c i .task .place ≡ P1 → localAt (advance c i) i .task .place ≡ P3
   unfolding advance accessOf
   P1-next e = rw e (leads (λ l. l ≡ P3) c i lt _ (refl, refl))
 
   -- P3 leads to P5, with the operation announced
-  pub P3-next : taskAt c i .place ≡ P3 → taskAt (advance c i) i .place ≡ P5
+  pub P3-next : localAt c i .task .place ≡ P3 → localAt (advance c i) i .task .place ≡ P5
   unfolding advance accessOf
   P3-next e = rw e (leads (λ l. l ≡ P5) c i lt _ refl)
 
-  pub P3-active : i < length (c .announcements) → taskAt c i .place ≡ P3 → announcementAt (advance c i) i ≡ announced (operationAt c i) (heldAt c i)
+  pub P3-active : i < length (c .announcements) → localAt c i .task .place ≡ P3 → announcementAt (advance c i) i ≡ announced (localAt c i .operation) (localAt c i .gate)
   unfolding advance perform accessOf accessAnnouncement
-  P3-active h e = rw e (getD-set-same (c .announcements) i (announced (operationAt c i) (heldAt c i)) openAnnouncement h)
+  P3-active h e = rw e (getD-set-same (c .announcements) i (announced (localAt c i .operation) (localAt c i .gate)) openAnnouncement h)

@@ -24,9 +24,10 @@ use Rattle.construction.specs.Parts.{noOperation}
 use Rattle.construction.specs.History.{Invocation, Notes, hasCalled, latest, latestCall, turned, benchRun, finishedOne, withReturn, times, outputsOf, hasReturned, Numbered, Agrees, AllAgree, UnderWay}
 use Rattle.construction.proofs.Basics.{on-set, true-or-false, true-false, ne-isDone}
 use Rattle.construction.proofs.NotesLaws.{on-equal, chosen, passed, latest-below, latest-apart, agree-longer, turns, turned-same, turned-not, turned-one}
-use Rattle.construction.proofs.World.{Fixed, World, announcementIn, callIn, outputsIn, endingIn, doneWith, Good, asking, ending, Move}
+use Rattle.construction.proofs.World.{World, announcementIn, callIn, outputsIn, endingIn, doneWith, Good, asking, ending, Move}
 use Rattle.construction.proofs.World.Move.{stay, ask, announce, leave, take, write, end, free}
 use Rattle.construction.proofs.Kept.{ends-now}
+use Rattle.construction.specs.declared.Contents.{Contents}
 
 -- the flag of process j is done
 abbrev pub doneIn : World → ℕ → Bool
@@ -70,7 +71,7 @@ pub record Calm (announced : ℕ → Bool) (w v : World) : Type 0 where
   pub outs : v .outs ≡ w .outs
   pub done : (j : ℕ) → announced j ≡ true → doneIn v j ≡ doneIn w j
 
-pub record Ends (F : Fixed) (w v : World) : Type 0 where
+pub record Ends (F : Contents) (w v : World) : Type 0 where
   pub process : ℕ
   pub inside : process < F .processes
   pub held : w .gate .holder ≡ Process process
@@ -82,7 +83,7 @@ turns-active Done = refl
 turns-active Active = refl
 turns-active Exit = refl
 
-module _ {F : Fixed} {w : World} (announced : ℕ → Bool) (G : Good F w) where
+module _ {F : Contents} {w : World} (announced : ℕ → Bool) (G : Good F w) where
   -- a move that changes none of what the observer sees
   calm-same : {v : World} → v .announcements ≡ w .announcements → v .words ≡ w .words → v .count ≡ w .count → v .outs ≡ w .outs → Calm announced w v
   calm-same a b c d =
@@ -125,7 +126,7 @@ module _ {F : Fixed} {w : World} (announced : ℕ → Bool) (G : Good F w) where
   kind-of (end m lt hm fl all) only = inr (record { process = m; inside = lt; held = hm; undone = fl; becomes = refl })
   kind-of (free m lt hm d) only = inl (calm-same refl refl refl refl)
 
-pub turned-ends : {F : Fixed} {w v : World} → Good F w → (E : Ends F w v) → turned 0 (w .announcements) (v .announcements) ≡ E .process ∷ []
+pub turned-ends : {F : Contents} {w v : World} → Good F w → (E : Ends F w v) → turned 0 (w .announcements) (v .announcements) ≡ E .process ∷ []
 turned-ends {F} {w} G E =
     rw (E .becomes)
     (turned-one 0 (w .announcements) (E .process) _ (omega (arith, G .lengths .announcements, G .fits .few, E .inside))
@@ -164,7 +165,7 @@ tracks-calm C f T =
 
 -- a move that finishes the operation of m, whose number the sequential run gives it too
 module _
-    (o : Card) {F : Fixed} {p : ℕ} {busy announced : ℕ → Bool} {w : World} {s : Notes} (G : Good F w) (T : Tracks p busy announced w s)
+    (o : Card) {F : Contents} {p : ℕ} {busy announced : ℕ → Bool} {w : World} {s : Notes} (G : Good F w) (T : Tracks p busy announced w s)
     (m : ℕ) (lt : m < F .processes) (held : w .gate .holder ≡ Process m) (undone : announcementIn w m .flag ≢ Done)
     (O : Own true w s m) (vs : o .variables ≡ F .variables) (co : o .code ≡ F .code) where
   same-run : benchRun o (suc (length (s .order))) (latestCall (s .operations) m) (s .words) ≡ endingIn F w (w .gate .seq)
@@ -283,7 +284,7 @@ module _
 
   -- a call of process i is taken
   pub tracks-called :
-      {F : Fixed} (x : Invocation) → Good F w → i < F .processes → x .process ≡ i → announced′ i ≡ false →
+      {F : Contents} (x : Invocation) → Good F w → i < F .processes → x .process ≡ i → announced′ i ≡ false →
       Tracks p busy′ announced′ (asking w i (requestOf x))
       (record { operations = x ∷ s .operations; order = s .order; returns = s .returns; words = s .words })
   unfolding hasCalled latest latestCall

@@ -7,21 +7,21 @@ use Rattle.construction.specs.declared.Card.{Card}
 use Rattle.construction.specs.declared.Answer.{Answer}
 use Rattle.construction.specs.declared.Answered.{Answered}
 use Rattle.construction.specs.declared.Refusal.{Refusal}
-use Rattle.construction.specs.Parts.{withExit}
 use Rattle.construction.specs.Machine.{advance}
-use Rattle.construction.specs.Requests.{isBusy, refused, begun, answerOf, valueOf}
+use Rattle.construction.specs.Requests.{isBusy, refused, answerOf, valueOf, invoked, exiting}
 use Rattle.construction.specs.History.{Entry, act}
 use Rattle.construction.proofs.Entries.{on-call, on-exit, on-step, on-read}
+use Rattle.construction.specs.Parts.{withLocal, localAt}
 
 pub data Outcome (c : Card) : Entry → Answered → Type 0 where
   turned-back : (e : Entry) (why : Refusal) → Outcome c e (refused c why)
   called :
       (i k : ℕ) (inputs : Words) → i < c .processes → isBusy c i ≡ false →
-      Outcome c (Entry.Call i k inputs) (record { card = begun c i k inputs; answer = Answer.Taken })
-  asked : (i : ℕ) → Outcome c (Entry.Exit i) (record { card = withExit c i true; answer = Answer.Taken })
+      Outcome c (Entry.Call i k inputs) (record { card = withLocal c i (invoked (localAt c i) k inputs); answer = Answer.Taken })
+  asked : (i : ℕ) → i < c .processes → Outcome c (Entry.Exit i) (record { card = withLocal c i (exiting (localAt c i)); answer = Answer.Taken })
   stepped :
       (i : ℕ) → i < c .processes → isBusy c i ≡ true → c .steps < c .limit →
-      Outcome c (Entry.Step i) (record { card = advance c i; answer = answerOf (advance c i) i })
+      Outcome c (Entry.Step i) (record { card = advance c i; answer = answerOf (localAt (advance c i) i) })
   shown : (v x : ℕ) → Outcome c (Entry.Read v) (record { card = c; answer = Answer.Value x })
 
 pub outcome : (c : Card) (e : Entry) → Outcome c e (act c e)
@@ -30,7 +30,7 @@ outcome c (Entry.Call i k inputs) =
     on-call (Outcome c e) c (Outcome.turned-back e) i k inputs (λ lt _. Outcome.called i k inputs lt)
 outcome c (Entry.Exit i) =
     let e = Entry.Exit i in
-    on-exit (Outcome c e) c (Outcome.turned-back e) i (λ _ _. Outcome.asked i)
+    on-exit (Outcome c e) c (Outcome.turned-back e) i (λ lt _. Outcome.asked i lt)
 outcome c (Entry.Step i) =
     let e = Entry.Step i in
     on-step (Outcome c e) c (Outcome.turned-back e) i (Outcome.stepped i)

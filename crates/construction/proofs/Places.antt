@@ -1,7 +1,7 @@
 -- The assertion of each place, what a process knows there, and that no move of another process interferes with it.
 use Prim.Native.Nat.{ℕ, _≤_, _<_}
 use mathlib.Core.Path.{_≡_, sym, ap, _∙_}
-use mathlib.Core.Bool.{true}
+use mathlib.Core.Bool.{true, false}
 use mathlib.Core.Logic.{_≢_, _⊎_, inl, inr, ⊎-elim}
 use mathlib.Core.List.{List}
 use native.Mathlib.Omega.{arith}
@@ -23,11 +23,12 @@ use Rattle.construction.specs.Dictionary.{noItem, noted, valueUnder, alt
 use Rattle.construction.specs.Machine.{holderOf}
 use Rattle.construction.proofs.DictionaryLaws.{all-map}
 use Rattle.construction.proofs.SimulationLaws.{Core, Finished, Needing}
-use Rattle.construction.proofs.World.{Fixed, programIn, endingIn, World, recordIn, leftIn, callIn, roundIn, wordAt, Good, Quiet, Move}
+use Rattle.construction.proofs.World.{endingIn, World, recordIn, leftIn, callIn, roundIn, wordAt, Good, Quiet, Move}
 use Rattle.construction.proofs.World.Move.{stay, ask, announce, leave, take, write, end, free}
 use Rattle.construction.proofs.Claims.{View, viewOf, Change, Owned, Limit, Past, Gone, Returning, Rested, Last, Seen, Nominated, Working, Halfway, Over}
 use Rattle.construction.proofs.Claims.{change, call-change, owned-change, limit-change, past-change, gone-change, returning-change, rested-change, last-change, quiet-stays, seen-stays, nominated-stays, working-stays, halfway-stays, over-stays, below-stays, record-stays, round-stays}
-use Rattle.construction.proofs.Locals.{Local}
+use Rattle.construction.specs.declared.Contents.{Contents}
+use Rattle.construction.specs.Parts.{programOf, Local}
 
 -- the operation o of a process is under way and announced
 pub record Mine (x : View) (o : Operation) : Type 0 where
@@ -38,7 +39,7 @@ mine-change : {j : ℕ} {o : Operation} {x y : View} → Change j x y → Mine x
 mine-change C q = record { own = owned-change C (q .own); called = q .called ∙ call-change C }
 
 -- process j, with its operation o, has read the gate g, held
-pub record Helper (F : Fixed) (w : World) (j : ℕ) (o : Operation) (g : Gate) : Type 0 where
+pub record Helper (F : Contents) (w : World) (j : ℕ) (o : Operation) (g : Gate) : Type 0 where
   pub mine : Mine (viewOf w j) o
   pub named : g .holder ≡ Process (holderOf (g .holder))
   pub inside : holderOf (g .holder) < F .processes
@@ -46,7 +47,7 @@ pub record Helper (F : Fixed) (w : World) (j : ℕ) (o : Operation) (g : Gate) :
   pub limit : Limit (viewOf w j) j (g .seq)
 
 -- a helper that has read g works on the announcement a of the holder
-pub record Plan (F : Fixed) (w : World) (g : Gate) (a : Announcement) : Type 0 where
+pub record Plan (F : Contents) (w : World) (g : Gate) (a : Announcement) : Type 0 where
   pub below : g .seq ≤ w .gate .seq
   pub number : g .seq < length (w .rounds)
   pub early : a .seq ≤ g .seq
@@ -54,7 +55,7 @@ pub record Plan (F : Fixed) (w : World) (g : Gate) (a : Announcement) : Type 0 w
   pub working : Working w (holderOf (g .holder)) (g .seq) a
 
 -- an item of the dictionary of a helper of number s
-pub record Noted (F : Fixed) (w : World) (s : ℕ) (e : Item) : Type 0 where
+pub record Noted (F : Contents) (w : World) (s : ℕ) (e : Item) : Type 0 where
   pub inside : e .variable < F .variables
   pub base : valueUnder s (e .cell) ≡ wordAt (roundIn w s .words) (e .variable)
   pub kept : (recordIn w (e .variable) ≡ e .cell) ⊎ (s ≤ recordIn w (e .variable) .seq)
@@ -64,18 +65,18 @@ pub record Fine (w : World) (s : ℕ) (e : Item) : Type 0 where
   pub fine : (s ≤ recordIn w (e .variable) .seq) ⊎ (e .value ≡ wordAt (roundIn w s .words) (e .variable))
 
 -- a helper of number s with outputs o has nothing more to write, or comes too late
-pub record Ready (F : Fixed) (w : World) (s : ℕ) (o : Words) : Type 0 where
+pub record Ready (F : Contents) (w : World) (s : ℕ) (o : Words) : Type 0 where
   pub outs : (s < w .gate .seq) ⊎ (o ≡ endingIn F w s .outputs)
   pub all :
       (s < w .gate .seq)
       ⊎ ((v : ℕ) → v < F .variables → recordIn w v .seq < s → wordAt (endingIn F w s .words) v ≡ wordAt (roundIn w s .words) v)
 
 -- the program that a helper of number s runs for the announcement a
-abbrev pub programFor : Fixed → ℕ → Announcement → Program
-programFor F s a = programIn F (a .program) s
+abbrev pub programFor : Contents → ℕ → Announcement → Program
+programFor F s a = programOf F (a .program) s
 
 -- its simulation, from the words before number s to the ending of number s
-module _ (F : Fixed) (w : World) (s : ℕ) (a : Announcement) where
+module _ (F : Contents) (w : World) (s : ℕ) (a : Announcement) where
   abbrev pub CoreAt : Simulation → Dictionary → Type 0
   CoreAt l d =
       Core (F .variables) (programFor F s a) (a .words) (roundIn w s .words) (endingIn F w s) (Noted F w s) l d
@@ -89,19 +90,19 @@ module _ (F : Fixed) (w : World) (s : ℕ) (a : Announcement) where
       Finished (F .variables) (programFor F s a) (a .words) (roundIn w s .words) (endingIn F w s) (Noted F w s) l d
 
 -- item k is to be written, and those before it need no write
-pub record Writing (F : Fixed) (w : World) (s : ℕ) (b : List Item) (k : ℕ) : Type 0 where
+pub record Writing (F : Contents) (w : World) (s : ℕ) (b : List Item) (k : ℕ) : Type 0 where
   pub inside : k < length b
   pub due : altered s (getD b k noItem) ≡ true
   pub before : (q : ℕ) → q < k → Fine w s (getD b q noItem)
 
 -- what process j with local state t knows at each place
-abbrev pub LocAt : Place → Fixed → World → ℕ → Local → Type 0
-LocAt Idle F w j t = Quiet w j × Rested (viewOf w j) (t .copy)
+abbrev pub LocAt : Place → Contents → World → ℕ → Local → Type 0
+LocAt Idle F w j t = Quiet w j × Rested (viewOf w j) (t .announcement)
 LocAt P1 F w j t = Quiet w j × (t .operation ≡ callIn w j)
 LocAt P3 F w j t =
     Quiet w j × (t .operation ≡ callIn w j) × (leftIn w j < t .gate .seq) × (t .gate .seq ≤ w .gate .seq)
 LocAt P5 F w j t =
-    Mine (viewOf w j) (t .operation) × (t .copy .flag ≡ Active) × (t .copy .words ≡ t .operation .inputs)
+    Mine (viewOf w j) (t .operation) × (t .announcement .flag ≡ Active) × (t .announcement .words ≡ t .operation .inputs)
 LocAt P7 F w j t = Mine (viewOf w j) (t .operation)
 LocAt P10 F w j t = Mine (viewOf w j) (t .operation)
 LocAt C2 F w j t =
@@ -111,34 +112,48 @@ LocAt C4 F w j t =
     Mine (viewOf w j) (t .operation) × (t .gate .holder ≡ Nobody) × (t .gate .seq ≤ w .gate .seq)
     × Limit (viewOf w j) j (t .gate .seq)
 LocAt P13 F w j t =
-    Mine (viewOf w j) (t .operation) × (t .gate .holder ≡ Nobody) × (t .target < F .processes)
-    × Nominated w j (t .target) (t .gate .seq) × Limit (viewOf w j) j (t .gate .seq)
+    Mine (viewOf w j) (t .operation) × (t .gate .holder ≡ Nobody) × (t .task .target < F .processes)
+    × Nominated w j (t .task .target) (t .gate .seq) × Limit (viewOf w j) j (t .gate .seq)
 LocAt P14 F w j t = Mine (viewOf w j) (t .operation) × Past (viewOf w j)
 LocAt P16 F w j t = Helper F w j (t .operation) (t .gate)
 LocAt H21 F w j t =
-    Helper F w j (t .operation) (t .gate) × Plan F w (t .gate) (t .copy)
-    × NeedingAt F w (t .gate .seq) (t .copy) (t .target) (t .simulation) (t .dictionary)
+    Helper F w j (t .operation) (t .gate) × Plan F w (t .gate) (t .announcement)
+    × NeedingAt F w (t .gate .seq) (t .announcement) (t .task .target) (t .simulation) (t .dictionary)
 LocAt H36 F w j t =
-    Helper F w j (t .operation) (t .gate) × Plan F w (t .gate) (t .copy)
-    × FinishedAt F w (t .gate .seq) (t .copy) (t .simulation) (t .dictionary)
-    × Writing F w (t .gate .seq) (noted (t .dictionary)) (t .target)
+    Helper F w j (t .operation) (t .gate) × Plan F w (t .gate) (t .announcement)
+    × FinishedAt F w (t .gate .seq) (t .announcement) (t .simulation) (t .dictionary)
+    × Writing F w (t .gate .seq) (noted (t .dictionary)) (t .task .target)
 LocAt P19 F w j t =
-    Helper F w j (t .operation) (t .gate) × Plan F w (t .gate) (t .copy)
+    Helper F w j (t .operation) (t .gate) × Plan F w (t .gate) (t .announcement)
     × Ready F w (t .gate .seq) (t .simulation .outputs)
 LocAt P20 F w j t =
-    Helper F w j (t .operation) (t .gate) × Plan F w (t .gate) (t .copy)
+    Helper F w j (t .operation) (t .gate) × Plan F w (t .gate) (t .announcement)
     × Ready F w (t .gate .seq) (t .simulation .outputs)
     × Halfway w (holderOf (t .gate .holder)) (t .gate .seq)
 LocAt P21 F w j t = Helper F w j (t .operation) (t .gate) × Over w (holderOf (t .gate .holder)) (t .gate .seq)
 LocAt P22 F w j t = Mine (viewOf w j) (t .operation) × Gone (viewOf w j) j
-LocAt F1 F w j t = Returning (viewOf w j) (t .copy)
+LocAt F1 F w j t = Returning (viewOf w j) (t .announcement)
 LocAt F3 F w j t =
-    Returning (viewOf w j) (t .copy) × (t .gate .holder ≡ Process j) × Last (viewOf w j) j (t .gate .seq)
+    Returning (viewOf w j) (t .announcement) × (t .gate .holder ≡ Process j) × Last (viewOf w j) j (t .gate .seq)
 
-abbrev pub Loc : Fixed → World → ℕ → Local → Type 0
-Loc F w j t = LocAt (t .place) F w j t
+-- it does not depend on the exit request and on the count of own steps
+abbrev pub known : Local → Local
+known t =
+    record {
+      task = t .task;
+      operation = t .operation;
+      exit = false;
+      steps = 0;
+      gate = t .gate;
+      announcement = t .announcement;
+      simulation = t .simulation;
+      dictionary = t .dictionary;
+    }
 
-module _ {F : Fixed} {i : ℕ} {w v : World} (G : Good F w) (M : Move F i w v) where
+abbrev pub Loc : Contents → World → ℕ → Local → Type 0
+Loc F w j t = LocAt (t .task .place) F w j (known t)
+
+module _ {F : Contents} {i : ℕ} {w v : World} (G : Good F w) (M : Move F i w v) where
   left-stays : {u : World} (j n : ℕ) → Move F i w u → Quiet w j → leftIn w j < n → leftIn u j < n
   left-stays j n stay q h = h
   left-stays j n (ask c lt Q) q h = h
@@ -251,23 +266,23 @@ module _ {F : Fixed} {i : ℕ} {w v : World} (G : Good F w) (M : Move F i w v) w
     loc-at-stays P16 t q = helper-stays C q
     loc-at-stays H21 t q = (
       helper-stays C (q .0),
-      plan-stays (t .gate) (t .copy) (q .0 .seen) (q .1),
-      needing-stays (t .gate .seq) (q .1 .number) (q .1 .below) (t .copy) (t .target) (t .simulation) (t .dictionary) (q .2),
+      plan-stays (t .gate) (t .announcement) (q .0 .seen) (q .1),
+      needing-stays (t .gate .seq) (q .1 .number) (q .1 .below) (t .announcement) (t .task .target) (t .simulation) (t .dictionary) (q .2),
     )
     loc-at-stays H36 t q = (
       helper-stays C (q .0),
-      plan-stays (t .gate) (t .copy) (q .0 .seen) (q .1),
-      finished-stays (t .gate .seq) (q .1 .number) (q .1 .below) (t .copy) (t .simulation) (t .dictionary) (q .2),
-      writing-stays (t .gate .seq) (q .1 .number) (q .1 .below) (noted (t .dictionary)) (t .target) (q .3),
+      plan-stays (t .gate) (t .announcement) (q .0 .seen) (q .1),
+      finished-stays (t .gate .seq) (q .1 .number) (q .1 .below) (t .announcement) (t .simulation) (t .dictionary) (q .2),
+      writing-stays (t .gate .seq) (q .1 .number) (q .1 .below) (noted (t .dictionary)) (t .task .target) (q .3),
     )
     loc-at-stays P19 t q = (
       helper-stays C (q .0),
-      plan-stays (t .gate) (t .copy) (q .0 .seen) (q .1),
+      plan-stays (t .gate) (t .announcement) (q .0 .seen) (q .1),
       ready-stays (t .gate .seq) (q .1 .number) (q .1 .below) (t .simulation .outputs) (q .2),
     )
     loc-at-stays P20 t q = (
       helper-stays C (q .0),
-      plan-stays (t .gate) (t .copy) (q .0 .seen) (q .1),
+      plan-stays (t .gate) (t .announcement) (q .0 .seen) (q .1),
       ready-stays (t .gate .seq) (q .1 .number) (q .1 .below) (t .simulation .outputs) (q .2),
       halfway-stays G M (q .0 .seen) (q .3),
     )
@@ -277,5 +292,5 @@ module _ {F : Fixed} {i : ℕ} {w v : World} (G : Good F w) (M : Move F i w v) w
     loc-at-stays F3 t q = (returning-change C (q .0), q .1, last-change (q .0 .done) C (q .2))
 
 pub loc-stays :
-    {F : Fixed} {i : ℕ} {w v : World} → Good F w → Move F i w v → (j : ℕ) → j ≢ i → (t : Local) → Loc F w j t → Loc F v j t
-loc-stays G M j ne t q = loc-at-stays G M j ne (t .place) t q
+    {F : Contents} {i : ℕ} {w v : World} → Good F w → Move F i w v → (j : ℕ) → j ≢ i → (t : Local) → Loc F w j t → Loc F v j t
+loc-stays G M j ne t q = loc-at-stays G M j ne (t .task .place) (known t) q

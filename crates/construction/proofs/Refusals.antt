@@ -17,8 +17,8 @@ use Rattle.construction.specs.declared.Refusal.{Refusal}
 use Rattle.construction.specs.declared.Refusal.the-variants.{NoProcess, NoProgram, Busy, NotBusy, NoPlace, LimitReached}
 use Rattle.construction.specs.Answers.{numberOf, valuesOf, verdictValues, writtenValues, Refuses}
 use Rattle.construction.specs.Machine.{advance}
-use Rattle.construction.specs.Parts.{copyAt, countAt, withExit}
-use Rattle.construction.specs.Requests.{isProcess, isProgram, isVariable, isBusy, refused, begun, call, requestExit, returned, answerOf, step, valueOf, read}
+use Rattle.construction.specs.Parts.{localAt, withLocal, Local}
+use Rattle.construction.specs.Requests.{isProcess, isProgram, isVariable, isBusy, refused, call, requestExit, returned, answerOf, step, valueOf, read, invoked, exiting, isIdle}
 use Rattle.construction.specs.Opening.{readCard, opened}
 use Rattle.construction.specs.Writing.{textOf, written, writtenInto}
 use Rattle.construction.proofs.Basics.{on-test, clash}
@@ -44,7 +44,7 @@ module _ (c : Card) (i k : ℕ) (inputs : Words) where
 
   pub call-taken :
       isProcess c i ≡ true → isProgram c k ≡ true → isBusy c i ≡ false →
-      call c i k inputs ≡ record { card = begun c i k inputs; answer = Answer.Taken }
+      call c i k inputs ≡ record { card = withLocal c i (invoked (localAt c i) k inputs); answer = Answer.Taken }
   unfolding call
   call-taken p q b = rw (p, q, b)
 
@@ -58,7 +58,7 @@ module _ (c : Card) (i : ℕ) where
   exit-not-busy p b = refuses c (requestExit c i) NotBusy (rw (p, b))
 
   pub exit-taken :
-      isProcess c i ≡ true → isBusy c i ≡ true → requestExit c i ≡ record { card = withExit c i true; answer = Answer.Taken }
+      isProcess c i ≡ true → isBusy c i ≡ true → requestExit c i ≡ record { card = withLocal c i (exiting (localAt c i)); answer = Answer.Taken }
   unfolding requestExit
   exit-taken p b = rw (p, b)
 
@@ -76,7 +76,7 @@ module _ (c : Card) (i : ℕ) where
 
   pub step-accepted :
       isProcess c i ≡ true → isBusy c i ≡ true → c .steps < c .limit →
-      step c i ≡ record { card = advance c i; answer = answerOf (advance c i) i }
+      step c i ≡ record { card = advance c i; answer = answerOf (localAt (advance c i) i) }
   unfolding step
   step-accepted p b l = rw (p, b, lt-ltb _ _ l)
 
@@ -124,11 +124,11 @@ returns a Done k why e = clash (cc)
 returns a Active k why e = clash (cc)
 returns a Exit k why e = clash (cc)
 
-accepted : (c : Card) (i : ℕ) (why : Refusal) → answerOf c i ≡ Answer.Refused why → ⊥
-accepted c i why =
-    on-test (λ (a : Answer). a ≡ Answer.Refused why → ⊥) (isBusy c i)
+accepted : (l : Local) (why : Refusal) → answerOf l ≡ Answer.Refused why → ⊥
+accepted l why =
+    on-test (λ (a : Answer). a ≡ Answer.Refused why → ⊥) (isIdle (l .task .place))
+    (λ _. returns (l .announcement) (l .announcement .flag) (l .steps) why)
     (λ _ e. clash (cc))
-    (λ _. returns (copyAt c i) (copyAt c i .flag) (countAt c i) why)
 
 pub call-kept : (c : Card) (i k : ℕ) (inputs : Words) → Kept c (call c i k inputs)
 call-kept c i k inputs = on-call (Kept c) c (same c) i k inputs (λ _ _ _. other c _ Answer.Taken taken)
@@ -137,7 +137,7 @@ pub exit-kept : (c : Card) (i : ℕ) → Kept c (requestExit c i)
 exit-kept c i = on-exit (Kept c) c (same c) i (λ _ _. other c _ Answer.Taken taken)
 
 pub step-kept : (c : Card) (i : ℕ) → Kept c (step c i)
-step-kept c i = on-step (Kept c) c (same c) i (λ _ _ _. other c _ _ (accepted (advance c i) i))
+step-kept c i = on-step (Kept c) c (same c) i (λ _ _ _. other c _ _ (accepted (localAt (advance c i) i)))
 
 -- a read never changes the card
 pub read-kept : (c : Card) (v : ℕ) → read c v .card ≡ c

@@ -20,6 +20,7 @@ use Rattle.construction.proofs.SequentialLaws.{Short}
 use Rattle.construction.proofs.Invariant.{firstWorld, inv-fresh}
 use Rattle.construction.proofs.Growth.{Grown, all-grow, observe-append}
 use Rattle.construction.proofs.Moments.{Consistent, entry-kept, finishes-one, read-shown}
+use Rattle.construction.specs.Machine.{accessOf}
 
 -- every list of entries, from the opened card on
 all-consistent : (o : Card) (m : Moment) (es : List Entry) → Consistent o m → Consistent o (observeAll o m es)
@@ -31,7 +32,7 @@ short-code : (x : Contents) → Bounded x → (k : ℕ) → Short (getD (x .code
 short-code x B k = omega (arith, B .lines k)
 
 fresh-consistent : (x : Contents) → Bounded x → Consistent (fresh x) (opening (fresh x))
-unfolding fresh times hasReturned
+unfolding fresh times hasReturned accessOf
 fresh-consistent x B =
     record {
       world = firstWorld x;

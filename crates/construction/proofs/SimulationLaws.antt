@@ -1,7 +1,7 @@
 -- A helper's simulation on its dictionary agrees with the sequential run (lines H1 to H30).
 use Prim.Native.Nat.{ℕ, zero, suc, _+_, _≤_, _<_}
 use mathlib.Core.Path.{_≡_, refl, sym, subst, ap, _∙_}
-use mathlib.Core.Bool.{true, false}
+use mathlib.Core.Bool.{true, false, cond}
 use mathlib.Core.List.{List, [], _∷_, _++_}
 use native.Mathlib.Omega.{arith}
 use native.Mathlib.Decide.{ℕ-discrete}
@@ -24,8 +24,9 @@ use Rattle.construction.proofs.SequentialLaws.{by-effect, stops, Short,
 use Rattle.construction.proofs.DictionaryLaws.{hasIn, valueIn, putIn, AllIn, all-put, all-snoc, Keyed, keyed-put, keyed-snoc}
 use Rattle.construction.proofs.DictionaryLaws.{value-none, value-put-same, value-put-other, value-snoc-same, value-snoc-other}
 use Rattle.construction.proofs.DictionaryLaws.{has-position, has-snoc, found, noted-assign, noted-insert, insert-length, insert-items, assign-items}
-use Rattle.construction.specs.Limits.{isTouching, touching}
-use Rattle.construction.proofs.Touching.{touching-places, touching-later, touching-suc, Touches, touches}
+use Rattle.construction.specs.Weight.{weightOf, weightBefore, weight}
+use Rattle.construction.proofs.WeightLaws.{weight-places, weight-later, weight-suc, Touches, touches}
+use borrow.Author.Tests.{le-ltb}
 
 -- the variable that an effect touches; 0 where it touches none
 abbrev pub variableOf : Effect → ℕ
@@ -36,23 +37,23 @@ variableOf (Effect.Store v x) = v
 variableOf (Effect.Output a x) = 0
 variableOf (Effect.Skip c) = 0
 
--- the dictionary is never too full: at most 32 items, and at most the touching instructions of the program
+-- the dictionary is never too full: at most 32 items, and at most the weight of the program
 pub record Room (program : Program) (d : Dictionary) : Type 0 where
   pub array : length (d .items) ≡ 32
   pub small : d .length ≤ 32
-  pub few : d .length ≤ touching program 32
+  pub few : d .length ≤ weight program
 
 -- the simulation from the words `ws` to the ending `R`; P holds of each item, whatever its value
 module _ (n : ℕ) (program : Program) (inputs : Words) (ws : List ℕ) (R : Ending) (P : Item → Type 0) where
   -- under way: on words that agree with the dictionary, else with `ws`, the rest of the run ends as R.
-  -- Each item came with a touching instruction before the counter, or with the one at the counter.
+  -- Each item came with an instruction before the counter, or with the one at the counter.
   pub record Core (s : Simulation) (d : Dictionary) : Type 0 where
     pub booked : AllIn P (noted d)
     pub keyed : Keyed (noted d)
     pub room : Room program d
-    pub passed : d .length ≤ touching program (suc (s .counter))
+    pub passed : d .length ≤ weightBefore program (suc (s .counter))
     pub ahead :
-        hasIn (noted d) (variableOf (nextEffect n program inputs s)) ≡ false → d .length ≤ touching program (s .counter)
+        hasIn (noted d) (variableOf (nextEffect n program inputs s)) ≡ false → d .length ≤ weightBefore program (s .counter)
     pub mem : List ℕ
     pub size : length mem ≡ n
     pub agree : (v : ℕ) → v < n → getD mem v 0 ≡ valueIn (noted d) v (getD ws v 0)
@@ -72,9 +73,9 @@ module _ (n : ℕ) (program : Program) (inputs : Words) (ws : List ℕ) (R : End
     pub inside : v < n
     pub absent : hasIn (noted d) v ≡ false
     pub next : variableOf (nextEffect n program inputs s) ≡ v
-    pub passing : d .length < touching program (suc (s .counter))
+    pub passing : d .length < weightBefore program (suc (s .counter))
     pub spare : d .length < 32
-    pub fewer : d .length < touching program 32
+    pub fewer : d .length < weight program
 
   abbrev pub PausedAt : Pause → Simulation → Dictionary → Type 0
   PausedAt Ended s d = Finished s d
@@ -146,10 +147,10 @@ module _ (n : ℕ) (program : Program) (inputs : Words) (ws : List ℕ) (R : End
   -- past the instruction at the counter
   moved :
       (s : Simulation) (d : Dictionary) (k : ℕ) →
-      Core s d → s .counter < k → (d .length ≤ touching program k) × (d .length ≤ touching program (suc k))
+      Core s d → s .counter < k → (d .length ≤ weightBefore program k) × (d .length ≤ weightBefore program (suc k))
   moved s d k q h =
-      let y = touching-later program (suc (s .counter)) k h in
-      let z = touching-later program k (suc k) (omega arith) in
+      let y = weight-later program (suc (s .counter)) k h in
+      let z = weight-later program k (suc k) (omega arith) in
       (omega (arith, q .passed), omega (arith, q .passed))
 
   -- a later state with the same dictionary, from which the run goes on to R
@@ -219,20 +220,20 @@ module _ (n : ℕ) (program : Program) (inputs : Words) (ws : List ℕ) (R : End
         list : noted (assign d (find d v) x) ≡ putIn (noted d) v x
         list = noted-assign d v x t
 
-        forth : (d .length ≤ touching program (forward (s .counter) 0)) × (d .length ≤ touching program (suc (forward (s .counter) 0)))
+        forth : (d .length ≤ weightBefore program (forward (s .counter) 0)) × (d .length ≤ weightBefore program (suc (forward (s .counter) 0)))
         forth = moved s d (forward (s .counter) 0) q (advances n program inputs short s 0 (ap stops e) .1)
 
     -- line H20: an instruction that touches a variable not noted waits for it
     lacking :
         (s : Simulation) (d : Dictionary) (v : ℕ) →
         stops (nextEffect n program inputs s) ≡ false → variableOf (nextEffect n program inputs s) ≡ v →
-        v < n × isTouching (fetch program (s .counter)) ≡ true → has d v ≡ false → Core s d → Needing v s d
+        v < n × 0 < weightOf (fetch program (s .counter)) → has d v ≡ false → Core s d → Needing v s d
     lacking s d v g e (l, t) f q =
         let absent : hasIn (noted d) v ≡ false = sym (has-position (noted d) v) ∙ f in
-        let few : d .length ≤ touching program (s .counter) = q .ahead (rw e absent) in
-        let more = touching-suc program (s .counter) t in
-        let most = touching-later program (suc (s .counter)) 32 (advances n program inputs short s 0 g .0) in
-        let all = touching-places program 32 in
+        let few : d .length ≤ weightBefore program (s .counter) = q .ahead (rw e absent) in
+        let more = weight-suc program (s .counter) t in
+        let most = weight-later program (suc (s .counter)) 32 (advances n program inputs short s 0 g .0) in
+        let all = weight-places program 32 in
         record {
           core = q;
           inside = l;
@@ -271,3 +272,19 @@ module _ (n : ℕ) (program : Program) (inputs : Words) (ws : List ℕ) (R : End
     pub simulates : (s : Simulation) (d : Dictionary) → Core s d → Paused (simulate n program inputs s d)
     unfolding simulate
     simulates s d q = simulates-from 32 s d (omega arith) q
+
+-- a simulation that has noted nothing leaves its dictionary empty
+pub simulate-empty :
+    (n : ℕ) (program : Program) (inputs : Words) → simulate n program inputs started empty .dictionary ≡ empty
+unfolding simulate simulateFrom
+simulate-empty n program inputs = go 32 started
+  where
+    go : (fuel : ℕ) (s : Simulation) → simulateFrom n program inputs fuel s empty .dictionary ≡ empty
+    go zero s = refl
+    go (suc fuel) s =
+        by-effect (λ (x : Simulated). x .dictionary ≡ empty) (nextEffect n program inputs s) (λ _. refl) (λ _ _ _. go fuel _)
+        (λ a v _. missing _ _ v refl) (λ v x _. missing _ _ v refl) (λ _ _ _. go fuel _) (λ _ _. go fuel _)
+      where
+        missing :
+            (x y : Simulated) (v : ℕ) → y .dictionary ≡ empty → cond (has empty v) x y .dictionary ≡ empty
+        missing x y v e = rw (le-ltb (find empty v) 0 (omega arith)) e

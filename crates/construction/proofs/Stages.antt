@@ -9,6 +9,8 @@ use Rattle.construction.specs.declared.AnnouncementAccess.{AnnouncementA
 use Rattle.construction.specs.Machine.{accessOf}
 use Rattle.construction.specs.Requests.{isIdle}
 use Rattle.construction.proofs.Basics.{on-test, true-false}
+use Rattle.construction.specs.declared.Gate.{Gate}
+use Rattle.construction.specs.declared.Announcement.{Announcement}
 
 -- the places of an announced operation: after P3 until it returns
 abbrev pub isAnnounced : Place → Bool
@@ -33,16 +35,20 @@ isAnnounced F1 = true
 isAnnounced F3 = true
 
 -- the access of line P3
-abbrev pub announces : Access → Bool
-announces Access.None = false
-announces (Access.Gate a) = false
-announces (Access.Announcement AnnouncementAccess.Announce) = true
-announces (Access.Announcement AnnouncementAccess.Withdraw) = false
-announces (Access.Announcement (AnnouncementAccess.ReadOwn done active exit)) = false
-announces (Access.Announcement AnnouncementAccess.ReadFirst) = false
-announces (Access.Announcement AnnouncementAccess.Help) = false
-announces (Access.Announcement (AnnouncementAccess.Finish flag next)) = false
-announces (Access.Record a) = false
+abbrev pub announces : AnnouncementAccess → Bool
+announces AnnouncementAccess.Announce = true
+announces AnnouncementAccess.Withdraw = false
+announces (AnnouncementAccess.ReadOwn done active exit) = false
+announces AnnouncementAccess.ReadFirst = false
+announces (AnnouncementAccess.Finish flag next) = false
+
+abbrev pub isAnnouncing : Access → Bool
+isAnnouncing Access.None = false
+isAnnouncing (Access.Gate a) = false
+isAnnouncing (Access.Announcement a) = announces a
+isAnnouncing Access.Help = false
+isAnnouncing Access.Note = false
+isAnnouncing Access.Write = false
 
 -- no operation under way; one that is called; one that has a number; one that is announced and does not announce again
 pub data Stage : Place → Type 0 where
@@ -50,14 +56,14 @@ pub data Stage : Place → Type 0 where
   called : Stage P1
   numbered : Stage P3
   announced :
-      {l : Place} → isAnnounced l ≡ true → isIdle l ≡ false → ((exit : Bool) → announces (accessOf l exit) ≡ false) → Stage l
+      {l : Place} → isAnnounced l ≡ true → isIdle l ≡ false → ((exit : Bool) → isAnnouncing (accessOf l exit) ≡ false) → Stage l
 
 pub stage : (l : Place) → Stage l
 unfolding accessOf
 stage Idle = Stage.idle
 stage P1 = Stage.called
 stage P3 = Stage.numbered
-stage P5 = Stage.announced refl refl (λ exit. on-test (λ a. announces a ≡ false) exit (λ _. refl) (λ _. refl))
+stage P5 = Stage.announced refl refl (λ exit. on-test (λ a. isAnnouncing a ≡ false) exit (λ _. refl) (λ _. refl))
 stage P7 = Stage.announced refl refl (λ _. refl)
 stage P10 = Stage.announced refl refl (λ _. refl)
 stage C2 = Stage.announced refl refl (λ _. refl)
@@ -75,18 +81,21 @@ stage F1 = Stage.announced refl refl (λ _. refl)
 stage F3 = Stage.announced refl refl (λ _. refl)
 
 pub is-idle : {l : Place} → Stage l → isIdle l ≡ true → l ≡ Idle
+unfolding accessOf
 is-idle Stage.idle e = refl
 is-idle Stage.called e = absurd (false≢true e)
 is-idle Stage.numbered e = absurd (false≢true e)
 is-idle (Stage.announced a b f) e = absurd (true-false _ e b)
 
 pub announced-busy : {l : Place} → Stage l → isAnnounced l ≡ true → not (isIdle l) ≡ true
+unfolding accessOf
 announced-busy Stage.idle t = t
 announced-busy Stage.called t = refl
 announced-busy Stage.numbered t = refl
 announced-busy (Stage.announced a b f) t = ap not b
 
 pub busy-stage : {l : Place} → Stage l → not (isIdle l) ≡ true → (l ≡ P1) ⊎ (l ≡ P3) ⊎ (isAnnounced l ≡ true)
+unfolding accessOf
 busy-stage Stage.idle t = absurd (false≢true t)
 busy-stage Stage.called t = inl refl
 busy-stage Stage.numbered t = inr (inl refl)

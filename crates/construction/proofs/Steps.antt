@@ -8,19 +8,19 @@ use Rattle.construction.specs.declared.Place.the-variants.{Idle, P1, P3,
 use Rattle.construction.specs.Machine.{accessOf, perform}
 use Rattle.construction.specs.Requests.{isIdle}
 use Rattle.construction.proofs.World.{World}
-use Rattle.construction.proofs.Locals.{localAt, fixedOf}
-use Rattle.construction.proofs.Places.{LocAt}
+use Rattle.construction.proofs.Places.{LocAt, known}
 use Rattle.construction.proofs.Acting.{worldOf, Before, Acted}
 use Rattle.construction.proofs.GateSteps.{at-P1, at-P10, at-P13, at-P14, at-P21, at-F1, at-F3}
 use Rattle.construction.proofs.AnnouncementSteps.{at-P3, at-P6, at-P7, at-C2, at-C4, at-P19, at-P20, at-P22}
 use Rattle.construction.proofs.HelpSteps.{at-P16, at-H21}
 use Rattle.construction.proofs.WriteSteps.{at-H36}
+use Rattle.construction.specs.Parts.{localAt, contentsOf}
 
 module _ {c : Card} {w : World} {i : ℕ} (B : Before c w i) where
   pub at-place :
-      (l : Place) (exit : Bool) → isIdle l ≡ false → LocAt l (fixedOf c) (worldOf c w) i (localAt c i) →
-      Acted c (worldOf c w) i (perform (accessOf l exit) c i)
-  unfolding perform accessOf
+      (l : Place) (exit : Bool) → isIdle l ≡ false → LocAt l (contentsOf c) (worldOf c w) i (known (localAt c i)) →
+      Acted c (worldOf c w) i (perform (accessOf l exit) c i .card)
+  unfolding accessOf
   at-place Idle exit n q = absurd (true≢false n)
   at-place P1 exit n q = at-P1 B q
   at-place P3 exit n q = at-P3 B q

@@ -11,13 +11,13 @@ use Rattle.construction.specs.Opening.{fresh, opened}
 use Rattle.construction.specs.Writing.{textOf}
 use Rattle.construction.specs.History.{Entry, Moment, observe, observeAll, run}
 use Rattle.construction.proofs.TextRoundTrip.{given-back}
-use Rattle.construction.proofs.Locality.{one-access}
+use Rattle.construction.proofs.OneAccess.{one-access}
 use Rattle.construction.proofs.Outcomes.{Outcome, outcome}
 
 outcome-kept : (c : Card) {e : Entry} {r : Answered} → Outcome c e r → contentsOf (r .card) ≡ contentsOf c
 outcome-kept c (Outcome.turned-back e why) = refl
 outcome-kept c (Outcome.called i k inputs p b) = refl
-outcome-kept c (Outcome.asked i) = refl
+outcome-kept c (Outcome.asked i p) = refl
 outcome-kept c (Outcome.stepped i p b l) = sym (one-access c i .text)
 outcome-kept c (Outcome.shown v x) = refl
 

@@ -9,23 +9,15 @@ use Rattle.construction.specs.declared.Announcement.{Announcement}
 use Rattle.construction.specs.declared.Record.{Record}
 use Rattle.construction.specs.declared.Words.{Words}
 use Rattle.construction.specs.declared.Operation.{Operation}
-use Rattle.construction.specs.declared.Program.{Program}
 use Rattle.construction.specs.declared.Holder.{Holder}
 use Rattle.construction.specs.declared.Holder.the-variants.{Nobody, Process}
 use Rattle.construction.specs.declared.Flag.the-variants.{Done, Active, Exit}
 use Rattle.construction.specs.Cells.{zeros, openAnnouncement, openRecord, current, previous, rewritten}
-use Rattle.construction.specs.Instructions.{noProgram}
 use Rattle.construction.specs.Sequential.{Ending, sequential}
-use Rattle.construction.specs.Parts.{noOperation}
+use Rattle.construction.specs.Parts.{noOperation, programOf}
 use Rattle.construction.specs.Machine.{flagged}
 use Rattle.construction.proofs.SequentialLaws.{Short}
-
--- what no entry changes
-pub record Fixed : Type 0 where
-  pub processes : ℕ
-  pub variables : ℕ
-  pub limit : ℕ
-  pub code : List Program
+use Rattle.construction.specs.declared.Contents.{Contents}
 
 -- one number of the gate: the words before its operation, and what that was called with
 pub record Round : Type 0 where
@@ -35,14 +27,10 @@ pub record Round : Type 0 where
 abbrev pub noRound : Round
 noRound = record { words = []; call = noOperation }
 
--- the program that an operation with this gate number runs
-abbrev pub programIn : Fixed → ℕ → ℕ → Program
-programIn F k number = getD (F .code) k noProgram
-
 -- how the operation of a number ends in the sequential run
-unfoldable pub endingOf : Fixed → ℕ → Round → Ending
+unfoldable pub endingOf : Contents → ℕ → Round → Ending
 endingOf F number r =
-    sequential (F .variables) (programIn F (r .call .program) number) (r .call .inputs) (r .words)
+    sequential (F .variables) (programOf F (r .call .program) number) (r .call .inputs) (r .words)
 
 -- The shared cells; the words of the sequential run; of each process its latest taken call and the outputs of its latest finished
 -- operation. `left` is the last number under which a process gave back the gate, `bound` the gate's number at its exit request,
@@ -86,7 +74,7 @@ roundOf rounds s = getD rounds s noRound
 abbrev pub roundIn : World → ℕ → Round
 roundIn w s = roundOf (w .rounds) s
 
-abbrev pub endingIn : Fixed → World → ℕ → Ending
+abbrev pub endingIn : Contents → World → ℕ → Ending
 endingIn F w s = endingOf F s (roundIn w s)
 
 abbrev pub wordAt : List ℕ → ℕ → ℕ
@@ -115,7 +103,7 @@ Phase (Process m) w =
 
 -- the records: one below number s has the value from before s, one of number s has the values before and after s; what a finished
 -- operation altered is written; and where no operation is pending the records have the words of the sequential run
-pub record Recorded (F : Fixed) (records : List Record) (rounds : List Round) (count : ℕ) (words : List ℕ) : Type 0 where
+pub record Recorded (F : Contents) (records : List Record) (rounds : List Round) (count : ℕ) (words : List ℕ) : Type 0 where
   pub below : (v : ℕ) → recordOf records v .seq < length rounds
   pub old :
       (s v : ℕ) → s < length rounds → v < F .variables → recordOf records v .seq < s →
@@ -131,10 +119,10 @@ pub record Recorded (F : Fixed) (records : List Record) (rounds : List Round) (c
   pub words-are : (v : ℕ) → v < F .variables → count ≡ length rounds → current (recordOf records v) ≡ wordAt words v
 
 -- there is room for the processes, the variables and the lines of each program
-pub record Fits (F : Fixed) : Type 0 where
+pub record Fits (F : Contents) : Type 0 where
   pub few : F .processes ≤ 8
   pub narrow : F .variables ≤ 64
-  pub short : (k number : ℕ) → Short (programIn F k number)
+  pub short : (k number : ℕ) → Short (programOf F k number)
 
 -- the lengths of what there is for each process and for each variable
 pub record Lengths (a r c o l b : ℕ) : Type 0 where
@@ -146,7 +134,7 @@ pub record Lengths (a r c o l b : ℕ) : Type 0 where
   pub bound : b ≡ 8
 
 -- what holds of the world after every list of entries
-pub record Good (F : Fixed) (w : World) : Type 0 where
+pub record Good (F : Contents) (w : World) : Type 0 where
   pub fits : Fits F
   pub lengths :
       Lengths (length (w .announcements)) (length (w .records)) (length (w .calls)) (length (w .outs)) (length (w .left))
@@ -227,8 +215,8 @@ taking w m =
     }
 
 -- variable v is written (H36)
-abbrev pub writing : World → ℕ → ℕ → World
-writing w v x =
+abbrev pub storing : World → ℕ → ℕ → World
+storing w v x =
     record {
       gate = w .gate;
       announcements = w .announcements;
@@ -243,7 +231,7 @@ writing w v x =
     }
 
 -- the operation of m is finished (P19, P20)
-abbrev pub ending : Fixed → World → ℕ → World
+abbrev pub ending : Contents → World → ℕ → World
 ending F w m =
     record {
       gate = w .gate;
@@ -281,7 +269,7 @@ pub record Quiet (w : World) (j : ℕ) : Type 0 where
   pub late : announcementIn w j .flag ≡ Exit → boundIn w j < w .gate .seq
 
 -- what an entry of process i may do to the world
-pub data Move (F : Fixed) (i : ℕ) (w : World) : World → Type 0 where
+pub data Move (F : Contents) (i : ℕ) (w : World) : World → Type 0 where
   stay : Move F i w w
   ask : (q : Operation) → i < F .processes → Quiet w i → Move F i w (asking w i q)
   announce :
@@ -295,7 +283,7 @@ pub data Move (F : Fixed) (i : ℕ) (w : World) : World → Type 0 where
   write :
       (m v x : ℕ) → v < F .variables → w .gate .holder ≡ Process m → announcementIn w m .flag ≢ Done →
       recordIn w v .seq < w .gate .seq →
-      x ≡ wordAt (endingIn F w (w .gate .seq) .words) v → Move F i w (writing w v x)
+      x ≡ wordAt (endingIn F w (w .gate .seq) .words) v → Move F i w (storing w v x)
   end :
       (m : ℕ) → m < F .processes → w .gate .holder ≡ Process m → announcementIn w m .flag ≢ Done →
       ((v : ℕ) → v < F .variables → recordIn w v .seq < w .gate .seq →

@@ -19,44 +19,44 @@ use Rattle.construction.specs.declared.Holder.{Holder}
 use Rattle.construction.specs.declared.Holder.the-variants.{Process}
 use Rattle.construction.specs.declared.Flag.the-variants.{Done}
 use Rattle.construction.specs.declared.Place.the-variants.{H36}
-use Rattle.construction.specs.declared.RecordAccess.{RecordAccess}
 use Rattle.construction.specs.Cells.{openRecord, sameRecord, swapRecord, current, rewritten}
 use Rattle.construction.specs.Dictionary.{noItem, noted, valueUnder, altered}
-use Rattle.construction.specs.Parts.{announcementAt, recordAt, taskAt, heldAt, copyAt, simulationAt, dictionaryAt, withRecord, withTask}
-use Rattle.construction.specs.Machine.{holderOf, writeFrom, writtenItem, accessRecord}
+use Rattle.construction.specs.Parts.{announcementAt, recordAt, withRecord, localAt, contentsOf, withLocal}
+use Rattle.construction.specs.Machine.{holderOf, writeFrom, perform, after, writing}
 use Rattle.construction.proofs.Basics.{on-test, true-false, and-true, sameRecord-true, sameRecord-false}
 use Rattle.construction.proofs.DictionaryLaws.{valueIn, all-at, value-at}
-use Rattle.construction.proofs.World.{Fixed, endingIn, World, leftIn, roundIn, wordAt, Phase, writing, Move}
+use Rattle.construction.proofs.World.{endingIn, World, leftIn, roundIn, wordAt, Phase, storing, Move}
 use Rattle.construction.proofs.World.Move.{write}
 use Rattle.construction.proofs.Kept.{count-many}
-use Rattle.construction.proofs.Locals.{localAt, atTask, fixedOf, Updated, record-updated, task-updated}
 use Rattle.construction.proofs.Places.{Noted, Fine, LocAt, helper-stays, plan-stays, fine-stays, finished-stays}
 use Rattle.construction.proofs.Claims.Change.{kept}
 use Rattle.construction.proofs.Writes.{write-loc}
-use Rattle.construction.proofs.Acting.{worldOf, Before, Acted, place-fits, untouched, keeps}
+use Rattle.construction.proofs.Acting.{worldOf, Before, Acted, atTask, goes-on}
+use Rattle.construction.specs.declared.Contents.{Contents}
+use Rattle.construction.specs.declared.Access.{Access}
 
 -- the item that is due
-module _ {c : Card} {w : World} {i : ℕ} (B : Before c w i) (q : LocAt H36 (fixedOf c) (worldOf c w) i (localAt c i)) where
+module _ {c : Card} {w : World} {i : ℕ} (B : Before c w i) (q : LocAt H36 (contentsOf c) (worldOf c w) i (localAt c i)) where
   abbrev W : World
   W = worldOf c w
 
-  abbrev F : Fixed
-  F = fixedOf c
+  abbrev F : Contents
+  F = contentsOf c
 
   abbrev s : ℕ
-  s = heldAt c i .seq
+  s = localAt c i .gate .seq
 
   abbrev m : ℕ
-  m = holderOf (heldAt c i .holder)
+  m = holderOf (localAt c i .gate .holder)
 
   abbrev d : Dictionary
-  d = dictionaryAt c i
+  d = localAt c i .dictionary
 
   abbrev k : ℕ
-  k = taskAt c i .target
+  k = localAt c i .task .target
 
   abbrev item : Item
-  item = writtenItem c i
+  item = getD (d .items) k noItem
 
   abbrev v : ℕ
   v = item .variable
@@ -95,16 +95,14 @@ module _ {c : Card} {w : World} {i : ℕ} (B : Before c w i) (q : LocAt H36 (fix
 
   -- the card after the swap of the record
   abbrev wrote : Record → Card
-  wrote r = withTask (withRecord c v r) i (writeFrom s d (suc k))
-
-  wrote-updated : (r : Record) → Updated c i (wrote r) (atTask (localAt c i) (writeFrom s d (suc k)))
-  wrote-updated r = task-updated (record-updated (untouched B) v r) (place-fits B) (writeFrom s d (suc k))
+  wrote r = withLocal (withRecord c v r) i (atTask (localAt c i) (writeFrom s d (suc k)))
 
   lost : sameRecord (recordAt c v) (item .cell) ≡ false → Acted c W i (wrote (recordAt c v))
   lost e =
-      keeps B (wrote-updated (recordAt c v)) refl refl (set-getD (c .records) v (openRecord 0)) (B .tidy)
-      (write-loc F W i (localAt c i) (q .0) (q .1) (simulationAt c i) d (q .2) (suc k)
-      (λ j h. ⊎-elim (at-item W written j) (q .3 .before j) (eq-or-lt-of-le (omega arith))))
+      goes-on B _
+      (write-loc F W i (localAt c i) (localAt c i .announcement) (q .0) (q .1) (localAt c i .simulation) d (q .2) (suc k)
+      (λ j h. ⊎-elim (at-item W written j) (q .3 .before j) (eq-or-lt-of-le (omega arith)))) refl refl
+      (set-getD (c .records) v (openRecord 0))
     where
       written : Fine W s item
       written = record { fine = inl (⊎-elim (λ y. absurd (sameRecord-false _ _ e y)) (λ y. y) (known .kept)) }
@@ -134,12 +132,12 @@ module _ {c : Card} {w : World} {i : ℕ} (B : Before c w i) (q : LocAt H36 (fix
         let ph : Phase (Process m) W = subst (λ (h : Holder). Phase h W) (held .0) (B .good .phase) in
         unfinished (omega (arith, ph .1 f, held .1))
 
-    writes : Move F i W (writing W v (item .value))
+    writes : Move F i W (storing W v (item .value))
     writes =
         let zs : c .gate .seq ≡ s = held .1 in
         write m v (item .value) (known .inside) (held .0) not-done (rw zs early) (rw zs value)
 
-    written : Fine (writing W v (item .value)) s item
+    written : Fine (storing W v (item .value)) s item
     unfolding rewritten
     written =
         let fits : v < length (c .records) = omega (arith, B .good .lengths .records, B .good .fits .narrow, known .inside) in
@@ -150,21 +148,22 @@ module _ {c : Card} {w : World} {i : ℕ} (B : Before c w i) (q : LocAt H36 (fix
 
     won : Acted c W i (wrote (rewritten (item .cell) (item .value) s))
     won = record {
-      after = writing W v (item .value);
+      after = storing W v (item .value);
       move = writes;
       gate-is = refl;
       announcements-is = refl;
       records-is = ap {B = List Record} (set (c .records) v) (cc (same, held .1));
       calls-is = refl;
       local = _;
-      updated = wrote-updated (rewritten (item .cell) (item .value) s);
+      put = refl;
+      counted = refl;
       tidy = B .tidy;
       loc =
-          write-loc F (writing W v (item .value)) i (localAt c i)
+          write-loc F (storing W v (item .value)) i (localAt c i) (localAt c i .announcement)
           (helper-stays (B .good) writes kept (q .0))
-          (plan-stays (B .good) writes (heldAt c i) (copyAt c i) (q .0 .seen) (q .1))
-          (simulationAt c i) d
-          (finished-stays (B .good) writes s (q .1 .number) (q .1 .below) (copyAt c i) (simulationAt c i) d (q .2))
+          (plan-stays (B .good) writes (localAt c i .gate) (localAt c i .announcement) (q .0 .seen) (q .1))
+          (localAt c i .simulation) d
+          (finished-stays (B .good) writes s (q .1 .number) (q .1 .below) (localAt c i .announcement) (localAt c i .simulation) d (q .2))
           (suc k)
           (λ j h.
           ⊎-elim (at-item _ written j)
@@ -172,6 +171,6 @@ module _ {c : Card} {w : World} {i : ℕ} (B : Before c w i) (q : LocAt H36 (fix
           (eq-or-lt-of-le (omega arith)));
     }
 
-  pub at-H36 : Acted c W i (accessRecord RecordAccess.Swap c i)
-  unfolding accessRecord swapRecord
+  pub at-H36 : Acted c W i (perform Access.Write c i .card)
+  unfolding perform writing swapRecord
   at-H36 = on-test (λ r. Acted c W i (wrote r)) (sameRecord (recordAt c v) (item .cell)) won lost

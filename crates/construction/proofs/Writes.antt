@@ -20,12 +20,15 @@ use Rattle.construction.specs.Machine.{writeFrom, afterPause}
 use Rattle.construction.proofs.Basics.{on-test, true-or-false, and-false}
 use Rattle.construction.proofs.DictionaryLaws.{hasIn, valueIn, all-at, value-none, has-position, at-position, next-before, next-at}
 use Rattle.construction.proofs.SimulationLaws.{PausedAt}
-use Rattle.construction.proofs.World.{Fixed, endingIn, World, recordIn, roundIn, wordAt}
-use Rattle.construction.proofs.Locals.{Local, atTask, atSimulation}
+use Rattle.construction.proofs.World.{endingIn, World, recordIn, roundIn, wordAt}
+use Rattle.construction.proofs.Acting.{atSimulation}
 use Rattle.construction.proofs.Places.{Helper, Plan, Noted, Fine, Ready, programFor, FinishedAt, Loc}
+use Rattle.construction.specs.declared.Contents.{Contents}
+use Rattle.construction.specs.Parts.{Local}
+use Rattle.construction.specs.declared.Announcement.{Announcement}
 
 -- an item that is not altered needs no write
-unaltered-fine : (F : Fixed) (w : World) (s : ℕ) (e : Item) → Noted F w s e → altered s e ≡ false → Fine w s e
+unaltered-fine : (F : Contents) (w : World) (s : ℕ) (e : Item) → Noted F w s e → altered s e ≡ false → Fine w s e
 unfolding altered valueUnder
 unaltered-fine F w s e q h = ⊎-elim late same (and-false (ltb (e .cell .seq) s) _ h)
   where
@@ -37,14 +40,14 @@ unaltered-fine F w s e q h = ⊎-elim late same (and-false (ltb (e .cell .seq) s
         let z : current (e .cell) ≡ wordAt (roundIn w s .words) (e .variable) = rw t at (q .base) in
         record { fine = inr (sym (eqb-true _ _ (not-false _ f)) ∙ z) }
 
-module _ (F : Fixed) (w : World) (i : ℕ) (t : Local) (helper : Helper F w i (t .operation) (t .gate))
-    (plan : Plan F w (t .gate) (t .copy)) where
+module _ (F : Contents) (w : World) (i : ℕ) (t : Local) (a : Announcement) (helper : Helper F w i (t .operation) (t .gate))
+    (plan : Plan F w (t .gate) a) where
   abbrev s : ℕ
   s = t .gate .seq
 
   -- no item needs a write: the operation can be finished
   ready :
-      (l : Simulation) (d : Dictionary) → FinishedAt F w s (t .copy) l d →
+      (l : Simulation) (d : Dictionary) → FinishedAt F w s a l d →
       ((q : ℕ) → q < length (noted d) → Fine w s (getD (noted d) q noItem)) → Ready F w s (l .outputs)
   ready l d f fine = record {
     outs = inr (f .outputs);
@@ -64,11 +67,11 @@ module _ (F : Fixed) (w : World) (i : ℕ) (t : Local) (helper : Helper F w i (t
 
   -- the next write from item k on, where those before k need none
   pub write-loc :
-      (l : Simulation) (d : Dictionary) → FinishedAt F w s (t .copy) l d → (k : ℕ) →
+      (l : Simulation) (d : Dictionary) → FinishedAt F w s a l d → (k : ℕ) →
       ((q : ℕ) → q < k → Fine w s (getD (noted d) q noItem)) →
-      Loc F w i (atTask (atSimulation t l d) (writeFrom s d k))
+      Loc F w i (atSimulation t a (writeFrom s d k) l d)
   write-loc l d fin k fine =
-      on-test (λ (x : Task). Loc F w i (atTask (atSimulation t l d) x)) (ltb (nextWrite s d k) (length (noted d)))
+      on-test (λ (x : Task). Loc F w i (atSimulation t a x l d)) (ltb (nextWrite s d k) (length (noted d)))
       (λ e. (
         helper,
         plan,
@@ -94,8 +97,8 @@ module _ (F : Fixed) (w : World) (i : ℕ) (t : Local) (helper : Helper F w i (t
 
   pub pause-loc :
       (p : Pause) (l : Simulation) (d : Dictionary) →
-      PausedAt (F .variables) (programFor F s (t .copy)) (t .copy .words) (roundIn w s .words) (endingIn F w s)
+      PausedAt (F .variables) (programFor F s a) (a .words) (roundIn w s .words) (endingIn F w s)
       (Noted F w s) p l d →
-      Loc F w i (atTask (atSimulation t l d) (afterPause s d p))
+      Loc F w i (atSimulation t a (afterPause s d p) l d)
   pause-loc Ended l d q = write-loc l d q 0 (λ k h. absurd (omega arith))
   pause-loc (Lacks v) l d q = (helper, plan, q)

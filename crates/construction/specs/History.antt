@@ -13,7 +13,7 @@ use Rattle.construction.specs.declared.Answer.{Answer}
 use Rattle.construction.specs.declared.Answered.{Answered}
 use Rattle.construction.specs.Cells.{zeros, isDone}
 use Rattle.construction.specs.Sequential.{Ending, sequential}
-use Rattle.construction.specs.Parts.{programOf}
+use Rattle.construction.specs.Parts.{contentsOf, programOf}
 use Rattle.construction.specs.Requests.{call, requestExit, step, read}
 
 -- 'Its entries are call, wish, step and look with any numbers, taken or refused'
@@ -80,7 +80,7 @@ finishing c d = turned 0 (c .announcements) (d .announcements)
 
 -- the bench runs an operation as its number-th, by the text of the opened card o
 abbrev pub benchRun : Card → ℕ → Invocation → List ℕ → Ending
-benchRun o number x words = sequential (o .variables) (programOf o (x .program) number) (x .inputs) words
+benchRun o number x words = sequential (o .variables) (programOf (contentsOf o) (x .program) number) (x .inputs) words
 
 -- the operations of these processes finish, under the gate number `gate`
 abbrev pub finishedOne : Card → ℕ → ℕ → Notes → Notes

@@ -7,10 +7,11 @@ pub mod Parts
 pub mod Machine
 pub mod Answers
 pub mod Requests
-pub mod Locality
+pub mod OneAccess
 pub mod Lines
 pub mod Opening
 pub mod Writing
+pub mod Weight
 pub mod Limits
 pub mod History
 pub mod Examples

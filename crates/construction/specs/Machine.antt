@@ -1,6 +1,6 @@
 -- One step (document 01, 'One step'; lines P1 to P24, C1 to C6, F1 to F4, H1 to H36): one shared access, then all local work up to the next.
 use Prim.Native.Nat.{ℕ, suc, _+_, _%_}
-use mathlib.Core.Bool.{Bool, cond, not, _&&_}
+use mathlib.Core.Bool.{Bool, true, false, cond, not, _&&_}
 use lib.Dec.{leb, ltb}
 use lib.ListN.{length, getD}
 use Rattle.construction.specs.declared.Gate.{Gate}
@@ -23,12 +23,23 @@ use Rattle.construction.specs.declared.Place.the-variants.{Idle, P1, P3,
 use Rattle.construction.specs.declared.Access.{Access}
 use Rattle.construction.specs.declared.GateAccess.{GateAccess}
 use Rattle.construction.specs.declared.AnnouncementAccess.{AnnouncementAccess}
-use Rattle.construction.specs.declared.RecordAccess.{RecordAccess}
+use Rattle.construction.specs.declared.Cell.{Cell}
+use Rattle.construction.specs.declared.Swap.{Swap}
+use Rattle.construction.specs.declared.GateAccessed.{GateAccessed}
+use Rattle.construction.specs.declared.AnnouncementAccessed.{AnnouncementAccessed}
+use Rattle.construction.specs.declared.Began.{Began}
+use Rattle.construction.specs.declared.Helped.{Helped}
+use Rattle.construction.specs.declared.Writing.{Writing}
+use Rattle.construction.specs.declared.Words.{Words}
+use Rattle.construction.specs.declared.Record.{Record}
+use Rattle.construction.specs.declared.Program.{Program}
+use Rattle.construction.specs.declared.SwappedRecord.{SwappedRecord}
+use Rattle.construction.specs.declared.Contents.{Contents}
 use Rattle.construction.specs.Cells.{isDone, sameHolder, swapGate, swapAnnouncement, swapRecord, released, rewritten}
 use Rattle.construction.specs.Instructions.{started}
 use Rattle.construction.specs.Dictionary.{noItem, empty, noted, itemOf, insert, nextWrite}
 use Rattle.construction.specs.Helping.{simulate}
-use Rattle.construction.specs.Parts.{announcementAt, recordAt, taskAt, operationAt, exitAt, countAt, heldAt, copyAt, simulationAt, dictionaryAt, programOf, withGate, withAnnouncement, withRecord, withSteps, withTask, withCount, withHeld, withCopy, withSimulation, withDictionary}
+use Rattle.construction.specs.Parts.{Local, localAt, contentsOf, announcementAt, recordAt, programOf, withGate, withAnnouncement, withRecord, withSteps, withLocal}
 
 -- 'The accesses are P1, P3, P6, P7, P10, C2, C4, P13, P14, P16, H21, H36, P19, P20, P21, P22, F1, F3': the access of each place.
 -- Line P5 is looked at here: with an exit request the access is P6, without one P10. 'After P7 the next is F1 if the flag is done, else P10.'
@@ -43,9 +54,9 @@ accessOf C2 exit = Access.Announcement AnnouncementAccess.ReadFirst
 accessOf C4 exit = Access.Announcement (AnnouncementAccess.ReadOwn F1 P13 P13)
 accessOf P13 exit = Access.Gate GateAccess.Nominate
 accessOf P14 exit = Access.Gate (GateAccess.Read P16 P22)
-accessOf P16 exit = Access.Announcement AnnouncementAccess.Help
-accessOf H21 exit = Access.Record RecordAccess.Read
-accessOf H36 exit = Access.Record RecordAccess.Swap
+accessOf P16 exit = Access.Help
+accessOf H21 exit = Access.Note
+accessOf H36 exit = Access.Write
 accessOf P19 exit = Access.Announcement (AnnouncementAccess.Finish Active P20)
 accessOf P20 exit = Access.Announcement (AnnouncementAccess.Finish Exit P21)
 accessOf P21 exit = Access.Gate (GateAccess.Release P22)
@@ -85,25 +96,6 @@ nominated g m = record { holder = Process m; seq = g .seq }
 unfoldable pub firstChoice : ℕ → ℕ → ℕ
 firstChoice seq p = cond (ltb 0 p) (seq % p) 0
 
--- the gate is read into g, and process i goes on at a place
-abbrev pub readGate : Card → ℕ → Place → Card
-readGate c i next = withTask (withHeld c i (c .gate)) i (goTo (taskAt c i) next)
-
--- the gate is swapped from g to another, and process i goes on at a place
-abbrev pub replaceGate : Card → ℕ → Gate → Place → Card
-replaceGate c i new next =
-    withTask (withGate c (swapGate (c .gate) (heldAt c i) new .cell)) i (goTo (taskAt c i) next)
-
-unfoldable pub accessGate : GateAccess → Card → ℕ → Card
--- lines P1, P10, P14
-accessGate (GateAccess.Read held free) c i = readGate c i (byHolder (c .gate .holder) held free)
--- lines F1, F2, F4
-accessGate GateAccess.ReadLast c i = readGate c i (afterLast (c .gate .holder) i)
--- line P13
-accessGate GateAccess.Nominate c i = replaceGate c i (nominated (heldAt c i) (taskAt c i .target)) P14
--- lines P21 and F3
-accessGate (GateAccess.Release next) c i = replaceGate c i (released (heldAt c i)) next
-
 -- line P2: what a process announces that was called with an operation and read a gate
 abbrev pub announced : Operation → Gate → Announcement
 announced o g = record { program = o .program; flag = Active; seq = g .seq; words = o .inputs }
@@ -117,99 +109,237 @@ abbrev pub withdrawn : Announcement → Operation → Announcement
 withdrawn a o = record { program = a .program; flag = Exit; seq = a .seq; words = o .inputs }
 
 -- lines P19 and P20: the announcement last read, done, with the outputs
-abbrev pub finished : Announcement → Simulation → Announcement
-finished a s = record { program = a .program; flag = Done; seq = a .seq; words = s .outputs }
+abbrev pub finished : Announcement → Words → Announcement
+finished a outputs = record { program = a .program; flag = Done; seq = a .seq; words = outputs }
 
--- announcement m is swapped from one to another, and process i goes on at a place
-abbrev pub replaceAnnouncement : Card → ℕ → ℕ → Announcement → Announcement → Place → Card
-replaceAnnouncement c i m expected new next =
-    withTask (withAnnouncement c m (swapAnnouncement (announcementAt c m) expected new .cell)) i (goTo (taskAt c i) next)
+-- whether a swap won
+abbrev pub outcome : Bool → Swap
+outcome won = cond won Swap.Won Swap.Lost
+
+-- THE ACCESSES: each is a function of one shared cell and of what its process keeps, and of nothing else.
+
+-- the gate, for process i that last read the gate g: it is read ..
+abbrev pub readGate : Gate → Task → Place → GateAccessed
+readGate cell task next = record { cell = cell; read = cell; task = goTo task next; swap = Swap.None }
+
+-- .. or swapped from g to another
+abbrev pub replaceGate : Gate → Gate → Task → Gate → Place → GateAccessed
+replaceGate cell g task new next =
+    let swapped = swapGate cell g new in
+    record { cell = swapped .cell; read = g; task = goTo task next; swap = outcome (swapped .won) }
+
+unfoldable pub accessGate : GateAccess → ℕ → Gate → Gate → Task → GateAccessed
+-- lines P1, P10, P14
+accessGate (GateAccess.Read held free) i cell g task = readGate cell task (byHolder (cell .holder) held free)
+-- lines F1, F2, F4
+accessGate GateAccess.ReadLast i cell g task = readGate cell task (afterLast (cell .holder) i)
+-- line P13
+accessGate GateAccess.Nominate i cell g task = replaceGate cell g task (nominated g (task .target)) P14
+-- lines P21 and F3
+accessGate (GateAccess.Release next) i cell g task = replaceGate cell g task (released g) next
+
+-- the announcement of process m, for a process that last read the announcement a: it is read ..
+abbrev pub readAnnouncement : Announcement → ℕ → Place → AnnouncementAccessed
+readAnnouncement cell m next =
+    record { cell = cell; read = cell; task = record { place = next; target = m }; swap = Swap.None }
+
+-- .. or swapped
+abbrev pub replaceAnnouncement : Announcement → Announcement → Task → Announcement → Announcement → Place → AnnouncementAccessed
+replaceAnnouncement cell a task expected new next =
+    let swapped = swapAnnouncement cell expected new in
+    record { cell = swapped .cell; read = a; task = goTo task next; swap = outcome (swapped .won) }
+
+-- whose announcement an access of process i is of, if it last read the gate g: at P3, P6, P7, C4 and P22 its own, at C2 by turn (line C1),
+-- at P19 and P20 that of the gate's holder
+abbrev pub whose : AnnouncementAccess → ℕ → ℕ → Gate → ℕ
+whose AnnouncementAccess.Announce p i g = i
+whose AnnouncementAccess.Withdraw p i g = i
+whose (AnnouncementAccess.ReadOwn done active exit) p i g = i
+whose AnnouncementAccess.ReadFirst p i g = firstChoice (g .seq) p
+whose (AnnouncementAccess.Finish flag next) p i g = holderOf (g .holder)
+
+unfoldable pub accessAnnouncement :
+    AnnouncementAccess → ℕ → Announcement → Operation → Gate → Announcement → Words → Task → AnnouncementAccessed
+-- lines P2, P3
+accessAnnouncement AnnouncementAccess.Announce m cell operation g a outputs task =
+    record { cell = announced operation g; read = announced operation g; task = goTo task P5; swap = Swap.None }
+-- line P6
+accessAnnouncement AnnouncementAccess.Withdraw m cell operation g a outputs task =
+    replaceAnnouncement cell a task a (withdrawn a operation) P7
+-- lines P7, C4 with C6, P22
+accessAnnouncement (AnnouncementAccess.ReadOwn done active exit) m cell operation g a outputs task =
+    readAnnouncement cell m (byFlag (cell .flag) done active exit)
+-- line C2
+accessAnnouncement AnnouncementAccess.ReadFirst m cell operation g a outputs task =
+    readAnnouncement cell m (byFlag (cell .flag) C4 P13 C4)
+-- lines P19, P20
+accessAnnouncement (AnnouncementAccess.Finish flag next) m cell operation g a outputs task =
+    replaceAnnouncement cell a task (flagged a flag) (finished a outputs) next
 
 -- lines H31 and H32: the next write from item k on, or P19
 abbrev pub writeFrom : ℕ → Dictionary → ℕ → Task
-writeFrom seq d k =
-    cond (ltb (nextWrite seq d k) (length (noted d)))
-    (record { place = H36; target = nextWrite seq d k })
+writeFrom number d k =
+    cond (ltb (nextWrite number d k) (length (noted d)))
+    (record { place = H36; target = nextWrite number d k })
     (record { place = P19; target = 0 })
 
 -- a simulation that lacks a variable reads its record; one that ended writes what it altered
 abbrev pub afterPause : ℕ → Dictionary → Pause → Task
-afterPause seq d Ended = writeFrom seq d 0
-afterPause seq d (Lacks v) = record { place = H21; target = v }
+afterPause number d Ended = writeFrom number d 0
+afterPause number d (Lacks v) = record { place = H21; target = v }
 
--- a simulation comes back to its process
-abbrev pub withSimulated : Card → ℕ → Simulated → Card
-withSimulated c i x =
-    withTask (withDictionary (withSimulation c i (x .simulation)) i (x .dictionary)) i
-    (afterPause (heldAt c i .seq) (x .dictionary) (x .pause))
-
--- helping goes on from a state and a dictionary: the announced program with the announced inputs
-unfoldable pub help : Card → ℕ → Simulation → Dictionary → Card
-help c i s d =
-    withSimulated c i
-    (simulate (c .variables) (programOf c (copyAt c i .program) (heldAt c i .seq)) (copyAt c i .words) s d)
+-- a helper goes on as its simulation stands
+abbrev pub helped : ℕ → Simulated → Helped
+helped number x =
+    record {
+      task = afterPause number (x .dictionary) (x .pause);
+      simulation = x .simulation;
+      dictionary = x .dictionary;
+    }
 
 -- line P17: 'not done and seq not above the gate's'
 abbrev pub helps : Announcement → ℕ → Bool
 helps a number = not (isDone (a .flag)) && leb (a .seq) number
 
-unfoldable pub accessAnnouncement : AnnouncementAccess → Card → ℕ → Card
--- lines P2, P3
-accessAnnouncement AnnouncementAccess.Announce c i =
-    let a = announced (operationAt c i) (heldAt c i) in
-    withTask (withCopy (withAnnouncement c i a) i a) i (goTo (taskAt c i) P5)
--- line P6
-accessAnnouncement AnnouncementAccess.Withdraw c i = replaceAnnouncement c i i (copyAt c i) (withdrawn (copyAt c i) (operationAt c i)) P7
--- lines P7, C4 with C6, P22
-accessAnnouncement (AnnouncementAccess.ReadOwn done active exit) c i =
-    withTask (withCopy c i (announcementAt c i)) i
-    (record { place = byFlag (announcementAt c i .flag) done active exit; target = i })
--- lines C1, C2
-accessAnnouncement AnnouncementAccess.ReadFirst c i =
-    let m = firstChoice (heldAt c i .seq) (c .processes) in
-    withTask (withCopy c i (announcementAt c m)) i
-    (record { place = byFlag (announcementAt c m .flag) C4 P13 C4; target = m })
--- lines P16 to P18, H1
-accessAnnouncement AnnouncementAccess.Help c i =
-    let a = announcementAt c (holderOf (heldAt c i .holder)) in
-    cond (helps a (heldAt c i .seq))
-    (help (withCopy c i a) i started empty)
-    (withTask (withCopy c i a) i (goTo (taskAt c i) P21))
--- lines P19, P20
-accessAnnouncement (AnnouncementAccess.Finish flag next) c i =
-    replaceAnnouncement c i (holderOf (heldAt c i .holder)) (flagged (copyAt c i) flag)
-    (finished (copyAt c i) (simulationAt c i)) next
+-- lines P16 to P18, H1: the announcement of the gate's holder is read, and its program begins on the empty dictionary
+unfoldable pub beginHelp : ℕ → Program → Announcement → ℕ → Task → Simulation → Began
+beginHelp n program cell number task s =
+    let x = helped number (simulate n program (cell .words) started empty) in
+    cond (helps cell number)
+    (record { helps = true; task = x .task; simulation = x .simulation })
+    (record { helps = false; task = goTo task P21; simulation = s })
 
--- the item that H36 writes
-abbrev pub writtenItem : Card → ℕ → Item
-writtenItem c i = getD (dictionaryAt c i .items) (taskAt c i .target) noItem
+-- lines H21 to H25: the record of the task's variable is read and noted, and the program with the inputs goes on;
+-- 'with greater seq the helper goes to P19 with the outputs so far'
+unfoldable pub note : ℕ → Program → Words → Record → ℕ → Task → Simulation → Dictionary → Helped
+note n program inputs cell number task s d =
+    cond (ltb number (cell .seq))
+    (record { task = goTo task P19; simulation = s; dictionary = d })
+    (helped number (simulate n program inputs s (insert d (itemOf number (task .target) cell))))
 
-unfoldable pub accessRecord : RecordAccess → Card → ℕ → Card
--- lines H21 to H25; 'with greater seq the helper goes to P19 with the outputs so far'
-accessRecord RecordAccess.Read c i =
-    let v = taskAt c i .target in
-    cond (ltb (heldAt c i .seq) (recordAt c v .seq))
-    (withTask c i (goTo (taskAt c i) P19))
-    (help c i (simulationAt c i) (insert (dictionaryAt c i) (itemOf (heldAt c i .seq) v (recordAt c v))))
--- line H36, 'in book order, won or lost'
-accessRecord RecordAccess.Swap c i =
-    let e = writtenItem c i in
-    withTask
-    (withRecord c (e .variable)
-    (swapRecord (recordAt c (e .variable)) (e .cell) (rewritten (e .cell) (e .value) (heldAt c i .seq)) .cell)) i
-    (writeFrom (heldAt c i .seq) (dictionaryAt c i) (suc (taskAt c i .target)))
+-- line H36, 'in book order, won or lost': the item that is written, and the next write ..
+unfoldable pub writing : ℕ → Task → Dictionary → Writing
+writing number task d =
+    record {
+      item = getD (d .items) (task .target) noItem;
+      task = writeFrom number d (suc (task .target));
+    }
 
-unfoldable pub perform : Access → Card → ℕ → Card
-perform Access.None c i = c
-perform (Access.Gate a) c i = accessGate a c i
-perform (Access.Announcement a) c i = accessAnnouncement a c i
-perform (Access.Record a) c i = accessRecord a c i
+-- .. and its record swapped
+abbrev pub write : Record → Item → ℕ → SwappedRecord
+write cell e number = swapRecord cell (e .cell) (rewritten (e .cell) (e .value) number)
 
--- the card's and the process's own count of accepted steps, in 64 bits
-abbrev pub counted : Card → ℕ → Card
-counted c i =
-    withCount (withSteps c ((c .steps + 1) % 18446744073709551616)) i ((countAt c i + 1) % 18446744073709551616)
+-- ONE STEP: the text and the process decide which cell it touches; these and that cell decide all that it does.
+
+-- the access of a process, by its place
+abbrev pub accessIn : Local → Access
+accessIn l = accessOf (l .task .place) (l .exit)
+
+-- the variable that H36 writes
+abbrev pub writtenVariable : Local → ℕ
+writtenVariable l = writing (l .gate .seq) (l .task) (l .dictionary) .item .variable
+
+-- the cell that an access touches: at P16 the announcement of the gate's holder, at H21 the record that the simulation lacks, at H36 that of the item in turn
+abbrev pub cellOf : Access → Contents → ℕ → Local → Cell
+cellOf Access.None t i l = Cell.None
+cellOf (Access.Gate a) t i l = Cell.Gate
+cellOf (Access.Announcement a) t i l = Cell.Announcement (whose a (t .processes) i (l .gate))
+cellOf Access.Help t i l = Cell.Announcement (holderOf (l .gate .holder))
+cellOf Access.Note t i l = Cell.Record (l .task .target)
+cellOf Access.Write t i l = Cell.Record (writtenVariable l)
+
+-- a process after an access: it goes on with its task, the gate and the announcement last read, its simulation and its dictionary, and
+-- the step is counted as its own, in 64 bits
+abbrev pub after : Local → Task → Gate → Announcement → Simulation → Dictionary → Local
+after l task gate announcement simulation dictionary =
+    record {
+      task = task;
+      operation = l .operation;
+      exit = l .exit;
+      steps = (l .steps + 1) % 18446744073709551616;
+      gate = gate;
+      announcement = announcement;
+      simulation = simulation;
+      dictionary = dictionary;
+    }
+
+-- the cell and the process after an access of the gate, of an announcement, of a record; and the swap
+pub record Accessed (A : Type 0) : Type 0 where
+  pub cell : A
+  pub local : Local
+  pub swap : Swap
+
+abbrev pub stepGate : GateAccess → ℕ → Gate → Local → Accessed Gate
+stepGate a i cell l =
+    let x = accessGate a i cell (l .gate) (l .task) in
+    record { cell = x .cell; local = after l (x .task) (x .read) (l .announcement) (l .simulation) (l .dictionary); swap = x .swap }
+
+abbrev pub stepAnnouncement : AnnouncementAccess → ℕ → Announcement → Local → Accessed Announcement
+stepAnnouncement a m cell l =
+    let x = accessAnnouncement a m cell (l .operation) (l .gate) (l .announcement) (l .simulation .outputs) (l .task) in
+    record { cell = x .cell; local = after l (x .task) (l .gate) (x .read) (l .simulation) (l .dictionary); swap = x .swap }
+
+abbrev pub stepHelp : Contents → Announcement → Local → Accessed Announcement
+stepHelp t cell l =
+    let x = beginHelp (t .variables) (programOf t (cell .program) (l .gate .seq)) cell (l .gate .seq) (l .task) (l .simulation) in
+    record {
+      cell = cell;
+      local = after l (x .task) (l .gate) cell (x .simulation) (cond (x .helps) empty (l .dictionary));
+      swap = Swap.None;
+    }
+
+abbrev pub stepNote : Contents → Record → Local → Accessed Record
+stepNote t cell l =
+    let a = l .announcement in
+    let x = note (t .variables) (programOf t (a .program) (l .gate .seq)) (a .words) cell (l .gate .seq) (l .task) (l .simulation) (l .dictionary) in
+    record { cell = cell; local = after l (x .task) (l .gate) a (x .simulation) (x .dictionary); swap = Swap.None }
+
+abbrev pub stepWrite : Record → Local → Accessed Record
+stepWrite cell l =
+    let x = writing (l .gate .seq) (l .task) (l .dictionary) in
+    let swapped = write cell (x .item) (l .gate .seq) in
+    record {
+      cell = swapped .cell;
+      local = after l (x .task) (l .gate) (l .announcement) (l .simulation) (l .dictionary);
+      swap = outcome (swapped .won);
+    }
+
+-- THE CARD: the cell and the process are taken out and put back; and the swap
+pub record Performed : Type 0 where
+  pub card : Card
+  pub swap : Swap
+
+abbrev pub putGate : Card → ℕ → Accessed Gate → Performed
+putGate c i x = record { card = withLocal (withGate c (x .cell)) i (x .local); swap = x .swap }
+
+abbrev pub putAnnouncement : Card → ℕ → ℕ → Accessed Announcement → Performed
+putAnnouncement c i m x = record { card = withLocal (withAnnouncement c m (x .cell)) i (x .local); swap = x .swap }
+
+abbrev pub putRecord : Card → ℕ → ℕ → Accessed Record → Performed
+putRecord c i v x = record { card = withLocal (withRecord c v (x .cell)) i (x .local); swap = x .swap }
+
+unfoldable pub perform : Access → Card → ℕ → Performed
+perform Access.None c i =
+    let l = localAt c i in
+    record { card = withLocal c i (after l (l .task) (l .gate) (l .announcement) (l .simulation) (l .dictionary)); swap = Swap.None }
+perform (Access.Gate a) c i = putGate c i (stepGate a i (c .gate) (localAt c i))
+perform (Access.Announcement a) c i =
+    let m = whose a (c .processes) i (localAt c i .gate) in
+    putAnnouncement c i m (stepAnnouncement a m (announcementAt c m) (localAt c i))
+perform Access.Help c i =
+    let m = holderOf (localAt c i .gate .holder) in
+    putAnnouncement c i m (stepHelp (contentsOf c) (announcementAt c m) (localAt c i))
+perform Access.Note c i =
+    let v = localAt c i .task .target in
+    putRecord c i v (stepNote (contentsOf c) (recordAt c v) (localAt c i))
+perform Access.Write c i =
+    let v = writtenVariable (localAt c i) in
+    putRecord c i v (stepWrite (recordAt c v) (localAt c i))
 
 -- one accepted step
 unfoldable pub advance : Card → ℕ → Card
-advance c i = counted (perform (accessOf (taskAt c i .place) (exitAt c i)) c i) i
+advance c i = withSteps (perform (accessIn (localAt c i)) c i .card) ((c .steps + 1) % 18446744073709551616)
+
+-- its swap
+unfoldable pub swapOf : Card → ℕ → Swap
+swapOf c i = perform (accessIn (localAt c i)) c i .swap

@@ -1,6 +1,7 @@
--- The parts of a card: what stands at a place, and the card with one part replaced.
+-- The parts of a card: the shared cells, the own state of each process, and the card with one part replaced.
 use Prim.Native.Nat.{ℕ}
 use mathlib.Core.Bool.{Bool, false}
+use mathlib.Core.List.{List}
 use lib.ListN.{getD, set}
 use Rattle.construction.specs.declared.Gate.{Gate}
 use Rattle.construction.specs.declared.Announcement.{Announcement}
@@ -46,39 +47,38 @@ announcementAt c i = getD (c .announcements) i openAnnouncement
 abbrev pub recordAt : Card → ℕ → Record
 recordAt c v = getD (c .records) v (openRecord 0)
 
--- the local state of process i: its place, what its call asked for, its exit request, its own steps, g and a of the paper,
--- the program it simulates and its dictionary
-abbrev pub taskAt : Card → ℕ → Task
-taskAt c i = getD (c .tasks) i idleTask
+-- the own state of a process: its place, what its call asked for, its exit request, its own steps, the gate and the announcement that it
+-- last read (g and a of the paper), the program that it simulates and its dictionary
+pub record Local : Type 0 where
+  pub task : Task
+  pub operation : Operation
+  pub exit : Bool
+  pub steps : ℕ
+  pub gate : Gate
+  pub announcement : Announcement
+  pub simulation : Simulation
+  pub dictionary : Dictionary
 
-abbrev pub operationAt : Card → ℕ → Operation
-operationAt c i = getD (c .operations) i noOperation
-
-abbrev pub exitAt : Card → ℕ → Bool
-exitAt c i = getD (c .exits) i false
-
-abbrev pub countAt : Card → ℕ → ℕ
-countAt c i = getD (c .counts) i 0
-
-abbrev pub heldAt : Card → ℕ → Gate
-heldAt c i = getD (c .gates) i noGate
-
-abbrev pub copyAt : Card → ℕ → Announcement
-copyAt c i = getD (c .copies) i openAnnouncement
-
-abbrev pub simulationAt : Card → ℕ → Simulation
-simulationAt c i = getD (c .simulations) i started
-
-abbrev pub dictionaryAt : Card → ℕ → Dictionary
-dictionaryAt c i = getD (c .dictionaries) i empty
+abbrev pub localAt : Card → ℕ → Local
+localAt c i =
+    record {
+      task = getD (c .tasks) i idleTask;
+      operation = getD (c .operations) i noOperation;
+      exit = getD (c .exits) i false;
+      steps = getD (c .counts) i 0;
+      gate = getD (c .gates) i noGate;
+      announcement = getD (c .copies) i openAnnouncement;
+      simulation = getD (c .simulations) i started;
+      dictionary = getD (c .dictionaries) i empty;
+    }
 
 -- the program that an operation with this gate number runs: the same under every number, as no request changes a program (docs/DECISIONS, 12)
-abbrev pub programOf : Card → ℕ → ℕ → Program
-programOf c k number = getD (c .code) k noProgram
+abbrev pub programOf : Contents → ℕ → ℕ → Program
+programOf t k number = getD (t .code) k noProgram
 
--- the card with one part replaced
-abbrev pub withGate : Card → Gate → Card
-withGate c g =
+-- the card with other shared cells, ..
+abbrev pub withCells : Card → Gate → List Announcement → List Record → Card
+withCells c gate announcements records =
     record {
       processes = c .processes;
       variables = c .variables;
@@ -86,9 +86,9 @@ withGate c g =
       limit = c .limit;
       starts = c .starts;
       code = c .code;
-      gate = g;
-      announcements = c .announcements;
-      records = c .records;
+      gate = gate;
+      announcements = announcements;
+      records = records;
       steps = c .steps;
       tasks = c .tasks;
       operations = c .operations;
@@ -99,32 +99,19 @@ withGate c g =
       simulations = c .simulations;
       dictionaries = c .dictionaries;
     }
+
+abbrev pub withGate : Card → Gate → Card
+withGate c g = withCells c g (c .announcements) (c .records)
 
 abbrev pub withAnnouncement : Card → ℕ → Announcement → Card
-withAnnouncement c i a =
-    record {
-      processes = c .processes;
-      variables = c .variables;
-      programs = c .programs;
-      limit = c .limit;
-      starts = c .starts;
-      code = c .code;
-      gate = c .gate;
-      announcements = set (c .announcements) i a;
-      records = c .records;
-      steps = c .steps;
-      tasks = c .tasks;
-      operations = c .operations;
-      exits = c .exits;
-      counts = c .counts;
-      gates = c .gates;
-      copies = c .copies;
-      simulations = c .simulations;
-      dictionaries = c .dictionaries;
-    }
+withAnnouncement c m a = withCells c (c .gate) (set (c .announcements) m a) (c .records)
 
 abbrev pub withRecord : Card → ℕ → Record → Card
-withRecord c v r =
+withRecord c v r = withCells c (c .gate) (c .announcements) (set (c .records) v r)
+
+-- .. with another own state of process i, ..
+abbrev pub withLocal : Card → ℕ → Local → Card
+withLocal c i l =
     record {
       processes = c .processes;
       variables = c .variables;
@@ -134,18 +121,19 @@ withRecord c v r =
       code = c .code;
       gate = c .gate;
       announcements = c .announcements;
-      records = set (c .records) v r;
+      records = c .records;
       steps = c .steps;
-      tasks = c .tasks;
-      operations = c .operations;
-      exits = c .exits;
-      counts = c .counts;
-      gates = c .gates;
-      copies = c .copies;
-      simulations = c .simulations;
-      dictionaries = c .dictionaries;
+      tasks = set (c .tasks) i (l .task);
+      operations = set (c .operations) i (l .operation);
+      exits = set (c .exits) i (l .exit);
+      counts = set (c .counts) i (l .steps);
+      gates = set (c .gates) i (l .gate);
+      copies = set (c .copies) i (l .announcement);
+      simulations = set (c .simulations) i (l .simulation);
+      dictionaries = set (c .dictionaries) i (l .dictionary);
     }
 
+-- .. and with another count of accepted steps
 abbrev pub withSteps : Card → ℕ → Card
 withSteps c k =
     record {
@@ -167,188 +155,4 @@ withSteps c k =
       copies = c .copies;
       simulations = c .simulations;
       dictionaries = c .dictionaries;
-    }
-
-abbrev pub withTask : Card → ℕ → Task → Card
-withTask c i t =
-    record {
-      processes = c .processes;
-      variables = c .variables;
-      programs = c .programs;
-      limit = c .limit;
-      starts = c .starts;
-      code = c .code;
-      gate = c .gate;
-      announcements = c .announcements;
-      records = c .records;
-      steps = c .steps;
-      tasks = set (c .tasks) i t;
-      operations = c .operations;
-      exits = c .exits;
-      counts = c .counts;
-      gates = c .gates;
-      copies = c .copies;
-      simulations = c .simulations;
-      dictionaries = c .dictionaries;
-    }
-
-abbrev pub withOperation : Card → ℕ → Operation → Card
-withOperation c i o =
-    record {
-      processes = c .processes;
-      variables = c .variables;
-      programs = c .programs;
-      limit = c .limit;
-      starts = c .starts;
-      code = c .code;
-      gate = c .gate;
-      announcements = c .announcements;
-      records = c .records;
-      steps = c .steps;
-      tasks = c .tasks;
-      operations = set (c .operations) i o;
-      exits = c .exits;
-      counts = c .counts;
-      gates = c .gates;
-      copies = c .copies;
-      simulations = c .simulations;
-      dictionaries = c .dictionaries;
-    }
-
-abbrev pub withExit : Card → ℕ → Bool → Card
-withExit c i b =
-    record {
-      processes = c .processes;
-      variables = c .variables;
-      programs = c .programs;
-      limit = c .limit;
-      starts = c .starts;
-      code = c .code;
-      gate = c .gate;
-      announcements = c .announcements;
-      records = c .records;
-      steps = c .steps;
-      tasks = c .tasks;
-      operations = c .operations;
-      exits = set (c .exits) i b;
-      counts = c .counts;
-      gates = c .gates;
-      copies = c .copies;
-      simulations = c .simulations;
-      dictionaries = c .dictionaries;
-    }
-
-abbrev pub withCount : Card → ℕ → ℕ → Card
-withCount c i k =
-    record {
-      processes = c .processes;
-      variables = c .variables;
-      programs = c .programs;
-      limit = c .limit;
-      starts = c .starts;
-      code = c .code;
-      gate = c .gate;
-      announcements = c .announcements;
-      records = c .records;
-      steps = c .steps;
-      tasks = c .tasks;
-      operations = c .operations;
-      exits = c .exits;
-      counts = set (c .counts) i k;
-      gates = c .gates;
-      copies = c .copies;
-      simulations = c .simulations;
-      dictionaries = c .dictionaries;
-    }
-
-abbrev pub withHeld : Card → ℕ → Gate → Card
-withHeld c i g =
-    record {
-      processes = c .processes;
-      variables = c .variables;
-      programs = c .programs;
-      limit = c .limit;
-      starts = c .starts;
-      code = c .code;
-      gate = c .gate;
-      announcements = c .announcements;
-      records = c .records;
-      steps = c .steps;
-      tasks = c .tasks;
-      operations = c .operations;
-      exits = c .exits;
-      counts = c .counts;
-      gates = set (c .gates) i g;
-      copies = c .copies;
-      simulations = c .simulations;
-      dictionaries = c .dictionaries;
-    }
-
-abbrev pub withCopy : Card → ℕ → Announcement → Card
-withCopy c i a =
-    record {
-      processes = c .processes;
-      variables = c .variables;
-      programs = c .programs;
-      limit = c .limit;
-      starts = c .starts;
-      code = c .code;
-      gate = c .gate;
-      announcements = c .announcements;
-      records = c .records;
-      steps = c .steps;
-      tasks = c .tasks;
-      operations = c .operations;
-      exits = c .exits;
-      counts = c .counts;
-      gates = c .gates;
-      copies = set (c .copies) i a;
-      simulations = c .simulations;
-      dictionaries = c .dictionaries;
-    }
-
-abbrev pub withSimulation : Card → ℕ → Simulation → Card
-withSimulation c i s =
-    record {
-      processes = c .processes;
-      variables = c .variables;
-      programs = c .programs;
-      limit = c .limit;
-      starts = c .starts;
-      code = c .code;
-      gate = c .gate;
-      announcements = c .announcements;
-      records = c .records;
-      steps = c .steps;
-      tasks = c .tasks;
-      operations = c .operations;
-      exits = c .exits;
-      counts = c .counts;
-      gates = c .gates;
-      copies = c .copies;
-      simulations = set (c .simulations) i s;
-      dictionaries = c .dictionaries;
-    }
-
-abbrev pub withDictionary : Card → ℕ → Dictionary → Card
-withDictionary c i d =
-    record {
-      processes = c .processes;
-      variables = c .variables;
-      programs = c .programs;
-      limit = c .limit;
-      starts = c .starts;
-      code = c .code;
-      gate = c .gate;
-      announcements = c .announcements;
-      records = c .records;
-      steps = c .steps;
-      tasks = c .tasks;
-      operations = c .operations;
-      exits = c .exits;
-      counts = c .counts;
-      gates = c .gates;
-      copies = c .copies;
-      simulations = c .simulations;
-      dictionaries = set (c .dictionaries) i d;
     }

@@ -11,13 +11,14 @@ use Rattle.construction.specs.declared.Holder.the-variants.{Nobody, Proc
 use Rattle.construction.specs.declared.Flag.{Flag}
 use Rattle.construction.specs.declared.Flag.the-variants.{Done, Active, Exit}
 use Rattle.construction.specs.declared.Place.{Place}
-use Rattle.construction.specs.declared.Place.the-variants.{Idle, P1, P3, P5, P7, P10, C2, C4, P13, P14, P16, H21, H36, P19, P20, P21, P22, F1, F3}
+use Rattle.construction.specs.declared.Place.the-variants.{P1}
+use Rattle.construction.specs.declared.Access.{Access}
 use Rattle.construction.specs.declared.Answer.{Answer}
 use Rattle.construction.specs.declared.Refusal.{Refusal}
 use Rattle.construction.specs.declared.Refusal.the-variants.{NoProcess, NoProgram, Busy, NotBusy, NoPlace, LimitReached}
 use Rattle.construction.specs.Cells.{isDone, current, previous}
-use Rattle.construction.specs.Parts.{announcementAt, recordAt, taskAt, countAt, copyAt, withTask, withOperation, withExit, withCount}
-use Rattle.construction.specs.Machine.{advance}
+use Rattle.construction.specs.Parts.{Local, localAt, announcementAt, recordAt, withLocal}
+use Rattle.construction.specs.Machine.{accessOf, advance}
 
 -- a card has room for 8 processes, 8 programs and 64 variables
 abbrev pub isProcess : Card → ℕ → Bool
@@ -29,41 +30,53 @@ isProgram c k = ltb k (c .programs) && ltb k 8
 abbrev pub isVariable : Card → ℕ → Bool
 isVariable c v = ltb v (c .variables) && ltb v 64
 
+-- a place that has no access is that of a process without an operation
+abbrev pub isNone : Access → Bool
+isNone Access.None = true
+isNone (Access.Gate a) = false
+isNone (Access.Announcement a) = false
+isNone Access.Help = false
+isNone Access.Note = false
+isNone Access.Write = false
+
 abbrev pub isIdle : Place → Bool
-isIdle Idle = true
-isIdle P1 = false
-isIdle P3 = false
-isIdle P5 = false
-isIdle P7 = false
-isIdle P10 = false
-isIdle C2 = false
-isIdle C4 = false
-isIdle P13 = false
-isIdle P14 = false
-isIdle P16 = false
-isIdle H21 = false
-isIdle H36 = false
-isIdle P19 = false
-isIdle P20 = false
-isIdle P21 = false
-isIdle P22 = false
-isIdle F1 = false
-isIdle F3 = false
+isIdle l = isNone (accessOf l false)
 
 -- process i has an operation under way
 abbrev pub isBusy : Card → ℕ → Bool
-isBusy c i = not (isIdle (taskAt c i .place))
+isBusy c i = not (isIdle (localAt c i .task .place))
 
 -- an entry that is turned back leaves the card as it was
 abbrev pub refused : Card → Refusal → Answered
 refused c r = record { card = c; answer = Answer.Refused r }
 
--- process i takes up an operation; an earlier exit request is over and its own steps count anew
-abbrev pub begun : Card → ℕ → ℕ → Words → Card
-begun c i k inputs =
-    withCount
-    (withExit
-    (withOperation (withTask c i (record { place = P1; target = 0 })) i (record { program = k; inputs = inputs })) i false) i 0
+-- a process takes up an operation; an earlier exit request is over and its own steps count anew
+abbrev pub invoked : Local → ℕ → Words → Local
+invoked l k inputs =
+    record {
+      task = record { place = P1; target = 0 };
+      operation = record { program = k; inputs = inputs };
+      exit = false;
+      steps = 0;
+      gate = l .gate;
+      announcement = l .announcement;
+      simulation = l .simulation;
+      dictionary = l .dictionary;
+    }
+
+-- a process is asked to exit
+abbrev pub exiting : Local → Local
+exiting l =
+    record {
+      task = l .task;
+      operation = l .operation;
+      exit = true;
+      steps = l .steps;
+      gate = l .gate;
+      announcement = l .announcement;
+      simulation = l .simulation;
+      dictionary = l .dictionary;
+    }
 
 -- call: refusals 5, 6, 7
 unfoldable pub call : Card → ℕ → ℕ → Words → Answered
@@ -71,14 +84,14 @@ call c i k inputs =
     cond (not (isProcess c i)) (refused c NoProcess)
     (cond (not (isProgram c k)) (refused c NoProgram)
     (cond (isBusy c i) (refused c Busy)
-    (record { card = begun c i k inputs; answer = Answer.Taken })))
+    (record { card = withLocal c i (invoked (localAt c i) k inputs); answer = Answer.Taken })))
 
 -- exit request: refusals 5, 8. 'A wish lasts until the operation returns; a second one is taken and alters nothing.'
 unfoldable pub requestExit : Card → ℕ → Answered
 requestExit c i =
     cond (not (isProcess c i)) (refused c NoProcess)
     (cond (not (isBusy c i)) (refused c NotBusy)
-    (record { card = withExit c i true; answer = Answer.Taken }))
+    (record { card = withLocal c i (exiting (localAt c i)); answer = Answer.Taken }))
 
 -- lines P23, P24 and F4: exited, or done with the words of the announcement last read
 abbrev pub returned : Announcement → Flag → ℕ → Answer
@@ -87,8 +100,9 @@ returned a Active steps = Answer.Done (a .words) steps
 returned a Exit steps = Answer.Exited steps
 
 -- 'Returning is local work of the last access'
-abbrev pub answerOf : Card → ℕ → Answer
-answerOf c i = cond (isBusy c i) Answer.Run (returned (copyAt c i) (copyAt c i .flag) (countAt c i))
+abbrev pub answerOf : Local → Answer
+answerOf l =
+    cond (isIdle (l .task .place)) (returned (l .announcement) (l .announcement .flag) (l .steps)) Answer.Run
 
 -- step: refusals 5, 8, 10
 unfoldable pub step : Card → ℕ → Answered
@@ -96,7 +110,7 @@ step c i =
     cond (not (isProcess c i)) (refused c NoProcess)
     (cond (not (isBusy c i)) (refused c NotBusy)
     (cond (not (ltb (c .steps) (c .limit))) (refused c LimitReached)
-    (record { card = advance c i; answer = answerOf (advance c i) i })))
+    (record { card = advance c i; answer = answerOf (localAt (advance c i) i) })))
 
 -- the gate has a holder whose flag is not done
 abbrev pub isPending : Card → Holder → Bool

@@ -161,7 +161,7 @@ pub enum GateAccess {
 }
 
 // An access of an announcement: the announcing write (P3), the exit request (P6), a read of one's own with the places that follow
-// its flag (P7, C4, P22), the read of the one whose turn it is (C2), the read that helping begins with (P16), or a swap to done (P19, P20).
+// its flag (P7, C4, P22), the read of the one whose turn it is (C2), or a swap to done (P19, P20).
 pub enum AnnouncementAccess {
     Announce,
     Withdraw,
@@ -171,31 +171,78 @@ pub enum AnnouncementAccess {
         exit: Place,
     },
     ReadFirst,
-    Help,
     Finish {
         flag: Flag,
         next: Place,
     },
 }
 
-// An access of a record: H21 or H36.
-pub enum RecordAccess {
-    Read,
-    Swap,
-}
-
-// The shared access of a step.
+// The shared access of a step: none, one of the gate or of an announcement, the read of an announcement that helping begins with (P16),
+// the read of a record that is noted (H21), or the swap of a record (H36).
 pub enum Access {
     None,
     Gate(GateAccess),
     Announcement(AnnouncementAccess),
-    Record(RecordAccess),
+    Help,
+    Note,
+    Write,
+}
+
+// A shared cell, or none: the gate, the announcement of a process, the record of a variable.
+pub enum Cell {
+    None,
+    Gate,
+    Announcement(u8),
+    Record(u8),
+}
+
+// Whether a step swapped a cell, and whether the swap won.
+pub enum Swap {
+    None,
+    Lost,
+    Won,
 }
 
 // The place of a process. The target is the nominee at P13, the variable at H21, the item of the dictionary at H36.
 pub struct Task {
     pub place: Place,
     pub target: u8,
+}
+
+// The gate after an access, and what the process goes on with: the gate last read, its task; and the swap.
+pub struct GateAccessed {
+    pub cell: Gate,
+    pub read: Gate,
+    pub task: Task,
+    pub swap: Swap,
+}
+
+// The same of an announcement.
+pub struct AnnouncementAccessed {
+    pub cell: Announcement,
+    pub read: Announcement,
+    pub task: Task,
+    pub swap: Swap,
+}
+
+// What a process goes on with after the announcement of the gate's holder was read (P16): whether it helps, its task and its simulation.
+pub struct Began {
+    pub helps: bool,
+    pub task: Task,
+    pub simulation: Simulation,
+}
+
+// What a helper goes on with after a record was read (H21).
+pub struct Helped {
+    pub task: Task,
+    pub simulation: Simulation,
+    pub dictionary: Dictionary,
+}
+
+// What a helper writes (H36), and its task afterwards.
+pub struct Writing {
+    pub item: Item,
+    pub task: Task,
 }
 
 // What a call asked for.

@@ -1,0 +1,27 @@
+-- The weight of a program: how many records its instructions can touch for the first time, reached or not (codes 3 to 6 count 1).
+use Prim.Native.Nat.{ℕ, zero, suc, _+_}
+use Rattle.construction.specs.declared.Instruction.{Instruction}
+use Rattle.construction.specs.declared.Program.{Program}
+use Rattle.construction.specs.Instructions.{fetch}
+
+abbrev pub weightOf : Instruction → ℕ
+weightOf Instruction.Stop = 0
+weightOf (Instruction.Input a b) = 0
+weightOf (Instruction.Constant a b) = 0
+weightOf (Instruction.Load a v) = 1
+weightOf (Instruction.Store v b) = 1
+weightOf (Instruction.LoadAt a b) = 1
+weightOf (Instruction.StoreAt a b) = 1
+weightOf (Instruction.Add a b) = 0
+weightOf (Instruction.Subtract a b) = 0
+weightOf (Instruction.SkipEqual a b c) = 0
+weightOf (Instruction.SkipLess a b c) = 0
+weightOf (Instruction.Output a b) = 0
+
+-- the weight of the instructions before place k, and of all
+unfoldable pub weightBefore : Program → ℕ → ℕ
+weightBefore program zero = 0
+weightBefore program (suc k) = weightBefore program k + weightOf (fetch program k)
+
+abbrev pub weight : Program → ℕ
+weight program = weightBefore program 32

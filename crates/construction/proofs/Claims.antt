@@ -15,9 +15,9 @@ use Rattle.construction.specs.declared.Holder.the-variants.{Nobody, Proc
 use Rattle.construction.specs.declared.Flag.the-variants.{Done, Active, Exit}
 use Rattle.construction.specs.Cells.{zeros, openAnnouncement, openRecord, rewritten}
 use Rattle.construction.specs.Parts.{noOperation}
-use Rattle.construction.specs.Machine.{flagged}
+use Rattle.construction.specs.Machine.{flagged, finished}
 use Rattle.construction.proofs.Basics.{on-set, active-not-done, active-not-exit, exit-not-done, nobody-process, process-same, else-exit}
-use Rattle.construction.proofs.World.{noRound, endingIn, World, announcementIn, recordIn, leftIn, boundIn, callIn, outputsIn, roundIn, operationOf, doneWith, Good, asking, announcing, leaving, ending, Quiet, Move}
+use Rattle.construction.proofs.World.{noRound, endingIn, World, announcementIn, recordIn, leftIn, boundIn, callIn, outputsIn, roundIn, operationOf, Good, asking, announcing, leaving, ending, Quiet, Move}
 use Rattle.construction.proofs.World.Move.{stay, ask, announce, leave, take, write, end, free}
 use Rattle.construction.proofs.Kept.{announcements-set}
 use Rattle.construction.specs.declared.Contents.{Contents}
@@ -45,11 +45,11 @@ abbrev pub gated : View → Gate → View
 gated x g =
     record { gate = g; announcement = x .announcement; call = x .call; outputs = x .outputs; bound = x .bound }
 
-abbrev finished : View → Words → View
-finished x o =
+abbrev completed : View → Words → View
+completed x o =
     record {
       gate = x .gate;
-      announcement = doneWith (x .announcement) o;
+      announcement = finished (x .announcement) o;
       call = x .call;
       outputs = o;
       bound = x .bound;
@@ -62,7 +62,7 @@ pub data Change (j : ℕ) (x : View) : View → Type 0 where
       (m : ℕ) → x .gate .holder ≡ Nobody →
       (m ≡ j → (x .announcement .flag ≢ Done) × (x .announcement .flag ≡ Exit → x .gate .seq ≤ x .bound)) →
       Change j x (gated x (record { holder = Process m; seq = x .gate .seq }))
-  ended : (o : Words) → x .gate .holder ≡ Process j → x .announcement .flag ≢ Done → Change j x (finished x o)
+  ended : (o : Words) → x .gate .holder ≡ Process j → x .announcement .flag ≢ Done → Change j x (completed x o)
   freed : x .bound ≤ x .gate .seq → Change j x (gated x (record { holder = Nobody; seq = x .gate .seq + 1 }))
 
 -- the call of j stays
@@ -300,7 +300,7 @@ module _ {F : Contents} {i : ℕ} {w : World} (G : Good F w) where
 
   -- a claim about m's announcement while the gate is (m, s), which an exit request and the end of the operation keep
   module _ (P : Announcement → Type 0) (m s : ℕ) (exits : (r : Announcement) → r .flag ≡ Active → P r → P (flagged r Exit))
-      (ends : (r : Announcement) (o : Words) → P (doneWith r o)) (seen : Seen w m s)
+      (ends : (r : Announcement) (o : Words) → P (finished r o)) (seen : Seen w m s)
       (f : w .gate .holder ≡ Process m → w .gate .seq ≡ s → P (announcementIn w m)) where
     held-stays : {v : World} → Move F i w v → v .gate .holder ≡ Process m → v .gate .seq ≡ s → P (announcementIn v m)
     held-stays stay h e = f h e

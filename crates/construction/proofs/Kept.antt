@@ -20,9 +20,10 @@ use Rattle.construction.specs.Sequential.{sequential}
 use Rattle.construction.specs.Parts.{noOperation, programOf}
 use Rattle.construction.proofs.Basics.{on-set, active-not-done, active-not-exit, exit-not-done, nobody-process, process-same, done-or-not}
 use Rattle.construction.proofs.SequentialLaws.{run-length}
-use Rattle.construction.proofs.World.{Round, noRound, endingOf, endingIn, World, announcementIn, recordIn, leftIn, callIn, roundIn, wordAt, operationOf, doneWith, Pending, Phase, Recorded, Good, asking, announcing, leaving, taking, storing, ending, freeing, Quiet, Move}
+use Rattle.construction.proofs.World.{Round, noRound, endingOf, endingIn, World, announcementIn, recordIn, leftIn, callIn, roundIn, wordAt, operationOf, Pending, Phase, Recorded, Good, asking, announcing, leaving, taking, storing, ending, freeing, Quiet, Move}
 use Rattle.construction.proofs.World.Move.{stay, ask, announce, leave, take, write, end, free}
 use Rattle.construction.specs.declared.Contents.{Contents}
+use Rattle.construction.specs.Machine.{finished}
 
 ending-length : (F : Contents) (s : ℕ) (r : Round) → length (endingOf F s r .words) ≡ length (r .words)
 unfolding endingOf sequential
@@ -293,7 +294,7 @@ module _ {F : Contents} {w : World} (G : Good F w) where
 
       good-end : Good F (ending F w m)
       good-end =
-          let a : Announcement = doneWith (announcementIn w m) (endingIn F w (w .gate .seq) .outputs) in
+          let a : Announcement = finished (announcementIn w m) (endingIn F w (w .gate .seq) .outputs) in
           record {
             fits = G .fits;
             lengths = simp length-set (G .lengths);

@@ -37,5 +37,6 @@ pub mod Growth
 pub mod Serialization
 pub mod LimitsKept
 pub mod Refusals
+pub mod ExitRequests
 pub mod Examples
 pub mod SerializationExample

@@ -24,10 +24,11 @@ use Rattle.construction.specs.Parts.{noOperation}
 use Rattle.construction.specs.History.{Invocation, Notes, hasCalled, latest, latestCall, turned, benchRun, finishedOne, withReturn, times, outputsOf, hasReturned, Numbered, Agrees, AllAgree, UnderWay}
 use Rattle.construction.proofs.Basics.{on-set, true-or-false, true-false, ne-isDone}
 use Rattle.construction.proofs.NotesLaws.{on-equal, chosen, passed, latest-below, latest-apart, agree-longer, turns, turned-same, turned-not, turned-one}
-use Rattle.construction.proofs.World.{World, announcementIn, callIn, outputsIn, endingIn, doneWith, Good, asking, ending, Move}
+use Rattle.construction.proofs.World.{World, announcementIn, callIn, outputsIn, endingIn, Good, asking, ending, Move}
 use Rattle.construction.proofs.World.Move.{stay, ask, announce, leave, take, write, end, free}
 use Rattle.construction.proofs.Kept.{ends-now}
 use Rattle.construction.specs.declared.Contents.{Contents}
+use Rattle.construction.specs.Machine.{finished}
 
 -- the flag of process j is done
 abbrev pub doneIn : World → ℕ → Bool
@@ -210,7 +211,7 @@ module _
         );
       }
     where
-      here : announcementIn (ending F w m) m ≡ doneWith (announcementIn w m) (endingIn F w (w .gate .seq) .outputs)
+      here : announcementIn (ending F w m) m ≡ finished (announcementIn w m) (endingIn F w (w .gate .seq) .outputs)
       here = getD-set-same (w .announcements) m _ openAnnouncement (omega (arith, size, G .lengths .announcements))
 
       out : outputsIn (ending F w m) m ≡ endingIn F w (w .gate .seq) .outputs

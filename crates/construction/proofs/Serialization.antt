@@ -1,6 +1,6 @@
 -- Demand 3: for every text and every list of entries, the card and the single-user bench go side by side.
 use Prim.Native.Nat.{ℕ, _≤_, _<_}
-use mathlib.Core.Path.{_≡_, refl, sym, subst, ap}
+use mathlib.Core.Path.{_≡_, refl, sym, subst, ap, _∙_}
 use mathlib.Core.Bool.{true, not}
 use mathlib.Core.List.{List, [], _∷_, _++_}
 use native.Mathlib.Omega.{arith}
@@ -93,3 +93,9 @@ serialization t es =
           subst (λ (x : List Entry). place j (run (opened t .card) x .notes .order) < place k (run (opened t .card) x .notes .order)) (sym e)
           (earlier t es₁ es₂ j k h l (subst (λ (x : List Entry). 0 < place k (run (opened t .card) x .notes .order)) e q));
     }
+
+-- the single-user bench has n words after any list
+pub bench-words : (t : List ℕ) (es : List Entry) → length (run (opened t .card) es .notes .words) ≡ opened t .card .variables
+bench-words t es =
+    let O = opened-consistent t es in
+    ap length (O .tracks .words) ∙ (O .inv .good .size-words ∙ ap (λ (x : Contents). x .variables) (O .text))

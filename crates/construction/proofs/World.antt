@@ -15,7 +15,7 @@ use Rattle.construction.specs.declared.Flag.the-variants.{Done, Active, 
 use Rattle.construction.specs.Cells.{zeros, openAnnouncement, openRecord, current, previous, rewritten}
 use Rattle.construction.specs.Sequential.{Ending, sequential}
 use Rattle.construction.specs.Parts.{noOperation, programOf}
-use Rattle.construction.specs.Machine.{flagged}
+use Rattle.construction.specs.Machine.{flagged, finished}
 use Rattle.construction.proofs.SequentialLaws.{Short}
 use Rattle.construction.specs.declared.Contents.{Contents}
 
@@ -83,10 +83,6 @@ wordAt l v = getD l v 0
 -- what an announcement asks for
 abbrev pub operationOf : Announcement → Operation
 operationOf a = record { program = a .program; inputs = a .words }
-
--- an announcement that is done, with outputs
-abbrev pub doneWith : Announcement → Words → Announcement
-doneWith a o = record { program = a .program; flag = Done; seq = a .seq; words = o }
 
 -- the gate is held for an operation of m that is not done
 pub record Pending (w : World) (m : ℕ) : Type 0 where
@@ -235,7 +231,7 @@ abbrev pub ending : Contents → World → ℕ → World
 ending F w m =
     record {
       gate = w .gate;
-      announcements = set (w .announcements) m (doneWith (announcementIn w m) (endingIn F w (w .gate .seq) .outputs));
+      announcements = set (w .announcements) m (finished (announcementIn w m) (endingIn F w (w .gate .seq) .outputs));
       records = w .records;
       words = endingIn F w (w .gate .seq) .words;
       calls = w .calls;

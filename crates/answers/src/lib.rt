@@ -1,8 +1,21 @@
-// Answers as the numbers of document 01 ('Turned back'): what a program prints or hands on of a refusal.
-// It rests on the crate construction, which declares the types and defines each number.
+// Answers by their fields, as document 01 gives them (construction, specs/Answers): the number of a refusal, and the fields of an answer put
+// into a buffer as the crate grammar does, each after a comma: bytes that do not fit fall away, and the place told is past the text all the
+// same. It rests on the crates grammar (words and decimals) and construction, which declares the types and defines the fields.
+use construction::Answer;
 use construction::Refusal;
+use construction::RowSwap;
+use construction::Verdict;
+use construction::Words;
+use construction::Written;
+use grammar::writing::put_decimal;
+use grammar::writing::put_word;
 ghost use mathlib.Core.Path.{_≡_};
-ghost use Rattle.construction.specs.Answers.{numberOf};
+ghost use mathlib.Core.List.{_++_};
+ghost use Prim.Native.Nat.{_+_, _≤_};
+ghost use lib.ListN.{length};
+ghost use Rattle.grammar.specs.Writing.{decimal, Put};
+ghost use Rattle.construction.specs.declared.Answer.{Answer as AnswerOf};
+ghost use Rattle.construction.specs.Answers.{numberOf, refusedWith, answerFields, verdictFields, writtenFields, rowFields, fieldsText};
 
 // The number of a refusal.
 pub fn number_of(refusal: Refusal) -> u64
@@ -20,5 +33,79 @@ pub fn number_of(refusal: Refusal) -> u64
         Refusal::NoPlace => 9,
         Refusal::LimitReached => 10,
         Refusal::ShortBuffer => 11,
+    }
+}
+
+// A word and a number after it.
+pub fn put_number(buffer: &mut [u8], at: usize, word: &[u8], value: u64) -> usize
+    ensures { λ r. ⌜ Put (now (buffer .entry)) at (now (word .entry) ++ decimal value) r (now (buffer .exit)) × (r ≤ at + (length (now (word .entry)) + 20)) ⌝ }
+{
+    let next = put_word(buffer, at, word);
+    put_decimal(buffer, next, value)
+}
+
+// `refused` and the number.
+pub fn put_refusal(buffer: &mut [u8], at: usize, refusal: Refusal) -> usize
+    ensures { λ r. ⌜ Put (now (buffer .entry)) at (fieldsText (refusedWith (numberOf refusal))) r (now (buffer .exit)) × (r ≤ at + 29) ⌝ }
+{
+    put_number(buffer, at, b",refused,", number_of(refusal))
+}
+
+// `done`, four outputs and the operation's own steps.
+fn put_done(buffer: &mut [u8], at: usize, outputs: Words, steps: u64) -> usize
+    ensures { λ r. ⌜ Put (now (buffer .entry)) at (fieldsText (answerFields (AnswerOf.Done outputs steps))) r (now (buffer .exit)) × (r ≤ at + 110) ⌝ }
+{
+    let i = put_number(buffer, at, b",done,", outputs.w0 as u64);
+    let j = put_number(buffer, i, b",", outputs.w1 as u64);
+    let k = put_number(buffer, j, b",", outputs.w2 as u64);
+    let l = put_number(buffer, k, b",", outputs.w3 as u64);
+    put_number(buffer, l, b",", steps)
+}
+
+// The answer to a call, an exit request, a step or a read.
+pub fn put_answer(buffer: &mut [u8], at: usize, answer: Answer) -> usize
+    ensures { λ r. ⌜ Put (now (buffer .entry)) at (fieldsText (answerFields answer)) r (now (buffer .exit)) × (r ≤ at + 110) ⌝ }
+{
+    match answer {
+        Answer::Taken => put_word(buffer, at, b",taken"),
+        Answer::Run => put_word(buffer, at, b",run"),
+        Answer::Done { outputs, steps } => put_done(buffer, at, outputs, steps),
+        Answer::Exited { steps } => put_number(buffer, at, b",exited,", steps),
+        Answer::Value(x) => put_number(buffer, at, b",", x as u64),
+        Answer::Refused(refusal) => put_refusal(buffer, at, refusal),
+    }
+}
+
+// The verdict on a card text.
+pub fn put_verdict(buffer: &mut [u8], at: usize, verdict: Verdict) -> usize
+    ensures { λ r. ⌜ Put (now (buffer .entry)) at (fieldsText (verdictFields verdict)) r (now (buffer .exit)) × (r ≤ at + 50) ⌝ }
+{
+    match verdict {
+        Verdict::Accepted => put_word(buffer, at, b",accepted"),
+        Verdict::Refused { refusal, line } => {
+            let next = put_refusal(buffer, at, refusal);
+            put_number(buffer, next, b",", line)
+        }
+    }
+}
+
+// The answer of the writer.
+pub fn put_written(buffer: &mut [u8], at: usize, written: Written) -> usize
+    ensures { λ r. ⌜ Put (now (buffer .entry)) at (fieldsText (writtenFields written)) r (now (buffer .exit)) × (r ≤ at + 29) ⌝ }
+{
+    match written {
+        Written::Bytes(length) => put_number(buffer, at, b",", length as u64),
+        Written::Refused(refusal) => put_refusal(buffer, at, refusal),
+    }
+}
+
+// The answer to a swap on a lent row.
+pub fn put_row_swap(buffer: &mut [u8], at: usize, answer: RowSwap) -> usize
+    ensures { λ r. ⌜ Put (now (buffer .entry)) at (fieldsText (rowFields answer)) r (now (buffer .exit)) × (r ≤ at + 29) ⌝ }
+{
+    match answer {
+        RowSwap::Won => put_word(buffer, at, b",won"),
+        RowSwap::Lost => put_word(buffer, at, b",lost"),
+        RowSwap::Refused(refusal) => put_refusal(buffer, at, refusal),
     }
 }

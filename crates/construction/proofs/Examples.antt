@@ -9,10 +9,10 @@ use Rattle.construction.specs.Machine.{advance, perform, accessOf, acces
 use Rattle.construction.specs.Helping.{simulate, simulateFrom}
 use Rattle.construction.specs.Dictionary.{position, assign, valueUnder, insert, altered, unaltered, nextWrite}
 use Rattle.construction.specs.Cells.{sameWords, sameGate, sameAnnouncement, sameRecord, swapGate, swapAnnouncement, swapRecord, released, current, previous, rewritten}
-use Rattle.construction.specs.Answers.{numberOf, valuesOf, verdictValues, writtenValues}
+use Rattle.construction.specs.Answers.{numberOf, answerFields, verdictFields, writtenFields, cardLineFields, varLineFields, sheetLineFields, decodedFields, insLineFields}
 use Rattle.construction.specs.Writing.{written, textOf, varsText, programsText, linesText}
 use Rattle.grammar.specs.Writing.{decimal, decimals}
-use Rattle.construction.specs.Examples.{AllHold, rows, AllTextsRefused, refusedTexts, AllEntriesRefused, refusedEntries, BufferRefused}
+use Rattle.construction.specs.Examples.{AllHold, rows, AllTextsRefused, refusedTexts, AllYielded, yieldedLines, AllEntriesRefused, refusedEntries, BufferRefused}
 
 pub rows-hold : AllHold rows
 unfolding opened readCard cardLine judgeCard four field number digits hasWord varsFrom varLine judgeVar programsFrom readProgram sheetLine judgeSheet insFrom insLine judgeIns decode fresh call requestExit step read valueOf advance perform accessOf accessGate accessAnnouncement firstChoice beginHelp note writing simulate simulateFrom effectOf fetch word withWord sum difference load store forward withRegister withOutput skipped position assign valueUnder insert altered unaltered nextWrite sameWords sameGate sameAnnouncement sameRecord swapGate swapAnnouncement swapRecord released current previous rewritten
@@ -20,14 +20,18 @@ rows-hold =
     ((refl, (refl, refl, refl)), ((refl, (refl, refl, refl)), ((refl, (refl, refl, refl)), ((refl, (refl, refl, refl)), ((refl, (refl, refl, refl)), ((refl, (refl, refl, refl)), ((refl, (refl, refl, refl)), ((refl, (refl, refl, refl)), ((refl, (refl, refl, refl)), ((refl, (refl, refl, refl)), ((refl, (refl, refl, refl)), ((refl, (refl, refl, refl)), ((refl, (refl, refl, refl)), ((refl, (refl, refl, refl)), ((refl, (refl, refl, refl)), ((refl, (refl, refl, refl)), tt))))))))))))))))
 
 pub texts-refused : AllTextsRefused refusedTexts
-unfolding opened readCard cardLine judgeCard four field number digits hasWord varsFrom varLine judgeVar programsFrom readProgram sheetLine judgeSheet insFrom insLine judgeIns decode fresh verdictValues numberOf
+unfolding opened readCard cardLine judgeCard four field number digits hasWord varsFrom varLine judgeVar programsFrom readProgram sheetLine judgeSheet insFrom insLine judgeIns decode fresh verdictFields numberOf
 texts-refused = (refl, (refl, (refl, tt)))
 
+pub lines-yield : AllYielded yieldedLines
+unfolding cardLine judgeCard four field number digits hasWord varLine judgeVar sheetLine judgeSheet insLine judgeIns decode encode cardLineFields varLineFields sheetLineFields decodedFields insLineFields numberOf
+lines-yield = (refl, (refl, (refl, (refl, (refl, (refl, (refl, (refl, tt))))))))
+
 pub entries-refused : AllEntriesRefused refusedEntries
-unfolding opened readCard cardLine judgeCard four field number digits hasWord varsFrom varLine judgeVar programsFrom readProgram sheetLine judgeSheet insFrom insLine judgeIns decode fresh call requestExit step read valueOf advance perform accessOf accessGate accessAnnouncement firstChoice beginHelp note writing simulate simulateFrom effectOf fetch word withWord forward withRegister skipped position assign valueUnder insert sameWords sameGate sameAnnouncement sameRecord swapGate swapAnnouncement swapRecord valuesOf numberOf
+unfolding opened readCard cardLine judgeCard four field number digits hasWord varsFrom varLine judgeVar programsFrom readProgram sheetLine judgeSheet insFrom insLine judgeIns decode fresh call requestExit step read valueOf advance perform accessOf accessGate accessAnnouncement firstChoice beginHelp note writing simulate simulateFrom effectOf fetch word withWord forward withRegister skipped position assign valueUnder insert sameWords sameGate sameAnnouncement sameRecord swapGate swapAnnouncement swapRecord answerFields numberOf
 entries-refused =
     (record { refusal = refl; kept = refl }, (record { refusal = refl; kept = refl }, (record { refusal = refl; kept = refl }, (record { refusal = refl; kept = refl }, (record { refusal = refl; kept = refl }, (record { refusal = refl; kept = refl }, tt))))))
 
 pub buffer-refused : BufferRefused
-unfolding opened readCard cardLine judgeCard four field number digits hasWord varsFrom varLine judgeVar programsFrom readProgram sheetLine judgeSheet insFrom insLine judgeIns decode fresh written textOf varsText programsText linesText cardText varText sheetText insText encode decimal decimals writtenValues numberOf
+unfolding opened readCard cardLine judgeCard four field number digits hasWord varsFrom varLine judgeVar programsFrom readProgram sheetLine judgeSheet insFrom insLine judgeIns decode fresh written textOf varsText programsText linesText cardText varText sheetText insText encode decimal decimals writtenFields numberOf
 buffer-refused = refl

@@ -3,8 +3,7 @@ use Prim.Native.Nat.{ℕ}
 use mathlib.Core.Path.{_≡_, refl, sym, subst}
 use mathlib.Core.List.{List, [], _∷_, _++_}
 use Rattle.construction.specs.declared.Card.{Card}
-use Rattle.construction.specs.declared.Answer.{Answer}
-use Rattle.construction.specs.History.{Entry, act, Response, Notes, finishing, finishedOne, finished, noted, Moment, observe, observeAll}
+use Rattle.construction.specs.History.{Entry, act, Response, Event, eventOf, Notes, finishing, finishedOne, finished, noted, Moment, observe, observeAll}
 use Rattle.construction.proofs.NotesLaws.{Extends, extends-trans}
 
 finished-order : (o : Card) (gate : ℕ) (is : List ℕ) (s : Notes) → Extends (s .order) (finished o gate is s .order)
@@ -17,21 +16,15 @@ unfolding finished
 finished-returns o gate [] s = refl
 finished-returns o gate (i ∷ is) s = finished-returns o gate is (finishedOne o gate i s)
 
-noted-grows : (s : Notes) (e : Entry) (a : Answer) → (noted s e a .order ≡ s .order) × Extends (s .returns) (noted s e a .returns)
-noted-grows s (Entry.Call i k inputs) Answer.Taken = (refl, Extends.same)
-noted-grows s (Entry.Call i k inputs) Answer.Run = (refl, Extends.same)
-noted-grows s (Entry.Call i k inputs) (Answer.Done o n) = (refl, Extends.same)
-noted-grows s (Entry.Call i k inputs) (Answer.Exited n) = (refl, Extends.same)
-noted-grows s (Entry.Call i k inputs) (Answer.Value x) = (refl, Extends.same)
-noted-grows s (Entry.Call i k inputs) (Answer.Refused r) = (refl, Extends.same)
-noted-grows s (Entry.Exit i) a = (refl, Extends.same)
-noted-grows s (Entry.Step i) Answer.Taken = (refl, Extends.same)
-noted-grows s (Entry.Step i) Answer.Run = (refl, Extends.same)
-noted-grows s (Entry.Step i) (Answer.Done o n) = (refl, Extends.more Extends.same)
-noted-grows s (Entry.Step i) (Answer.Exited n) = (refl, Extends.more Extends.same)
-noted-grows s (Entry.Step i) (Answer.Value x) = (refl, Extends.same)
-noted-grows s (Entry.Step i) (Answer.Refused r) = (refl, Extends.same)
-noted-grows s (Entry.Read v) a = (refl, Extends.same)
+noted-grows : (s : Notes) (e : Entry) (v : Event) → (noted s e v .order ≡ s .order) × Extends (s .returns) (noted s e v .returns)
+noted-grows s (Entry.Call i k inputs) Event.taken = (refl, Extends.same)
+noted-grows s (Entry.Call i k inputs) (Event.returned r) = (refl, Extends.same)
+noted-grows s (Entry.Call i k inputs) Event.none = (refl, Extends.same)
+noted-grows s (Entry.Exit i) v = (refl, Extends.same)
+noted-grows s (Entry.Step i) Event.taken = (refl, Extends.same)
+noted-grows s (Entry.Step i) (Event.returned r) = (refl, Extends.more Extends.same)
+noted-grows s (Entry.Step i) Event.none = (refl, Extends.same)
+noted-grows s (Entry.Read x) v = (refl, Extends.same)
 
 pub record Grown (s t : Notes) : Type 0 where
   pub order : Extends (s .order) (t .order)
@@ -42,11 +35,11 @@ unfolding observe
 observe-grows o m e =
     let r = act (m .card) e in
     let n = finished o (m .card .gate .seq) (finishing (m .card) (r .card)) (m .notes) in
-    let g = noted-grows n e (r .answer) in
+    let g = noted-grows n e (eventOf (r .answer)) in
     record {
       order = subst (Extends (m .notes .order)) (sym (g .0)) (finished-order o (m .card .gate .seq) (finishing (m .card) (r .card)) (m .notes));
       returns =
-          subst (λ (l : List Response). Extends l (noted n e (r .answer) .returns))
+          subst (λ (l : List Response). Extends l (noted n e (eventOf (r .answer)) .returns))
           (finished-returns o (m .card .gate .seq) (finishing (m .card) (r .card)) (m .notes)) (g .1);
     }
 

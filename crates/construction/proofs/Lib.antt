@@ -36,6 +36,7 @@ pub mod Moments
 pub mod Growth
 pub mod Serialization
 pub mod LimitsKept
+pub mod AnswerFields
 pub mod Refusals
 pub mod ExitRequests
 pub mod Examples

@@ -25,7 +25,7 @@ use Rattle.construction.specs.Cells.{isDone, openAnnouncement}
 use Rattle.construction.specs.Parts.{idleTask, contentsOf, localAt, withLocal, Local}
 use Rattle.construction.specs.Machine.{advance, accessOf}
 use Rattle.construction.specs.Requests.{isVariable, isIdle, isBusy, refused, answerOf, read, invoked, exiting}
-use Rattle.construction.specs.History.{Entry, act, Invocation, Notes, turned, finishing, finished, withReturn, ended, noted, Moment, observe, FinishesOne, FinishesAtMostOne}
+use Rattle.construction.specs.History.{Entry, act, Invocation, Notes, turned, finishing, finished, Return, Event, eventOf, ended, noted, Moment, observe, FinishesOne, FinishesAtMostOne}
 use Rattle.construction.proofs.Basics.{true-or-false, true-false, cond-false}
 use Rattle.construction.proofs.NotesLaws.{turned-same}
 use Rattle.construction.proofs.OneAccess.{one-access}
@@ -57,7 +57,7 @@ abbrev after : Card → Moment → Entry → Answered → Moment
 after o m e r =
     record {
       card = r .card;
-      notes = noted (finished o (m .card .gate .seq) (finishing (m .card) (r .card)) (m .notes)) e (r .answer);
+      notes = noted (finished o (m .card .gate .seq) (finishing (m .card) (r .card)) (m .notes)) e (eventOf (r .answer));
     }
 
 module _ (o : Card) (m : Moment) (O : Consistent o m) where
@@ -73,9 +73,9 @@ module _ (o : Card) (m : Moment) (O : Consistent o m) where
   -- an entry that turns no flag
   unturned :
       (d : Card) (e : Entry) (a : Answer) → c .announcements ≡ d .announcements →
-      Consistent o (record { card = d; notes = noted s e a }) → Consistent o (after o m e (record { card = d; answer = a }))
+      Consistent o (record { card = d; notes = noted s e (eventOf a) }) → Consistent o (after o m e (record { card = d; answer = a }))
   unfolding finished
-  unturned d e a z O′ = subst (λ (n : Notes). Consistent o (record { card = d; notes = noted n e a })) (sym none) O′
+  unturned d e a z O′ = subst (λ (n : Notes). Consistent o (record { card = d; notes = noted n e (eventOf a) })) (sym none) O′
     where
       none : finished o (c .gate .seq) (finishing c d) s ≡ s
       none = rw (← z, turned-same 0 (c .announcements))
@@ -87,7 +87,7 @@ module _ (o : Card) (m : Moment) (O : Consistent o m) where
   refused-kept : (e : Entry) (why : Refusal) → Consistent o (after o m e (refused c why))
   refused-kept e why = unturned c e (Answer.Refused why) refl (rw (noted-refused e) O)
     where
-      noted-refused : (e : Entry) → noted s e (Answer.Refused why) ≡ s
+      noted-refused : (e : Entry) → noted s e Event.none ≡ s
       noted-refused (Entry.Call i k inputs) = refl
       noted-refused (Entry.Exit i) = refl
       noted-refused (Entry.Step i) = refl
@@ -251,27 +251,26 @@ module _ (o : Card) (m : Moment) (O : Consistent o m) where
     running : isBusy d i ≡ true → Follows o d (S .after) noticed
     running busy = tracks-place i others moved (λ _. own-next (unannounced busy) newly own-moved)
 
-    ended-done :
-        isBusy d i ≡ false → announcementIn (S .after) i .flag ≡ Done → (k : ℕ) →
-        Follows o d (S .after) (withReturn noticed i (Answer.Done (outputsIn (S .after) i) k))
-    ended-done idle h k =
-        tracks-returned i others moved (Answer.Done (outputsIn (S .after) i) k) own-moved (own-moved .over (returning idle) (ap isDone h)) idle
+    -- the notes after the step and what it brought
+    abbrev Ended : Event → Type 0
+    Ended v = Follows o d (S .after) (ended noticed i v)
 
-    ended-exited :
-        isBusy d i ≡ false → announcementIn (S .after) i .flag ≡ Exit → (k : ℕ) → Follows o d (S .after) (withReturn noticed i (Answer.Exited k))
-    ended-exited idle h k = tracks-returned i others moved (Answer.Exited k) own-moved (own-moved .pending (ap isDone h)) idle
+    ended-done : isBusy d i ≡ false → announcementIn (S .after) i .flag ≡ Done → Ended (Event.returned (Return.done (outputsIn (S .after) i)))
+    ended-done idle h =
+        tracks-returned i others moved (Return.done (outputsIn (S .after) i)) own-moved (own-moved .over (returning idle) (ap isDone h)) idle
 
-    answered : Follows o d (S .after) (ended noticed i (answerOf (localAt d i)))
+    ended-exited : isBusy d i ≡ false → announcementIn (S .after) i .flag ≡ Exit → Ended (Event.returned Return.exited)
+    ended-exited idle h = tracks-returned i others moved Return.exited own-moved (own-moved .pending (ap isDone h)) idle
+
+    answered : Ended (eventOf (answerOf (localAt d i)))
     answered =
         ⊎-elim (λ busy. by-answer (cond-false (isIdle next-place) _ _ (not-true _ busy)) (running busy))
-        (λ idle. ⊎-elim (λ z. by-answer (z .1) (ended-done idle (z .0) _)) (λ z. by-answer (z .1) (ended-exited idle (z .0) _))
+        (λ idle. ⊎-elim (λ z. by-answer (z .1) (ended-done idle (z .0))) (λ z. by-answer (z .1) (ended-exited idle (z .0)))
         (answer-is (S .inv) i (subst (λ (x : Contents). i < x .processes) (one-access c i .text) lt) idle))
         (true-or-false (isBusy d i))
       where
-        by-answer :
-            {a : Answer} → answerOf (localAt d i) ≡ a → Follows o d (S .after) (ended noticed i a) →
-            Follows o d (S .after) (ended noticed i (answerOf (localAt d i)))
-        by-answer z f = subst (λ (x : Answer). Follows o d (S .after) (ended noticed i x)) (sym z) f
+        by-answer : {a : Answer} → answerOf (localAt d i) ≡ a → Ended (eventOf a) → Ended (eventOf (answerOf (localAt d i)))
+        by-answer z f = subst (λ (x : Answer). Ended (eventOf x)) (sym z) f
 
     step-kept : Consistent o (after o m (Entry.Step i) (record { card = d; answer = answerOf (localAt d i) }))
     step-kept = record { world = S .after; inv = S .inv; tracks = answered; text = text-moved }
@@ -300,6 +299,7 @@ module _ (o : Card) (m : Moment) (O : Consistent o m) where
         process = E .process;
         only = ap (λ (r : Answered). finishing c (r .card)) is ∙ ends-one i p b l E;
         underWay = under-way (ends-own i p b l E);
+        stepper = i;
         byStep = refl;
       })) (kind i p b l)
 

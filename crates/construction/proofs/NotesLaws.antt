@@ -12,9 +12,8 @@ use borrow.Author.Tests.{eqb-true, eqb-false, eq-eqb, ne-eqb}
 use Rattle.construction.specs.declared.Flag.{Flag}
 use Rattle.construction.specs.declared.Flag.the-variants.{Done, Active, Exit}
 use Rattle.construction.specs.declared.Announcement.{Announcement}
-use Rattle.construction.specs.declared.Answer.{Answer}
 use Rattle.construction.specs.Cells.{isDone, openAnnouncement}
-use Rattle.construction.specs.History.{Invocation, Finish, Response, hasCalled, latest, turned, times, place, outputsOf, hasReturned, Agrees, AllAgree}
+use Rattle.construction.specs.History.{Invocation, Finish, Return, Response, hasCalled, latest, turned, times, place, outputsOf, hasReturned, Agrees, AllAgree}
 use Rattle.construction.proofs.Basics.{on-test}
 
 -- a list of notes, newest first, and an earlier one
@@ -67,14 +66,10 @@ latest-apart (x ∷ xs) i j ne h k =
 
 -- returns agree with a longer order, if the operation that finished has not returned
 agrees-longer :
-    (f : Finish) (fs : List Finish) (k : ℕ) → f .operation ≢ k → (a : Answer) → Agrees fs k a → Agrees (f ∷ fs) k a
+    (f : Finish) (fs : List Finish) (k : ℕ) → f .operation ≢ k → (r : Return) → Agrees fs k r → Agrees (f ∷ fs) k r
 unfolding times outputsOf
-agrees-longer f fs k ne Answer.Taken h = h
-agrees-longer f fs k ne Answer.Run h = h
-agrees-longer f fs k ne (Answer.Done o n) h = (passed _ k _ _ ne ∙ h .0, passed _ k _ _ ne ∙ h .1)
-agrees-longer f fs k ne (Answer.Exited n) h = passed _ k _ _ ne ∙ h
-agrees-longer f fs k ne (Answer.Value x) h = h
-agrees-longer f fs k ne (Answer.Refused r) h = h
+agrees-longer f fs k ne (Return.done o) h = (passed _ k _ _ ne ∙ h .0, passed _ k _ _ ne ∙ h .1)
+agrees-longer f fs k ne Return.exited h = passed _ k _ _ ne ∙ h
 
 pub agree-longer :
     (f : Finish) (fs : List Finish) (rs : List Response) → hasReturned (f .operation) rs ≡ false → AllAgree fs rs → AllAgree (f ∷ fs) rs
@@ -83,20 +78,16 @@ agree-longer f fs [] h a = tt
 agree-longer f fs (r ∷ rs) h a =
     on-equal (λ b. cond b true (hasReturned (f .operation) rs) ≡ false → AllAgree (f ∷ fs) (r ∷ rs)) (r .operation) (f .operation)
     (λ e k. absurd (true≢false k))
-    (λ ne k. (agrees-longer f fs (r .operation) (λ q. ne (sym q)) (r .answer) (a .0), agree-longer f fs rs k (a .1))) h
+    (λ ne k. (agrees-longer f fs (r .operation) (λ q. ne (sym q)) (r .return) (a .0), agree-longer f fs rs k (a .1))) h
 
 pub agree-earlier : {old new : List Response} (fs : List Finish) → Extends old new → AllAgree fs new → AllAgree fs old
 agree-earlier fs Extends.same a = a
 agree-earlier fs (Extends.more q) a = agree-earlier fs q (a .1)
 
 -- an operation that returned stands equally often in any two orders that its return agrees with
-same-times : (old new : List Finish) (j : ℕ) (a : Answer) → Agrees old j a → Agrees new j a → times j old ≡ times j new
-same-times old new j Answer.Taken p q = absurd p
-same-times old new j Answer.Run p q = absurd p
-same-times old new j (Answer.Done o k) p q = p .0 ∙ sym (q .0)
-same-times old new j (Answer.Exited k) p q = p ∙ sym q
-same-times old new j (Answer.Value x) p q = absurd p
-same-times old new j (Answer.Refused r) p q = absurd p
+same-times : (old new : List Finish) (j : ℕ) (r : Return) → Agrees old j r → Agrees new j r → times j old ≡ times j new
+same-times old new j (Return.done o) p q = p .0 ∙ sym (q .0)
+same-times old new j Return.exited p q = p ∙ sym q
 
 pub returned-times :
     (old new : List Finish) (rs : List Response) (j : ℕ) → AllAgree old rs → AllAgree new rs → hasReturned j rs ≡ true →
@@ -105,7 +96,7 @@ unfolding hasReturned
 returned-times old new [] j p q h = absurd (false≢true h)
 returned-times old new (r ∷ rs) j p q h =
     on-equal (λ b. cond b true (hasReturned j rs) ≡ true → times j old ≡ times j new) (r .operation) j
-    (λ e _. rw (← e) (same-times old new (r .operation) (r .answer) (p .0) (q .0)))
+    (λ e _. rw (← e) (same-times old new (r .operation) (r .return) (p .0) (q .0)))
     (λ _ k. returned-times old new rs j (p .1) (q .1) k) h
 
 -- places in an order and in an earlier one

@@ -16,12 +16,11 @@ use Rattle.construction.specs.declared.Words.{Words}
 use Rattle.construction.specs.declared.Announcement.{Announcement}
 use Rattle.construction.specs.declared.Operation.{Operation}
 use Rattle.construction.specs.declared.Card.{Card}
-use Rattle.construction.specs.declared.Answer.{Answer}
 use Rattle.construction.specs.Cells.{zeros, isDone, openAnnouncement}
 use Rattle.construction.specs.Sequential.{Ending, sequential}
 use Rattle.construction.specs.Instructions.{noProgram}
 use Rattle.construction.specs.Parts.{noOperation}
-use Rattle.construction.specs.History.{Invocation, Notes, hasCalled, latest, latestCall, turned, benchRun, finishedOne, withReturn, times, outputsOf, hasReturned, Numbered, Agrees, AllAgree, UnderWay}
+use Rattle.construction.specs.History.{Invocation, Notes, hasCalled, latest, latestCall, turned, benchRun, finishedOne, Return, Event, ended, times, outputsOf, hasReturned, Numbered, Agrees, AllAgree, UnderWay}
 use Rattle.construction.proofs.Basics.{on-set, true-or-false, true-false, ne-isDone}
 use Rattle.construction.proofs.NotesLaws.{on-equal, chosen, passed, latest-below, latest-apart, agree-longer, turns, turned-same, turned-not, turned-one}
 use Rattle.construction.proofs.World.{World, announcementIn, callIn, outputsIn, endingIn, Good, asking, ending, Move}
@@ -334,12 +333,12 @@ module _
             over = λ t d. rw number (O .over t d);
           }
 
-  -- process i returns with an answer that agrees with the order
+  -- process i returns as the order says
   pub tracks-returned :
-      {b : Bool} (a : Answer) → Own b w s i → Agrees (s .order) (latest (s .operations) i) a → busy′ i ≡ false →
-      Tracks p busy′ announced′ w (withReturn s i a)
+      {b : Bool} (r : Return) → Own b w s i → Agrees (s .order) (latest (s .operations) i) r → busy′ i ≡ false →
+      Tracks p busy′ announced′ w (ended s i (Event.returned r))
   unfolding hasReturned
-  tracks-returned a O agrees idle =
+  tracks-returned r O agrees idle =
       record {
         words = T .words;
         count = T .count;
@@ -350,7 +349,7 @@ module _
         unborn = λ k h.
             let far : latest (s .operations) i ≢ k = λ e. omega (arith, latest-below (s .operations) i (O .asked)) in
             passed _ _ _ _ far ∙ T .unborn k h;
-        own = on-process (λ j. Own (announced′ j) w (withReturn s i a) j) (λ t. absurd (true-false _ t idle)) (λ j ne Q. record {
+        own = on-process (λ j. Own (announced′ j) w (ended s i (Event.returned r)) j) (λ t. absurd (true-false _ t idle)) (λ j ne Q. record {
           asked = Q .asked;
           request = Q .request;
           unreturned = passed _ _ _ _ (latest-apart (s .operations) i j (λ e. ne (sym e)) (O .asked) (Q .asked)) ∙ Q .unreturned;

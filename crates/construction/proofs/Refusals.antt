@@ -1,11 +1,12 @@
 -- The table of 'Turned back' (document 01): each refusal of a request is given, by its number and with the card as it was, when its condition
 -- holds and no lower one of the same request does; otherwise the request is taken. Rows 1 and 11 likewise, for a text and for a lent buffer.
 use Prim.Native.Nat.{ℕ, _<_, _≤_}
-use mathlib.Core.Path.{_≡_, refl}
+use mathlib.Core.Path.{_≡_, refl, ap}
 use mathlib.Core.Bool.{true, false}
 use mathlib.Core.List.{List, [], _∷_}
 use lib.ListN.{length}
 use borrow.Author.Tests.{lt-ltb, le-ltb, le-leb, lt-leb}
+use Rattle.grammar.specs.Reading.{hasWord}
 use Rattle.construction.specs.declared.Words.{Words}
 use Rattle.construction.specs.declared.Announcement.{Announcement}
 use Rattle.construction.specs.declared.Flag.{Flag}
@@ -15,19 +16,26 @@ use Rattle.construction.specs.declared.Answer.{Answer}
 use Rattle.construction.specs.declared.Answered.{Answered}
 use Rattle.construction.specs.declared.Refusal.{Refusal}
 use Rattle.construction.specs.declared.Refusal.the-variants.{NoProcess, NoProgram, Busy, NotBusy, NoPlace, LimitReached}
-use Rattle.construction.specs.Answers.{numberOf, valuesOf, verdictValues, writtenValues, Refuses}
+use Rattle.construction.specs.Answers.{numberOf, fields, refusedWith, answerFields, verdictFields, writtenFields, Refuses}
 use Rattle.construction.specs.Machine.{advance}
 use Rattle.construction.specs.Parts.{localAt, withLocal, Local}
 use Rattle.construction.specs.Requests.{isProcess, isProgram, isVariable, isBusy, refused, call, requestExit, returned, answerOf, step, valueOf, read, invoked, exiting, isIdle}
 use Rattle.construction.specs.Opening.{readCard, opened}
 use Rattle.construction.specs.Writing.{textOf, written, writtenInto}
-use Rattle.construction.proofs.Basics.{on-test, clash}
+use Rattle.construction.proofs.Basics.{on-test, true-false}
+use Rattle.construction.proofs.AnswerFields.{isRefusal, answer-known}
 use Rattle.construction.proofs.Entries.{on-call, on-exit, on-step, on-read}
 
--- a refused request gives the number of its refusal and the card as it was
+-- a refused request gives the number of its refusal and the card as it was, and no other answer does
 refuses : (c : Card) (r : Answered) (why : Refusal) → r ≡ refused c why → Refuses c r (numberOf why)
-unfolding valuesOf
+unfolding answerFields
 refuses c r why e = rw e (record { refusal = refl; kept = refl })
+
+pub refuses-only : (c : Card) (r : Answered) (why : Refusal) → Refuses c r (numberOf why) → r ≡ refused c why
+unfolding answerFields
+refuses-only c r why h =
+    let a : r .answer ≡ Answer.Refused why = answer-known (r .answer) (Answer.Refused why) (h .refusal) in
+    λ i. record { card = h .kept i; answer = a i }
 
 module _ (c : Card) (i k : ℕ) (inputs : Words) where
   pub call-no-process : isProcess c i ≡ false → Refuses c (call c i k inputs) 5
@@ -89,46 +97,53 @@ module _ (c : Card) (i : ℕ) where
   read-value p = rw p
 
 -- row 1, at line 0
-pub text-too-long : (t : List ℕ) → 16384 < length t → verdictValues (opened t .verdict) ≡ 1 ∷ 0 ∷ []
-unfolding opened readCard verdictValues numberOf
+pub text-too-long : (t : List ℕ) → 16384 < length t → verdictFields (opened t .verdict) ≡ fields "refused" (1 ∷ 0 ∷ [])
+unfolding opened readCard verdictFields numberOf
 text-too-long t l = rw (lt-ltb 16384 (length t) l)
 
 -- row 11, and the length else
 pub write-short :
     (c : Card) (b : List ℕ) → length b < length (textOf c) →
-    (writtenValues (written c b) ≡ 11 ∷ []) × (writtenInto c b ≡ b)
-unfolding written writtenInto writtenValues numberOf
+    (writtenFields (written c b) ≡ refusedWith 11) × (writtenInto c b ≡ b)
+unfolding written writtenInto writtenFields numberOf
 write-short c b l = (rw (lt-leb _ _ l), rw (lt-leb _ _ l))
 
 pub write-fits :
-    (c : Card) (b : List ℕ) → length (textOf c) ≤ length b → writtenValues (written c b) ≡ length (textOf c) ∷ []
-unfolding written writtenValues
+    (c : Card) (b : List ℕ) → length (textOf c) ≤ length b → writtenFields (written c b) ≡ fields "" (length (textOf c) ∷ [])
+unfolding written writtenFields
 write-fits c b l = rw (le-leb _ _ l)
 
--- 'Elsewhere the card .. remain[s] as [it was]': an answer that refuses comes with the same card
+-- 'Elsewhere the card .. remain[s] as [it was]': an answer that refuses, whatever its number, comes with the same card
 pub record Kept (c : Card) (r : Answered) : Type 0 where
-  pub kept : (why : Refusal) → r .answer ≡ Answer.Refused why → r .card ≡ c
+  pub kept : (number : ℕ) → answerFields (r .answer) ≡ refusedWith number → r .card ≡ c
 
 same : (c : Card) (r : Refusal) → Kept c (refused c r)
-same c r = record { kept = λ why e. refl }
-
-other : (c d : Card) (a : Answer) → ((why : Refusal) → a ≡ Answer.Refused why → ⊥) → Kept c (record { card = d; answer = a })
-other c d a h = record { kept = λ why e. absurd (h why e) }
+same c r = record { kept = λ number e. refl }
 
 -- an answer that is no refusal
-taken : (why : Refusal) → Answer.Taken ≡ Answer.Refused why → ⊥
-taken why e = clash (cc)
+abbrev Accepts : Answer → Type 0
+Accepts a = isRefusal (answerFields a) ≡ false
 
-returns : (a : Announcement) (f : Flag) (k : ℕ) (why : Refusal) → returned a f k ≡ Answer.Refused why → ⊥
-returns a Done k why e = clash (cc)
-returns a Active k why e = clash (cc)
-returns a Exit k why e = clash (cc)
+other : (c d : Card) (a : Answer) → Accepts a → Kept c (record { card = d; answer = a })
+unfolding hasWord
+other c d a h = record { kept = λ number e. absurd (true-false _ (ap isRefusal e) h) }
 
-accepted : (l : Local) (why : Refusal) → answerOf l ≡ Answer.Refused why → ⊥
-accepted l why =
-    on-test (λ (a : Answer). a ≡ Answer.Refused why → ⊥) (isIdle (l .task .place))
-    (λ _. returns (l .announcement) (l .announcement .flag) (l .steps) why)
-    (λ _ e. clash (cc))
+taken : Accepts Answer.Taken
+unfolding answerFields hasWord
+taken = refl
+
+returns : (a : Announcement) (f : Flag) (k : ℕ) → Accepts (returned a f k)
+unfolding answerFields hasWord
+returns a Done k = refl
+returns a Active k = refl
+returns a Exit k = refl
+
+running : Accepts Answer.Run
+unfolding answerFields hasWord
+running = refl
+
+accepted : (l : Local) → Accepts (answerOf l)
+accepted l = on-test Accepts (isIdle (l .task .place)) (λ _. returns (l .announcement) (l .announcement .flag) (l .steps)) (λ _. running)
 
 pub call-kept : (c : Card) (i k : ℕ) (inputs : Words) → Kept c (call c i k inputs)
 call-kept c i k inputs = on-call (Kept c) c (same c) i k inputs (λ _ _ _. other c _ Answer.Taken taken)

@@ -6,7 +6,6 @@ use mathlib.Core.List.{List, [], _∷_, _++_}
 use native.Mathlib.Omega.{arith}
 use lib.ListN.{length, replicate}
 use Rattle.grammar.specs.Reading.{four, field, number, digits, hasWord}
-use Rattle.construction.specs.declared.Answer.{Answer}
 use Rattle.construction.specs.declared.Card.{Card}
 use Rattle.construction.specs.Opening.{opened, readCard, varsFrom, programsFrom, readProgram, insFrom, fresh}
 use Rattle.construction.specs.Lines.{cardLine, judgeCard, varLine, judgeVar, sheetLine, judgeSheet, insLine, judgeIns}
@@ -17,7 +16,7 @@ use Rattle.construction.specs.Machine.{advance, perform, accessOf, acces
 use Rattle.construction.specs.Helping.{simulate, simulateFrom}
 use Rattle.construction.specs.Dictionary.{position, assign, valueUnder, insert, altered, unaltered, nextWrite}
 use Rattle.construction.specs.Cells.{sameWords, sameGate, sameAnnouncement, sameRecord, swapGate, swapAnnouncement, swapRecord, released, current, previous, rewritten}
-use Rattle.construction.specs.History.{Entry, Serialized, run, observe, observeAll, finished, latest, latestCall, turned, hasReturned, place}
+use Rattle.construction.specs.History.{Entry, Return, Serialized, run, observe, observeAll, finished, latest, latestCall, turned, hasReturned, place}
 use Rattle.construction.specs.Examples.{one, cardK, twoProcesses}
 use Rattle.construction.proofs.Serialization.{serialization}
 
@@ -45,7 +44,7 @@ pub record Computed : Type 0 where
             record { process = 1; program = 0; inputs = one 9 } ∷ record { process = 0; program = 0; inputs = one 5 } ∷ [];
         order = record { operation = 1; gate = 1; outputs = one 7 } ∷ [];
         returns =
-            record { operation = 1; answer = Answer.Done (one 7) 8 } ∷ record { operation = 0; answer = Answer.Exited 12 } ∷ [];
+            record { operation = 1; return = Return.done (one 7) } ∷ record { operation = 0; return = Return.exited } ∷ [];
         words = 9 ∷ [];
       }
   pub returned-first : hasReturned 0 (run single first .notes .returns) ≡ true

@@ -1,14 +1,43 @@
--- The numbers and values of every answer, as document 01 gives them: 'a definition gives this paper's number and values for every case of the enum'.
+-- Every answer by its fields: the word of its case and its numbers, as document 01 gives them. 'If an answer is an enum, a definition gives this
+-- paper's number and values for every case of the enum, and the promises use that definition.'
 use Prim.Native.Nat.{ℕ}
+use Prim.Native.Char.{code}
+use Prim.Native.String.{String}
 use mathlib.Core.Path.{_≡_}
-use mathlib.Core.List.{List, [], _∷_}
+use mathlib.Core.List.{List, [], _∷_, _++_}
+use Rattle.grammar.specs.Writing.{decimal}
 use Rattle.construction.specs.declared.Card.{Card}
 use Rattle.construction.specs.declared.Answer.{Answer}
 use Rattle.construction.specs.declared.Answered.{Answered}
+use Rattle.construction.specs.declared.RowSwap.{RowSwap}
 use Rattle.construction.specs.declared.Verdict.{Verdict}
 use Rattle.construction.specs.declared.Written.{Written}
+use Rattle.construction.specs.declared.CardLine.{CardLine}
+use Rattle.construction.specs.declared.VarLine.{VarLine}
+use Rattle.construction.specs.declared.SheetLine.{SheetLine}
+use Rattle.construction.specs.declared.InsLine.{InsLine}
+use Rattle.construction.specs.declared.Decoded.{Decoded}
+use Rattle.construction.specs.declared.Encoded.{Encoded}
 use Rattle.construction.specs.declared.Refusal.{Refusal}
 use Rattle.construction.specs.declared.Refusal.the-variants.{TooLong, Malformed, OutOfRange, BadInstruction, NoProcess, NoProgram, Busy, NotBusy, NoPlace, LimitReached, ShortBuffer}
+use Rattle.construction.specs.Instructions.{encode}
+
+-- the bytes of a text
+abbrev pub bytes : String → List ℕ
+bytes String.[] = []
+bytes (String._∷_ x xs) = code x ∷ bytes xs
+
+-- the word of a case, no bytes where the paper gives it none, and the numbers that follow
+pub record Fields : Type 0 where
+  pub word : List ℕ
+  pub numbers : List ℕ
+
+abbrev pub fields : String → List ℕ → Fields
+fields word numbers = record { word = bytes word; numbers = numbers }
+
+-- '`refused` and the number'
+abbrev pub refusedWith : ℕ → Fields
+refusedWith number = fields "refused" (number ∷ [])
 
 -- the number of a refusal in the table of 'Turned back'
 unfoldable pub numberOf : Refusal → ℕ
@@ -24,26 +53,70 @@ numberOf NoPlace = 9
 numberOf LimitReached = 10
 numberOf ShortBuffer = 11
 
--- a call, an exit request, a step or a read ('The bench program'): the four outputs and own steps, own steps, the value looked at, or the refusal
-unfoldable pub valuesOf : Answer → List ℕ
-valuesOf Answer.Taken = []
-valuesOf Answer.Run = []
-valuesOf (Answer.Done o steps) = o .w0 ∷ o .w1 ∷ o .w2 ∷ o .w3 ∷ steps ∷ []
-valuesOf (Answer.Exited steps) = steps ∷ []
-valuesOf (Answer.Value x) = x ∷ []
-valuesOf (Answer.Refused r) = numberOf r ∷ []
+-- a call, an exit request, a step or a read: '`taken`, `run`, `done` with four outputs and the operation's own steps, `exited` with its own
+-- steps, the looked value, or `refused` and the number'
+unfoldable pub answerFields : Answer → Fields
+answerFields Answer.Taken = fields "taken" []
+answerFields Answer.Run = fields "run" []
+answerFields (Answer.Done o steps) = fields "done" (o .w0 ∷ o .w1 ∷ o .w2 ∷ o .w3 ∷ steps ∷ [])
+answerFields (Answer.Exited steps) = fields "exited" (steps ∷ [])
+answerFields (Answer.Value x) = fields "" (x ∷ [])
+answerFields (Answer.Refused r) = refusedWith (numberOf r)
 
--- a card text: nothing, or the refusal and its line
-unfoldable pub verdictValues : Verdict → List ℕ
-verdictValues Verdict.Accepted = []
-verdictValues (Verdict.Refused r line) = numberOf r ∷ line ∷ []
+-- a card text: accepted, or '`card,refused,number,line`'
+unfoldable pub verdictFields : Verdict → Fields
+verdictFields Verdict.Accepted = fields "accepted" []
+verdictFields (Verdict.Refused r line) = fields "refused" (numberOf r ∷ line ∷ [])
 
--- the writer: the length, or the refusal
-unfoldable pub writtenValues : Written → List ℕ
-writtenValues (Written.Bytes n) = n ∷ []
-writtenValues (Written.Refused r) = numberOf r ∷ []
+-- the writer 'tells the length', or is turned back
+unfoldable pub writtenFields : Written → Fields
+writtenFields (Written.Bytes n) = fields "" (n ∷ [])
+writtenFields (Written.Refused r) = refusedWith (numberOf r)
+
+-- a swap on a lent row 'tells which', or is turned back
+unfoldable pub rowFields : RowSwap → Fields
+rowFields RowSwap.Won = fields "won" []
+rowFields RowSwap.Lost = fields "lost" []
+rowFields (RowSwap.Refused r) = refusedWith (numberOf r)
+
+-- 'each line yields either its fields or a refusal number'; the place past the line is none of the paper's numbers
+unfoldable pub cardLineFields : CardLine → Fields
+cardLineFields (CardLine.Fields p n s limit next) = fields "card" (p ∷ n ∷ s ∷ limit ∷ [])
+cardLineFields (CardLine.Refused r) = refusedWith (numberOf r)
+
+unfoldable pub varLineFields : VarLine → Fields
+varLineFields (VarLine.Start value next) = fields "var" (value ∷ [])
+varLineFields (VarLine.Refused r) = refusedWith (numberOf r)
+
+unfoldable pub sheetLineFields : SheetLine → Fields
+sheetLineFields (SheetLine.Length length next) = fields "sheet" (length ∷ [])
+sheetLineFields (SheetLine.Refused r) = refusedWith (numberOf r)
+
+-- an instruction by its code and operands
+abbrev pub encodedFields : Encoded → Fields
+encodedFields e = fields "ins" (e .code ∷ e .a ∷ e .b ∷ e .c ∷ [])
+
+unfoldable pub decodedFields : Decoded → Fields
+decodedFields (Decoded.Valid x) = encodedFields (encode x)
+decodedFields (Decoded.Refused r) = refusedWith (numberOf r)
+
+unfoldable pub insLineFields : InsLine → Fields
+insLineFields (InsLine.Ins x next) = decodedFields (Decoded.Valid x)
+insLineFields (InsLine.Refused r) = decodedFields (Decoded.Refused r)
 
 -- a request on the card c is refused with a number: 'Elsewhere the card and all lent cells and bytes remain as they were'
 pub record Refuses (c : Card) (r : Answered) (number : ℕ) : Type 0 where
-  pub refusal : valuesOf (r .answer) ≡ number ∷ []
+  pub refusal : answerFields (r .answer) ≡ refusedWith number
   pub kept : r .card ≡ c
+
+-- Fields in a line of text, 'parted by commas': each follows a comma.
+unfoldable pub numbersText : List ℕ → List ℕ
+numbersText [] = []
+numbersText (n ∷ ns) = 44 ∷ (decimal n ++ numbersText ns)
+
+abbrev pub wordText : List ℕ → List ℕ
+wordText [] = []
+wordText (x ∷ xs) = 44 ∷ x ∷ xs
+
+unfoldable pub fieldsText : Fields → List ℕ
+fieldsText f = wordText (f .word) ++ numbersText (f .numbers)

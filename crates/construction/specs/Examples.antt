@@ -2,8 +2,6 @@
 -- as a table: a card text, entries, and what is to be seen. A second table has the small examples of 'Turned back'.
 -- The theorems over the tables are in proofs/Examples.
 use Prim.Native.Nat.{ℕ, zero, suc}
-use Prim.Native.Char.{code}
-use Prim.Native.String.{String}
 use mathlib.Core.Path.{_≡_}
 use mathlib.Core.Bool.{true, false}
 use mathlib.Core.List.{List, [], _∷_, _++_}
@@ -20,15 +18,11 @@ use Rattle.construction.specs.declared.Holder.the-variants.{Nobody, Proc
 use Rattle.construction.specs.declared.Refusal.{Refusal}
 use Rattle.construction.specs.declared.Refusal.the-variants.{NotBusy, LimitReached}
 use Rattle.construction.specs.Cells.{openRecord}
-use Rattle.construction.specs.Answers.{verdictValues, writtenValues, Refuses}
+use Rattle.construction.specs.Answers.{bytes, Fields, fields, refusedWith, verdictFields, writtenFields, cardLineFields, varLineFields, sheetLineFields, insLineFields, Refuses}
+use Rattle.construction.specs.Lines.{cardLine, varLine, sheetLine, insLine}
 use Rattle.construction.specs.Opening.{opened}
 use Rattle.construction.specs.Writing.{written}
 use Rattle.construction.specs.History.{Entry, act}
-
--- the bytes of a text
-abbrev pub bytes : String → List ℕ
-bytes String.[] = []
-bytes (String._∷_ x xs) = code x ∷ bytes xs
 
 -- the card and the answers after a list of entries
 abbrev pub cardAfter : Card → List Entry → Card
@@ -360,13 +354,34 @@ pub record RefusedText : Type 0 where
 
 abbrev pub AllTextsRefused : List RefusedText → Type 0
 AllTextsRefused [] = Unit
-AllTextsRefused (r ∷ rs) = (verdictValues (opened (r .text) .verdict) ≡ r .number ∷ r .line ∷ []) × AllTextsRefused rs
+AllTextsRefused (r ∷ rs) = (verdictFields (opened (r .text) .verdict) ≡ fields "refused" (r .number ∷ r .line ∷ [])) × AllTextsRefused rs
 
 abbrev pub refusedTexts : List RefusedText
 refusedTexts =
     record { text = bytes "card,1,1,1,5\nvar,07\nsheet,1\nins,12,0,0,0\n"; number = 2; line = 2 }
     ∷ record { text = bytes "card,9,1,1,5\nvar,7\nsheet,1\nins,12,0,0,0\n"; number = 3; line = 1 }
     ∷ record { text = bytes "card,1,1,1,5\nvar,7\nsheet,1\nins,13,0,0,0\n"; number = 4; line = 4 }
+    ∷ []
+
+-- 'each line yields either its fields or a refusal number': a line, and what it yields
+pub record Yielded : Type 0 where
+  pub line : Fields
+  pub expected : Fields
+
+abbrev pub AllYielded : List Yielded → Type 0
+AllYielded [] = Unit
+AllYielded (r ∷ rs) = (r .line ≡ r .expected) × AllYielded rs
+
+abbrev pub yieldedLines : List Yielded
+yieldedLines =
+    record { line = cardLineFields (cardLine (bytes "card,2,64,8,100\n") 0); expected = fields "card" (2 ∷ 64 ∷ 8 ∷ 100 ∷ []) }
+    ∷ record { line = cardLineFields (cardLine (bytes "card,9,1,1,5\n") 0); expected = refusedWith 3 }
+    ∷ record { line = varLineFields (varLine (bytes "var,7\n") 0); expected = fields "var" (7 ∷ []) }
+    ∷ record { line = varLineFields (varLine (bytes "var,07\n") 0); expected = refusedWith 2 }
+    ∷ record { line = sheetLineFields (sheetLine (bytes "sheet,32\n") 0); expected = fields "sheet" (32 ∷ []) }
+    ∷ record { line = sheetLineFields (sheetLine (bytes "sheet,33\n") 0); expected = refusedWith 3 }
+    ∷ record { line = insLineFields (insLine 1 (bytes "ins,9,3,2,31\n") 0); expected = fields "ins" (9 ∷ 3 ∷ 2 ∷ 31 ∷ []) }
+    ∷ record { line = insLineFields (insLine 1 (bytes "ins,13,0,0,0\n") 0); expected = refusedWith 4 }
     ∷ []
 
 -- rows 5 to 10: a request that is refused after a list of entries
@@ -394,4 +409,4 @@ refusedEntries =
 
 -- row 11: a lent buffer of 0 bytes
 abbrev pub BufferRefused : Type 0
-BufferRefused = writtenValues (written (opened cardK .card) []) ≡ 11 ∷ []
+BufferRefused = writtenFields (written (opened cardK .card) []) ≡ refusedWith 11

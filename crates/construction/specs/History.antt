@@ -41,10 +41,29 @@ pub record Finish : Type 0 where
   pub gate : ℕ
   pub outputs : Words
 
--- an operation that returned, with the answer of the step that brought it
+-- how an operation returned: done, with its outputs, or exited
+pub data Return : Type 0 where
+  done : (outputs : Words) → Return
+  exited : Return
+
+-- an operation that returned, and how
 pub record Response : Type 0 where
   pub operation : ℕ
-  pub answer : Answer
+  pub return : Return
+
+-- what an answer says of operations: one is taken up, one returns and how, or neither
+pub data Event : Type 0 where
+  taken : Event
+  returned : Return → Event
+  none : Event
+
+abbrev pub eventOf : Answer → Event
+eventOf Answer.Taken = Event.taken
+eventOf Answer.Run = Event.none
+eventOf (Answer.Done o steps) = Event.returned (Return.done o)
+eventOf (Answer.Exited steps) = Event.returned Return.exited
+eventOf (Answer.Value x) = Event.none
+eventOf (Answer.Refused r) = Event.none
 
 -- what an observer notes, newest first: the operations, those that finished, those that returned; and the bench's words
 pub record Notes : Type 0 where
@@ -98,39 +117,30 @@ finished o gate [] s = s
 finished o gate (i ∷ is) s = finished o gate is (finishedOne o gate i s)
 
 -- an operation begins at a taken call
-abbrev pub begun : Notes → Invocation → Answer → Notes
-begun s x Answer.Taken =
+abbrev pub begun : Notes → Invocation → Event → Notes
+begun s x Event.taken =
     record { operations = x ∷ s .operations; order = s .order; returns = s .returns; words = s .words }
-begun s x Answer.Run = s
-begun s x (Answer.Done o k) = s
-begun s x (Answer.Exited k) = s
-begun s x (Answer.Value v) = s
-begun s x (Answer.Refused r) = s
+begun s x (Event.returned r) = s
+begun s x Event.none = s
 
 -- 'It is under way until it returns: at the accepted step of its process that does not answer 'run''
-abbrev pub withReturn : Notes → ℕ → Answer → Notes
-withReturn s i a =
+abbrev pub ended : Notes → ℕ → Event → Notes
+ended s i Event.taken = s
+ended s i (Event.returned r) =
     record {
       operations = s .operations;
       order = s .order;
-      returns = record { operation = latest (s .operations) i; answer = a } ∷ s .returns;
+      returns = record { operation = latest (s .operations) i; return = r } ∷ s .returns;
       words = s .words;
     }
-
-abbrev pub ended : Notes → ℕ → Answer → Notes
-ended s i Answer.Taken = s
-ended s i Answer.Run = s
-ended s i (Answer.Done o k) = withReturn s i (Answer.Done o k)
-ended s i (Answer.Exited k) = withReturn s i (Answer.Exited k)
-ended s i (Answer.Value v) = s
-ended s i (Answer.Refused r) = s
+ended s i Event.none = s
 
 -- what an entry and its answer say: calls begin operations, steps end them
-abbrev pub noted : Notes → Entry → Answer → Notes
-noted s (Entry.Call i k inputs) a = begun s (record { process = i; program = k; inputs = inputs }) a
-noted s (Entry.Exit i) a = s
-noted s (Entry.Step i) a = ended s i a
-noted s (Entry.Read v) a = s
+abbrev pub noted : Notes → Entry → Event → Notes
+noted s (Entry.Call i k inputs) e = begun s (record { process = i; program = k; inputs = inputs }) e
+noted s (Entry.Exit i) e = s
+noted s (Entry.Step i) e = ended s i e
+noted s (Entry.Read v) e = s
 
 -- the card and the notes
 pub record Moment : Type 0 where
@@ -152,7 +162,7 @@ observe o m e =
     record {
       card = r .card;
       notes =
-          noted (finished o (m .card .gate .seq) (finishing (m .card) (r .card)) (m .notes)) e (r .answer);
+          noted (finished o (m .card .gate .seq) (finishing (m .card) (r .card)) (m .notes)) e (eventOf (r .answer));
     }
 
 -- 'The first entry gets the card as its text opened it, each later one the card that the entry before returned'
@@ -188,17 +198,13 @@ Numbered [] = Unit
 Numbered (f ∷ fs) = (f .gate ≡ suc (length fs)) × Numbered fs
 
 -- a return agrees with the order: done stands there once, with the bench's outputs; exited never
-abbrev pub Agrees : List Finish → ℕ → Answer → Type 0
-Agrees order k Answer.Taken = ⊥
-Agrees order k Answer.Run = ⊥
-Agrees order k (Answer.Done o steps) = (times k order ≡ 1) × (outputsOf k order ≡ o)
-Agrees order k (Answer.Exited steps) = times k order ≡ 0
-Agrees order k (Answer.Value x) = ⊥
-Agrees order k (Answer.Refused r) = ⊥
+abbrev pub Agrees : List Finish → ℕ → Return → Type 0
+Agrees order k (Return.done o) = (times k order ≡ 1) × (outputsOf k order ≡ o)
+Agrees order k Return.exited = times k order ≡ 0
 
 abbrev pub AllAgree : List Finish → List Response → Type 0
 AllAgree order [] = Unit
-AllAgree order (r ∷ rs) = Agrees order (r .operation) (r .answer) × AllAgree order rs
+AllAgree order (r ∷ rs) = Agrees order (r .operation) (r .return) × AllAgree order rs
 
 -- an operation of process i is under way: it has a taken call, and the latest has not returned
 pub record UnderWay (s : Notes) (i : ℕ) : Type 0 where
@@ -206,17 +212,12 @@ pub record UnderWay (s : Notes) (i : ℕ) : Type 0 where
   pub unreturned : hasReturned (latest (s .operations) i) (s .returns) ≡ false
 
 -- an entry finishes nothing, or is a step and finishes one operation that is under way
-abbrev pub isStep : Entry → Bool
-isStep (Entry.Call i k inputs) = false
-isStep (Entry.Exit i) = false
-isStep (Entry.Step i) = true
-isStep (Entry.Read v) = false
-
 pub record FinishesOne (m : Moment) (e : Entry) : Type 0 where
   pub process : ℕ
   pub only : finishing (m .card) (act (m .card) e .card) ≡ process ∷ []
   pub underWay : UnderWay (m .notes) process
-  pub byStep : isStep e ≡ true
+  pub stepper : ℕ
+  pub byStep : e ≡ Entry.Step stepper
 
 abbrev pub FinishesAtMostOne : Moment → Entry → Type 0
 FinishesAtMostOne m e = (finishing (m .card) (act (m .card) e .card) ≡ []) ⊎ FinishesOne m e

@@ -14,8 +14,8 @@ use Rattle.construction.specs.declared.RowSwap.{RowSwap}
 use Rattle.construction.specs.declared.RowSwap.the-variants.{Won, Refused}
 use Rattle.construction.specs.declared.Refusal.the-variants.{NoPlace}
 use Rattle.construction.specs.Cells.{openRecord, sameRecord, swapRecord}
-use Rattle.construction.specs.Answers.{numberOf}
-use Rattle.lent.specs.Row.{tells, swapAt, rowAnswer, rowAfter, refusalOf, rowRefusal}
+use Rattle.construction.specs.Answers.{fields, numberOf, rowFields}
+use Rattle.lent.specs.Row.{tells, swapAt, rowAnswer, rowAfter, swapFields}
 
 module _ (row : List Record) (place : ℕ) (expected new : Record) where
   abbrev past : Bool
@@ -71,23 +71,23 @@ module _ (row : List Record) (place : ℕ) (expected new : Record) where
 
   -- what the contract says of an answer and a row at exit
   abbrev pub Said : RowSwap → List Record → Type 0
-  Said r exit = (r ≡ rowAnswer row place expected new) × (exit ≡ rowAfter row place expected new) × (refusalOf r ≡ rowRefusal row place)
+  Said r exit = (r ≡ rowAnswer row place expected new) × (exit ≡ rowAfter row place expected new) × (rowFields r ≡ swapFields row place expected new)
 
   -- the guard's arm: no such place
   pub refused : length row ≤ place → Said (Refused NoPlace) row
-  unfolding rowAnswer rowAfter refusalOf rowRefusal numberOf
+  unfolding rowAnswer rowAfter rowFields swapFields numberOf
   refused h = (rw (le-leb _ _ h), rw (le-leb _ _ h), rw (le-leb _ _ h))
 
-  no-refusal : (t : Bool) → refusalOf (tells t) ≡ []
-  unfolding refusalOf
-  no-refusal true = refl
-  no-refusal false = refl
+  which : (t : Bool) → rowFields (tells t) ≡ cond t (fields "won" []) (fields "lost" [])
+  unfolding rowFields
+  which true = refl
+  which false = refl
 
   -- the code after it: the record at the place was swapped by value, and its outcome told
   pub swapped : (s : SwappedRecord) (r : RowSwap) → place < length row → s ≡ swapAt row place expected new → r ≡ tells (s .won) → Said r (set row place (s .cell))
-  unfolding rowAnswer rowAfter rowRefusal
+  unfolding rowAnswer rowAfter swapFields
   swapped s r h p q = (
     rw (lt-leb _ _ h) (q ∙ ap (λ (x : SwappedRecord). tells (x .won)) p),
     rw (lt-leb _ _ h) (ap (λ (x : SwappedRecord). set row place (x .cell)) p),
-    rw (lt-leb _ _ h) (ap refusalOf q ∙ no-refusal (s .won)),
+    rw (lt-leb _ _ h) (ap rowFields q ∙ (which (s .won) ∙ ap (λ (x : SwappedRecord). cond (x .won) (fields "won" []) (fields "lost" [])) p)),
   )

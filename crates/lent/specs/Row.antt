@@ -2,7 +2,7 @@
 -- of records. A place at or past the row's end is refusal 9.')
 use Prim.Native.Nat.{ℕ}
 use mathlib.Core.Bool.{Bool, cond}
-use mathlib.Core.List.{List, [], _∷_}
+use mathlib.Core.List.{List, []}
 use lib.Dec.{leb}
 use lib.ListN.{length, getD, set}
 use Rattle.construction.specs.declared.Record.{Record}
@@ -11,7 +11,7 @@ use Rattle.construction.specs.declared.RowSwap.{RowSwap}
 use Rattle.construction.specs.declared.RowSwap.the-variants.{Won, Lost, Refused}
 use Rattle.construction.specs.declared.Refusal.the-variants.{NoPlace}
 use Rattle.construction.specs.Cells.{openRecord, swapRecord}
-use Rattle.construction.specs.Answers.{numberOf}
+use Rattle.construction.specs.Answers.{Fields, fields, refusedWith}
 
 -- the answer to a swap that was made: it 'tells which' (document 01, 'Shared cells')
 abbrev pub tells : Bool → RowSwap
@@ -31,12 +31,8 @@ unfoldable pub rowAfter : List Record → ℕ → Record → Record → List Rec
 rowAfter row place expected new =
     cond (leb (length row) place) row (set row place (swapAt row place expected new .cell))
 
--- 'If an answer is an enum, a definition gives this paper's number and values for every case of the enum'
-unfoldable pub refusalOf : RowSwap → List ℕ
-refusalOf Won = []
-refusalOf Lost = []
-refusalOf (Refused r) = numberOf r ∷ []
-
--- row 9 of 'Turned back', given when its condition holds, 'never else'
-unfoldable pub rowRefusal : List Record → ℕ → List ℕ
-rowRefusal row place = cond (leb (length row) place) (9 ∷ []) []
+-- the answer by its fields: `refused` with 9 where the place is not there, 'never else'; else which it was
+unfoldable pub swapFields : List Record → ℕ → Record → Record → Fields
+swapFields row place expected new =
+    cond (leb (length row) place) (refusedWith 9)
+    (cond (swapAt row place expected new .won) (fields "won" []) (fields "lost" []))

@@ -6,7 +6,8 @@ use construction::Refusal;
 use construction::RowSwap;
 ghost use mathlib.Core.Path.{_≡_};
 ghost use Rattle.construction.specs.Cells.{swapGate};
-ghost use Rattle.lent.specs.Row.{tells, rowAnswer, rowAfter, refusalOf, rowRefusal};
+ghost use Rattle.construction.specs.Answers.{rowFields};
+ghost use Rattle.lent.specs.Row.{tells, rowAnswer, rowAfter, swapFields};
 
 // Swaps the gate that its owner lends; it alone may change.
 pub fn swap_lent_gate(gate: &mut Gate, expected: Gate, new: Gate) -> bool
@@ -27,7 +28,7 @@ fn answer_of(won: bool) -> RowSwap
 
 // Swaps the record at one place of a row that its owner lends; that record alone may change.
 pub fn swap_in_row(row: &mut [Record], place: usize, expected: Record, new: Record) -> RowSwap
-    ensures { λ r. ⌜ (r ≡ rowAnswer (now (row .entry)) place expected new) × (now (row .exit) ≡ rowAfter (now (row .entry)) place expected new) × (refusalOf r ≡ rowRefusal (now (row .entry)) place) ⌝ }
+    ensures { λ r. ⌜ (r ≡ rowAnswer (now (row .entry)) place expected new) × (now (row .exit) ≡ rowAfter (now (row .entry)) place expected new) × (rowFields r ≡ swapFields (now (row .entry)) place expected new) ⌝ }
 {
     if row.len() <= place {
         return RowSwap::Refused(Refusal::NoPlace);

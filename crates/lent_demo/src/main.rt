@@ -1,9 +1,9 @@
 // A test program over the crate lent: it lends a row of four records and a gate, makes won, lost and refused swaps,
-// compares every cell afterwards, and prints a line for each case. It rests on the crates construction, cells and lent.
+// compares every cell afterwards, and prints a line for each case. It rests on the crates construction, answers, cells and lent.
+use answers::put_row_swap;
 use construction::Gate;
 use construction::Holder;
 use construction::Record;
-use construction::Refusal;
 use construction::RowSwap;
 use construction::SwappedGate;
 use libc::STDOUT_FILENO;
@@ -71,21 +71,9 @@ fn same_row(a: [Record; 4], b: [Record; 4]) -> bool {
 }
 
 fn write_answer(answer: RowSwap) {
-    match answer {
-        RowSwap::Won => {
-            io::write_all(STDOUT_FILENO, b"won");
-        }
-        RowSwap::Lost => {
-            io::write_all(STDOUT_FILENO, b"lost");
-        }
-        RowSwap::Refused(refusal) => {
-            if let Refusal::NoPlace = refusal {
-                io::write_all(STDOUT_FILENO, b"refused,9");
-            } else {
-                io::write_all(STDOUT_FILENO, b"refused");
-            }
-        }
-    }
+    let mut text = [0u8; 29];
+    let length = put_row_swap(&mut text, 0, answer);
+    io::write_all(STDOUT_FILENO, &text[..length]);
 }
 
 fn write_verdict(same: bool) {
@@ -186,15 +174,15 @@ fn gate_cases() {
 }
 
 fn main() {
-    won_row(b"row,0,equal,", 0);
-    won_row(b"row,2,equal,", 2);
-    won_row(b"row,3,equal,", 3);
-    kept_row(b"row,1,other toggle,", 1);
-    kept_row(b"row,2,other seq,", 2);
-    kept_row(b"row,3,other value,", 3);
-    kept_row(b"row,4,past the end,", 4);
+    won_row(b"row,0,equal", 0);
+    won_row(b"row,2,equal", 2);
+    won_row(b"row,3,equal", 3);
+    kept_row(b"row,1,other toggle", 1);
+    kept_row(b"row,2,other seq", 2);
+    kept_row(b"row,3,other value", 3);
+    kept_row(b"row,4,past the end", 4);
     kept_row(
-        b"row,18446744073709551615,past the end,",
+        b"row,18446744073709551615,past the end",
         18446744073709551615,
     );
     gate_cases();

@@ -1,6 +1,7 @@
 // Lines that test programs write to standard output: an answer with the verb and first number of its entry and whether the card changed,
-// and the shared cells. It rests on the crates construction, io and libc. No contract can say what is written.
-use answers::number_of;
+// and the shared cells. It rests on the crates construction, answers, io and libc. No contract can say what is written.
+use answers::put_answer;
+use answers::put_verdict;
 use construction::Announcement;
 use construction::Answer;
 use construction::Card;
@@ -9,6 +10,7 @@ use construction::Gate;
 use construction::Holder;
 use construction::Record;
 use construction::Refusal;
+use construction::Verdict;
 use construction::Words;
 use io::print_decimal;
 use libc::STDOUT_FILENO;
@@ -34,21 +36,11 @@ fn write_words(words: Words) {
     write_field(b",", words.w3 as u64);
 }
 
-fn write_done(outputs: Words, steps: u64) {
-    write(b",done");
-    write_words(outputs);
-    write_field(b",", steps);
-}
-
+// An answer's fields, each after a comma.
 fn write_answer(answer: Answer) {
-    match answer {
-        Answer::Taken => write(b",taken"),
-        Answer::Run => write(b",run"),
-        Answer::Done { outputs, steps } => write_done(outputs, steps),
-        Answer::Exited { steps } => write_field(b",exited,", steps),
-        Answer::Value(value) => write_field(b",", value as u64),
-        Answer::Refused(refusal) => write_field(b",refused,", number_of(refusal)),
-    }
+    let mut text = [0u8; 110];
+    let length = put_answer(&mut text, 0, answer);
+    write(&text[..length]);
 }
 
 fn write_change(same: bool) {
@@ -75,8 +67,10 @@ pub fn show_runs(process: u32, runs: u64) {
 }
 
 pub fn show_refused_text(refusal: Refusal, line: u64) {
-    write_field(b"card,refused,", number_of(refusal));
-    write_field(b",", line);
+    let mut text = [0u8; 50];
+    let length = put_verdict(&mut text, 0, Verdict::Refused { refusal, line });
+    write(b"card");
+    write(&text[..length]);
     write(b"\n");
 }
 

@@ -1,3 +1,4 @@
 pub mod Commands
+pub mod CommandFields
 pub mod Printing
 pub mod Session

@@ -1,72 +1,33 @@
--- The printed lines (document 01, 'The bench program'): 'the verb and first number, then `taken`, `run`, `done` with four outputs and the
--- operation's own steps, `exited` with its own steps, the looked value, or `refused` and the number'. Byte 10 ends each line.
+-- The printed lines (document 01, 'The bench program'): 'the verb and first number, then' the fields of the answer, as construction's
+-- specs/Answers gives them. Byte 10 ends each line.
 use Prim.Native.Nat.{ℕ}
 use mathlib.Core.List.{List, [], _∷_, _++_}
-use Rattle.grammar.specs.Writing.{fieldText}
+use lib.ListN.{take}
 use Rattle.construction.specs.declared.Answer.{Answer}
 use Rattle.construction.specs.declared.Verdict.{Verdict}
-use Rattle.construction.specs.declared.Refusal.the-variants.{TooLong}
-use Rattle.construction.specs.Answers.{numberOf, valuesOf, verdictValues}
+use Rattle.construction.specs.Answers.{bytes, Fields, fields, refusedWith, answerFields, verdictFields, numbersText, fieldsText}
 use Rattle.session.specs.declared.Command.{Command}
-use Rattle.session.specs.Commands.{callWord, wishWord, stepWord, lookWord}
+use Rattle.session.specs.CommandFields.{commandFields}
 
--- `line,` `taken` `run` `done,` `exited,` `refused,` `card,refused,` `calls,refused,`; a line ends after `taken` and `run`
-abbrev pub lineWord : List ℕ
-lineWord = 108 ∷ 105 ∷ 110 ∷ 101 ∷ 44 ∷ []
+-- 'the verb and first number'
+abbrev pub verbText : Fields → List ℕ
+verbText f = f .word ++ numbersText (take 1 (f .numbers))
 
-abbrev pub takenWord : List ℕ
-takenWord = 116 ∷ 97 ∷ 107 ∷ 101 ∷ 110 ∷ 10 ∷ []
-
-abbrev pub runWord : List ℕ
-runWord = 114 ∷ 117 ∷ 110 ∷ 10 ∷ []
-
-abbrev pub doneWord : List ℕ
-doneWord = 100 ∷ 111 ∷ 110 ∷ 101 ∷ 44 ∷ []
-
-abbrev pub exitedWord : List ℕ
-exitedWord = 101 ∷ 120 ∷ 105 ∷ 116 ∷ 101 ∷ 100 ∷ 44 ∷ []
-
-abbrev pub refusedWord : List ℕ
-refusedWord = 114 ∷ 101 ∷ 102 ∷ 117 ∷ 115 ∷ 101 ∷ 100 ∷ 44 ∷ []
-
-abbrev pub cardRefusedWord : List ℕ
-cardRefusedWord = 99 ∷ 97 ∷ 114 ∷ 100 ∷ 44 ∷ refusedWord
-
-abbrev pub callsRefusedWord : List ℕ
-callsRefusedWord = 99 ∷ 97 ∷ 108 ∷ 108 ∷ 115 ∷ 44 ∷ refusedWord
-
--- numbers parted by commas, byte 10 after the last
-abbrev pub separator : List ℕ → ℕ
-separator [] = 10
-separator (v ∷ vs) = 44
-
-unfoldable pub valuesText : List ℕ → List ℕ
-valuesText [] = []
-valuesText (v ∷ vs) = fieldText (separator vs) v ++ valuesText vs
-
--- an answer: its word, and its values as construction's specs/Answers gives them
-abbrev pub answerWord : Answer → List ℕ
-answerWord Answer.Taken = takenWord
-answerWord Answer.Run = runWord
-answerWord (Answer.Done o steps) = doneWord
-answerWord (Answer.Exited steps) = exitedWord
-answerWord (Answer.Value x) = []
-answerWord (Answer.Refused r) = refusedWord
-
-unfoldable pub answerText : Answer → List ℕ
-answerText a = answerWord a ++ valuesText (valuesOf a)
-
--- 'the verb and first number'; of a malformed command `line,N`, where N is the number of its line
+-- what the line of a command begins with; of a malformed one `line,N`, where N is the number of its line
 unfoldable pub headText : ℕ → Command → List ℕ
-headText line (Command.Call i k x next) = callWord ++ fieldText 44 i
-headText line (Command.Exit i next) = wishWord ++ fieldText 44 i
-headText line (Command.Step i next) = stepWord ++ fieldText 44 i
-headText line (Command.Read v next) = lookWord ++ fieldText 44 v
-headText line (Command.Malformed next) = lineWord ++ fieldText 44 line
+headText line (Command.Call i k x next) = verbText (commandFields (Command.Call i k x next))
+headText line (Command.Exit i next) = verbText (commandFields (Command.Exit i next))
+headText line (Command.Step i next) = verbText (commandFields (Command.Step i next))
+headText line (Command.Read v next) = verbText (commandFields (Command.Read v next))
+headText line (Command.Malformed next) = verbText (fields "line" (line ∷ []))
+
+-- a line: what it begins with, and the fields that follow
+abbrev pub lineWith : List ℕ → Fields → List ℕ
+lineWith start f = start ++ (fieldsText f ++ (10 ∷ []))
 
 -- the line of a command and its answer
 unfoldable pub lineText : ℕ → Command → Answer → List ℕ
-lineText line m a = headText line m ++ answerText a
+lineText line m a = lineWith (headText line m) (answerFields a)
 
 -- no line is longer: a verb, `done` and six numbers of at most 20 digits with their separators
 abbrev pub longest : ℕ
@@ -74,8 +35,8 @@ longest = 136
 
 -- 'A refused card .. prints only `card,refused,number,line`'
 abbrev pub cardRefusal : Verdict → List ℕ
-cardRefusal v = cardRefusedWord ++ valuesText (verdictValues v)
+cardRefusal v = lineWith (bytes "card") (verdictFields v)
 
 -- '(at most 65,536 bytes, else it prints only `calls,refused,1`)'
 abbrev pub callsRefusal : List ℕ
-callsRefusal = callsRefusedWord ++ valuesText (numberOf TooLong ∷ [])
+callsRefusal = lineWith (bytes "calls") (refusedWith 1)

@@ -1,10 +1,9 @@
 // Card texts opened and written back. Standard input holds the cases, each a decimal length, byte 10 and so many bytes of text; a line is
 // printed for each: its verdict, and what the writer does in a buffer of eight bytes more than the text, of its length, of one byte less and
 // of none. tests/text/make_cases.py makes the cases and, by a judge of its own, the lines that are expected.
-use answers::number_of;
+use answers::put_verdict;
+use answers::put_written;
 use construction::Card;
-use construction::Refusal;
-use construction::Verdict;
 use construction::Written;
 use grammar::Number;
 use grammar::reading::byte_at;
@@ -40,9 +39,12 @@ fn put_agreement(line: &mut [u8], at: usize, same: bool) -> usize {
     }
 }
 
-fn put_refusal(line: &mut [u8], at: usize, refusal: Refusal) -> usize {
-    let next = put_word(line, at, b",refused,");
-    put_decimal(line, next, number_of(refusal))
+// How many bytes were written.
+fn bytes_of(written: Written) -> usize {
+    match written {
+        Written::Bytes(told) => told,
+        Written::Refused(_) => 0,
+    }
 }
 
 // What the writer does in the first bytes of a buffer.
@@ -58,36 +60,13 @@ fn put_written_in(
         return at;
     }
     let written = writer::write(card, &mut buffer[..room]);
-    match written {
-        Written::Bytes(told) => {
-            let next = put_byte(line, at, b',');
-            let next = put_decimal(line, next, told as u64);
-            put_agreement(line, next, agrees(buffer, text, told))
-        }
-        Written::Refused(refusal) => {
-            let next = put_refusal(line, at, refusal);
-            put_agreement(line, next, agrees(buffer, text, 0))
-        }
-    }
+    let next = put_written(line, at, written);
+    put_agreement(line, next, agrees(buffer, text, bytes_of(written)))
 }
 
-fn put_written(line: &mut [u8], at: usize, card: Card, text: &[u8], room: usize) -> usize {
+fn put_buffer(line: &mut [u8], at: usize, card: Card, text: &[u8], room: usize) -> usize {
     let mut buffer = [165u8; 8192];
     put_written_in(line, at, card, text, &mut buffer, room)
-}
-
-fn put_verdict(line: &mut [u8], at: usize, verdict: Verdict) -> usize {
-    match verdict {
-        Verdict::Accepted => put_word(line, at, b",accepted"),
-        Verdict::Refused {
-            refusal,
-            line: number,
-        } => {
-            let next = put_refusal(line, at, refusal);
-            let next = put_byte(line, next, b',');
-            put_decimal(line, next, number)
-        }
-    }
 }
 
 fn least(a: usize, b: usize) -> usize
@@ -107,10 +86,10 @@ fn put_case(line: &mut [u8], number: u64, text: &[u8]) -> usize {
     let room = least(text.len(), 8000);
     let at = put_decimal(line, 0, number);
     let at = put_verdict(line, at, verdict);
-    let at = put_written(line, at, card, text, room + 8);
-    let at = put_written(line, at, card, text, room);
-    let at = put_written(line, at, card, text, less(room));
-    let at = put_written(line, at, card, text, 0);
+    let at = put_buffer(line, at, card, text, room + 8);
+    let at = put_buffer(line, at, card, text, room);
+    let at = put_buffer(line, at, card, text, less(room));
+    let at = put_buffer(line, at, card, text, 0);
     put_byte(line, at, b'\n')
 }
 

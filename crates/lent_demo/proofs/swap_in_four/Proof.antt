@@ -45,7 +45,8 @@ use Rattle.construction.proofs.Record as T
 use Rattle.construction.proofs.Record.Laws as T′
 use Rattle.construction.proofs.RowSwap as Q
 use Rattle.construction.proofs.RowSwap.Laws as Q′
-use Rattle.lent.specs.Row.{rowAnswer, rowAfter, refusalOf, rowRefusal}
+use Rattle.construction.specs.Answers.{rowFields}
+use Rattle.lent.specs.Row.{rowAnswer, rowAfter, swapFields}
 use Rattle.lent.proofs.swap_in_row as row
 use Rattle.lent.proofs.swap_in_row.Symbol as row-def
 use Rattle.lent.proofs.swap_in_row.Symbol.{name as #row}
@@ -110,7 +111,7 @@ module _ {M : Type 1} (𝓤 : URA M) (H : Heap 𝓤) (A : Atoms 𝓤) (W : Given
 
   -- what `swap_in_row` says of its answer and of the row at exit
   abbrev Said : RowSwap → List Record → Type 0
-  Said r zs = (r ≡ rowAnswer ys n e w) × (zs ≡ rowAfter ys n e w) × (refusalOf r ≡ rowRefusal ys n)
+  Said r zs = (r ≡ rowAnswer ys n e w) × (zs ≡ rowAfter ys n e w) × (rowFields r ≡ swapFields ys n e w)
 
   -- the row that is lent, and what the call of `swap_in_row` binds
   abbrev ref : ℕ → GName → RefT (List Record)

@@ -5,15 +5,15 @@ use Rattle.session.proofs.printing.put_card_refusal.Statement.{statemen
 use Rattle.session.proofs.printing.put_card_refusal.Tie as tie
 
 returns : tie.Need-returns
-returns c = laws.put-card-refusal _ _ (c .before .before .before .before .before .before .before .number-of .ensures) (omega arith) (omega arith) (c .before .before .before .before .before .before .put-number .ensures) (c .before .before .put-field .ensures)
+returns c = laws.put-card-refusal _ (omega arith) (c .before .before .before .before .before .before .before .before .before .before .put-word .ensures) (c .before .before .before .before .before .before .put-verdict .ensures) (c .before .before .put-byte .ensures)
 
 pub put-card-refusal-spec : {M : Type 1} → statement M
 put-card-refusal-spec =
     tie.close
     (tie.spec
     (λ c. search needs)
-    (λ c κs. search needs)
-    (λ c κs. search needs)
-    (λ c κs. search needs)
+    (λ c. search needs)
+    (λ c. search needs)
+    (λ c. search needs)
     (λ c. search needs)
     returns)

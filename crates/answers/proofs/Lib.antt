@@ -1,0 +1,2 @@
+-- Laws of the texts that the functions put
+pub mod Texts

@@ -1,0 +1,85 @@
+-- Words, numbers and fields put into a buffer part by part, and how far they reach.
+use mathlib.Core.Bool.{Bool, true, false}
+use mathlib.Core.Path.{_≡_, refl}
+use mathlib.Core.List.{List, [], _∷_, _++_, append-nil}
+use Prim.Native.Nat.{ℕ, zero, suc, _+_, _*_, _/_, _<_, _≤_}
+use lib.ListN.{length, length-append}
+use lib.Dec.{ltb}
+use native.Mathlib.Omega.{arith}
+use borrow.Author.Tests.{ltb-true, ltb-false}
+use Rattle.grammar.specs.Writing.{decimal, largest, Put}
+use Rattle.grammar.proofs.Decimals.{decimal-one, decimal-more}
+use Rattle.grammar.proofs.Puts.{Room, rest-all, rest-step, rest-last, put-both}
+use Rattle.construction.specs.declared.Words.{Words}
+use Rattle.construction.specs.declared.Answer.{Answer}
+use Rattle.construction.specs.declared.Verdict.{Verdict}
+use Rattle.construction.specs.declared.Refusal.{Refusal}
+use Rattle.construction.specs.Answers.{bytes, numberOf, refusedWith, answerFields, verdictFields, numbersText, fieldsText}
+
+-- ---- how long a number is: below `tens k` it has at most k + 1 digits
+abbrev tens : ℕ → ℕ
+tens zero = 10
+tens (suc k) = tens k * 10
+
+digits-few : (k n : ℕ) → n < tens k → length (decimal n) ≤ suc k
+digits-few zero n h = rw (decimal-one n h) (omega arith)
+digits-few (suc k) n h = go (λ l. digits-few k (n / 10) l) (ltb n 10) refl
+  where
+    go : (n / 10 < tens k → length (decimal (n / 10)) ≤ suc k) → (b : Bool) → ltb n 10 ≡ b → length (decimal n) ≤ suc (suc k)
+    go f true e = rw (decimal-one n (ltb-true n 10 e)) (omega arith)
+    go f false e =
+        rw (decimal-more n (ltb-false n 10 e), length-append)
+        (let l = f (omega arith) in omega arith)
+
+decimal-short : (v : ℕ) → v ≤ largest → length (decimal v) ≤ 20
+decimal-short v h = digits-few 19 v (omega arith)
+
+-- ---- a text put within so many bytes
+abbrev pub PutWithin : List ℕ → ℕ → List ℕ → ℕ → List ℕ → ℕ → Type 0
+PutWithin b at x j z k = Put b at x j z × (j ≤ at + k)
+
+pub put-short : {b : List ℕ} {at : ℕ} {x : List ℕ} {j : ℕ} {z : List ℕ} (k : ℕ) → Put b at x j z → length x ≤ k → PutWithin b at x j z k
+put-short k p h = let e = p .place in (p, omega arith)
+
+module _ {b : List ℕ} {at i j : ℕ} {y z : List ℕ} where
+  pub put-word-number :
+      (w : List ℕ) (v : ℕ) → Room b at → v ≤ largest → Put b at w i y → Put y i (decimal v) j z →
+      PutWithin b at (w ++ decimal v) j z (length w + 20)
+  put-word-number w v h l p q =
+      let n = put-short (length w) p (omega arith) .1 in
+      let m = put-short 20 q (decimal-short v l) .1 in
+      (put-both h p q, omega arith)
+
+-- ---- fields, which are the text that was put
+module _ {b : List ℕ} {at j : ℕ} {x z : List ℕ} where
+  pub put-as : {y : List ℕ} (k : ℕ) → Put b at x j z → length x ≤ k → y ≡ x → PutWithin b at y j z k
+  put-as k p h e = rw e (put-short k p h)
+
+  pub put-as-within : {y : List ℕ} {n : ℕ} (k : ℕ) → PutWithin b at x j z n → n ≤ k → y ≡ x → PutWithin b at y j z k
+  put-as-within k p h e = let l = p .1 in rw e (p .0, omega arith)
+
+-- `done`, four outputs and the operation's own steps
+module _ {b : List ℕ} {at i₁ i₂ i₃ i₄ j : ℕ} {y₁ y₂ y₃ y₄ z : List ℕ} (o : Words) (k : ℕ) where
+  pub put-done :
+      Room b at → PutWithin b at (bytes ",done," ++ decimal (o .w0)) i₁ y₁ 26 → PutWithin y₁ i₁ (44 ∷ decimal (o .w1)) i₂ y₂ 21 →
+      PutWithin y₂ i₂ (44 ∷ decimal (o .w2)) i₃ y₃ 21 → PutWithin y₃ i₃ (44 ∷ decimal (o .w3)) i₄ y₄ 21 → PutWithin y₄ i₄ (44 ∷ decimal k) j z 21 →
+      PutWithin b at (fieldsText (answerFields (Answer.Done o k))) j z 110
+  unfolding fieldsText answerFields numbersText
+  put-done h p₁ p₂ p₃ p₄ p₅ =
+      let l₁ = p₁ .1 in
+      let l₂ = p₂ .1 in
+      let l₃ = p₃ .1 in
+      let l₄ = p₄ .1 in
+      let l₅ = p₅ .1 in
+      (rw (append-nil (decimal k)) (rest-last (rest-step (rest-step (rest-step (rest-step (rest-all b at _ h) (p₁ .0)) (p₂ .0)) (p₃ .0)) (p₄ .0)) (p₅ .0)), omega arith)
+
+-- `refused`, its number and a line
+module _ {b : List ℕ} {at i j : ℕ} {y z : List ℕ} (r : Refusal) (line : ℕ) where
+  pub put-refused-at :
+      Room b at → PutWithin b at (fieldsText (refusedWith (numberOf r))) i y 29 → PutWithin y i (44 ∷ decimal line) j z 21 →
+      PutWithin b at (fieldsText (verdictFields (Verdict.Refused r line))) j z 50
+  unfolding fieldsText verdictFields numbersText
+  put-refused-at h p q =
+      let l = p .1 in
+      let m = q .1 in
+      (rw (append-nil (decimal line)) (put-both h (rw (append-nil (decimal (numberOf r))) at (p .0)) (q .0)), omega arith)

@@ -1,0 +1,110 @@
+-- An answer is known by its fields (specs/Answers): two answers with the same word and numbers are the same, so no value, length or count of
+-- steps can pass for a refusal.
+use Prim.Native.Nat.{ℕ}
+use Prim.Native.String.{String}
+use mathlib.Core.Path.{_≡_, refl, sym, ap, _∙_}
+use mathlib.Core.Bool.{Bool, cond}
+use mathlib.Core.List.{List, [], _∷_}
+use lib.ListN.{getD}
+use Rattle.grammar.specs.Reading.{hasWord}
+use Rattle.construction.specs.declared.Answer.{Answer}
+use Rattle.construction.specs.declared.RowSwap.{RowSwap}
+use Rattle.construction.specs.declared.Verdict.{Verdict}
+use Rattle.construction.specs.declared.Written.{Written}
+use Rattle.construction.specs.declared.Refusal.{Refusal}
+use Rattle.construction.specs.declared.Refusal.the-variants.{TooLong, Malformed, OutOfRange, BadInstruction, NoProcess, NoProgram, Busy, NotBusy, NoPlace, LimitReached, ShortBuffer}
+use Rattle.construction.specs.Answers.{bytes, Fields, numberOf, answerFields, verdictFields, writtenFields, rowFields}
+
+-- what can be read back is known
+known : {A B : Type 0} (tell : A → B) (from : B → A) → ((a : A) → from (tell a) ≡ a) → (a b : A) → tell a ≡ tell b → a ≡ b
+known tell from back a b e = sym (back a) ∙ (ap from e ∙ back b)
+
+-- a refusal from its number
+abbrev refusalFrom : ℕ → Refusal
+refusalFrom n =
+    getD (TooLong ∷ TooLong ∷ Malformed ∷ OutOfRange ∷ BadInstruction ∷ NoProcess ∷ NoProgram ∷ Busy ∷ NotBusy ∷ NoPlace ∷ LimitReached ∷ ShortBuffer ∷ []) n TooLong
+
+refusal-back : (r : Refusal) → refusalFrom (numberOf r) ≡ r
+unfolding numberOf
+refusal-back TooLong = refl
+refusal-back Malformed = refl
+refusal-back OutOfRange = refl
+refusal-back BadInstruction = refl
+refusal-back NoProcess = refl
+refusal-back NoProgram = refl
+refusal-back Busy = refl
+refusal-back NotBusy = refl
+refusal-back NoPlace = refl
+refusal-back LimitReached = refl
+refusal-back ShortBuffer = refl
+
+pub number-known : (r s : Refusal) → numberOf r ≡ numberOf s → r ≡ s
+number-known = known numberOf refusalFrom refusal-back
+
+-- an answer from its fields
+module _ (f : Fields) where
+  abbrev says : String → Bool
+  says word = hasWord (f .word) 0 (bytes word)
+
+  abbrev number : ℕ → ℕ
+  number k = getD (f .numbers) k 0
+
+  abbrev why : Refusal
+  why = refusalFrom (number 0)
+
+  abbrev pub isRefusal : Bool
+  isRefusal = says "refused"
+
+  abbrev answerFrom : Answer
+  answerFrom =
+      cond (says "taken") Answer.Taken
+      (cond (says "run") Answer.Run
+      (cond (says "done") (Answer.Done (record { w0 = number 0; w1 = number 1; w2 = number 2; w3 = number 3 }) (number 4))
+      (cond (says "exited") (Answer.Exited (number 0))
+      (cond isRefusal (Answer.Refused why) (Answer.Value (number 0))))))
+
+  abbrev verdictFrom : Verdict
+  verdictFrom = cond isRefusal (Verdict.Refused why (number 1)) Verdict.Accepted
+
+  abbrev writtenFrom : Written
+  writtenFrom = cond isRefusal (Written.Refused why) (Written.Bytes (number 0))
+
+  abbrev rowFrom : RowSwap
+  rowFrom = cond (says "won") RowSwap.Won (cond (says "lost") RowSwap.Lost (RowSwap.Refused why))
+
+answer-back : (a : Answer) → answerFrom (answerFields a) ≡ a
+unfolding answerFields hasWord
+answer-back Answer.Taken = refl
+answer-back Answer.Run = refl
+answer-back (Answer.Done o k) = refl
+answer-back (Answer.Exited k) = refl
+answer-back (Answer.Value x) = refl
+answer-back (Answer.Refused r) = ap Answer.Refused (refusal-back r)
+
+verdict-back : (v : Verdict) → verdictFrom (verdictFields v) ≡ v
+unfolding verdictFields hasWord
+verdict-back Verdict.Accepted = refl
+verdict-back (Verdict.Refused r line) = ap (λ (x : Refusal). Verdict.Refused x line) (refusal-back r)
+
+written-back : (w : Written) → writtenFrom (writtenFields w) ≡ w
+unfolding writtenFields hasWord
+written-back (Written.Bytes n) = refl
+written-back (Written.Refused r) = ap Written.Refused (refusal-back r)
+
+row-back : (a : RowSwap) → rowFrom (rowFields a) ≡ a
+unfolding rowFields hasWord
+row-back RowSwap.Won = refl
+row-back RowSwap.Lost = refl
+row-back (RowSwap.Refused r) = ap RowSwap.Refused (refusal-back r)
+
+pub answer-known : (a b : Answer) → answerFields a ≡ answerFields b → a ≡ b
+answer-known = known answerFields answerFrom answer-back
+
+pub verdict-known : (a b : Verdict) → verdictFields a ≡ verdictFields b → a ≡ b
+verdict-known = known verdictFields verdictFrom verdict-back
+
+pub written-known : (a b : Written) → writtenFields a ≡ writtenFields b → a ≡ b
+written-known = known writtenFields writtenFrom written-back
+
+pub row-known : (a b : RowSwap) → rowFields a ≡ rowFields b → a ≡ b
+row-known = known rowFields rowFrom row-back

@@ -1,0 +1,12 @@
+-- A command by its fields (document 01, 'The bench program'): `call,process,sheet,i0,i1,i2,i3`, `wish,process`, `step,process`,
+-- `look,variable`; 'A misformed command .. prints `line,N,refused,2`'.
+use mathlib.Core.List.{[], _∷_}
+use Rattle.construction.specs.Answers.{Fields, fields, refusedWith}
+use Rattle.session.specs.declared.Command.{Command}
+
+unfoldable pub commandFields : Command → Fields
+commandFields (Command.Call i k x next) = fields "call" (i ∷ k ∷ x .w0 ∷ x .w1 ∷ x .w2 ∷ x .w3 ∷ [])
+commandFields (Command.Exit i next) = fields "wish" (i ∷ [])
+commandFields (Command.Step i next) = fields "step" (i ∷ [])
+commandFields (Command.Read v next) = fields "look" (v ∷ [])
+commandFields (Command.Malformed next) = refusedWith 2

@@ -14,7 +14,7 @@ use Rattle.construction.specs.Dictionary.{noted}
 use Rattle.construction.specs.Parts.{Local, localAt, contentsOf, withCells, withLocal}
 use Rattle.construction.specs.Machine.{after}
 use Rattle.construction.proofs.DictionaryLaws.{Keyed}
-use Rattle.construction.proofs.World.{World, Good, Move}
+use Rattle.construction.proofs.World.{World, WorldInvariant, Move}
 use Rattle.construction.proofs.World.Move.{stay}
 use Rattle.construction.proofs.Locals.{Sizes}
 use Rattle.construction.proofs.Places.{Loc}
@@ -36,16 +36,16 @@ worldOf c w =
     }
 
 -- a dictionary has at most 32 items, and no variable stands in it twice
-pub record Tidy (d : Dictionary) : Type 0 where
+pub record WellFormed (d : Dictionary) : Type 0 where
   pub short : d .length ≤ 32
   pub keyed : Keyed (noted d)
 
 pub record Before (c : Card) (w : World) (i : ℕ) : Type 0 where
-  pub good : Good (contentsOf c) (worldOf c w)
+  pub good : WorldInvariant (contentsOf c) (worldOf c w)
   pub sizes : Sizes c
   pub inside : i < c .processes
   pub small : c .gate .seq ≤ 1000000000000000000
-  pub tidy : Tidy (localAt c i .dictionary)
+  pub tidy : WellFormed (localAt c i .dictionary)
 
 -- process i goes on with another task: no cell read; the gate read; an announcement read; and its simulation gone on
 abbrev pub atTask : Local → Task → Local
@@ -71,7 +71,7 @@ pub record Acted (c : Card) (w : World) (i : ℕ) (v : Card) : Type 0 where
   pub local : Local
   pub put : v ≡ withLocal (withCells c (v .gate) (v .announcements) (v .records)) i local
   pub counted : local .steps ≡ (localAt c i .steps + 1) % 18446744073709551616
-  pub tidy : Tidy (local .dictionary)
+  pub tidy : WellFormed (local .dictionary)
   pub loc : Loc (contentsOf c) after i local
 
 module _ {c : Card} {w : World} {i : ℕ} (B : Before c w i) where
@@ -81,7 +81,7 @@ module _ {c : Card} {w : World} {i : ℕ} (B : Before c w i) where
   -- no shared cell is changed
   pub keeps :
       {g : Gate} {l : List Announcement} {r : List Record} → g ≡ c .gate → l ≡ c .announcements → r ≡ c .records →
-      (x : Task) (h : Gate) (a : Announcement) (s : Simulation) (d : Dictionary) → Tidy d →
+      (x : Task) (h : Gate) (a : Announcement) (s : Simulation) (d : Dictionary) → WellFormed d →
       Loc (contentsOf c) (worldOf c w) i (after (localAt c i) x h a s d) →
       Acted c (worldOf c w) i (withLocal (withCells c g l r) i (after (localAt c i) x h a s d))
   keeps g l r x h a s d y q =

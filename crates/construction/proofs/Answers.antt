@@ -20,19 +20,19 @@ use Rattle.construction.specs.Cells.{isDone, current, previous}
 use Rattle.construction.specs.Parts.{announcementAt, recordAt, localAt, Local, contentsOf}
 use Rattle.construction.specs.Requests.{isBusy, isPending, valueOf, returned, answerOf, isIdle}
 use Rattle.construction.proofs.Basics.{on-test, true-false, true-or-false, active-not-done, exit-not-done}
-use Rattle.construction.proofs.World.{Round, World, announcementIn, outputsIn, roundIn, wordAt, Phase, Good, Quiet}
+use Rattle.construction.proofs.World.{Round, World, announcementIn, outputsIn, roundIn, wordAt, Phase, WorldInvariant, Quiet}
 use Rattle.construction.proofs.Places.{LocAt, known}
 use Rattle.construction.proofs.Stages.{isAnnounced, Stage, stage}
 use Rattle.construction.proofs.Acting.{worldOf}
-use Rattle.construction.proofs.Invariant.{Inv, good-is, at-rest}
+use Rattle.construction.proofs.Invariant.{CardInvariant, good-is, at-rest}
 use Rattle.construction.specs.declared.Contents.{Contents}
 
 -- a read shows the word of the sequential run
-module _ (c : Card) (w : World) (I : Inv c w) (v : ℕ) (vl : v < c .variables) where
+module _ (c : Card) (w : World) (I : CardInvariant c w) (v : ℕ) (vl : v < c .variables) where
   abbrev W : World
   W = worldOf c w
 
-  good : Good (contentsOf c) W
+  good : WorldInvariant (contentsOf c) W
   good = good-is I
 
   -- what is read where the test of the gate's holder says b
@@ -66,7 +66,7 @@ module _ (c : Card) (w : World) (I : Inv c w) (v : ℕ) (vl : v < c .variables) 
   read-is = by-holder (c .gate .holder) (good .phase)
 
 -- the answer of an operation that has returned: done with the outputs of the sequential run, or exited
-module _ {c : Card} {w : World} (I : Inv c w) (i : ℕ) (lt : i < c .processes) (b : isBusy c i ≡ false) where
+module _ {c : Card} {w : World} (I : CardInvariant c w) (i : ℕ) (lt : i < c .processes) (b : isBusy c i ≡ false) where
   -- what the announcement says, and the answer
   abbrev pub Returned : Answer → Type 0
   Returned a =
@@ -99,7 +99,7 @@ module _ (F : Contents) (w : World) (i : ℕ) (t : Local) where
   quiet-at Stage.numbered e q = q .0
   quiet-at (Stage.announced a b f) e q = absurd (true-false _ a e)
 
-module _ {c : Card} {w : World} (I : Inv c w) (i : ℕ) (lt : i < c .processes) where
+module _ {c : Card} {w : World} (I : CardInvariant c w) (i : ℕ) (lt : i < c .processes) where
   -- an operation that is not announced is not active and does not hold the gate
   quiet-is : isAnnounced (localAt c i .task .place) ≡ false → Quiet w i
   quiet-is e = quiet-at (contentsOf c) w i (known (localAt c i)) (stage (localAt c i .task .place)) e (I .locs i lt)

@@ -32,9 +32,9 @@ use Rattle.construction.proofs.SimulationLaws.{PausedAt, starts, noting
 use Rattle.construction.proofs.World.{Round, endingOf, endingIn, World, callIn, roundIn, wordAt, operationOf, Phase}
 use Rattle.construction.proofs.Kept.{rounds-few}
 use Rattle.construction.proofs.Claims.{Seen, Working}
-use Rattle.construction.proofs.Places.{Helper, Plan, Noted, programFor, CoreAt, LocAt, Loc}
+use Rattle.construction.proofs.Places.{Helper, Plan, ItemNoted, programFor, CoreAt, LocAt, Loc}
 use Rattle.construction.proofs.Writes.{pause-loc}
-use Rattle.construction.proofs.Acting.{worldOf, Tidy, Before, Acted, keeps, goes-on, atTask, atSimulation}
+use Rattle.construction.proofs.Acting.{worldOf, WellFormed, Before, Acted, keeps, goes-on, atTask, atSimulation}
 use Rattle.construction.specs.declared.Contents.{Contents}
 use Rattle.construction.specs.declared.Access.{Access}
 use Rattle.construction.specs.declared.Began.{Began}
@@ -51,8 +51,8 @@ run-is F s r a e = ap (λ (o : Operation). endingOf F s (record { words = r .wor
 -- a dictionary after a simulation is tidy
 paused-tidy :
     (F : Contents) (w : World) (s : ℕ) (a : Announcement) (p : Pause) (l : Simulation) (d : Dictionary) →
-    PausedAt (F .variables) (programFor F s a) (a .words) (roundIn w s .words) (endingIn F w s) (Noted F w s) p l d →
-    Tidy d
+    PausedAt (F .variables) (programFor F s a) (a .words) (roundIn w s .words) (endingIn F w s) (ItemNoted F w s) p l d →
+    WellFormed d
 paused-tidy F w s a Ended l d q = record { short = q .room .small; keyed = q .keyed }
 paused-tidy F w s a (Lacks v) l d q =
     record { short = q .core .room .small; keyed = q .core .keyed }
@@ -79,10 +79,10 @@ module _ {c : Card} {w : World} {i : ℕ} (B : Before c w i) where
     abbrev resumed : Local
     resumed = atSimulation (localAt c i) a (afterPause s (x .dictionary) (x .pause)) (x .simulation) (x .dictionary)
 
-    resumes : Tidy (x .dictionary) × Loc F W i resumed
+    resumes : WellFormed (x .dictionary) × Loc F W i resumed
     resumes =
         let q =
-        simulates (c .variables) (programFor F s a) (a .words) (roundIn W s .words) (endingIn F W s) (Noted F W s)
+        simulates (c .variables) (programFor F s a) (a .words) (roundIn W s .words) (endingIn F W s) (ItemNoted F W s)
         (B .good .fits .short (a .program) s)
         (λ e y p. record { inside = p .inside; base = p .base; kept = p .kept }) l d core in (
           paused-tidy F W s a (x .pause) (x .simulation) (x .dictionary) q,
@@ -141,11 +141,11 @@ module _ {c : Card} {w : World} {i : ℕ} (B : Before c w i) where
         let a : Announcement = announcementAt c m in
         let r =
         resumes a q plan started empty
-        (starts (c .variables) (programFor F s a) (a .words) (roundIn W s .words) (endingIn F W s) (Noted F W s)
+        (starts (c .variables) (programFor F s a) (a .words) (roundIn W s .words) (endingIn F W s) (ItemNoted F W s)
         (B .good .size-round s many) (run-is F s (roundIn W s) a called)) in
         let z = simulate-empty (c .variables) (programFor F s a) (a .words) in
         rw t
-        (keeps B refl (set-getD (c .announcements) m openAnnouncement) refl _ _ _ _ _ (subst Tidy z (r .0))
+        (keeps B refl (set-getD (c .announcements) m openAnnouncement) refl _ _ _ _ _ (subst WellFormed z (r .0))
         (subst (λ (d : Dictionary). Loc F W i (atSimulation (localAt c i) a (begun m .task) (begun m .simulation) d)) z (r .1)))
 
   at-P16-for : (m : ℕ) → holderOf (localAt c i .gate .holder) ≡ m → L P16 → Acted c W i (helping m (beginAs (helps (announcementAt c m) s) m))
@@ -213,6 +213,6 @@ module _ {c : Card} {w : World} {i : ℕ} (B : Before c w i) where
           resumes (localAt c i .announcement) (q .0) (q .1) (localAt c i .simulation)
           (insert (localAt c i .dictionary) (itemOf s v (recordAt c v)))
           (noting (c .variables) (programFor F s (localAt c i .announcement)) (localAt c i .announcement .words) (roundIn W s .words) (endingIn F W s)
-          (Noted F W s) v (localAt c i .simulation) (localAt c i .dictionary) (itemOf s v (recordAt c v)) refl (base le)
+          (ItemNoted F W s) v (localAt c i .simulation) (localAt c i .dictionary) (itemOf s v (recordAt c v)) refl (base le)
           (record { inside = q .2 .inside; base = base le; kept = inl refl }) (q .2)) in
           keeps B refl refl kept _ _ _ _ _ (r .0) (r .1)

@@ -28,41 +28,41 @@ use Rattle.construction.specs.Requests.{isBusy, invoked, exiting}
 use Rattle.construction.specs.Opening.{fresh}
 use Rattle.construction.proofs.Basics.{getD-replicate-same, active-not-done, exit-not-done, nobody-process}
 use Rattle.construction.proofs.SequentialLaws.{Short}
-use Rattle.construction.proofs.World.{World, Good, asking, Quiet, Move}
+use Rattle.construction.proofs.World.{World, WorldInvariant, asking, Quiet, Move}
 use Rattle.construction.proofs.World.Move.{ask, stay}
 use Rattle.construction.proofs.Kept.{good-move, seq-move}
 use Rattle.construction.proofs.Locals.{Sizes, local-same, local-other, sizes-put}
 use Rattle.construction.proofs.Places.{LocAt, Loc, loc-stays, known}
 use Rattle.construction.proofs.Stages.{stage, is-idle}
-use Rattle.construction.proofs.Acting.{worldOf, Tidy, Acted, Before}
+use Rattle.construction.proofs.Acting.{worldOf, WellFormed, Acted, Before}
 use Rattle.construction.proofs.Steps.{at-place}
 use Rattle.construction.specs.declared.Record.{Record}
 
 -- the cells of the card are those of a good world, every process knows what its place asks for, and the numbers keep their bounds
-pub record Inv (c : Card) (w : World) : Type 0 where
+pub record CardInvariant (c : Card) (w : World) : Type 0 where
   pub cells : worldOf c w ≡ w
-  pub good : Good (contentsOf c) w
+  pub good : WorldInvariant (contentsOf c) w
   pub sizes : Sizes c
   pub locs : (j : ℕ) → j < c .processes → Loc (contentsOf c) w j (localAt c j)
-  pub tidy : (j : ℕ) → Tidy (localAt c j .dictionary)
+  pub tidy : (j : ℕ) → WellFormed (localAt c j .dictionary)
   pub numbered : c .gate .seq ≤ suc (c .steps)
   pub limited : c .steps ≤ c .limit
   pub capped : c .limit ≤ 1000000000000000000
   pub counts : (j : ℕ) → localAt c j .steps ≤ c .steps
 
 -- the shared cells of the card are those of the world
-module _ {c : Card} {w : World} (I : Inv c w) where
+module _ {c : Card} {w : World} (I : CardInvariant c w) where
   pub gate-is : c .gate ≡ w .gate
   gate-is = ap (λ (u : World). u .gate) (I .cells)
 
-  pub good-is : Good (contentsOf c) (worldOf c w)
-  good-is = subst (Good (contentsOf c)) (sym (I .cells)) (I .good)
+  pub good-is : WorldInvariant (contentsOf c) (worldOf c w)
+  good-is = subst (WorldInvariant (contentsOf c)) (sym (I .cells)) (I .good)
 
   pub announcements-is : c .announcements ≡ w .announcements
   announcements-is = ap (λ (u : World). u .announcements) (I .cells)
 
 -- a card after a move to the world u: other shared cells, process i with the own state t, and k accepted steps
-module _ {c : Card} {w : World} {i : ℕ} (I : Inv c w) (lt : i < 8) {u : World} (M : Move (contentsOf c) i w u) (g : Gate) (l : List Announcement)
+module _ {c : Card} {w : World} {i : ℕ} (I : CardInvariant c w) (lt : i < 8) {u : World} (M : Move (contentsOf c) i w u) (g : Gate) (l : List Announcement)
     (r : List Record) (t : Local) (k : ℕ) where
   abbrev v : Card
   v = withSteps (withLocal (withCells c g l r) i t) k
@@ -75,15 +75,15 @@ module _ {c : Card} {w : World} {i : ℕ} (I : Inv c w) (lt : i < 8) {u : World}
       go (no ne) = subst (P j) (sym (local-other c i j t ne)) (b j ne)
 
   moved :
-      worldOf v u ≡ u → Loc (contentsOf c) u i t → Tidy (t .dictionary) → u .gate .seq ≤ suc k → c .steps ≤ k → k ≤ c .limit →
-      t .steps ≤ k → Inv v u
+      worldOf v u ≡ u → Loc (contentsOf c) u i t → WellFormed (t .dictionary) → u .gate .seq ≤ suc k → c .steps ≤ k → k ≤ c .limit →
+      t .steps ≤ k → CardInvariant v u
   moved cells loc tidy numbered more limited own = record {
     cells = cells;
     good = good-move (I .good) M;
     sizes = sizes-put c i t (I .sizes);
     locs = λ j h. at-process (λ n x. n < c .processes → Loc (contentsOf c) u n x) (λ _. loc)
         (λ n ne m. loc-stays (I .good) M n ne (localAt c n) (I .locs n m)) j h;
-    tidy = at-process (λ n x. Tidy (x .dictionary)) tidy (λ n ne. I .tidy n);
+    tidy = at-process (λ n x. WellFormed (x .dictionary)) tidy (λ n ne. I .tidy n);
     numbered = subst (λ (x : Gate). x .seq ≤ suc k) (sym (ap (λ (x : World). x .gate) cells)) numbered;
     limited = limited;
     capped = I .capped;
@@ -94,19 +94,19 @@ module _ {c : Card} {w : World} {i : ℕ} (I : Inv c w) (lt : i < 8) {u : World}
 pub record Stepped (c : Card) (w : World) (i : ℕ) : Type 0 where
   pub after : World
   pub move : Move (contentsOf c) i w after
-  pub inv : Inv (advance c i) after
+  pub inv : CardInvariant (advance c i) after
   pub calls-is : after .calls ≡ w .calls
   pub elsewhere : (j : ℕ) → j ≢ i → localAt (advance c i) j ≡ localAt c j
 
 -- a step that is accepted
 pub inv-step :
     (c : Card) (w : World) (i : ℕ) →
-    Inv c w → i < c .processes → isBusy c i ≡ true → c .steps < c .limit → Stepped c w i
+    CardInvariant c w → i < c .processes → isBusy c i ≡ true → c .steps < c .limit → Stepped c w i
 unfolding advance
 inv-step c w i I lt b h = record {
   after = A .after;
   move = M;
-  inv = subst (λ (x : Card). Inv (withSteps x k) (A .after)) (sym (A .put))
+  inv = subst (λ (x : Card). CardInvariant (withSteps x k) (A .after)) (sym (A .put))
       (moved I few M (v .gate) (v .announcements) (v .records) (A .local) k
       (λ n. record {
         gate = A .gate-is n;
@@ -157,7 +157,7 @@ inv-step c w i I lt b h = record {
 
 -- what is known of a process that has no operation under way
 pub at-rest :
-    {c : Card} {w : World} (I : Inv c w) (i : ℕ) →
+    {c : Card} {w : World} (I : CardInvariant c w) (i : ℕ) →
     i < c .processes → isBusy c i ≡ false → LocAt Idle (contentsOf c) w i (localAt c i)
 at-rest {c} {w} I i lt b =
     subst (λ (l : Place). LocAt l (contentsOf c) w i (known (localAt c i))) (is-idle (stage (localAt c i .task .place)) (not-false _ b)) (I .locs i lt)
@@ -167,13 +167,13 @@ abbrev pub called : ℕ → Words → Operation
 called k inputs = record { program = k; inputs = inputs }
 
 call-move :
-    (c : Card) (w : World) (i k : ℕ) (inputs : Words) → Inv c w → i < c .processes → isBusy c i ≡ false →
+    (c : Card) (w : World) (i k : ℕ) (inputs : Words) → CardInvariant c w → i < c .processes → isBusy c i ≡ false →
     Move (contentsOf c) i w (asking w i (called k inputs))
 call-move c w i k inputs I lt b = ask (called k inputs) lt (at-rest I i lt b .0)
 
 pub inv-call :
-    (c : Card) (w : World) (i k : ℕ) (inputs : Words) → Inv c w → i < c .processes → isBusy c i ≡ false →
-    Inv (withLocal c i (invoked (localAt c i) k inputs)) (asking w i (called k inputs))
+    (c : Card) (w : World) (i k : ℕ) (inputs : Words) → CardInvariant c w → i < c .processes → isBusy c i ≡ false →
+    CardInvariant (withLocal c i (invoked (localAt c i) k inputs)) (asking w i (called k inputs))
 inv-call c w i k inputs I lt b =
     moved I few (call-move c w i k inputs I lt b) (c .gate) (c .announcements) (c .records) (invoked (localAt c i) k inputs) (c .steps)
     (ap (λ (x : World). asking x i (called k inputs)) (I .cells)) (
@@ -189,7 +189,7 @@ inv-call c w i k inputs I lt b =
     Q = at-rest I i lt b .0
 
 -- an exit request that is taken: no assertion speaks of it
-pub inv-exit : (c : Card) (w : World) (i : ℕ) → Inv c w → i < c .processes → Inv (withLocal c i (exiting (localAt c i))) w
+pub inv-exit : (c : Card) (w : World) (i : ℕ) → CardInvariant c w → i < c .processes → CardInvariant (withLocal c i (exiting (localAt c i))) w
 inv-exit c w i I lt =
     moved I (omega (arith, I .good .fits .few)) stay (c .gate) (c .announcements) (c .records) (exiting (localAt c i)) (c .steps) (I .cells)
     (I .locs i lt) (I .tidy i) (subst (λ (g : Gate). g .seq ≤ suc (c .steps)) (gate-is I) (I .numbered)) (omega arith) (I .limited)
@@ -222,7 +222,7 @@ module _ (x : Contents) (few : x .processes ≤ 8) (narrow : x .variables ≤ 64
   open-words : length (take (x .variables) (x .starts)) ≡ x .variables
   open-words = length-take-le (x .variables) (x .starts) (omega arith)
 
-  good-fresh : Good (contentsOf (fresh x)) (firstWorld x)
+  good-fresh : WorldInvariant (contentsOf (fresh x)) (firstWorld x)
   unfolding fresh current
   good-fresh = record {
     fits = record { few = few; narrow = narrow; short = λ k number. short k };
@@ -252,7 +252,7 @@ module _ (x : Contents) (few : x .processes ≤ 8) (narrow : x .variables ≤ 64
     };
   }
 
-  pub inv-fresh : Inv (fresh x) (firstWorld x)
+  pub inv-fresh : CardInvariant (fresh x) (firstWorld x)
   unfolding fresh
   inv-fresh = record {
     cells = refl;
@@ -281,7 +281,7 @@ module _ (x : Contents) (few : x .processes ≤ 8) (narrow : x .variables ≤ 64
           },
         );
     tidy = λ j.
-        subst Tidy (sym (getD-replicate-same 8 j empty))
+        subst WellFormed (sym (getD-replicate-same 8 j empty))
         (record { short = omega arith; keyed = tt });
     numbered = omega arith;
     limited = omega arith;

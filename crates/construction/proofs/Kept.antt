@@ -20,7 +20,7 @@ use Rattle.construction.specs.Sequential.{sequential}
 use Rattle.construction.specs.Parts.{noOperation, programOf}
 use Rattle.construction.proofs.Basics.{on-set, active-not-done, active-not-exit, exit-not-done, nobody-process, process-same, done-or-not}
 use Rattle.construction.proofs.SequentialLaws.{run-length}
-use Rattle.construction.proofs.World.{Round, noRound, endingOf, endingIn, World, announcementIn, recordIn, leftIn, callIn, roundIn, wordAt, operationOf, Pending, Phase, Recorded, Good, asking, announcing, leaving, taking, storing, ending, freeing, Quiet, Move}
+use Rattle.construction.proofs.World.{Round, noRound, endingOf, endingIn, World, announcementIn, recordIn, leftIn, callIn, roundIn, wordAt, operationOf, Pending, Phase, Recorded, WorldInvariant, asking, announcing, leaving, taking, storing, ending, freeing, Quiet, Move}
 use Rattle.construction.proofs.World.Move.{stay, ask, announce, leave, take, write, end, free}
 use Rattle.construction.specs.declared.Contents.{Contents}
 use Rattle.construction.specs.Machine.{finished}
@@ -45,7 +45,7 @@ previous-rewritten r x s = go (r .toggle)
     go true = refl
     go false = refl
 
-module _ {F : Contents} {w : World} (G : Good F w) where
+module _ {F : Contents} {w : World} (G : WorldInvariant F w) where
   -- after announcement i was set to a: by cases on whose is meant
   pub announcements-set :
       (P : Announcement → Type 0) (i j : ℕ) (a : Announcement) →
@@ -59,7 +59,7 @@ module _ {F : Contents} {w : World} (G : Good F w) where
       let z = getD-set-other (w .calls) i m q noOperation (λ e. ne (ap Process e)) in
       (ph .0, ph .1, λ d. record { counted = ph .2 d .counted; now = rw z (ph .2 d .now); asked = rw z (ph .2 d .asked) })
 
-  good-ask : (i : ℕ) (q : Operation) → i < F .processes → Quiet w i → Good F (asking w i q)
+  good-ask : (i : ℕ) (q : Operation) → i < F .processes → Quiet w i → WorldInvariant F (asking w i q)
   good-ask i q lt Q = record {
     fits = G .fits;
     lengths = rw length-set (G .lengths);
@@ -90,7 +90,7 @@ module _ {F : Contents} {w : World} (G : Good F w) where
 
   good-announce :
       (i : ℕ) (a : Announcement) → i < F .processes → Quiet w i → a .flag ≡ Active → operationOf a ≡ callIn w i →
-      leftIn w i < a .seq → a .seq ≤ w .gate .seq → Good F (announcing w i a)
+      leftIn w i < a .seq → a .seq ≤ w .gate .seq → WorldInvariant F (announcing w i a)
   good-announce i a lt Q fa op l b = record {
     fits = G .fits;
     lengths = rw length-set (G .lengths);
@@ -129,7 +129,7 @@ module _ {F : Contents} {w : World} (G : Good F w) where
             (λ e. rw e (rw e at (B .asked))) (λ _. B .asked);
       }
 
-  good-leave : (i : ℕ) → i < F .processes → announcementIn w i .flag ≡ Active → Good F (leaving w i)
+  good-leave : (i : ℕ) → i < F .processes → announcementIn w i .flag ≡ Active → WorldInvariant F (leaving w i)
   good-leave i lt fa = record {
     fits = G .fits;
     lengths = simp length-set (G .lengths);
@@ -168,7 +168,7 @@ module _ {F : Contents} {w : World} (G : Good F w) where
 
   good-take :
       (m : ℕ) → m < F .processes → w .gate .holder ≡ Nobody → announcementIn w m .flag ≢ Done →
-      operationOf (announcementIn w m) ≡ callIn w m → Good F (taking w m)
+      operationOf (announcementIn w m) ≡ callIn w m → WorldInvariant F (taking w m)
   good-take m lt hn fl op =
       let R = G .recorded in
       let ph : Phase Nobody w = subst (λ (h : Holder). Phase h w) hn (G .phase) in
@@ -255,7 +255,7 @@ module _ {F : Contents} {w : World} (G : Good F w) where
             words-are = λ u ul e. absurd (omega (arith, many, counted));
           }
 
-      good-write : Good F (storing w v x)
+      good-write : WorldInvariant F (storing w v x)
       good-write = record {
         fits = G .fits;
         lengths = rw length-set (G .lengths);
@@ -292,7 +292,7 @@ module _ {F : Contents} {w : World} (G : Good F w) where
                 (eq-or-lt-of-le (omega (arith, many, R .below v)));
           }
 
-      good-end : Good F (ending F w m)
+      good-end : WorldInvariant F (ending F w m)
       good-end =
           let a : Announcement = finished (announcementIn w m) (endingIn F w (w .gate .seq) .outputs) in
           record {
@@ -320,7 +320,7 @@ module _ {F : Contents} {w : World} (G : Good F w) where
           }
 
   good-free :
-      (m : ℕ) → m < F .processes → w .gate .holder ≡ Process m → announcementIn w m .flag ≡ Done → Good F (freeing w m)
+      (m : ℕ) → m < F .processes → w .gate .holder ≡ Process m → announcementIn w m .flag ≡ Done → WorldInvariant F (freeing w m)
   good-free m lt hm d =
       let ph : Phase (Process m) w = subst (λ (h : Holder). Phase h w) hm (G .phase) in
       let many : length (w .rounds) ≡ suc (w .gate .seq) = ph .0 in
@@ -343,7 +343,7 @@ module _ {F : Contents} {w : World} (G : Good F w) where
         recorded = G .recorded;
       }
 
-pub good-move : {F : Contents} {i : ℕ} {w v : World} → Good F w → Move F i w v → Good F v
+pub good-move : {F : Contents} {i : ℕ} {w v : World} → WorldInvariant F w → Move F i w v → WorldInvariant F v
 good-move G stay = G
 good-move G (ask q lt Q) = good-ask G _ q lt Q
 good-move G (announce a lt Q fa op l b) = good-announce G _ a lt Q fa op l b
@@ -366,7 +366,7 @@ seq-move (free m lt hm d) = omega arith
 
 -- the operation that a gate is held for runs on the words so far, and its number is the next
 pub ends-now :
-    {F : Contents} {w : World} → Good F w → (m : ℕ) → w .gate .holder ≡ Process m → announcementIn w m .flag ≢ Done →
+    {F : Contents} {w : World} → WorldInvariant F w → (m : ℕ) → w .gate .holder ≡ Process m → announcementIn w m .flag ≢ Done →
     (w .count ≡ w .gate .seq)
     × (endingIn F w (w .gate .seq)
     ≡ sequential (F .variables) (programOf F (callIn w m .program) (w .gate .seq)) (callIn w m .inputs) (w .words))

@@ -32,12 +32,12 @@ pub mod Outcomes
 pub mod NotesLaws
 pub mod TextKept
 pub mod Observed
-pub mod Moments
+pub mod Consistency
 pub mod Growth
-pub mod Serialization
+pub mod Linearizability
 pub mod LimitsKept
 pub mod AnswerFields
 pub mod Refusals
 pub mod ExitRequests
 pub mod Examples
-pub mod SerializationExample
+pub mod LinearizabilityExample

@@ -18,7 +18,7 @@ use Rattle.construction.proofs.Kept.{rounds-few}
 use Rattle.construction.proofs.Places.{LocAt, known}
 use Rattle.construction.proofs.Acting.{worldOf}
 use Rattle.construction.proofs.Invariant.{good-is}
-use Rattle.construction.proofs.Serialization.{opened-consistent}
+use Rattle.construction.proofs.Linearizability.{opened-consistent}
 
 -- a variable that a list lacks stands at none of its places
 lacks-at :

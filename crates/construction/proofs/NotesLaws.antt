@@ -13,8 +13,9 @@ use Rattle.construction.specs.declared.Flag.{Flag}
 use Rattle.construction.specs.declared.Flag.the-variants.{Done, Active, Exit}
 use Rattle.construction.specs.declared.Announcement.{Announcement}
 use Rattle.construction.specs.Cells.{isDone, openAnnouncement}
-use Rattle.construction.specs.History.{Invocation, Finish, Return, Response, hasCalled, latest, turned, times, place, outputsOf, hasReturned, Agrees, AllAgree}
+use Rattle.construction.specs.History.{Invocation, Finish, Return, Response, hasCalled, latest, turned}
 use Rattle.construction.proofs.Basics.{on-test}
+use Rattle.construction.specs.Linearizability.{times, rank, outputsOf, hasReturned, Agrees, AllAgree}
 
 -- a list of notes, newest first, and an earlier one
 pub data Extends {A : Type 0} (old : List A) : List A → Type 0 where
@@ -100,8 +101,8 @@ returned-times old new (r ∷ rs) j p q h =
     (λ _ k. returned-times old new rs j (p .1) (q .1) k) h
 
 -- places in an order and in an earlier one
-pub place-below : (k : ℕ) (fs : List Finish) → place k fs ≤ length fs
-unfolding place
+pub place-below : (k : ℕ) (fs : List Finish) → rank k fs ≤ length fs
+unfolding rank
 place-below k [] = omega arith
 place-below k (f ∷ fs) =
     on-test (λ n. n ≤ suc (length fs)) (eqb (f .operation) k) (λ _. omega arith) (λ _. omega (arith, place-below k fs))
@@ -112,25 +113,25 @@ times-grow k Extends.same = omega arith
 times-grow {old} k (Extends.more {x = f} {l = l} q) =
     on-test (λ n. times k old ≤ n) (eqb (f .operation) k) (λ _. omega (arith, times-grow k q)) (λ _. times-grow k q)
 
-pub place-kept : {old new : List Finish} (k : ℕ) → Extends old new → times k old ≡ times k new → place k new ≡ place k old
-unfolding times place
+pub place-kept : {old new : List Finish} (k : ℕ) → Extends old new → times k old ≡ times k new → rank k new ≡ rank k old
+unfolding times rank
 place-kept k Extends.same e = refl
 place-kept {old} k (Extends.more {x = f} {l = l} q) e =
-    on-equal (λ b. times k old ≡ cond b (suc (times k l)) (times k l) → cond b (suc (length l)) (place k l) ≡ place k old) (f .operation) k
+    on-equal (λ b. times k old ≡ cond b (suc (times k l)) (times k l) → cond b (suc (length l)) (rank k l) ≡ rank k old) (f .operation) k
     (λ _ z. absurd (omega (arith, times-grow k q))) (λ _ z. place-kept k q z) e
 
-no-place : (k : ℕ) (fs : List Finish) → times k fs ≡ 0 → place k fs ≡ 0
-unfolding times place
+no-place : (k : ℕ) (fs : List Finish) → times k fs ≡ 0 → rank k fs ≡ 0
+unfolding times rank
 no-place k [] e = refl
 no-place k (f ∷ fs) e =
-    on-equal (λ b. cond b (suc (times k fs)) (times k fs) ≡ 0 → cond b (suc (length fs)) (place k fs) ≡ 0) (f .operation) k
+    on-equal (λ b. cond b (suc (times k fs)) (times k fs) ≡ 0 → cond b (suc (length fs)) (rank k fs) ≡ 0) (f .operation) k
     (λ _ z. absurd (omega arith)) (λ _ z. no-place k fs z) e
 
-pub place-after : {old new : List Finish} (k : ℕ) → Extends old new → times k old ≡ 0 → 0 < place k new → length old < place k new
-unfolding place
+pub place-after : {old new : List Finish} (k : ℕ) → Extends old new → times k old ≡ 0 → 0 < rank k new → length old < rank k new
+unfolding rank
 place-after {old} k Extends.same e h = absurd (omega (arith, no-place k old e))
 place-after {old} k (Extends.more {x = f} {l = l} q) e h =
-    on-equal (λ b. 0 < cond b (suc (length l)) (place k l) → length old < cond b (suc (length l)) (place k l)) (f .operation) k
+    on-equal (λ b. 0 < cond b (suc (length l)) (rank k l) → length old < cond b (suc (length l)) (rank k l)) (f .operation) k
     (λ _ _. omega (arith, extends-length q)) (λ _ z. place-after k q e z) h
 
 -- flags that turn to done between two lists of announcements: none, or one

@@ -20,14 +20,15 @@ use Rattle.construction.specs.Cells.{zeros, isDone, openAnnouncement}
 use Rattle.construction.specs.Sequential.{Ending, sequential}
 use Rattle.construction.specs.Instructions.{noProgram}
 use Rattle.construction.specs.Parts.{noOperation}
-use Rattle.construction.specs.History.{Invocation, Notes, hasCalled, latest, latestCall, turned, benchRun, finishedOne, Return, Event, ended, times, outputsOf, hasReturned, Numbered, Agrees, AllAgree, UnderWay}
+use Rattle.construction.specs.History.{Invocation, History, hasCalled, latest, latestCall, turned, benchRun, withFinish, Return, Event, withResponse}
 use Rattle.construction.proofs.Basics.{on-set, true-or-false, true-false, ne-isDone}
 use Rattle.construction.proofs.NotesLaws.{on-equal, chosen, passed, latest-below, latest-apart, agree-longer, turns, turned-same, turned-not, turned-one}
-use Rattle.construction.proofs.World.{World, announcementIn, callIn, outputsIn, endingIn, Good, asking, ending, Move}
+use Rattle.construction.proofs.World.{World, announcementIn, callIn, outputsIn, endingIn, WorldInvariant, asking, ending, Move}
 use Rattle.construction.proofs.World.Move.{stay, ask, announce, leave, take, write, end, free}
 use Rattle.construction.proofs.Kept.{ends-now}
 use Rattle.construction.specs.declared.Contents.{Contents}
 use Rattle.construction.specs.Machine.{finished}
+use Rattle.construction.specs.Linearizability.{times, outputsOf, hasReturned, Numbered, Agrees, AllAgree, UnderWay}
 
 -- the flag of process j is done
 abbrev pub doneIn : World → ℕ → Bool
@@ -39,7 +40,7 @@ requestOf x = record { program = x .program; inputs = x .inputs }
 
 -- Process j has an operation under way, its latest taken call. That stands in the order once if it is announced and its flag is done,
 -- with the outputs of the sequential run, and else not.
-pub record Own (announced : Bool) (w : World) (s : Notes) (j : ℕ) : Type 0 where
+pub record Own (announced : Bool) (w : World) (s : History) (j : ℕ) : Type 0 where
   pub asked : hasCalled (s .operations) j ≡ true
   pub request : requestOf (latestCall (s .operations) j) ≡ callIn w j
   pub unreturned : hasReturned (latest (s .operations) j) (s .returns) ≡ false
@@ -50,7 +51,7 @@ pub record Own (announced : Bool) (w : World) (s : Notes) (j : ℕ) : Type 0 whe
       (times (latest (s .operations) j) (s .order) ≡ 1) × (outputsOf (latest (s .operations) j) (s .order) ≡ outputsIn w j)
 
 -- The notes go with the world of p processes, of which some are busy and some have announced their operations
-pub record Tracks (p : ℕ) (busy announced : ℕ → Bool) (w : World) (s : Notes) : Type 0 where
+pub record Tracks (p : ℕ) (busy announced : ℕ → Bool) (w : World) (s : History) : Type 0 where
   pub words : s .words ≡ w .words
   pub count : suc (length (s .order)) ≡ w .count
   pub numbers : Numbered (s .order)
@@ -60,18 +61,18 @@ pub record Tracks (p : ℕ) (busy announced : ℕ → Bool) (w : World) (s : Not
   pub unborn : (k : ℕ) → length (s .operations) ≤ k → hasReturned k (s .returns) ≡ false
   pub own : (j : ℕ) → j < p → busy j ≡ true → Own (announced j) w s j
 
-pub under-way : {a : Bool} {w : World} {s : Notes} {j : ℕ} → Own a w s j → UnderWay s j
+pub under-way : {a : Bool} {w : World} {s : History} {j : ℕ} → Own a w s j → UnderWay s j
 under-way O = record { called = O .asked; unreturned = O .unreturned }
 
 -- a move that finishes nothing, and one that finishes the operation of m
-pub record Calm (announced : ℕ → Bool) (w v : World) : Type 0 where
+pub record NothingFinishes (announced : ℕ → Bool) (w v : World) : Type 0 where
   pub none : turned 0 (w .announcements) (v .announcements) ≡ []
   pub words : v .words ≡ w .words
   pub count : v .count ≡ w .count
   pub outs : v .outs ≡ w .outs
   pub done : (j : ℕ) → announced j ≡ true → doneIn v j ≡ doneIn w j
 
-pub record Ends (F : Contents) (w v : World) : Type 0 where
+pub record OneFinishes (F : Contents) (w v : World) : Type 0 where
   pub process : ℕ
   pub inside : process < F .processes
   pub held : w .gate .holder ≡ Process process
@@ -83,9 +84,9 @@ turns-active Done = refl
 turns-active Active = refl
 turns-active Exit = refl
 
-module _ {F : Contents} {w : World} (announced : ℕ → Bool) (G : Good F w) where
+module _ {F : Contents} {w : World} (announced : ℕ → Bool) (G : WorldInvariant F w) where
   -- a move that changes none of what the observer sees
-  calm-same : {v : World} → v .announcements ≡ w .announcements → v .words ≡ w .words → v .count ≡ w .count → v .outs ≡ w .outs → Calm announced w v
+  calm-same : {v : World} → v .announcements ≡ w .announcements → v .words ≡ w .words → v .count ≡ w .count → v .outs ≡ w .outs → NothingFinishes announced w v
   calm-same a b c d =
       record {
         none = ap (turned 0 (w .announcements)) a ∙ turned-same 0 (w .announcements);
@@ -98,7 +99,7 @@ module _ {F : Contents} {w : World} (announced : ℕ → Bool) (G : Good F w) wh
   -- every move is one of the two, if a process that has announced its operation does not announce again
   pub kind-of :
       {i : ℕ} {v : World} → Move F i w v → (announced i ≡ true → announcementIn v i .flag ≡ Active → announcementIn w i .flag ≡ Active) →
-      Calm announced w v ⊎ Ends F w v
+      NothingFinishes announced w v ⊎ OneFinishes F w v
   kind-of stay only = inl (calm-same refl refl refl refl)
   kind-of (ask q lt Q) only = inl (calm-same refl refl refl refl)
   kind-of {i} (announce a lt Q fa op l b) only =
@@ -126,7 +127,7 @@ module _ {F : Contents} {w : World} (announced : ℕ → Bool) (G : Good F w) wh
   kind-of (end m lt hm fl all) only = inr (record { process = m; inside = lt; held = hm; undone = fl; becomes = refl })
   kind-of (free m lt hm d) only = inl (calm-same refl refl refl refl)
 
-pub turned-ends : {F : Contents} {w v : World} → Good F w → (E : Ends F w v) → turned 0 (w .announcements) (v .announcements) ≡ E .process ∷ []
+pub turned-ends : {F : Contents} {w v : World} → WorldInvariant F w → (E : OneFinishes F w v) → turned 0 (w .announcements) (v .announcements) ≡ E .process ∷ []
 turned-ends {F} {w} G E =
     rw (E .becomes)
     (turned-one 0 (w .announcements) (E .process) _ (omega (arith, G .lengths .announcements, G .fits .few, E .inside))
@@ -134,7 +135,7 @@ turned-ends {F} {w} G E =
 
 -- a move that finishes nothing
 own-calm :
-    {a : Bool} {w v : World} {s : Notes} {j : ℕ} → (a ≡ true → doneIn v j ≡ doneIn w j) → v .outs ≡ w .outs → v .calls ≡ w .calls →
+    {a : Bool} {w v : World} {s : History} {j : ℕ} → (a ≡ true → doneIn v j ≡ doneIn w j) → v .outs ≡ w .outs → v .calls ≡ w .calls →
     Own a w s j → Own a v s j
 own-calm {a} {w} {v} {s} {j} d e f O =
     record {
@@ -149,7 +150,7 @@ own-calm {a} {w} {v} {s} {j} d e f O =
     }
 
 pub tracks-calm :
-    {p : ℕ} {busy announced : ℕ → Bool} {w v : World} {s : Notes} → Calm announced w v → v .calls ≡ w .calls →
+    {p : ℕ} {busy announced : ℕ → Bool} {w v : World} {s : History} → NothingFinishes announced w v → v .calls ≡ w .calls →
     Tracks p busy announced w s → Tracks p busy announced v s
 tracks-calm C f T =
     record {
@@ -165,7 +166,7 @@ tracks-calm C f T =
 
 -- a move that finishes the operation of m, whose number the sequential run gives it too
 module _
-    (o : Card) {F : Contents} {p : ℕ} {busy announced : ℕ → Bool} {w : World} {s : Notes} (G : Good F w) (T : Tracks p busy announced w s)
+    (o : Card) {F : Contents} {p : ℕ} {busy announced : ℕ → Bool} {w : World} {s : History} (G : WorldInvariant F w) (T : Tracks p busy announced w s)
     (m : ℕ) (lt : m < F .processes) (held : w .gate .holder ≡ Process m) (undone : announcementIn w m .flag ≢ Done)
     (O : Own true w s m) (vs : o .variables ≡ F .variables) (co : o .code ≡ F .code) where
   same-run : benchRun o (suc (length (s .order))) (latestCall (s .operations) m) (s .words) ≡ endingIn F w (w .gate .seq)
@@ -179,7 +180,7 @@ module _
   size : m < 8
   size = omega (arith, G .fits .few)
 
-  own-ended : (j : ℕ) → j ≢ m → {a : Bool} → Own a w s j → Own a (ending F w m) (finishedOne o (w .gate .seq) m s) j
+  own-ended : (j : ℕ) → j ≢ m → {a : Bool} → Own a w s j → Own a (ending F w m) (withFinish o (w .gate .seq) m s) j
   unfolding times outputsOf
   own-ended j ne Q =
       let far : latest (s .operations) m ≢ latest (s .operations) j = latest-apart (s .operations) m j (λ e. ne (sym e)) (O .asked) (Q .asked) in
@@ -195,7 +196,7 @@ module _
             (passed _ _ _ _ far ∙ q .0, passed _ _ _ _ far ∙ (q .1 ∙ sym (getD-set-other (w .outs) m j _ zeros ne)));
       }
 
-  own-finished : Own true (ending F w m) (finishedOne o (w .gate .seq) m s) m
+  own-finished : Own true (ending F w m) (withFinish o (w .gate .seq) m s) m
   unfolding times outputsOf
   own-finished =
       record {
@@ -216,7 +217,7 @@ module _
       out : outputsIn (ending F w m) m ≡ endingIn F w (w .gate .seq) .outputs
       out = getD-set-same (w .outs) m _ zeros (omega (arith, size, G .lengths .outs))
 
-  pub tracks-finished : announced m ≡ true → Tracks p busy announced (ending F w m) (finishedOne o (w .gate .seq) m s)
+  pub tracks-finished : announced m ≡ true → Tracks p busy announced (ending F w m) (withFinish o (w .gate .seq) m s)
   unfolding times
   tracks-finished ann =
       record {
@@ -234,13 +235,13 @@ module _
         own = λ j l b. one j (ℕ-discrete j m) (T .own j l b);
       }
     where
-      one : (j : ℕ) → Dec (j ≡ m) → Own (announced j) w s j → Own (announced j) (ending F w m) (finishedOne o (w .gate .seq) m s) j
+      one : (j : ℕ) → Dec (j ≡ m) → Own (announced j) w s j → Own (announced j) (ending F w m) (withFinish o (w .gate .seq) m s) j
       one j (yes e) Q = rw (e, ann) own-finished
       one j (no ne) Q = own-ended j ne Q
 
 -- process i goes on at another place with its operation under way: unannounced only if it was, and announced only if it was or just then
 pub own-next :
-    {a b : Bool} {w : World} {s : Notes} {i : ℕ} → (b ≡ false → a ≡ false) → (b ≡ true → (a ≡ true) ⊎ (announcementIn w i .flag ≡ Active)) →
+    {a b : Bool} {w : World} {s : History} {i : ℕ} → (b ≡ false → a ≡ false) → (b ≡ true → (a ≡ true) ⊎ (announcementIn w i .flag ≡ Active)) →
     Own a w s i → Own b w s i
 own-next {w = w} {i = i} f g O =
     record {
@@ -256,7 +257,7 @@ own-next {w = w} {i = i} f g O =
 
 -- the processes of another card, all but i as they were
 module _
-    {p : ℕ} {busy announced busy′ announced′ : ℕ → Bool} {w : World} {s : Notes} (i : ℕ)
+    {p : ℕ} {busy announced busy′ announced′ : ℕ → Bool} {w : World} {s : History} (i : ℕ)
     (others : (j : ℕ) → j ≢ i → (busy′ j ≡ busy j) × (announced′ j ≡ announced j)) (T : Tracks p busy announced w s) where
   -- by cases on whose operation is meant
   on-process :
@@ -284,7 +285,7 @@ module _
 
   -- a call of process i is taken
   pub tracks-called :
-      {F : Contents} (x : Invocation) → Good F w → i < F .processes → x .process ≡ i → announced′ i ≡ false →
+      {F : Contents} (x : Invocation) → WorldInvariant F w → i < F .processes → x .process ≡ i → announced′ i ≡ false →
       Tracks p busy′ announced′ (asking w i (requestOf x))
       (record { operations = x ∷ s .operations; order = s .order; returns = s .returns; words = s .words })
   unfolding hasCalled latest latestCall
@@ -300,7 +301,7 @@ module _
         own = on-process (λ j. Own (announced′ j) (asking w i (requestOf x)) after j) (λ _. new) old;
       }
     where
-      after : Notes
+      after : History
       after = record { operations = x ∷ s .operations; order = s .order; returns = s .returns; words = s .words }
 
       new : Own (announced′ i) (asking w i (requestOf x)) after i
@@ -336,7 +337,7 @@ module _
   -- process i returns as the order says
   pub tracks-returned :
       {b : Bool} (r : Return) → Own b w s i → Agrees (s .order) (latest (s .operations) i) r → busy′ i ≡ false →
-      Tracks p busy′ announced′ w (ended s i (Event.returned r))
+      Tracks p busy′ announced′ w (withResponse s i (Event.returned r))
   unfolding hasReturned
   tracks-returned r O agrees idle =
       record {
@@ -349,7 +350,7 @@ module _
         unborn = λ k h.
             let far : latest (s .operations) i ≢ k = λ e. omega (arith, latest-below (s .operations) i (O .asked)) in
             passed _ _ _ _ far ∙ T .unborn k h;
-        own = on-process (λ j. Own (announced′ j) w (ended s i (Event.returned r)) j) (λ t. absurd (true-false _ t idle)) (λ j ne Q. record {
+        own = on-process (λ j. Own (announced′ j) w (withResponse s i (Event.returned r)) j) (λ t. absurd (true-false _ t idle)) (λ j ne Q. record {
           asked = Q .asked;
           request = Q .request;
           unreturned = passed _ _ _ _ (latest-apart (s .operations) i j (λ e. ne (sym e)) (O .asked) (Q .asked)) ∙ Q .unreturned;

@@ -23,7 +23,7 @@ use Rattle.construction.specs.Dictionary.{noItem, noted, valueUnder, alt
 use Rattle.construction.specs.Machine.{holderOf}
 use Rattle.construction.proofs.DictionaryLaws.{all-map}
 use Rattle.construction.proofs.SimulationLaws.{Core, Finished, Needing}
-use Rattle.construction.proofs.World.{endingIn, World, recordIn, leftIn, callIn, roundIn, wordAt, Good, Quiet, Move}
+use Rattle.construction.proofs.World.{endingIn, World, recordIn, leftIn, callIn, roundIn, wordAt, WorldInvariant, Quiet, Move}
 use Rattle.construction.proofs.World.Move.{stay, ask, announce, leave, take, write, end, free}
 use Rattle.construction.proofs.Claims.{View, viewOf, Change, Owned, Limit, Past, Gone, Returning, Rested, Last, Seen, Nominated, Working, Halfway, Over}
 use Rattle.construction.proofs.Claims.{change, call-change, owned-change, limit-change, past-change, gone-change, returning-change, rested-change, last-change, quiet-stays, seen-stays, nominated-stays, working-stays, halfway-stays, over-stays, below-stays, record-stays, round-stays}
@@ -55,13 +55,13 @@ pub record Plan (F : Contents) (w : World) (g : Gate) (a : Announcement) : Type 
   pub working : Working w (holderOf (g .holder)) (g .seq) a
 
 -- an item of the dictionary of a helper of number s
-pub record Noted (F : Contents) (w : World) (s : ℕ) (e : Item) : Type 0 where
+pub record ItemNoted (F : Contents) (w : World) (s : ℕ) (e : Item) : Type 0 where
   pub inside : e .variable < F .variables
   pub base : valueUnder s (e .cell) ≡ wordAt (roundIn w s .words) (e .variable)
   pub kept : (recordIn w (e .variable) ≡ e .cell) ⊎ (s ≤ recordIn w (e .variable) .seq)
 
 -- an item that needs no write any more
-pub record Fine (w : World) (s : ℕ) (e : Item) : Type 0 where
+pub record NoWriteDue (w : World) (s : ℕ) (e : Item) : Type 0 where
   pub fine : (s ≤ recordIn w (e .variable) .seq) ⊎ (e .value ≡ wordAt (roundIn w s .words) (e .variable))
 
 -- a helper of number s with outputs o has nothing more to write, or comes too late
@@ -79,21 +79,21 @@ programFor F s a = programOf F (a .program) s
 module _ (F : Contents) (w : World) (s : ℕ) (a : Announcement) where
   abbrev pub CoreAt : Simulation → Dictionary → Type 0
   CoreAt l d =
-      Core (F .variables) (programFor F s a) (a .words) (roundIn w s .words) (endingIn F w s) (Noted F w s) l d
+      Core (F .variables) (programFor F s a) (a .words) (roundIn w s .words) (endingIn F w s) (ItemNoted F w s) l d
 
   abbrev pub NeedingAt : ℕ → Simulation → Dictionary → Type 0
   NeedingAt v l d =
-      Needing (F .variables) (programFor F s a) (a .words) (roundIn w s .words) (endingIn F w s) (Noted F w s) v l d
+      Needing (F .variables) (programFor F s a) (a .words) (roundIn w s .words) (endingIn F w s) (ItemNoted F w s) v l d
 
   abbrev pub FinishedAt : Simulation → Dictionary → Type 0
   FinishedAt l d =
-      Finished (F .variables) (programFor F s a) (a .words) (roundIn w s .words) (endingIn F w s) (Noted F w s) l d
+      Finished (F .variables) (programFor F s a) (a .words) (roundIn w s .words) (endingIn F w s) (ItemNoted F w s) l d
 
 -- item k is to be written, and those before it need no write
 pub record Writing (F : Contents) (w : World) (s : ℕ) (b : List Item) (k : ℕ) : Type 0 where
   pub inside : k < length b
   pub due : altered s (getD b k noItem) ≡ true
-  pub before : (q : ℕ) → q < k → Fine w s (getD b q noItem)
+  pub before : (q : ℕ) → q < k → NoWriteDue w s (getD b q noItem)
 
 -- what process j with local state t knows at each place
 abbrev pub LocAt : Place → Contents → World → ℕ → Local → Type 0
@@ -153,7 +153,7 @@ known t =
 abbrev pub Loc : Contents → World → ℕ → Local → Type 0
 Loc F w j t = LocAt (t .task .place) F w j (known t)
 
-module _ {F : Contents} {i : ℕ} {w v : World} (G : Good F w) (M : Move F i w v) where
+module _ {F : Contents} {i : ℕ} {w v : World} (G : WorldInvariant F w) (M : Move F i w v) where
   left-stays : {u : World} (j n : ℕ) → Move F i w u → Quiet w j → leftIn w j < n → leftIn u j < n
   left-stays j n stay q h = h
   left-stays j n (ask c lt Q) q h = h
@@ -188,14 +188,14 @@ module _ {F : Contents} {i : ℕ} {w v : World} (G : Good F w) (M : Move F i w v
     abbrev same-round : roundIn v s ≡ roundIn w s
     same-round = round-stays G M s number .0
 
-    noted-stays : (e : Item) → Noted F w s e → Noted F v s e
+    noted-stays : (e : Item) → ItemNoted F w s e → ItemNoted F v s e
     noted-stays e q = record {
       inside = q .inside;
       base = rw same-round (q .base);
       kept = ⊎-elim (λ z. rw z (q .kept)) (λ z. inr (rw z below)) (record-stays G M (e .variable));
     }
 
-    pub fine-stays : (e : Item) → Fine w s e → Fine v s e
+    pub fine-stays : (e : Item) → NoWriteDue w s e → NoWriteDue v s e
     fine-stays e q = record {
       fine = ⊎-elim (λ (z : recordIn v (e .variable) ≡ recordIn w (e .variable)). rw (z, same-round) (q .fine))
           (λ z. inl (rw z below)) (record-stays G M (e .variable));
@@ -214,7 +214,7 @@ module _ {F : Contents} {i : ℕ} {w v : World} (G : Good F w) (M : Move F i w v
         (a : Announcement) (u : ℕ) (l : Simulation) (d : Dictionary) → NeedingAt F w s a u l d → NeedingAt F v s a u l d
     needing-stays a u l d q = record {
       core = record {
-        booked = all-map (Noted F w s) (Noted F v s) (noted d) noted-stays (q .core .booked);
+        booked = all-map (ItemNoted F w s) (ItemNoted F v s) (noted d) noted-stays (q .core .booked);
         keyed = q .core .keyed;
         room = q .core .room;
         passed = q .core .passed;
@@ -235,7 +235,7 @@ module _ {F : Contents} {i : ℕ} {w v : World} (G : Good F w) (M : Move F i w v
     pub finished-stays :
         (a : Announcement) (l : Simulation) (d : Dictionary) → FinishedAt F w s a l d → FinishedAt F v s a l d
     finished-stays a l d q = record {
-      booked = all-map (Noted F w s) (Noted F v s) (noted d) noted-stays (q .booked);
+      booked = all-map (ItemNoted F w s) (ItemNoted F v s) (noted d) noted-stays (q .booked);
       keyed = q .keyed;
       room = q .room;
       outputs = rw same-round (q .outputs);
@@ -292,5 +292,5 @@ module _ {F : Contents} {i : ℕ} {w v : World} (G : Good F w) (M : Move F i w v
     loc-at-stays F3 t q = (returning-change C (q .0), q .1, last-change (q .0 .done) C (q .2))
 
 pub loc-stays :
-    {F : Contents} {i : ℕ} {w v : World} → Good F w → Move F i w v → (j : ℕ) → j ≢ i → (t : Local) → Loc F w j t → Loc F v j t
+    {F : Contents} {i : ℕ} {w v : World} → WorldInvariant F w → Move F i w v → (j : ℕ) → j ≢ i → (t : Local) → Loc F w j t → Loc F v j t
 loc-stays G M j ne t q = loc-at-stays G M j ne (t .task .place) (known t) q

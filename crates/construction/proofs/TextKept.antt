@@ -9,7 +9,7 @@ use Rattle.construction.specs.declared.Answered.{Answered}
 use Rattle.construction.specs.Parts.{contentsOf}
 use Rattle.construction.specs.Opening.{fresh, opened}
 use Rattle.construction.specs.Writing.{textOf}
-use Rattle.construction.specs.History.{Entry, Moment, observe, observeAll, run}
+use Rattle.construction.specs.History.{Entry, Observation, observe, observeAll, run}
 use Rattle.construction.proofs.TextRoundTrip.{given-back}
 use Rattle.construction.proofs.OneAccess.{one-access}
 use Rattle.construction.proofs.Outcomes.{Outcome, outcome}
@@ -21,7 +21,7 @@ outcome-kept c (Outcome.asked i p) = refl
 outcome-kept c (Outcome.stepped i p b l) = sym (one-access c i .text)
 outcome-kept c (Outcome.shown v x) = refl
 
-all-kept : (o : Card) (m : Moment) (es : List Entry) → contentsOf (observeAll o m es .card) ≡ contentsOf (m .card)
+all-kept : (o : Card) (m : Observation) (es : List Entry) → contentsOf (observeAll o m es .card) ≡ contentsOf (m .card)
 unfolding observe observeAll
 all-kept o m [] = refl
 all-kept o m (e ∷ es) = all-kept o (observe o m e) es ∙ outcome-kept (m .card) (outcome (m .card) e)

@@ -130,7 +130,7 @@ pub record Lengths (a r c o l b : ℕ) : Type 0 where
   pub bound : b ≡ 8
 
 -- what holds of the world after every list of entries
-pub record Good (F : Contents) (w : World) : Type 0 where
+pub record WorldInvariant (F : Contents) (w : World) : Type 0 where
   pub fits : Fits F
   pub lengths :
       Lengths (length (w .announcements)) (length (w .records)) (length (w .calls)) (length (w .outs)) (length (w .left))

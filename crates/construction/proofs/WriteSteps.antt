@@ -28,7 +28,7 @@ use Rattle.construction.proofs.DictionaryLaws.{valueIn, all-at, value-a
 use Rattle.construction.proofs.World.{endingIn, World, leftIn, roundIn, wordAt, Phase, storing, Move}
 use Rattle.construction.proofs.World.Move.{write}
 use Rattle.construction.proofs.Kept.{count-many}
-use Rattle.construction.proofs.Places.{Noted, Fine, LocAt, helper-stays, plan-stays, fine-stays, finished-stays}
+use Rattle.construction.proofs.Places.{ItemNoted, NoWriteDue, LocAt, helper-stays, plan-stays, fine-stays, finished-stays}
 use Rattle.construction.proofs.Claims.Change.{kept}
 use Rattle.construction.proofs.Writes.{write-loc}
 use Rattle.construction.proofs.Acting.{worldOf, Before, Acted, atTask, goes-on}
@@ -65,11 +65,11 @@ module _ {c : Card} {w : World} {i : ℕ} (B : Before c w i) (q : LocAt H36 (con
   item-is =
       getD-take (d .length) (d .items) k noItem (omega (arith, length-take (d .length) (d .items), q .3 .inside))
 
-  at-item : (u : World) → Fine u s item → (j : ℕ) → j ≡ k → Fine u s (getD (noted d) j noItem)
-  at-item u f j e = subst (Fine u s) (sym (ap (λ (n : ℕ). getD (noted d) n noItem) e ∙ item-is)) f
+  at-item : (u : World) → NoWriteDue u s item → (j : ℕ) → j ≡ k → NoWriteDue u s (getD (noted d) j noItem)
+  at-item u f j e = subst (NoWriteDue u s) (sym (ap (λ (n : ℕ). getD (noted d) n noItem) e ∙ item-is)) f
 
-  known : Noted F W s item
-  known = subst (Noted F W s) item-is (all-at (Noted F W s) (noted d) k (q .2 .booked) (q .3 .inside))
+  known : ItemNoted F W s item
+  known = subst (ItemNoted F W s) item-is (all-at (ItemNoted F W s) (noted d) k (q .2 .booked) (q .3 .inside))
 
   due : (ltb (item .cell .seq) s ≡ true) × (not (eqb (current (item .cell)) (item .value)) ≡ true)
   unfolding altered
@@ -104,7 +104,7 @@ module _ {c : Card} {w : World} {i : ℕ} (B : Before c w i) (q : LocAt H36 (con
       (λ j h. ⊎-elim (at-item W written j) (q .3 .before j) (eq-or-lt-of-le (omega arith)))) refl refl
       (set-getD (c .records) v (openRecord 0))
     where
-      written : Fine W s item
+      written : NoWriteDue W s item
       written = record { fine = inl (⊎-elim (λ y. absurd (sameRecord-false _ _ e y)) (λ y. y) (known .kept)) }
 
   -- an item that is due is written only while the gate is as the helper read it
@@ -137,7 +137,7 @@ module _ {c : Card} {w : World} {i : ℕ} (B : Before c w i) (q : LocAt H36 (con
         let zs : c .gate .seq ≡ s = held .1 in
         write m v (item .value) (known .inside) (held .0) not-done (rw zs early) (rw zs value)
 
-    written : Fine (storing W v (item .value)) s item
+    written : NoWriteDue (storing W v (item .value)) s item
     unfolding rewritten
     written =
         let fits : v < length (c .records) = omega (arith, B .good .lengths .records, B .good .fits .narrow, known .inside) in

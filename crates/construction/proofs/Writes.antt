@@ -22,20 +22,20 @@ use Rattle.construction.proofs.DictionaryLaws.{hasIn, valueIn, all-at, 
 use Rattle.construction.proofs.SimulationLaws.{PausedAt}
 use Rattle.construction.proofs.World.{endingIn, World, recordIn, roundIn, wordAt}
 use Rattle.construction.proofs.Acting.{atSimulation}
-use Rattle.construction.proofs.Places.{Helper, Plan, Noted, Fine, Ready, programFor, FinishedAt, Loc}
+use Rattle.construction.proofs.Places.{Helper, Plan, ItemNoted, NoWriteDue, Ready, programFor, FinishedAt, Loc}
 use Rattle.construction.specs.declared.Contents.{Contents}
 use Rattle.construction.specs.Parts.{Local}
 use Rattle.construction.specs.declared.Announcement.{Announcement}
 
 -- an item that is not altered needs no write
-unaltered-fine : (F : Contents) (w : World) (s : ℕ) (e : Item) → Noted F w s e → altered s e ≡ false → Fine w s e
+unaltered-fine : (F : Contents) (w : World) (s : ℕ) (e : Item) → ItemNoted F w s e → altered s e ≡ false → NoWriteDue w s e
 unfolding altered valueUnder
 unaltered-fine F w s e q h = ⊎-elim late same (and-false (ltb (e .cell .seq) s) _ h)
   where
-    late : ltb (e .cell .seq) s ≡ false → Fine w s e
+    late : ltb (e .cell .seq) s ≡ false → NoWriteDue w s e
     late f = record { fine = inl (⊎-elim (λ z. rw z (ltb-false _ _ f)) (λ z. z) (q .kept)) }
 
-    same : (ltb (e .cell .seq) s ≡ true) × (not (eqb (current (e .cell)) (e .value)) ≡ false) → Fine w s e
+    same : (ltb (e .cell .seq) s ≡ true) × (not (eqb (current (e .cell)) (e .value)) ≡ false) → NoWriteDue w s e
     same (t, f) =
         let z : current (e .cell) ≡ wordAt (roundIn w s .words) (e .variable) = rw t at (q .base) in
         record { fine = inr (sym (eqb-true _ _ (not-false _ f)) ∙ z) }
@@ -48,7 +48,7 @@ module _ (F : Contents) (w : World) (i : ℕ) (t : Local) (a : Announcement) (he
   -- no item needs a write: the operation can be finished
   ready :
       (l : Simulation) (d : Dictionary) → FinishedAt F w s a l d →
-      ((q : ℕ) → q < length (noted d) → Fine w s (getD (noted d) q noItem)) → Ready F w s (l .outputs)
+      ((q : ℕ) → q < length (noted d) → NoWriteDue w s (getD (noted d) q noItem)) → Ready F w s (l .outputs)
   ready l d f fine = record {
     outs = inr (f .outputs);
     all = inr (λ v vl h.
@@ -68,7 +68,7 @@ module _ (F : Contents) (w : World) (i : ℕ) (t : Local) (a : Announcement) (he
   -- the next write from item k on, where those before k need none
   pub write-loc :
       (l : Simulation) (d : Dictionary) → FinishedAt F w s a l d → (k : ℕ) →
-      ((q : ℕ) → q < k → Fine w s (getD (noted d) q noItem)) →
+      ((q : ℕ) → q < k → NoWriteDue w s (getD (noted d) q noItem)) →
       Loc F w i (atSimulation t a (writeFrom s d k) l d)
   write-loc l d fin k fine =
       on-test (λ (x : Task). Loc F w i (atSimulation t a x l d)) (ltb (nextWrite s d k) (length (noted d)))
@@ -89,16 +89,16 @@ module _ (F : Contents) (w : World) (i : ℕ) (t : Local) (a : Announcement) (he
       ))
     where
       passed :
-          (q : ℕ) → q < nextWrite s d k → q < length (noted d) → Dec (q < k) → Fine w s (getD (noted d) q noItem)
+          (q : ℕ) → q < nextWrite s d k → q < length (noted d) → Dec (q < k) → NoWriteDue w s (getD (noted d) q noItem)
       passed q h b (yes z) = fine q z
       passed q h b (no z) =
-          unaltered-fine F w s (getD (noted d) q noItem) (all-at (Noted F w s) (noted d) q (fin .booked) b)
+          unaltered-fine F w s (getD (noted d) q noItem) (all-at (ItemNoted F w s) (noted d) q (fin .booked) b)
           (next-before s d k q (omega arith) h)
 
   pub pause-loc :
       (p : Pause) (l : Simulation) (d : Dictionary) →
       PausedAt (F .variables) (programFor F s a) (a .words) (roundIn w s .words) (endingIn F w s)
-      (Noted F w s) p l d →
+      (ItemNoted F w s) p l d →
       Loc F w i (atSimulation t a (afterPause s d p) l d)
   pause-loc Ended l d q = write-loc l d q 0 (λ k h. absurd (omega arith))
   pause-loc (Lacks v) l d q = (helper, plan, q)

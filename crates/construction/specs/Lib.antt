@@ -14,4 +14,5 @@ pub mod Writing
 pub mod Weight
 pub mod Limits
 pub mod History
+pub mod Linearizability
 pub mod Examples

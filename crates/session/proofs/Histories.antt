@@ -4,7 +4,7 @@ use mathlib.Core.List.{List, [], _∷_}
 use Prim.Native.Nat.{ℕ}
 use Rattle.construction.specs.declared.Card.{Card}
 use Rattle.construction.specs.Opening.{opened}
-use Rattle.construction.specs.History.{Entry, Moment, observe, observeAll, opening, run}
+use Rattle.construction.specs.History.{Entry, Observation, observe, observeAll, opening, run}
 use Rattle.construction.specs.Examples.{cardAfter}
 use Rattle.session.specs.declared.Command.{Command}
 use Rattle.session.specs.declared.State.{State}
@@ -21,7 +21,7 @@ card-after (Command.Read v next ∷ ms) s = card-after ms (afterLine s (Command.
 card-after (Command.Malformed next ∷ ms) s = card-after ms (afterLine s (Command.Malformed next))
 
 -- the run of an observer over the same list has the same card
-run-after : (o : Card) (es : List Entry) (m : Moment) → observeAll o m es .card ≡ cardAfter (m .card) es
+run-after : (o : Card) (es : List Entry) (m : Observation) → observeAll o m es .card ≡ cardAfter (m .card) es
 unfolding observeAll observe
 run-after o [] m = refl
 run-after o (e ∷ es) m = run-after o es (observe o m e)

@@ -12,18 +12,19 @@ use Rattle.construction.specs.Instructions.{noProgram}
 use Rattle.construction.specs.Parts.{idleTask}
 use Rattle.construction.specs.Requests.{isIdle}
 use Rattle.construction.specs.Opening.{fresh, readCard, opened}
-use Rattle.construction.specs.History.{Entry, Notes, Moment, opening, observe, observeAll, run, times, place, hasReturned, Serialized}
+use Rattle.construction.specs.History.{Entry, History, Observation, opening, observe, observeAll, run}
 use Rattle.construction.proofs.Basics.{true-false, getD-replicate-same}
 use Rattle.construction.proofs.NotesLaws.{agree-earlier, returned-times, place-below, place-kept, place-after}
 use Rattle.construction.proofs.OpenedBounds.{Bounded, opened-bounded}
 use Rattle.construction.proofs.SequentialLaws.{Short}
 use Rattle.construction.proofs.Invariant.{firstWorld, inv-fresh}
 use Rattle.construction.proofs.Growth.{Grown, all-grow, observe-append}
-use Rattle.construction.proofs.Moments.{Consistent, entry-kept, finishes-one, read-shown}
+use Rattle.construction.proofs.Consistency.{Consistent, entry-kept, finishes-one, read-shown}
 use Rattle.construction.specs.Machine.{accessOf}
+use Rattle.construction.specs.Linearizability.{times, rank, hasReturned, Linearizable}
 
 -- every list of entries, from the opened card on
-all-consistent : (o : Card) (m : Moment) (es : List Entry) → Consistent o m → Consistent o (observeAll o m es)
+all-consistent : (o : Card) (m : Observation) (es : List Entry) → Consistent o m → Consistent o (observeAll o m es)
 unfolding observeAll
 all-consistent o m [] O = O
 all-consistent o m (e ∷ es) O = all-consistent o (observe o m e) es (entry-kept o m O e)
@@ -58,20 +59,20 @@ opened-consistent t es =
 
 -- 6: an operation that had returned before another was called stands earlier
 module _ (t : List ℕ) (es fs : List Entry) where
-  abbrev early : Notes
-  early = run (opened t .card) es .notes
+  abbrev early : History
+  early = run (opened t .card) es .history
 
-  abbrev late : Notes
-  late = run (opened t .card) (es ++ fs) .notes
+  abbrev late : History
+  late = run (opened t .card) (es ++ fs) .history
 
   grown : Grown early late
   grown =
-      subst (λ (m : Moment). Grown early (m .notes)) (sym (observe-append (opened t .card) (opening (opened t .card)) es fs))
+      subst (λ (m : Observation). Grown early (m .history)) (sym (observe-append (opened t .card) (opening (opened t .card)) es fs))
       (all-grow (opened t .card) (run (opened t .card) es) fs)
 
   earlier :
-      (j k : ℕ) → hasReturned j (early .returns) ≡ true → length (early .operations) ≤ k → 0 < place k (late .order) →
-      place j (late .order) < place k (late .order)
+      (j k : ℕ) → hasReturned j (early .returns) ≡ true → length (early .operations) ≤ k → 0 < rank k (late .order) →
+      rank j (late .order) < rank k (late .order)
   earlier j k h l p =
       let T = opened-consistent t es .tracks in
       let same = returned-times (early .order) (late .order) (early .returns) j (T .agree)
@@ -79,8 +80,8 @@ module _ (t : List ℕ) (es fs : List Entry) where
       omega (arith, place-kept j (grown .order) same, place-below j (early .order), place-after k (grown .order) (T .known k l) p)
 
 -- Demand 3
-pub serialization : (t : List ℕ) (es : List Entry) → Serialized (opened t .card) es
-serialization t es =
+pub linearizability : (t : List ℕ) (es : List Entry) → Linearizable (opened t .card) es
+linearizability t es =
     let O = opened-consistent t es in
     record {
       reads = read-shown (opened t .card) (run (opened t .card) es) O;
@@ -90,12 +91,12 @@ serialization t es =
       once = O .tracks .once;
       known = O .tracks .known;
       precedes = λ es₁ es₂ e j k h l p q.
-          subst (λ (x : List Entry). place j (run (opened t .card) x .notes .order) < place k (run (opened t .card) x .notes .order)) (sym e)
-          (earlier t es₁ es₂ j k h l (subst (λ (x : List Entry). 0 < place k (run (opened t .card) x .notes .order)) e q));
+          subst (λ (x : List Entry). rank j (run (opened t .card) x .history .order) < rank k (run (opened t .card) x .history .order)) (sym e)
+          (earlier t es₁ es₂ j k h l (subst (λ (x : List Entry). 0 < rank k (run (opened t .card) x .history .order)) e q));
     }
 
 -- the single-user bench has n words after any list
-pub bench-words : (t : List ℕ) (es : List Entry) → length (run (opened t .card) es .notes .words) ≡ opened t .card .variables
+pub bench-words : (t : List ℕ) (es : List Entry) → length (run (opened t .card) es .history .words) ≡ opened t .card .variables
 bench-words t es =
     let O = opened-consistent t es in
     ap length (O .tracks .words) ∙ (O .inv .good .size-words ∙ ap (λ (x : Contents). x .variables) (O .text))

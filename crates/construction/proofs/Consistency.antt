@@ -25,47 +25,48 @@ use Rattle.construction.specs.Cells.{isDone, openAnnouncement}
 use Rattle.construction.specs.Parts.{idleTask, contentsOf, localAt, withLocal, Local}
 use Rattle.construction.specs.Machine.{advance, accessOf}
 use Rattle.construction.specs.Requests.{isVariable, isIdle, isBusy, refused, answerOf, read, invoked, exiting}
-use Rattle.construction.specs.History.{Entry, act, Invocation, Notes, turned, finishing, finished, Return, Event, eventOf, ended, noted, Moment, observe, FinishesOne, FinishesAtMostOne}
+use Rattle.construction.specs.History.{Entry, act, Invocation, History, turned, finishing, withFinishes, Return, Event, eventOf, withResponse, withEntry, Observation, observe}
 use Rattle.construction.proofs.Basics.{true-or-false, true-false, cond-false}
 use Rattle.construction.proofs.NotesLaws.{turned-same}
 use Rattle.construction.proofs.OneAccess.{one-access}
 use Rattle.construction.proofs.Outcomes.{Outcome, outcome}
 use Rattle.construction.proofs.World.{World, announcementIn, outputsIn, ending, asking}
 use Rattle.construction.proofs.Stages.{isAnnounced, stage, announced-busy, busy-stage}
-use Rattle.construction.proofs.Invariant.{Inv, Stepped, gate-is, announcements-is, inv-call, inv-exit, inv-step}
+use Rattle.construction.proofs.Invariant.{CardInvariant, Stepped, gate-is, announcements-is, inv-call, inv-exit, inv-step}
 use Rattle.construction.proofs.Answers.{read-is, answer-is, holder-announced}
 use Rattle.construction.proofs.NextPlaces.{P1-next, P3-next, P3-active, announced-next}
 use Rattle.construction.proofs.ActiveFlags.{active-before}
-use Rattle.construction.proofs.Observed.{requestOf, Own, Tracks, under-way, Calm, Ends, kind-of, turned-ends, tracks-calm, tracks-finished, own-next, tracks-place, tracks-called, tracks-returned}
+use Rattle.construction.proofs.Observed.{requestOf, Own, Tracks, under-way, NothingFinishes, OneFinishes, kind-of, turned-ends, tracks-calm, tracks-finished, own-next, tracks-place, tracks-called, tracks-returned}
+use Rattle.construction.specs.Linearizability.{FinishesOne, FinishesAtMostOne}
 
 -- the processes of a card that have announced their operation
 abbrev announcedIn : Card → ℕ → Bool
 announcedIn c j = isAnnounced (localAt c j .task .place)
 
-abbrev Follows : Card → Card → World → Notes → Type 0
+abbrev Follows : Card → Card → World → History → Type 0
 Follows o c w s = Tracks (o .processes) (isBusy c) (announcedIn c) w s
 
 -- a moment in which card, world and notes go together
-pub record Consistent (o : Card) (m : Moment) : Type 0 where
+pub record Consistent (o : Card) (m : Observation) : Type 0 where
   pub world : World
-  pub inv : Inv (m .card) world
-  pub tracks : Follows o (m .card) world (m .notes)
+  pub inv : CardInvariant (m .card) world
+  pub tracks : Follows o (m .card) world (m .history)
   pub text : contentsOf (m .card) ≡ contentsOf o
 
 -- the moment after an entry with a given answer
-abbrev after : Card → Moment → Entry → Answered → Moment
+abbrev after : Card → Observation → Entry → Answered → Observation
 after o m e r =
     record {
       card = r .card;
-      notes = noted (finished o (m .card .gate .seq) (finishing (m .card) (r .card)) (m .notes)) e (eventOf (r .answer));
+      history = withEntry (withFinishes o (m .card .gate .seq) (finishing (m .card) (r .card)) (m .history)) e (eventOf (r .answer));
     }
 
-module _ (o : Card) (m : Moment) (O : Consistent o m) where
+module _ (o : Card) (m : Observation) (O : Consistent o m) where
   abbrev c : Card
   c = m .card
 
-  abbrev s : Notes
-  s = m .notes
+  abbrev s : History
+  s = m .history
 
   abbrev w : World
   w = O .world
@@ -73,11 +74,11 @@ module _ (o : Card) (m : Moment) (O : Consistent o m) where
   -- an entry that turns no flag
   unturned :
       (d : Card) (e : Entry) (a : Answer) → c .announcements ≡ d .announcements →
-      Consistent o (record { card = d; notes = noted s e (eventOf a) }) → Consistent o (after o m e (record { card = d; answer = a }))
-  unfolding finished
-  unturned d e a z O′ = subst (λ (n : Notes). Consistent o (record { card = d; notes = noted n e (eventOf a) })) (sym none) O′
+      Consistent o (record { card = d; history = withEntry s e (eventOf a) }) → Consistent o (after o m e (record { card = d; answer = a }))
+  unfolding withFinishes
+  unturned d e a z O′ = subst (λ (n : History). Consistent o (record { card = d; history = withEntry n e (eventOf a) })) (sym none) O′
     where
-      none : finished o (c .gate .seq) (finishing c d) s ≡ s
+      none : withFinishes o (c .gate .seq) (finishing c d) s ≡ s
       none = rw (← z, turned-same 0 (c .announcements))
 
   processes-is : c .processes ≡ o .processes
@@ -87,7 +88,7 @@ module _ (o : Card) (m : Moment) (O : Consistent o m) where
   refused-kept : (e : Entry) (why : Refusal) → Consistent o (after o m e (refused c why))
   refused-kept e why = unturned c e (Answer.Refused why) refl (rw (noted-refused e) O)
     where
-      noted-refused : (e : Entry) → noted s e Event.none ≡ s
+      noted-refused : (e : Entry) → withEntry s e Event.none ≡ s
       noted-refused (Entry.Call i k inputs) = refl
       noted-refused (Entry.Exit i) = refl
       noted-refused (Entry.Step i) = refl
@@ -136,8 +137,8 @@ module _ (o : Card) (m : Moment) (O : Consistent o m) where
     S : Stepped c w i
     S = inv-step c w i (O .inv) lt b l
 
-    abbrev noticed : Notes
-    noticed = finished o (c .gate .seq) (finishing c d) s
+    abbrev noticed : History
+    noticed = withFinishes o (c .gate .seq) (finishing c d) s
 
     finishing-is : finishing c d ≡ turned 0 (w .announcements) (S .after .announcements)
     finishing-is =
@@ -149,11 +150,11 @@ module _ (o : Card) (m : Moment) (O : Consistent o m) where
         let flag : List Announcement → Flag = λ x. getD x i openAnnouncement .flag in
         ap flag (sym (announcements-is (O .inv))) ∙ active-before c i t (ap flag (announcements-is (S .inv)) ∙ h)
 
-    kind : Calm (announcedIn c) w (S .after) ⊎ Ends (contentsOf c) w (S .after)
+    kind : NothingFinishes (announcedIn c) w (S .after) ⊎ OneFinishes (contentsOf c) w (S .after)
     kind = kind-of (announcedIn c) (O .inv .good) (S .move) only
 
     -- the operation that an ending move finishes
-    module _ (E : Ends (contentsOf c) w (S .after)) where
+    module _ (E : OneFinishes (contentsOf c) w (S .after)) where
       ends-announced : announcedIn c (E .process) ≡ true
       ends-announced = holder-announced (O .inv) (E .process) (E .inside) (E .held)
 
@@ -168,18 +169,18 @@ module _ (o : Card) (m : Moment) (O : Consistent o m) where
 
     -- the notes after the step and before its answer
     abbrev Moved : ℕ → List ℕ → World → Type 0
-    Moved gate is v = Tracks (o .processes) (isBusy c) (announcedIn c) v (finished o gate is s)
+    Moved gate is v = Tracks (o .processes) (isBusy c) (announcedIn c) v (withFinishes o gate is s)
 
     moved : Tracks (o .processes) (isBusy c) (announcedIn c) (S .after) noticed
-    unfolding finished
+    unfolding withFinishes
     moved = ⊎-elim calm ends kind
       where
-        calm : Calm (announcedIn c) w (S .after) → Moved (c .gate .seq) (finishing c d) (S .after)
+        calm : NothingFinishes (announcedIn c) w (S .after) → Moved (c .gate .seq) (finishing c d) (S .after)
         calm C =
             subst (λ (is : List ℕ). Moved (c .gate .seq) is (S .after)) (sym (finishing-is ∙ C .none))
             (tracks-calm C (S .calls-is) (O .tracks))
 
-        ends : Ends (contentsOf c) w (S .after) → Moved (c .gate .seq) (finishing c d) (S .after)
+        ends : OneFinishes (contentsOf c) w (S .after) → Moved (c .gate .seq) (finishing c d) (S .after)
         ends E =
             subst (λ (is : List ℕ). Moved (c .gate .seq) is (S .after)) (sym (ends-one E))
             (subst (λ (v : World). Moved (c .gate .seq) (E .process ∷ []) v) (sym (E .becomes))
@@ -253,7 +254,7 @@ module _ (o : Card) (m : Moment) (O : Consistent o m) where
 
     -- the notes after the step and what it brought
     abbrev Ended : Event → Type 0
-    Ended v = Follows o d (S .after) (ended noticed i v)
+    Ended v = Follows o d (S .after) (withResponse noticed i v)
 
     ended-done : isBusy d i ≡ false → announcementIn (S .after) i .flag ≡ Done → Ended (Event.returned (Return.done (outputsIn (S .after) i)))
     ended-done idle h =
@@ -314,8 +315,8 @@ module _ (o : Card) (m : Moment) (O : Consistent o m) where
   finishes-one e = ⊎-elim inl (λ f. inr (f refl)) (outcome-finishes (outcome c e))
 
 -- a read shows the word of the bench
-pub read-shown : (o : Card) (m : Moment) → Consistent o m → (v : ℕ) → v < o .variables →
-    read (m .card) v ≡ record { card = m .card; answer = Answer.Value (getD (m .notes .words) v 0) }
+pub read-shown : (o : Card) (m : Observation) → Consistent o m → (v : ℕ) → v < o .variables →
+    read (m .card) v ≡ record { card = m .card; answer = Answer.Value (getD (m .history .words) v 0) }
 unfolding read
 read-shown o m O v l =
     let inside : v < m .card .variables = subst (λ (x : Contents). v < x .variables) (sym (O .text)) l in

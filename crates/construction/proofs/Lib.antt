@@ -1,43 +1,13 @@
+-- Laws and theorems, in reading order.
 pub mod Basics
 pub mod Mapping
-pub mod TextLines
-pub mod TextReading
-pub mod TextWriting
-pub mod TextRoundTrip
-pub mod OpenedBounds
-pub mod OneAccess
-pub mod SequentialLaws
-pub mod DictionaryLaws
-pub mod WeightLaws
-pub mod SimulationLaws
-pub mod World
-pub mod Kept
-pub mod Claims
-pub mod Locals
-pub mod Places
-pub mod Stages
-pub mod Acting
-pub mod Writes
-pub mod GateSteps
-pub mod AnnouncementSteps
-pub mod HelpSteps
-pub mod WriteSteps
-pub mod Steps
+-- The card text, both ways: lines, reading, writing, the round trip, and what an opened card is bounded by.
+pub mod Text
+-- A helper's simulation on its dictionary agrees with the sequential run (lines H1 to H30).
+pub mod Simulating
+-- The machine and its invariant: the shared cells with ghost state, what a process knows at each place, that every access keeps both, and so does every taken request.
 pub mod Invariant
-pub mod Answers
-pub mod NextPlaces
-pub mod ActiveFlags
-pub mod Entries
-pub mod Outcomes
-pub mod NotesLaws
-pub mod TextKept
-pub mod Observed
-pub mod Consistency
-pub mod Growth
-pub mod Linearizability
-pub mod LimitsKept
-pub mod AnswerFields
-pub mod Refusals
-pub mod ExitRequests
-pub mod Examples
-pub mod LinearizabilityExample
+-- Entries by cases, and that the history an observer keeps agrees with the invariant after every entry.
+pub mod Observing
+-- The theorems that docs/STATEMENTS.md names.
+pub mod Statements

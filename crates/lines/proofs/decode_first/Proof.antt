@@ -1,4 +1,4 @@
-use Rattle.construction.proofs.TextLines as laws
+use Rattle.construction.proofs.Text.Lines as laws
 use Rattle.construction.specs.declared.Instruction.{Instruction}
 use mathlib.Core.Path.{sym, _∙_}
 use native.Mathlib.Omega.{arith}

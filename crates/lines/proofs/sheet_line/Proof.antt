@@ -1,5 +1,5 @@
 use Rattle.construction.specs.Lines as lines
-use Rattle.construction.proofs.TextLines as laws
+use Rattle.construction.proofs.Text.Lines as laws
 use Rattle.grammar.proofs.Bytes as bytes
 use mathlib.Core.Path.{sym, _∙_}
 use native.Mathlib.Omega.{arith}

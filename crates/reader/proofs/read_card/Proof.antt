@@ -1,5 +1,5 @@
-use Rattle.construction.proofs.TextLines.{card-read}
-use Rattle.construction.proofs.TextReading as laws
+use Rattle.construction.proofs.Text.Lines.{card-read}
+use Rattle.construction.proofs.Text.Reading as laws
 use mathlib.Core.Path.{sym, _∙_}
 use borrow.Author.Needs.{needs}
 use Rattle.reader.proofs.read_card.Statement.{statement}

@@ -1,7 +1,7 @@
 use Rattle.reader.specs.Gathering.{programSoFar}
 use Rattle.construction.specs.Opening.{insFrom}
 use Rattle.construction.specs.Instructions.{noLine}
-use Rattle.construction.proofs.TextReading as laws
+use Rattle.construction.proofs.Text.Reading as laws
 use lib.ListN as list
 use lib.ListN.{replicate, length-set}
 use mathlib.Core.Path.{_≡_, refl, sym, _∙_}

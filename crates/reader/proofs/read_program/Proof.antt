@@ -1,5 +1,5 @@
-use Rattle.construction.proofs.TextLines.{sheet-read}
-use Rattle.construction.proofs.TextReading as laws
+use Rattle.construction.proofs.Text.Lines.{sheet-read}
+use Rattle.construction.proofs.Text.Reading as laws
 use mathlib.Core.Path.{sym, _∙_}
 use native.Mathlib.Omega.{arith}
 use borrow.Author.Needs.{needs}

@@ -5,7 +5,7 @@ use Rattle.construction.specs.Opening.{programsFrom}
 use lib.ListN as list
 use lib.ListN.{length-set}
 use Prim.Native.Nat.{_+_, _-_, _*_, _≤_}
-use Rattle.construction.proofs.TextReading as laws
+use Rattle.construction.proofs.Text.Reading as laws
 use mathlib.Core.Path.{_≡_, sym, _∙_, ap}
 use native.Mathlib.Omega.{arith}
 use borrow.Author.Needs.{needs}

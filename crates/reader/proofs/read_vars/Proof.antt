@@ -1,6 +1,6 @@
 use Rattle.reader.specs.Gathering.{soFar, withStarts}
 use Rattle.construction.specs.Opening.{varsFrom}
-use Rattle.construction.proofs.TextReading as laws
+use Rattle.construction.proofs.Text.Reading as laws
 use lib.ListN as list
 use lib.ListN.{length-set}
 use mathlib.Core.Path.{_≡_, sym, _∙_}

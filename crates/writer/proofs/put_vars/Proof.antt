@@ -3,7 +3,7 @@ use Rattle.construction.specs.Lines.{varText}
 use Rattle.grammar.proofs.Puts as puts
 use mathlib.Core.Path.{ap}
 use Prim.Native.Nat.{_-_, _≤_}
-use Rattle.construction.proofs.TextWriting as laws
+use Rattle.construction.proofs.Text.Writing as laws
 use native.Mathlib.Omega.{arith}
 use borrow.Author.Needs.{needs}
 use Rattle.writer.proofs.put_vars.Statement.{statement}

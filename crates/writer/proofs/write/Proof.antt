@@ -1,4 +1,4 @@
-use Rattle.construction.proofs.TextWriting as laws
+use Rattle.construction.proofs.Text.Writing as laws
 use native.Mathlib.Omega.{arith}
 use borrow.Author.Needs.{needs}
 use Rattle.writer.proofs.write.Statement.{statement}

@@ -1,4 +1,4 @@
-use Rattle.construction.proofs.TextReading as laws
+use Rattle.construction.proofs.Text.Reading as laws
 use borrow.Author.Needs.{needs}
 use Rattle.reader.proofs.blank.fresh_card.Statement.{statement}
 use Rattle.reader.proofs.blank.fresh_card.Tie as tie

@@ -1,0 +1,107 @@
+-- A step of process i: what is known before it, and what is to be shown of the card after its access.
+use Prim.Native.Nat.{ℕ, _+_, _%_, _≤_, _<_}
+use mathlib.Core.Path.{_≡_, refl}
+use mathlib.Core.List.{List}
+use native.Mathlib.Omega.{arith}
+use Rattle.construction.specs.declared.Gate.{Gate}
+use Rattle.construction.specs.declared.Announcement.{Announcement}
+use Rattle.construction.specs.declared.Record.{Record}
+use Rattle.construction.specs.declared.Task.{Task}
+use Rattle.construction.specs.declared.Simulation.{Simulation}
+use Rattle.construction.specs.declared.Dictionary.{Dictionary}
+use Rattle.construction.specs.declared.Card.{Card}
+use Rattle.construction.specs.Dictionary.{noted}
+use Rattle.construction.specs.Parts.{Local, localAt, contentsOf, withCells, withLocal}
+use Rattle.construction.specs.Machine.{after}
+use Rattle.construction.proofs.Simulating.Dictionaries.{Keyed}
+use Rattle.construction.proofs.Invariant.World.{World, WorldInvariant, Move}
+use Rattle.construction.proofs.Invariant.World.Move.{stay}
+use Rattle.construction.proofs.Invariant.Locals.{Sizes}
+use Rattle.construction.proofs.Invariant.Assertions.{Loc}
+
+-- a world whose shared cells are those of a card
+abbrev pub worldOf : Card → World → World
+worldOf c w =
+    record {
+      gate = c .gate;
+      announcements = c .announcements;
+      records = c .records;
+      words = w .words;
+      calls = w .calls;
+      outs = w .outs;
+      left = w .left;
+      bound = w .bound;
+      rounds = w .rounds;
+      count = w .count;
+    }
+
+-- a dictionary has at most 32 items, and no variable stands in it twice
+pub record WellFormed (d : Dictionary) : Type 0 where
+  pub short : d .length ≤ 32
+  pub keyed : Keyed (noted d)
+
+pub record Before (c : Card) (w : World) (i : ℕ) : Type 0 where
+  pub good : WorldInvariant (contentsOf c) (worldOf c w)
+  pub sizes : Sizes c
+  pub inside : i < c .processes
+  pub small : c .gate .seq ≤ 1000000000000000000
+  pub tidy : WellFormed (localAt c i .dictionary)
+
+-- process i goes on with another task: no cell read; the gate read; an announcement read; and its simulation gone on
+abbrev pub atTask : Local → Task → Local
+atTask l x = after l x (l .gate) (l .announcement) (l .simulation) (l .dictionary)
+
+abbrev pub atGate : Local → Gate → Task → Local
+atGate l g x = after l x g (l .announcement) (l .simulation) (l .dictionary)
+
+abbrev pub atAnnouncement : Local → Announcement → Task → Local
+atAnnouncement l a x = after l x (l .gate) a (l .simulation) (l .dictionary)
+
+abbrev pub atSimulation : Local → Announcement → Task → Simulation → Dictionary → Local
+atSimulation l a x s d = after l x (l .gate) a s d
+
+-- the card v comes from c by a move of process i, which then knows what its place asks for
+pub record Acted (c : Card) (w : World) (i : ℕ) (v : Card) : Type 0 where
+  pub after : World
+  pub move : Move (contentsOf c) i w after
+  pub gate-is : v .gate ≡ after .gate
+  pub announcements-is : v .announcements ≡ after .announcements
+  pub records-is : v .records ≡ after .records
+  pub calls-is : after .calls ≡ w .calls
+  pub local : Local
+  pub put : v ≡ withLocal (withCells c (v .gate) (v .announcements) (v .records)) i local
+  pub counted : local .steps ≡ (localAt c i .steps + 1) % 18446744073709551616
+  pub tidy : WellFormed (local .dictionary)
+  pub loc : Loc (contentsOf c) after i local
+
+module _ {c : Card} {w : World} {i : ℕ} (B : Before c w i) where
+  pub place-fits : i < 8
+  place-fits = omega (arith, B .good .fits .few, B .inside)
+
+  -- no shared cell is changed
+  pub keeps :
+      {g : Gate} {l : List Announcement} {r : List Record} → g ≡ c .gate → l ≡ c .announcements → r ≡ c .records →
+      (x : Task) (h : Gate) (a : Announcement) (s : Simulation) (d : Dictionary) → WellFormed d →
+      Loc (contentsOf c) (worldOf c w) i (after (localAt c i) x h a s d) →
+      Acted c (worldOf c w) i (withLocal (withCells c g l r) i (after (localAt c i) x h a s d))
+  keeps g l r x h a s d y q =
+      record {
+        after = worldOf c w;
+        move = stay;
+        gate-is = g;
+        announcements-is = l;
+        records-is = r;
+        calls-is = refl;
+        local = _;
+        put = refl;
+        counted = refl;
+        tidy = y;
+        loc = q;
+      }
+
+  -- only the task changes
+  pub goes-on :
+      (x : Task) → Loc (contentsOf c) (worldOf c w) i (atTask (localAt c i) x) →
+      {g : Gate} {l : List Announcement} {r : List Record} → g ≡ c .gate → l ≡ c .announcements → r ≡ c .records →
+      Acted c (worldOf c w) i (withLocal (withCells c g l r) i (atTask (localAt c i) x))
+  goes-on x q g l r = keeps g l r x _ _ _ _ (B .tidy) q

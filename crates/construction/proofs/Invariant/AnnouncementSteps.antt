@@ -1,0 +1,281 @@
+-- The steps whose access is of an announcement, but for P16: P3, P6, P7, C2, C4, P19, P20, P22.
+use Prim.Native.Nat.{ℕ, _<_}
+use mathlib.Core.Path.{_≡_, refl, sym, ap, _∙_}
+use mathlib.Core.Bool.{true, false}
+use mathlib.Core.Logic.{_≢_, inl, inr, ⊎-elim}
+use mathlib.Core.List.{List}
+use native.Mathlib.Omega.{arith}
+use native.Mathlib.Nat.{mod-lt}
+use lib.ListN.{getD, set}
+use lib.Seq.{getD-set-same, set-getD}
+use borrow.Author.Tests.{lt-ltb}
+use Rattle.construction.specs.declared.Announcement.{Announcement}
+use Rattle.construction.specs.declared.Operation.{Operation}
+use Rattle.construction.specs.declared.Card.{Card}
+use Rattle.construction.specs.declared.Holder.the-variants.{Process}
+use Rattle.construction.specs.declared.Flag.{Flag}
+use Rattle.construction.specs.declared.Flag.the-variants.{Done, Active, Exit}
+use Rattle.construction.specs.declared.Place.{Place}
+use Rattle.construction.specs.declared.Place.the-variants.{Idle, P3, P5, P7, P10, C2, C4, P13, P19, P20, P21, P22, F1}
+use Rattle.construction.specs.declared.AnnouncementAccess.{AnnouncementAccess}
+use Rattle.construction.specs.Cells.{openAnnouncement, sameAnnouncement, swapAnnouncement}
+use Rattle.construction.specs.Parts.{announcementAt, recordAt, withAnnouncement, localAt, Local, contentsOf, withLocal}
+use Rattle.construction.specs.Machine.{goTo, byFlag, holderOf, firstChoice, announced, flagged, withdrawn, finished, accessAnnouncement, perform, after}
+use Rattle.construction.proofs.Basics.{on-test, announcement-path, sameAnnouncement-true, sameAnnouncement-false, active-not-done, active-not-exit, exit-not-done, else-done}
+use Rattle.construction.proofs.Invariant.World.{endingIn, World, announcementIn, roundIn, wordAt, operationOf, announcing, leaving, ending, Move}
+use Rattle.construction.proofs.Invariant.World.Move.{announce, leave, end}
+use Rattle.construction.proofs.Invariant.Claims.{viewOf, Change, end-change}
+use Rattle.construction.proofs.Invariant.Assertions.{Mine, Helper, Plan, Ready, LocAt, Loc, helper-stays, plan-stays, ready-stays}
+use Rattle.construction.proofs.Invariant.Acting.{worldOf, Before, Acted, keeps, atTask, goes-on, atAnnouncement}
+use Rattle.construction.specs.declared.Contents.{Contents}
+use Rattle.construction.specs.declared.Access.{Access}
+
+-- line C1 names a process
+first-inside : (s p i : ℕ) → i < p → firstChoice s p < p
+unfolding firstChoice
+first-inside s p i lt = rw (lt-ltb 0 p (omega arith)) (mod-lt s (omega arith))
+
+module _ {c : Card} {w : World} {i : ℕ} (B : Before c w i) where
+  abbrev W : World
+  W = worldOf c w
+
+  abbrev F : Contents
+  F = contentsOf c
+
+  abbrev L : Place → Type 0
+  L l = LocAt l F W i (localAt c i)
+
+  -- the announcement of m after it was set
+  set-is : (m : ℕ) (a : Announcement) → m < c .processes → getD (set (c .announcements) m a) m openAnnouncement ≡ a
+  set-is m a lt =
+      getD-set-same (c .announcements) m a openAnnouncement (omega (arith, B .good .fits .few, B .good .lengths .announcements))
+
+  pub at-P3 : L P3 → Acted c W i (perform (Access.Announcement AnnouncementAccess.Announce) c i .card)
+  unfolding perform accessAnnouncement
+  at-P3 q =
+      let a : Announcement = announced (localAt c i .operation) (localAt c i .gate) in
+      let z : getD (set (c .announcements) i (announced (localAt c i .operation) (localAt c i .gate))) i openAnnouncement ≡ announced (localAt c i .operation) (localAt c i .gate) =
+      set-is i (announced (localAt c i .operation) (localAt c i .gate)) (B .inside) in
+      record {
+        after = announcing W i a;
+        move = announce a (B .inside) (q .0) refl (q .1) (q .2) (q .3);
+        gate-is = refl;
+        announcements-is = refl;
+        records-is = refl;
+        calls-is = refl;
+        local = _;
+        put = refl;
+        counted = refl;
+        tidy = B .tidy;
+        loc = (
+          record {
+            own = record {
+              out = λ d. absurd (active-not-done (ap (λ (r : Announcement). r .flag) z) d);
+              op = λ _. ap operationOf z ∙ q .1;
+            };
+            called = q .1;
+          },
+          refl,
+          refl,
+        );
+      }
+
+  -- process i with the announcement of m read, and at a place
+  abbrev read : ℕ → Place → Local
+  read m l = atAnnouncement (localAt c i) (announcementAt c m) (record { place = l; target = m })
+
+  -- the announcement of m is read
+  reads :
+      (m : ℕ) (l : Place) → Loc F W i (read m l) →
+      Acted c W i (withLocal (withAnnouncement c m (announcementAt c m)) i (read m l))
+  reads m l q = keeps B refl (set-getD (c .announcements) m openAnnouncement) refl _ _ _ _ _ (B .tidy) q
+
+  -- lines P7, C4 and P22: by the flag that is read
+  at-own :
+      (active exit : Place) → Mine (viewOf W i) (localAt c i .operation) → (announcementAt c i .flag ≡ Active → Loc F W i (read i active)) →
+      (announcementAt c i .flag ≡ Exit → Loc F W i (read i exit)) →
+      Acted c W i (perform (Access.Announcement (AnnouncementAccess.ReadOwn F1 active exit)) c i .card)
+  unfolding perform accessAnnouncement
+  at-own active exit mine a x = reads i _ (go (announcementAt c i .flag) refl)
+    where
+      go : (f : Flag) → announcementAt c i .flag ≡ f → Loc F W i (read i (byFlag f F1 active exit))
+      go Done e = record { done = e; same = refl; out = mine .own .out e }
+      go Active e = a e
+      go Exit e = x e
+
+  pub at-P7 : L P7 → Acted c W i (perform (Access.Announcement (AnnouncementAccess.ReadOwn F1 P10 P10)) c i .card)
+  at-P7 q = at-own P10 P10 q (λ _. q) (λ _. q)
+
+  pub at-C4 : L C4 → Acted c W i (perform (Access.Announcement (AnnouncementAccess.ReadOwn F1 P13 P13)) c i .card)
+  at-C4 q = at-own P13 P13 (q .0) (λ e. self (active-not-done e)) (λ e. self (exit-not-done e))
+    where
+      self : announcementAt c i .flag ≢ Done → Loc F W i (read i P13)
+      self nd = (
+        q .0,
+        q .1,
+        B .inside,
+        record { below = q .2; fit = λ _ _. record { alive = nd; op = q .0 .own .op nd; right = inl refl } },
+        q .3,
+      )
+
+  pub at-P22 : L P22 → Acted c W i (perform (Access.Announcement (AnnouncementAccess.ReadOwn F1 P5 Idle)) c i .card)
+  at-P22 q =
+      at-own P5 Idle (q .0)
+      (λ e. (
+        q .0,
+        e,
+        ap (λ (r : Operation). r .inputs) (q .0 .own .op (active-not-done e) ∙ sym (q .0 .called)),
+      ))
+      (λ e. (
+        record { not-active = λ a. active-not-exit a e; free-of = q .1 .free-of e; late = q .1 .late },
+        record { same = refl; out = q .0 .own .out },
+      ))
+
+  read-C2 :
+      (m : ℕ) → m < c .processes → (f : Flag) → announcementAt c m .flag ≡ f → L C2 →
+      Loc F W i (read m (byFlag f C4 P13 C4))
+  read-C2 m ml Done e q = q
+  read-C2 m ml Active e q = (
+    q .0,
+    q .1,
+    ml,
+    record {
+      below = q .2;
+      fit = λ _ _. record {
+        alive = active-not-done e;
+        op = B .good .active-operation m e;
+        right = inr (λ x. absurd (active-not-exit e x));
+      };
+    },
+    q .3,
+  )
+  read-C2 m ml Exit e q = q
+
+  pub at-C2 : L C2 → Acted c W i (perform (Access.Announcement AnnouncementAccess.ReadFirst) c i .card)
+  unfolding perform accessAnnouncement
+  at-C2 q =
+      let m : ℕ = firstChoice (localAt c i .gate .seq) (c .processes) in
+      reads m _
+      (read-C2 m (first-inside (localAt c i .gate .seq) (c .processes) i (B .inside)) (announcementAt c m .flag) refl q)
+
+  -- process i at a place, and the card after a swap of announcement m
+  abbrev at : Place → Local
+  at l = atTask (localAt c i) (goTo (localAt c i .task) l)
+
+  abbrev swapped : ℕ → Announcement → Place → Card
+  swapped m a l = withLocal (withAnnouncement c m a) i (at l)
+
+  -- a swap that was lost
+  lost : (m : ℕ) (l : Place) → Loc F W i (at l) → Acted c W i (swapped m (announcementAt c m) l)
+  lost m l q = goes-on B _ q refl (set-getD (c .announcements) m openAnnouncement) refl
+
+  pub at-P6 : L P5 → Acted c W i (perform (Access.Announcement AnnouncementAccess.Withdraw) c i .card)
+  unfolding perform accessAnnouncement swapAnnouncement
+  at-P6 q =
+      on-test (λ a. Acted c W i (swapped i a P7)) (sameAnnouncement (announcementAt c i) (localAt c i .announcement)) won
+      (λ _. lost i P7 (q .0))
+    where
+      won : sameAnnouncement (announcementAt c i) (localAt c i .announcement) ≡ true → Acted c W i (swapped i (withdrawn (localAt c i .announcement) (localAt c i .operation)) P7)
+      won e =
+          let z = sameAnnouncement-true (announcementAt c i) (localAt c i .announcement) e in
+          let fa : announcementAt c i .flag ≡ Active = ap (λ (r : Announcement). r .flag) z ∙ q .1 in
+          let zw : announcementAt c i .words ≡ localAt c i .operation .inputs = ap (λ (r : Announcement). r .words) z ∙ q .2 in
+          let y = set-is i (flagged (announcementAt c i) Exit) (B .inside) in
+          record {
+            after = leaving W i;
+            move = leave (B .inside) fa;
+            gate-is = refl;
+            announcements-is =
+                ap {B = List Announcement} (set (c .announcements) i)
+                (announcement-path (ap (λ (r : Announcement). r .program) (sym z)) refl
+                (ap (λ (r : Announcement). r .seq) (sym z)) (sym zw));
+            records-is = refl;
+            calls-is = refl;
+            local = _;
+            put = refl;
+            counted = refl;
+            tidy = B .tidy;
+            loc = record {
+              own = record {
+                out = λ d. absurd (exit-not-done (ap (λ (r : Announcement). r .flag) y) d);
+                op = λ _. ap operationOf y ∙ q .0 .own .op (active-not-done fa);
+              };
+              called = q .0 .called;
+            };
+          }
+
+  -- the process that is helped
+  abbrev helped : ℕ
+  helped = holderOf (localAt c i .gate .holder)
+
+  -- a helper that swaps the flag to done, from the flag f that it expects
+  module _ (l : Place) (f : Flag) (nf : f ≢ Done) (helper : Helper F W i (localAt c i .operation) (localAt c i .gate))
+      (plan : Plan F W (localAt c i .gate) (localAt c i .announcement)) (rd : Ready F W (localAt c i .gate .seq) (localAt c i .simulation .outputs)) where
+    ends :
+        announcementAt c helped ≡ flagged (localAt c i .announcement) f →
+        (Move F i W (ending F W helped) → Change i (viewOf W i) (viewOf (ending F W helped) i) →
+        Loc F (ending F W helped) i (at l)) →
+        Acted c W i (swapped helped (finished (localAt c i .announcement) (localAt c i .simulation .outputs)) l)
+    ends z loc =
+        let nd : announcementAt c helped .flag ≢ Done = λ d. nf (sym (ap (λ (r : Announcement). r .flag) z) ∙ d) in
+        let zq : announcementAt c helped .seq ≡ localAt c i .announcement .seq = ap (λ (r : Announcement). r .seq) z in
+        let still = helper .seen .still (omega (arith, B .good .fresh helped nd, plan .early)) in
+        let zs : c .gate .seq ≡ localAt c i .gate .seq = still .1 in
+        let all :
+        (v : ℕ) → v < c .variables → recordAt c v .seq < c .gate .seq →
+        wordAt (endingIn F W (c .gate .seq) .words) v ≡ wordAt (roundIn W (c .gate .seq) .words) v =
+        ⊎-elim (λ b. absurd (omega arith)) (λ g. rw zs g) (rd .all) in
+        let outs : localAt c i .simulation .outputs ≡ endingIn F W (c .gate .seq) .outputs =
+        ⊎-elim (λ b. absurd (omega arith)) (λ g. rw zs g) (rd .outs) in
+        let M : Move F i W (ending F W helped) = end helped (helper .inside) (still .0) nd all in
+        record {
+          after = ending F W helped;
+          move = M;
+          gate-is = refl;
+          announcements-is =
+              ap {B = List Announcement} (set (c .announcements) helped)
+              (announcement-path (sym (ap (λ (r : Announcement). r .program) z)) refl (sym zq) outs);
+          records-is = refl;
+          calls-is = refl;
+          local = _;
+          put = refl;
+          counted = refl;
+          tidy = B .tidy;
+          loc = loc M (end-change (B .good) helped i (helper .inside) (still .0) nd);
+        }
+
+    -- where the swap is lost, the flag is not f
+    missed :
+        sameAnnouncement (announcementAt c helped) (flagged (localAt c i .announcement) f) ≡ false →
+        c .gate .holder ≡ Process helped → c .gate .seq ≡ localAt c i .gate .seq → announcementAt c helped .flag ≢ f
+    missed e h z a =
+        let y = plan .working .alike h z (λ d. nf (sym a ∙ d)) in
+        sameAnnouncement-false _ _ e (announcement-path (y .program) a (y .seq) (y .words))
+
+  -- afterwards the flag of m is done
+  is-done : (m : ℕ) → m < c .processes → announcementIn (ending F W m) m .flag ≡ Done
+  is-done m ml = ap (λ (r : Announcement). r .flag) (set-is m _ ml)
+
+  pub at-P19 : L P19 → Acted c W i (perform (Access.Announcement (AnnouncementAccess.Finish Active P20)) c i .card)
+  unfolding perform accessAnnouncement swapAnnouncement
+  at-P19 q =
+      on-test (λ a. Acted c W i (swapped helped a P20))
+      (sameAnnouncement (announcementAt c helped) (flagged (localAt c i .announcement) Active))
+      (λ e. ends P20 Active (active-not-done refl) (q .0) (q .1) (q .2) (sameAnnouncement-true _ _ e) (λ M C. (
+        helper-stays (B .good) M C (q .0),
+        plan-stays (B .good) M (localAt c i .gate) (localAt c i .announcement) (q .0 .seen) (q .1),
+        ready-stays (B .good) M (localAt c i .gate .seq) (q .1 .number) (q .1 .below) (localAt c i .simulation .outputs) (q .2),
+        record { isnt = λ _ _ a. active-not-done a (is-done helped (q .0 .inside)) },
+      )))
+      (λ e. lost helped P20
+      (q .0, q .1, q .2, record { isnt = missed P20 Active (active-not-done refl) (q .0) (q .1) (q .2) e }))
+
+  pub at-P20 : L P20 → Acted c W i (perform (Access.Announcement (AnnouncementAccess.Finish Exit P21)) c i .card)
+  unfolding perform accessAnnouncement swapAnnouncement
+  at-P20 q =
+      on-test (λ a. Acted c W i (swapped helped a P21))
+      (sameAnnouncement (announcementAt c helped) (flagged (localAt c i .announcement) Exit))
+      (λ e. ends P21 Exit (exit-not-done refl) (q .0) (q .1) (q .2) (sameAnnouncement-true _ _ e)
+      (λ M C. (helper-stays (B .good) M C (q .0), record { over = λ _ _. is-done helped (q .0 .inside) })))
+      (λ e. lost helped P21
+      (q .0, record { over = λ h z. else-done _ (q .3 .isnt h z) (missed P21 Exit (exit-not-done refl) (q .0) (q .1) (q .2) e h z) }))

@@ -1,0 +1,290 @@
+-- The invariant of a card beside a world, and that fresh cards have it and every taken call, exit request and step keeps it.
+use Prim.Native.Nat.{ℕ, suc, _+_, _≤_, _<_, _%_}
+use mathlib.Core.Path.{_≡_, refl, sym, subst, ap, _∙_}
+use mathlib.Core.Bool.{true, false}
+use mathlib.Core.Logic.{_≢_}
+use mathlib.Core.List.{[], _∷_, map, List}
+use native.Mathlib.Omega.{arith}
+use native.Mathlib.Decide.{ℕ-discrete}
+use lib.ListN.{length, getD, take, replicate, length-map, List·getD-map}
+use lib.Seq.{getD-set-same, getD-take, length-take-le}
+use borrow.Author.Tests.{not-true, not-false}
+use Rattle.construction.specs.declared.Gate.{Gate}
+use Rattle.construction.specs.declared.Announcement.{Announcement}
+use Rattle.construction.specs.declared.Words.{Words}
+use Rattle.construction.specs.declared.Task.{Task}
+use Rattle.construction.specs.declared.Operation.{Operation}
+use Rattle.construction.specs.declared.Card.{Card}
+use Rattle.construction.specs.declared.Contents.{Contents}
+use Rattle.construction.specs.declared.Flag.the-variants.{Done}
+use Rattle.construction.specs.declared.Place.{Place}
+use Rattle.construction.specs.declared.Place.the-variants.{Idle}
+use Rattle.construction.specs.Cells.{zeros, openAnnouncement, openRecord, current}
+use Rattle.construction.specs.Instructions.{noProgram}
+use Rattle.construction.specs.Dictionary.{empty}
+use Rattle.construction.specs.Parts.{idleTask, noOperation, localAt, withLocal, Local, contentsOf, withCells, withSteps}
+use Rattle.construction.specs.Machine.{perform, advance, accessIn}
+use Rattle.construction.specs.Requests.{isBusy, invoked, exiting}
+use Rattle.construction.specs.Opening.{fresh}
+use Rattle.construction.proofs.Basics.{getD-replicate-same, active-not-done, exit-not-done, nobody-process}
+use Rattle.construction.proofs.Simulating.Sequential.{Short}
+use Rattle.construction.proofs.Invariant.World.{World, WorldInvariant, asking, Quiet, Move}
+use Rattle.construction.proofs.Invariant.World.Move.{ask, stay}
+use Rattle.construction.proofs.Invariant.WorldKept.{good-move, seq-move}
+use Rattle.construction.proofs.Invariant.Locals.{Sizes, local-same, local-other, sizes-put}
+use Rattle.construction.proofs.Invariant.Assertions.{LocAt, Loc, loc-stays, known}
+use Rattle.construction.proofs.Invariant.Stages.{stage, is-idle}
+use Rattle.construction.proofs.Invariant.Acting.{worldOf, WellFormed, Acted, Before}
+use Rattle.construction.proofs.Invariant.Steps.{at-place}
+use Rattle.construction.specs.declared.Record.{Record}
+
+-- the cells of the card are those of a good world, every process knows what its place asks for, and the numbers keep their bounds
+pub record CardInvariant (c : Card) (w : World) : Type 0 where
+  pub cells : worldOf c w ≡ w
+  pub good : WorldInvariant (contentsOf c) w
+  pub sizes : Sizes c
+  pub locs : (j : ℕ) → j < c .processes → Loc (contentsOf c) w j (localAt c j)
+  pub tidy : (j : ℕ) → WellFormed (localAt c j .dictionary)
+  pub numbered : c .gate .seq ≤ suc (c .steps)
+  pub limited : c .steps ≤ c .limit
+  pub capped : c .limit ≤ 1000000000000000000
+  pub counts : (j : ℕ) → localAt c j .steps ≤ c .steps
+
+-- the shared cells of the card are those of the world
+module _ {c : Card} {w : World} (I : CardInvariant c w) where
+  pub gate-is : c .gate ≡ w .gate
+  gate-is = ap (λ (u : World). u .gate) (I .cells)
+
+  pub good-is : WorldInvariant (contentsOf c) (worldOf c w)
+  good-is = subst (WorldInvariant (contentsOf c)) (sym (I .cells)) (I .good)
+
+  pub announcements-is : c .announcements ≡ w .announcements
+  announcements-is = ap (λ (u : World). u .announcements) (I .cells)
+
+-- a card after a move to the world u: other shared cells, process i with the own state t, and k accepted steps
+module _ {c : Card} {w : World} {i : ℕ} (I : CardInvariant c w) (lt : i < 8) {u : World} (M : Move (contentsOf c) i w u) (g : Gate) (l : List Announcement)
+    (r : List Record) (t : Local) (k : ℕ) where
+  abbrev v : Card
+  v = withSteps (withLocal (withCells c g l r) i t) k
+
+  at-process : (P : ℕ → Local → Type 0) → P i t → ((j : ℕ) → j ≢ i → P j (localAt c j)) → (j : ℕ) → P j (localAt v j)
+  at-process P a b j = go (ℕ-discrete j i)
+    where
+      go : Dec (j ≡ i) → P j (localAt v j)
+      go (yes e) = subst (λ (n : ℕ). P n (localAt v n)) (sym e) (subst (P i) (sym (local-same c i t (I .sizes) lt)) a)
+      go (no ne) = subst (P j) (sym (local-other c i j t ne)) (b j ne)
+
+  moved :
+      worldOf v u ≡ u → Loc (contentsOf c) u i t → WellFormed (t .dictionary) → u .gate .seq ≤ suc k → c .steps ≤ k → k ≤ c .limit →
+      t .steps ≤ k → CardInvariant v u
+  moved cells loc tidy numbered more limited own = record {
+    cells = cells;
+    good = good-move (I .good) M;
+    sizes = sizes-put c i t (I .sizes);
+    locs = λ j h. at-process (λ n x. n < c .processes → Loc (contentsOf c) u n x) (λ _. loc)
+        (λ n ne m. loc-stays (I .good) M n ne (localAt c n) (I .locs n m)) j h;
+    tidy = at-process (λ n x. WellFormed (x .dictionary)) tidy (λ n ne. I .tidy n);
+    numbered = subst (λ (x : Gate). x .seq ≤ suc k) (sym (ap (λ (x : World). x .gate) cells)) numbered;
+    limited = limited;
+    capped = I .capped;
+    counts = at-process (λ n x. x .steps ≤ k) own (λ n ne. omega (arith, I .counts n));
+  }
+
+-- what an accepted step of process i comes to
+pub record Stepped (c : Card) (w : World) (i : ℕ) : Type 0 where
+  pub after : World
+  pub move : Move (contentsOf c) i w after
+  pub inv : CardInvariant (advance c i) after
+  pub calls-is : after .calls ≡ w .calls
+  pub elsewhere : (j : ℕ) → j ≢ i → localAt (advance c i) j ≡ localAt c j
+
+-- a step that is accepted
+pub inv-step :
+    (c : Card) (w : World) (i : ℕ) →
+    CardInvariant c w → i < c .processes → isBusy c i ≡ true → c .steps < c .limit → Stepped c w i
+unfolding advance
+inv-step c w i I lt b h = record {
+  after = A .after;
+  move = M;
+  inv = subst (λ (x : Card). CardInvariant (withSteps x k) (A .after)) (sym (A .put))
+      (moved I few M (v .gate) (v .announcements) (v .records) (A .local) k
+      (λ n. record {
+        gate = A .gate-is n;
+        announcements = A .announcements-is n;
+        records = A .records-is n;
+        words = A .after .words;
+        calls = A .after .calls;
+        outs = A .after .outs;
+        left = A .after .left;
+        bound = A .after .bound;
+        rounds = A .after .rounds;
+        count = A .after .count;
+      })
+      (A .loc) (A .tidy) (omega (arith, seq-move M, ap (λ (g : Gate). g .seq) (gate-is I), I .numbered, steps)) (omega (arith, steps))
+      (omega (arith, steps)) (omega (arith, A .counted, I .counts i, I .capped, steps)));
+  calls-is = A .calls-is;
+  elsewhere = λ j ne. ap (λ (x : Card). localAt x j) (A .put) ∙ local-other c i j (A .local) ne;
+}
+  where
+    v : Card
+    v = perform (accessIn (localAt c i)) c i .card
+
+    k : ℕ
+    k = (c .steps + 1) % 18446744073709551616
+
+    few : i < 8
+    few = omega (arith, I .good .fits .few)
+
+    B : Before c w i
+    B = record {
+      good = good-is I;
+      sizes = I .sizes;
+      inside = lt;
+      small = omega (arith, I .numbered, I .capped);
+      tidy = I .tidy i;
+    }
+
+    A : Acted c (worldOf c w) i v
+    A =
+        at-place B (localAt c i .task .place) (localAt c i .exit) (not-true _ b)
+        (subst (λ (x : World). Loc (contentsOf c) x i (localAt c i)) (sym (I .cells)) (I .locs i lt))
+
+    M : Move (contentsOf c) i w (A .after)
+    M = subst (λ (x : World). Move (contentsOf c) i x (A .after)) (I .cells) (A .move)
+
+    steps : k ≡ suc (c .steps)
+    steps = omega (arith, I .capped)
+
+-- what is known of a process that has no operation under way
+pub at-rest :
+    {c : Card} {w : World} (I : CardInvariant c w) (i : ℕ) →
+    i < c .processes → isBusy c i ≡ false → LocAt Idle (contentsOf c) w i (localAt c i)
+at-rest {c} {w} I i lt b =
+    subst (λ (l : Place). LocAt l (contentsOf c) w i (known (localAt c i))) (is-idle (stage (localAt c i .task .place)) (not-false _ b)) (I .locs i lt)
+
+-- a call that is taken
+abbrev pub called : ℕ → Words → Operation
+called k inputs = record { program = k; inputs = inputs }
+
+call-move :
+    (c : Card) (w : World) (i k : ℕ) (inputs : Words) → CardInvariant c w → i < c .processes → isBusy c i ≡ false →
+    Move (contentsOf c) i w (asking w i (called k inputs))
+call-move c w i k inputs I lt b = ask (called k inputs) lt (at-rest I i lt b .0)
+
+pub inv-call :
+    (c : Card) (w : World) (i k : ℕ) (inputs : Words) → CardInvariant c w → i < c .processes → isBusy c i ≡ false →
+    CardInvariant (withLocal c i (invoked (localAt c i) k inputs)) (asking w i (called k inputs))
+inv-call c w i k inputs I lt b =
+    moved I few (call-move c w i k inputs I lt b) (c .gate) (c .announcements) (c .records) (invoked (localAt c i) k inputs) (c .steps)
+    (ap (λ (x : World). asking x i (called k inputs)) (I .cells)) (
+      record { not-active = Q .not-active; free-of = Q .free-of; late = Q .late },
+      sym (getD-set-same (w .calls) i (called k inputs) noOperation (omega (arith, few, I .good .lengths .calls))),
+    )
+    (I .tidy i) (subst (λ (g : Gate). g .seq ≤ suc (c .steps)) (gate-is I) (I .numbered)) (omega arith) (I .limited) (omega arith)
+  where
+    few : i < 8
+    few = omega (arith, I .good .fits .few)
+
+    Q : Quiet w i
+    Q = at-rest I i lt b .0
+
+-- an exit request that is taken: no assertion speaks of it
+pub inv-exit : (c : Card) (w : World) (i : ℕ) → CardInvariant c w → i < c .processes → CardInvariant (withLocal c i (exiting (localAt c i))) w
+inv-exit c w i I lt =
+    moved I (omega (arith, I .good .fits .few)) stay (c .gate) (c .announcements) (c .records) (exiting (localAt c i)) (c .steps) (I .cells)
+    (I .locs i lt) (I .tidy i) (subst (λ (g : Gate). g .seq ≤ suc (c .steps)) (gate-is I) (I .numbered)) (omega arith) (I .limited)
+    (I .counts i)
+
+-- a card as opened
+abbrev pub firstWorld : Contents → World
+firstWorld x =
+    record {
+      gate = fresh x .gate;
+      announcements = fresh x .announcements;
+      records = fresh x .records;
+      words = take (x .variables) (x .starts);
+      calls = replicate 8 noOperation;
+      outs = replicate 8 zeros;
+      left = replicate 8 0;
+      bound = replicate 8 0;
+      rounds = record { words = take (x .variables) (x .starts); call = noOperation } ∷ [];
+      count = 1;
+    }
+
+module _ (x : Contents) (few : x .processes ≤ 8) (narrow : x .variables ≤ 64) (capped : x .limit ≤ 1000000000000000000)
+    (many : length (x .starts) ≡ 64) (short : (k : ℕ) → Short (getD (x .code) k noProgram)) where
+  open-flag : (m : ℕ) → getD (replicate 8 openAnnouncement) m openAnnouncement .flag ≡ Done
+  open-flag m = ap (λ (a : Announcement). a .flag) (getD-replicate-same 8 m openAnnouncement)
+
+  open-record : (v : ℕ) → getD (map openRecord (x .starts)) v (openRecord 0) ≡ openRecord (getD (x .starts) v 0)
+  open-record v = List·getD-map openRecord (x .starts) v 0
+
+  open-words : length (take (x .variables) (x .starts)) ≡ x .variables
+  open-words = length-take-le (x .variables) (x .starts) (omega arith)
+
+  good-fresh : WorldInvariant (contentsOf (fresh x)) (firstWorld x)
+  unfolding fresh current
+  good-fresh = record {
+    fits = record { few = few; narrow = narrow; short = λ k number. short k };
+    lengths = record {
+      announcements = refl;
+      records = length-map (x .starts) openRecord ∙ many;
+      calls = refl;
+      outs = refl;
+      left = refl;
+      bound = refl;
+    };
+    size-words = open-words;
+    size-round = λ s l. let z : s ≡ 0 = omega arith in rw z open-words;
+    left-below = λ m. rw (getD-replicate-same {A = ℕ} 8 m 0) (omega arith);
+    bound-below = λ m. rw (getD-replicate-same {A = ℕ} 8 m 0) (omega arith);
+    announcement-below = λ m. rw (getD-replicate-same 8 m openAnnouncement) (omega arith);
+    fresh = λ m e. absurd (e (open-flag m));
+    inside = λ m e. absurd (nobody-process refl e);
+    active-operation = λ m e. absurd (active-not-done e (open-flag m));
+    phase = (refl, refl);
+    recorded = record {
+      below = λ v. rw (open-record v) (omega arith);
+      old = λ s v l vl h. absurd (omega arith);
+      same = λ v vl h. absurd (omega (arith, rw (open-record v) at h));
+      settled = λ s v l vl h. absurd (omega arith);
+      words-are = λ v vl e. rw (open-record v) (sym (getD-take (x .variables) (x .starts) v 0 vl));
+    };
+  }
+
+  pub inv-fresh : CardInvariant (fresh x) (firstWorld x)
+  unfolding fresh
+  inv-fresh = record {
+    cells = refl;
+    good = good-fresh;
+    sizes = record {
+      tasks = refl;
+      operations = refl;
+      exits = refl;
+      counts = refl;
+      gates = refl;
+      copies = refl;
+      simulations = refl;
+      dictionaries = refl;
+    };
+    locs = λ j h. subst (λ (l : Place). LocAt l (contentsOf (fresh x)) (firstWorld x) j (known (localAt (fresh x) j)))
+        (sym (ap (λ (t : Task). t .place) (getD-replicate-same 8 j idleTask))) (
+          record {
+            not-active = λ a. active-not-done a (open-flag j);
+            free-of = nobody-process refl;
+            late = λ l. absurd (exit-not-done l (open-flag j));
+          },
+          record {
+            same = refl;
+            out = λ _.
+                ap (λ (a : Announcement). a .words) (getD-replicate-same 8 j openAnnouncement) ∙ sym (getD-replicate-same 8 j zeros);
+          },
+        );
+    tidy = λ j.
+        subst WellFormed (sym (getD-replicate-same 8 j empty))
+        (record { short = omega arith; keyed = tt });
+    numbered = omega arith;
+    limited = omega arith;
+    capped = capped;
+    counts = λ j. rw (getD-replicate-same {A = ℕ} 8 j 0) (omega arith);
+  }

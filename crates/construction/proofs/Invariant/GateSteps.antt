@@ -1,0 +1,226 @@
+-- The steps whose access is of the gate: P1, P10, P13, P14, P21, F1, F3.
+use Prim.Native.Nat.{ℕ, _≤_, _<_}
+use mathlib.Core.Path.{_≡_, refl, sym, ap, _∙_}
+use mathlib.Core.Bool.{true, false}
+use mathlib.Core.Logic.{_≢_, inl, inr, ⊎-elim}
+use native.Mathlib.Omega.{arith}
+use native.Mathlib.Decide.{decLt}
+use Rattle.construction.specs.declared.Gate.{Gate}
+use Rattle.construction.specs.declared.Announcement.{Announcement}
+use Rattle.construction.specs.declared.Operation.{Operation}
+use Rattle.construction.specs.declared.Card.{Card}
+use Rattle.construction.specs.declared.Flag.the-variants.{Done}
+use Rattle.construction.specs.declared.Holder.{Holder}
+use Rattle.construction.specs.declared.Holder.the-variants.{Nobody, Process}
+use Rattle.construction.specs.declared.Place.{Place}
+use Rattle.construction.specs.declared.Place.the-variants.{Idle, P1, P3, C2, P13, P14, P16, P21, P22, F1, F3}
+use Rattle.construction.specs.declared.GateAccess.{GateAccess}
+use Rattle.construction.specs.Cells.{sameHolder, sameGate, swapGate, released}
+use Rattle.construction.specs.Parts.{announcementAt, withGate, localAt, Local, contentsOf, withLocal}
+use Rattle.construction.specs.Machine.{goTo, byHolder, holderOf, accessGate, perform, after}
+use Rattle.construction.proofs.Basics.{on-test, true-false, gate-path, sameGate-true, sameGate-false, sameHolder-true, sameHolder-refl, nobody-process, active-not-done, exit-not-done}
+use Rattle.construction.proofs.Invariant.World.{World, leftIn, taking, freeing, Quiet}
+use Rattle.construction.proofs.Invariant.World.Move.{take, free}
+use Rattle.construction.proofs.Invariant.Claims.{View, viewOf, gated, Limit, Returning, Rested, Eligible}
+use Rattle.construction.proofs.Invariant.Assertions.{Mine, Helper, LocAt, Loc}
+use Rattle.construction.proofs.Invariant.Acting.{worldOf, Before, Acted, keeps, atTask, atGate, goes-on}
+use Rattle.construction.specs.declared.Contents.{Contents}
+use Rattle.construction.specs.declared.Access.{Access}
+
+-- what is known of an operation at its return
+rests :
+    (w : World) (i : ℕ) {a : Announcement} → Returning (viewOf w i) a → w .gate .holder ≢ Process i →
+    Quiet w i × Rested (viewOf w i) a
+rests w i q ne = (
+  record {
+    not-active = λ e. active-not-done e (q .done);
+    free-of = ne;
+    late = λ e. absurd (exit-not-done e (q .done));
+  },
+  record { same = q .same; out = λ _. ap (λ (r : Announcement). r .words) (q .same) ∙ q .out },
+)
+
+-- the gate plays no part in what is known of one's own operation
+mine-gated : {x : View} {g : Gate} {o : Operation} → Mine x o → Mine (gated x g) o
+mine-gated q = record { own = record { out = q .own .out; op = q .own .op }; called = q .called }
+
+module _ {c : Card} {w : World} {i : ℕ} (B : Before c w i) where
+  abbrev W : World
+  W = worldOf c w
+
+  abbrev F : Contents
+  F = contentsOf c
+
+  abbrev L : Place → Type 0
+  L l = LocAt l F W i (localAt c i)
+
+  -- process i with the gate that it has read
+  abbrev read : Place → Local
+  read l = atGate (localAt c i) (c .gate) (goTo (localAt c i .task) l)
+
+  -- the gate is read
+  reads : (l : Place) → Loc F W i (read l) → Acted c W i (withLocal c i (read l))
+  reads l q = keeps B refl refl refl _ _ _ _ _ (B .tidy) q
+
+  limit-now : Limit (viewOf W i) i (c .gate .seq)
+  limit-now = record { low = λ _. B .good .bound-below i; high = λ _ _. omega arith }
+
+  helper-now :
+      (m : ℕ) → c .gate .holder ≡ Process m → Mine (viewOf W i) (localAt c i .operation) → Helper F W i (localAt c i .operation) (c .gate)
+  helper-now m e q = record {
+    mine = q;
+    named = rw e;
+    inside = rw e (B .good .inside m e);
+    seen = record { still = λ z. (rw e, refl) };
+    limit = limit-now;
+  }
+
+  -- lines P1, P10 and P14: by the holder that is read
+  at-read :
+      (held nobody : Place) → ((m : ℕ) → c .gate .holder ≡ Process m → Loc F W i (read held)) →
+      (c .gate .holder ≡ Nobody → Loc F W i (read nobody)) → Acted c W i (perform (Access.Gate (GateAccess.Read held nobody)) c i .card)
+  unfolding perform accessGate
+  at-read held nobody a b = reads _ (go (c .gate .holder) refl)
+    where
+      go : (h : Holder) → c .gate .holder ≡ h → Loc F W i (read (byHolder h held nobody))
+      go Nobody e = b e
+      go (Process m) e = a m e
+
+  pub at-P1 : L P1 → Acted c W i (perform (Access.Gate (GateAccess.Read P3 P3)) c i .card)
+  at-P1 q = at-read P3 P3 (λ _ _. next) (λ _. next)
+    where
+      next : Loc F W i (read P3)
+      next = (q .0, q .1, B .good .left-below i, omega arith)
+
+  pub at-P10 : Mine (viewOf W i) (localAt c i .operation) → Acted c W i (perform (Access.Gate (GateAccess.Read P16 C2)) c i .card)
+  at-P10 q = at-read P16 C2 (λ m e. helper-now m e q) (λ e. (q, e, omega arith, limit-now))
+
+  pub at-P14 : L P14 → Acted c W i (perform (Access.Gate (GateAccess.Read P16 P22)) c i .card)
+  at-P14 q =
+      at-read P16 P22 (λ m e. helper-now m e (q .0))
+      (λ e. (q .0, record { late = λ x. q .1 .past x e; free-of = λ _. nobody-process e }))
+
+  pub at-F1 : L F1 → Acted c W i (perform (Access.Gate GateAccess.ReadLast) c i .card)
+  unfolding perform accessGate
+  at-F1 q =
+      on-test (λ l. Acted c W i (withLocal c i (read l))) (sameHolder (c .gate .holder) (Process i))
+      (λ e. reads F3 (q, sameHolder-true _ _ e, record { only = λ _. refl }))
+      (λ e. reads Idle (rests W i q (λ z. true-false _ (rw z (sameHolder-refl (Process i))) e)))
+
+  -- process i at a place, and the card after a swap of the gate
+  abbrev at : Place → Local
+  at l = atTask (localAt c i) (goTo (localAt c i .task) l)
+
+  abbrev swapped : Gate → Place → Card
+  swapped g l = withLocal (withGate c g) i (at l)
+
+  -- a swap that was lost
+  lost : (l : Place) → Loc F W i (at l) → Acted c W i (swapped (c .gate) l)
+  lost l q = goes-on B _ q refl refl refl
+
+  -- a swap that released the gate
+  frees :
+      (m : ℕ) (l : Place) → m < c .processes → c .gate .holder ≡ Process m → announcementAt c m .flag ≡ Done →
+      c .gate ≡ localAt c i .gate → Loc F (freeing W m) i (at l) →
+      Acted c W i (swapped (released (localAt c i .gate)) l)
+  unfolding released
+  frees m l ml h d z q =
+      let zs : c .gate .seq ≡ localAt c i .gate .seq = ap (λ (g : Gate). g .seq) z in
+      let few : c .gate .seq ≤ 1000000000000000000 = B .small in
+      record {
+        after = freeing W m;
+        move = free m ml h d;
+        gate-is = gate-path refl (omega arith);
+        announcements-is = refl;
+        records-is = refl;
+        calls-is = refl;
+        local = _;
+        put = refl;
+        counted = refl;
+        tidy = B .tidy;
+        loc = q;
+      }
+
+  pub at-P13 : L P13 → Acted c W i (perform (Access.Gate GateAccess.Nominate) c i .card)
+  unfolding perform accessGate swapGate
+  at-P13 q = on-test (λ g. Acted c W i (swapped g P14)) (sameGate (c .gate) (localAt c i .gate)) won (λ e. lost P14 (late e))
+    where
+      m : ℕ
+      m = localAt c i .task .target
+
+      late : sameGate (c .gate) (localAt c i .gate) ≡ false → Loc F W i (at P14)
+      late e = (
+        q .0,
+        record {
+          past = λ x h.
+              let ne : c .gate .seq ≢ localAt c i .gate .seq = λ z. sameGate-false _ _ e (gate-path (h ∙ sym (q .1)) z) in
+              omega (arith, q .4 .low x, q .3 .below);
+        },
+      )
+
+      won :
+          sameGate (c .gate) (localAt c i .gate) ≡ true →
+          Acted c W i (swapped (record { holder = Process m; seq = localAt c i .gate .seq }) P14)
+      won e =
+          let z = sameGate-true (c .gate) (localAt c i .gate) e in
+          let zh : c .gate .holder ≡ Nobody = ap (λ (g : Gate). g .holder) z ∙ q .1 in
+          let zs : c .gate .seq ≡ localAt c i .gate .seq = ap (λ (g : Gate). g .seq) z in
+          let E : Eligible W i m (localAt c i .gate .seq) = q .3 .fit zh zs in
+          record {
+            after = taking W m;
+            move = take m (q .2) zh (E .alive) (E .op) (⊎-elim inl (λ b. inr (λ x. rw zs (b x))) (E .right));
+            gate-is = gate-path refl (sym zs);
+            announcements-is = refl;
+            records-is = refl;
+            calls-is = refl;
+            local = _;
+            put = refl;
+            counted = refl;
+            tidy = B .tidy;
+            loc = (mine-gated (q .0), record { past = λ _ h. absurd (nobody-process h refl) });
+          }
+
+  pub at-P21 : L P21 → Acted c W i (perform (Access.Gate (GateAccess.Release P22)) c i .card)
+  unfolding perform accessGate swapGate
+  at-P21 q =
+      on-test (λ g. Acted c W i (swapped g P22)) (sameGate (c .gate) (localAt c i .gate)) won (λ e. lost P22 (late (past e)))
+    where
+      m : ℕ
+      m = holderOf (localAt c i .gate .holder)
+
+      won : sameGate (c .gate) (localAt c i .gate) ≡ true → Acted c W i (swapped (released (localAt c i .gate)) P22)
+      won e =
+          let z = sameGate-true (c .gate) (localAt c i .gate) e in
+          let zh : c .gate .holder ≡ Process m = ap (λ (g : Gate). g .holder) z ∙ q .0 .named in
+          let zs : c .gate .seq ≡ localAt c i .gate .seq = ap (λ (g : Gate). g .seq) z in
+          frees m P22 (q .0 .inside) zh (q .1 .over zh zs) z
+          (mine-gated (q .0 .mine), record { late = λ x. omega (arith, q .0 .limit .low x); free-of = λ _. nobody-process refl })
+
+      past : sameGate (c .gate) (localAt c i .gate) ≡ false → localAt c i .gate .seq < c .gate .seq
+      past e = go (decLt (leftIn W m) (localAt c i .gate .seq))
+        where
+          go : Dec (leftIn W m < localAt c i .gate .seq) → localAt c i .gate .seq < c .gate .seq
+          go (yes l) =
+              let y = q .0 .seen .still l in
+              absurd (sameGate-false _ _ e (gate-path (y .0 ∙ sym (q .0 .named)) (y .1)))
+          go (no l) = omega (arith, B .good .left-below m)
+
+      late : localAt c i .gate .seq < c .gate .seq → Loc F W i (at P22)
+      late l = (
+        q .0 .mine,
+        record { late = λ x. omega (arith, q .0 .limit .low x); free-of = λ x h. omega (arith, q .0 .limit .high x h) },
+      )
+
+  pub at-F3 : L F3 → Acted c W i (perform (Access.Gate (GateAccess.Release Idle)) c i .card)
+  unfolding perform accessGate swapGate
+  at-F3 q = on-test (λ g. Acted c W i (swapped g Idle)) (sameGate (c .gate) (localAt c i .gate)) won (λ e. lost Idle (late e))
+    where
+      won : sameGate (c .gate) (localAt c i .gate) ≡ true → Acted c W i (swapped (released (localAt c i .gate)) Idle)
+      won e =
+          let z = sameGate-true (c .gate) (localAt c i .gate) e in
+          let r = q .0 in
+          frees i Idle (B .inside) (ap (λ (g : Gate). g .holder) z ∙ q .1) (r .done) z
+          (rests (freeing W i) i (record { done = r .done; same = r .same; out = r .out }) (nobody-process refl))
+
+      late : sameGate (c .gate) (localAt c i .gate) ≡ false → Loc F W i (at Idle)
+      late e = rests W i (q .0) (λ z. sameGate-false _ _ e (gate-path (z ∙ sym (q .1)) (q .2 .only z)))

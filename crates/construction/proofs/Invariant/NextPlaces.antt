@@ -1,0 +1,182 @@
+-- Where a step leads: the place of its process afterwards.
+use Prim.Native.Nat.{ℕ, _<_, suc}
+use mathlib.Core.Path.{_≡_, refl, sym, subst}
+use mathlib.Core.Bool.{Bool, true, false, false≢true}
+use mathlib.Core.Logic.{_⊎_, inl, inr}
+use lib.ListN.{length, getD, set}
+use lib.Seq.{getD-set-same}
+use lib.Dec.{ltb}
+use Rattle.construction.specs.declared.Announcement.{Announcement}
+use Rattle.construction.specs.declared.Task.{Task}
+use Rattle.construction.specs.declared.Dictionary.{Dictionary}
+use Rattle.construction.specs.declared.Pause.{Pause}
+use Rattle.construction.specs.declared.Pause.the-variants.{Ended, Lacks}
+use Rattle.construction.specs.declared.Card.{Card}
+use Rattle.construction.specs.declared.Holder.{Holder}
+use Rattle.construction.specs.declared.Holder.the-variants.{Nobody, Process}
+use Rattle.construction.specs.declared.Flag.{Flag}
+use Rattle.construction.specs.declared.Flag.the-variants.{Done, Active, Exit}
+use Rattle.construction.specs.declared.Place.{Place}
+use Rattle.construction.specs.declared.Place.the-variants.{Idle, P1, P3, P5, P7, P10, C2, C4, P13, P14, P16, H21, H36, P19, P20, P21, P22, F1, F3}
+use Rattle.construction.specs.declared.Access.{Access}
+use Rattle.construction.specs.declared.GateAccess.{GateAccess}
+use Rattle.construction.specs.declared.AnnouncementAccess.{AnnouncementAccess}
+use Rattle.construction.specs.Cells.{openAnnouncement, sameHolder}
+use Rattle.construction.specs.Dictionary.{noted, nextWrite, insert, itemOf, empty}
+use Rattle.construction.specs.Parts.{idleTask, announcementAt, localAt}
+use Rattle.construction.specs.Machine.{byHolder, byFlag, writeFrom, afterPause, announced, accessOf, accessGate, accessAnnouncement, perform, advance, beginHelp, note, writing, helps, helped}
+use Rattle.construction.proofs.Basics.{on-test}
+use Rattle.construction.proofs.Invariant.Stages.{isAnnounced}
+use Rattle.construction.specs.declared.Began.{Began}
+use Rattle.construction.specs.declared.Helped.{Helped}
+use Rattle.construction.specs.declared.Operation.{Operation}
+use Rattle.construction.specs.declared.Words.{Words}
+use Rattle.construction.specs.declared.Gate.{Gate}
+use Rattle.construction.specs.declared.Simulated.{Simulated}
+use Rattle.construction.specs.declared.Record.{Record}
+use Rattle.construction.specs.declared.Program.{Program}
+use Rattle.construction.specs.declared.Simulation.{Simulation}
+use Rattle.construction.specs.Helping.{simulate}
+use Rattle.construction.specs.Instructions.{started}
+
+-- what is so of every place that an access can lead to; no step makes the access None
+module _ (Q : Place → Type 0) where
+  abbrev GateLeads : GateAccess → Type 0
+  GateLeads (GateAccess.Read held free) = Q held × Q free
+  GateLeads GateAccess.ReadLast = Q F3 × Q Idle
+  GateLeads GateAccess.Nominate = Q P14
+  GateLeads (GateAccess.Release next) = Q next
+
+  abbrev AnnouncementLeads : AnnouncementAccess → Type 0
+  AnnouncementLeads AnnouncementAccess.Announce = Q P5
+  AnnouncementLeads AnnouncementAccess.Withdraw = Q P7
+  AnnouncementLeads (AnnouncementAccess.ReadOwn done active exit) = Q done × Q active × Q exit
+  AnnouncementLeads AnnouncementAccess.ReadFirst = Q C4 × Q P13
+  AnnouncementLeads (AnnouncementAccess.Finish flag next) = Q next
+
+  abbrev Leads : Access → Type 0
+  Leads Access.None = ⊥
+  Leads (Access.Gate a) = GateLeads a
+  Leads (Access.Announcement a) = AnnouncementLeads a
+  Leads Access.Help = Q P21 × Q H21 × Q H36 × Q P19
+  Leads Access.Note = Q P19 × Q H21 × Q H36
+  Leads Access.Write = Q H36 × Q P19
+
+  by-holder : (h : Holder) (held free : Place) → Q held → Q free → Q (byHolder h held free)
+  by-holder Nobody held free a b = b
+  by-holder (Process m) held free a b = a
+
+  by-flag : (f : Flag) (done active exit : Place) → Q done → Q active → Q exit → Q (byFlag f done active exit)
+  by-flag Done done active exit a b c = a
+  by-flag Active done active exit a b c = b
+  by-flag Exit done active exit a b c = c
+
+  by-write : (seq : ℕ) (d : Dictionary) (k : ℕ) → Q H36 → Q P19 → Q (writeFrom seq d k .place)
+  by-write seq d k a b =
+      on-test (λ (x : Task). Q (x .place)) (ltb (nextWrite seq d k) (length (noted d))) (λ _. a) (λ _. b)
+
+  by-pause : (seq : ℕ) (d : Dictionary) (p : Pause) → Q H21 → Q H36 → Q P19 → Q (afterPause seq d p .place)
+  by-pause seq d Ended a b c = by-write seq d 0 b c
+  by-pause seq d (Lacks v) a b c = a
+
+  gate-leads : (a : GateAccess) → GateLeads a → (i : ℕ) (cell g : Gate) (t : Task) → Q (accessGate a i cell g t .task .place)
+  unfolding accessGate
+  gate-leads (GateAccess.Read held free) q i cell g t = by-holder (cell .holder) held free (q .0) (q .1)
+  gate-leads GateAccess.ReadLast q i cell g t = on-test Q (sameHolder (cell .holder) (Process i)) (λ _. q .0) (λ _. q .1)
+  gate-leads GateAccess.Nominate q i cell g t = q
+  gate-leads (GateAccess.Release next) q i cell g t = q
+
+  announcement-leads :
+      (a : AnnouncementAccess) → AnnouncementLeads a → (m : ℕ) (cell : Announcement) (o : Operation) (g : Gate) (r : Announcement)
+      (outputs : Words) (t : Task) → Q (accessAnnouncement a m cell o g r outputs t .task .place)
+  unfolding accessAnnouncement
+  announcement-leads AnnouncementAccess.Announce q m cell o g r outputs t = q
+  announcement-leads AnnouncementAccess.Withdraw q m cell o g r outputs t = q
+  announcement-leads (AnnouncementAccess.ReadOwn done active exit) q m cell o g r outputs t =
+      by-flag (cell .flag) done active exit (q .0) (q .1) (q .2)
+  announcement-leads AnnouncementAccess.ReadFirst q m cell o g r outputs t =
+      by-flag (cell .flag) C4 P13 C4 (q .0) (q .1) (q .0)
+  announcement-leads (AnnouncementAccess.Finish flag next) q m cell o g r outputs t = q
+
+  helped-leads : (number : ℕ) (x : Simulated) → Q H21 → Q H36 → Q P19 → Q (helped number x .task .place)
+  helped-leads number x a b e = by-pause number (x .dictionary) (x .pause) a b e
+
+  help-leads :
+      Q P21 × Q H21 × Q H36 × Q P19 → (n : ℕ) (program : Program) (cell : Announcement) (number : ℕ) (t : Task) (s : Simulation) →
+      Q (beginHelp n program cell number t s .task .place)
+  unfolding beginHelp
+  help-leads q n program cell number t s =
+      on-test (λ (x : Began). Q (x .task .place)) (helps cell number)
+      (λ _. helped-leads number (simulate n program (cell .words) started empty) (q .1) (q .2) (q .3)) (λ _. q .0)
+
+  note-leads :
+      Q P19 × Q H21 × Q H36 → (n : ℕ) (program : Program) (inputs : Words) (cell : Record) (number : ℕ) (t : Task) (s : Simulation)
+      (d : Dictionary) → Q (note n program inputs cell number t s d .task .place)
+  unfolding note
+  note-leads q n program inputs cell number t s d =
+      on-test (λ (x : Helped). Q (x .task .place)) (ltb number (cell .seq)) (λ _. q .0)
+      (λ _. helped-leads number (simulate n program inputs s (insert d (itemOf number (t .target) cell))) (q .1) (q .2) (q .0))
+
+  write-leads : Q H36 × Q P19 → (number : ℕ) (t : Task) (d : Dictionary) → Q (writing number t d .task .place)
+  unfolding writing
+  write-leads q number t d = by-write number d (suc (t .target)) (q .0) (q .1)
+
+  module _ (c : Card) (i : ℕ) (lt : i < length (c .tasks)) where
+    -- the task that was put back
+    placed : (x : Task) → Q (x .place) → Q (getD (set (c .tasks) i x) i idleTask .place)
+    placed x q = subst (λ (y : Task). Q (y .place)) (sym (getD-set-same (c .tasks) i x idleTask lt)) q
+
+    leads : (a : Access) → Leads a → Q (localAt (perform a c i .card) i .task .place)
+    unfolding perform
+    leads Access.None q = absurd q
+    leads (Access.Gate a) q = placed _ (gate-leads a q _ _ _ _)
+    leads (Access.Announcement a) q = placed _ (announcement-leads a q _ _ _ _ _ _ _)
+    leads Access.Help q = placed _ (help-leads q _ _ _ _ _ _)
+    leads Access.Note q = placed _ (note-leads q _ _ _ _ _ _ _ _)
+    leads Access.Write q = placed _ (write-leads q _ _ _)
+
+-- an announced operation stays announced until it returns
+abbrev pub Onward : Place → Type 0
+Onward l = (isAnnounced l ≡ true) ⊎ (l ≡ Idle)
+
+onward : (l : Place) (exit : Bool) → isAnnounced l ≡ true → Leads Onward (accessOf l exit)
+unfolding accessOf
+onward Idle exit e = absurd (false≢true e)
+onward P1 exit e = absurd (false≢true e)
+onward P3 exit e = absurd (false≢true e)
+onward P5 true e = inl refl
+onward P5 false e = (inl refl, inl refl)
+onward P7 exit e = (inl refl, inl refl, inl refl)
+onward P10 exit e = (inl refl, inl refl)
+onward C2 exit e = (inl refl, inl refl)
+onward C4 exit e = (inl refl, inl refl, inl refl)
+onward P13 exit e = inl refl
+onward P14 exit e = (inl refl, inl refl)
+onward P16 exit e = (inl refl, inl refl, inl refl, inl refl)
+onward H21 exit e = (inl refl, inl refl, inl refl)
+onward H36 exit e = (inl refl, inl refl)
+onward P19 exit e = inl refl
+onward P20 exit e = inl refl
+onward P21 exit e = inl refl
+onward P22 exit e = (inl refl, inl refl, inr refl)
+onward F1 exit e = (inl refl, inr refl)
+onward F3 exit e = inr refl
+
+module _ (c : Card) (i : ℕ) (lt : i < length (c .tasks)) where
+  pub announced-next : isAnnounced (localAt c i .task .place) ≡ true → Onward (localAt (advance c i) i .task .place)
+  unfolding advance
+  announced-next e = leads Onward c i lt _ (onward (localAt c i .task .place) (localAt c i .exit) e)
+
+  -- P1 leads to P3
+  pub P1-next : localAt c i .task .place ≡ P1 → localAt (advance c i) i .task .place ≡ P3
+  unfolding advance accessOf
+  P1-next e = rw e (leads (λ l. l ≡ P3) c i lt _ (refl, refl))
+
+  -- P3 leads to P5, with the operation announced
+  pub P3-next : localAt c i .task .place ≡ P3 → localAt (advance c i) i .task .place ≡ P5
+  unfolding advance accessOf
+  P3-next e = rw e (leads (λ l. l ≡ P5) c i lt _ refl)
+
+  pub P3-active : i < length (c .announcements) → localAt c i .task .place ≡ P3 → announcementAt (advance c i) i ≡ announced (localAt c i .operation) (localAt c i .gate)
+  unfolding advance perform accessOf accessAnnouncement
+  P3-active h e = rw e (getD-set-same (c .announcements) i (announced (localAt c i .operation) (localAt c i .gate)) openAnnouncement h)

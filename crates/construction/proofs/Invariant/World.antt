@@ -1,0 +1,288 @@
+-- The shared cells with the ghost state of the proof, what holds of them after every list of entries, and the moves that an entry makes.
+use Prim.Native.Nat.{ℕ, suc, _+_, _≤_, _<_}
+use mathlib.Core.Path.{_≡_}
+use mathlib.Core.Logic.{_≢_, _⊎_}
+use mathlib.Core.List.{List, [], _∷_, _++_}
+use lib.ListN.{length, getD, set}
+use Rattle.construction.specs.declared.Gate.{Gate}
+use Rattle.construction.specs.declared.Announcement.{Announcement}
+use Rattle.construction.specs.declared.Record.{Record}
+use Rattle.construction.specs.declared.Words.{Words}
+use Rattle.construction.specs.declared.Operation.{Operation}
+use Rattle.construction.specs.declared.Holder.{Holder}
+use Rattle.construction.specs.declared.Holder.the-variants.{Nobody, Process}
+use Rattle.construction.specs.declared.Flag.the-variants.{Done, Active, Exit}
+use Rattle.construction.specs.Cells.{zeros, openAnnouncement, openRecord, current, previous, rewritten}
+use Rattle.construction.specs.Sequential.{Ending, sequential}
+use Rattle.construction.specs.Parts.{noOperation, programOf}
+use Rattle.construction.specs.Machine.{flagged, finished}
+use Rattle.construction.proofs.Simulating.Sequential.{Short}
+use Rattle.construction.specs.declared.Contents.{Contents}
+
+-- one number of the gate: the words before its operation, and what that was called with
+pub record Round : Type 0 where
+  pub words : List ℕ
+  pub call : Operation
+
+abbrev pub noRound : Round
+noRound = record { words = []; call = noOperation }
+
+-- how the operation of a number ends in the sequential run
+unfoldable pub endingOf : Contents → ℕ → Round → Ending
+endingOf F number r =
+    sequential (F .variables) (programOf F (r .call .program) number) (r .call .inputs) (r .words)
+
+-- The shared cells; the words of the sequential run; of each process its latest taken call and the outputs of its latest finished
+-- operation. `left` is the last number under which a process gave back the gate, `bound` the gate's number at its exit request,
+-- `rounds` one for each number of the gate so far (number 0 stands for the opening), `count` 1 more than the finished operations.
+pub record World : Type 0 where
+  pub gate : Gate
+  pub announcements : List Announcement
+  pub records : List Record
+  pub words : List ℕ
+  pub calls : List Operation
+  pub outs : List Words
+  pub left : List ℕ
+  pub bound : List ℕ
+  pub rounds : List Round
+  pub count : ℕ
+
+abbrev pub announcementIn : World → ℕ → Announcement
+announcementIn w j = getD (w .announcements) j openAnnouncement
+
+abbrev pub recordOf : List Record → ℕ → Record
+recordOf records v = getD records v (openRecord 0)
+
+abbrev pub recordIn : World → ℕ → Record
+recordIn w v = recordOf (w .records) v
+
+abbrev pub leftIn : World → ℕ → ℕ
+leftIn w j = getD (w .left) j 0
+
+abbrev pub boundIn : World → ℕ → ℕ
+boundIn w j = getD (w .bound) j 0
+
+abbrev pub callIn : World → ℕ → Operation
+callIn w j = getD (w .calls) j noOperation
+
+abbrev pub outputsIn : World → ℕ → Words
+outputsIn w j = getD (w .outs) j zeros
+
+abbrev pub roundOf : List Round → ℕ → Round
+roundOf rounds s = getD rounds s noRound
+
+abbrev pub roundIn : World → ℕ → Round
+roundIn w s = roundOf (w .rounds) s
+
+abbrev pub endingIn : Contents → World → ℕ → Ending
+endingIn F w s = endingOf F s (roundIn w s)
+
+abbrev pub wordAt : List ℕ → ℕ → ℕ
+wordAt l v = getD l v 0
+
+-- what an announcement asks for
+abbrev pub operationOf : Announcement → Operation
+operationOf a = record { program = a .program; inputs = a .words }
+
+-- the gate is held for an operation of m that is not done
+pub record Pending (w : World) (m : ℕ) : Type 0 where
+  pub counted : w .count ≡ w .gate .seq
+  pub now : roundIn w (w .gate .seq) ≡ record { words = w .words; call = callIn w m }
+  pub asked : operationOf (announcementIn w m) ≡ callIn w m
+
+abbrev pub Phase : Holder → World → Type 0
+Phase Nobody w = (length (w .rounds) ≡ w .gate .seq) × (w .count ≡ w .gate .seq)
+Phase (Process m) w =
+    (length (w .rounds) ≡ suc (w .gate .seq))
+    × (announcementIn w m .flag ≡ Done → w .count ≡ suc (w .gate .seq))
+    × (announcementIn w m .flag ≢ Done → Pending w m)
+
+-- the records: one below number s has the value from before s, one of number s has the values before and after s; what a finished
+-- operation altered is written; and where no operation is pending the records have the words of the sequential run
+pub record Recorded (F : Contents) (records : List Record) (rounds : List Round) (count : ℕ) (words : List ℕ) : Type 0 where
+  pub below : (v : ℕ) → recordOf records v .seq < length rounds
+  pub old :
+      (s v : ℕ) → s < length rounds → v < F .variables → recordOf records v .seq < s →
+      current (recordOf records v) ≡ wordAt (roundOf rounds s .words) v
+  pub same :
+      (v : ℕ) → v < F .variables → 0 < recordOf records v .seq →
+      (previous (recordOf records v) ≡ wordAt (roundOf rounds (recordOf records v .seq) .words) v)
+      × (current (recordOf records v)
+      ≡ wordAt (endingOf F (recordOf records v .seq) (roundOf rounds (recordOf records v .seq)) .words) v)
+  pub settled :
+      (s v : ℕ) → s < count → v < F .variables → recordOf records v .seq < s →
+      wordAt (endingOf F s (roundOf rounds s) .words) v ≡ wordAt (roundOf rounds s .words) v
+  pub words-are : (v : ℕ) → v < F .variables → count ≡ length rounds → current (recordOf records v) ≡ wordAt words v
+
+-- there is room for the processes, the variables and the lines of each program
+pub record Fits (F : Contents) : Type 0 where
+  pub few : F .processes ≤ 8
+  pub narrow : F .variables ≤ 64
+  pub short : (k number : ℕ) → Short (programOf F k number)
+
+-- the lengths of what there is for each process and for each variable
+pub record Lengths (a r c o l b : ℕ) : Type 0 where
+  pub announcements : a ≡ 8
+  pub records : r ≡ 64
+  pub calls : c ≡ 8
+  pub outs : o ≡ 8
+  pub left : l ≡ 8
+  pub bound : b ≡ 8
+
+-- what holds of the world after every list of entries
+pub record WorldInvariant (F : Contents) (w : World) : Type 0 where
+  pub fits : Fits F
+  pub lengths :
+      Lengths (length (w .announcements)) (length (w .records)) (length (w .calls)) (length (w .outs)) (length (w .left))
+      (length (w .bound))
+  pub size-words : length (w .words) ≡ F .variables
+  pub size-round : (s : ℕ) → s < length (w .rounds) → length (roundIn w s .words) ≡ F .variables
+  pub left-below : (m : ℕ) → leftIn w m < w .gate .seq
+  pub bound-below : (m : ℕ) → boundIn w m ≤ w .gate .seq
+  pub announcement-below : (m : ℕ) → announcementIn w m .seq ≤ w .gate .seq
+  pub fresh : (m : ℕ) → announcementIn w m .flag ≢ Done → leftIn w m < announcementIn w m .seq
+  pub inside : (m : ℕ) → w .gate .holder ≡ Process m → m < F .processes
+  pub active-operation : (m : ℕ) → announcementIn w m .flag ≡ Active → operationOf (announcementIn w m) ≡ callIn w m
+  pub phase : Phase (w .gate .holder) w
+  pub recorded : Recorded F (w .records) (w .rounds) (w .count) (w .words)
+
+-- process i is called
+abbrev pub asking : World → ℕ → Operation → World
+asking w i q =
+    record {
+      gate = w .gate;
+      announcements = w .announcements;
+      records = w .records;
+      words = w .words;
+      calls = set (w .calls) i q;
+      outs = w .outs;
+      left = w .left;
+      bound = w .bound;
+      rounds = w .rounds;
+      count = w .count;
+    }
+
+-- process i announces its operation (P3)
+abbrev pub announcing : World → ℕ → Announcement → World
+announcing w i a =
+    record {
+      gate = w .gate;
+      announcements = set (w .announcements) i a;
+      records = w .records;
+      words = w .words;
+      calls = w .calls;
+      outs = w .outs;
+      left = w .left;
+      bound = w .bound;
+      rounds = w .rounds;
+      count = w .count;
+    }
+
+-- process i asks to exit (P6)
+abbrev pub leaving : World → ℕ → World
+leaving w i =
+    record {
+      gate = w .gate;
+      announcements = set (w .announcements) i (flagged (announcementIn w i) Exit);
+      records = w .records;
+      words = w .words;
+      calls = w .calls;
+      outs = w .outs;
+      left = w .left;
+      bound = set (w .bound) i (w .gate .seq);
+      rounds = w .rounds;
+      count = w .count;
+    }
+
+-- the gate is given to m (P13)
+abbrev pub taking : World → ℕ → World
+taking w m =
+    record {
+      gate = record { holder = Process m; seq = w .gate .seq };
+      announcements = w .announcements;
+      records = w .records;
+      words = w .words;
+      calls = w .calls;
+      outs = w .outs;
+      left = w .left;
+      bound = w .bound;
+      rounds = w .rounds ++ (record { words = w .words; call = callIn w m } ∷ []);
+      count = w .count;
+    }
+
+-- variable v is written (H36)
+abbrev pub storing : World → ℕ → ℕ → World
+storing w v x =
+    record {
+      gate = w .gate;
+      announcements = w .announcements;
+      records = set (w .records) v (rewritten (recordIn w v) x (w .gate .seq));
+      words = w .words;
+      calls = w .calls;
+      outs = w .outs;
+      left = w .left;
+      bound = w .bound;
+      rounds = w .rounds;
+      count = w .count;
+    }
+
+-- the operation of m is finished (P19, P20)
+abbrev pub ending : Contents → World → ℕ → World
+ending F w m =
+    record {
+      gate = w .gate;
+      announcements = set (w .announcements) m (finished (announcementIn w m) (endingIn F w (w .gate .seq) .outputs));
+      records = w .records;
+      words = endingIn F w (w .gate .seq) .words;
+      calls = w .calls;
+      outs = set (w .outs) m (endingIn F w (w .gate .seq) .outputs);
+      left = w .left;
+      bound = w .bound;
+      rounds = w .rounds;
+      count = suc (w .count);
+    }
+
+-- the gate is given back for m (P21, F3)
+abbrev pub freeing : World → ℕ → World
+freeing w m =
+    record {
+      gate = record { holder = Nobody; seq = w .gate .seq + 1 };
+      announcements = w .announcements;
+      records = w .records;
+      words = w .words;
+      calls = w .calls;
+      outs = w .outs;
+      left = set (w .left) m (w .gate .seq);
+      bound = w .bound;
+      rounds = w .rounds;
+      count = w .count;
+    }
+
+-- no operation of j is announced: j does not hold the gate and will not be given it
+pub record Quiet (w : World) (j : ℕ) : Type 0 where
+  pub not-active : announcementIn w j .flag ≢ Active
+  pub free-of : w .gate .holder ≢ Process j
+  pub late : announcementIn w j .flag ≡ Exit → boundIn w j < w .gate .seq
+
+-- what an entry of process i may do to the world
+pub data Move (F : Contents) (i : ℕ) (w : World) : World → Type 0 where
+  stay : Move F i w w
+  ask : (q : Operation) → i < F .processes → Quiet w i → Move F i w (asking w i q)
+  announce :
+      (a : Announcement) → i < F .processes → Quiet w i → a .flag ≡ Active → operationOf a ≡ callIn w i →
+      leftIn w i < a .seq → a .seq ≤ w .gate .seq → Move F i w (announcing w i a)
+  leave : i < F .processes → announcementIn w i .flag ≡ Active → Move F i w (leaving w i)
+  take :
+      (m : ℕ) → m < F .processes → w .gate .holder ≡ Nobody → announcementIn w m .flag ≢ Done →
+      operationOf (announcementIn w m) ≡ callIn w m →
+      (m ≡ i) ⊎ (announcementIn w m .flag ≡ Exit → w .gate .seq ≤ boundIn w m) → Move F i w (taking w m)
+  write :
+      (m v x : ℕ) → v < F .variables → w .gate .holder ≡ Process m → announcementIn w m .flag ≢ Done →
+      recordIn w v .seq < w .gate .seq →
+      x ≡ wordAt (endingIn F w (w .gate .seq) .words) v → Move F i w (storing w v x)
+  end :
+      (m : ℕ) → m < F .processes → w .gate .holder ≡ Process m → announcementIn w m .flag ≢ Done →
+      ((v : ℕ) → v < F .variables → recordIn w v .seq < w .gate .seq →
+      wordAt (endingIn F w (w .gate .seq) .words) v ≡ wordAt (roundIn w (w .gate .seq) .words) v) →
+      Move F i w (ending F w m)
+  free : (m : ℕ) → m < F .processes → w .gate .holder ≡ Process m → announcementIn w m .flag ≡ Done → Move F i w (freeing w m)

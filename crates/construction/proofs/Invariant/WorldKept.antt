@@ -1,0 +1,384 @@
+-- Every move keeps the world good (lines P3, P6, P13, H36, P19, P20, P21 and F3; and a call).
+use Prim.Native.Nat.{ℕ, suc, _+_, _≤_, _<_}
+use mathlib.Core.Path.{_≡_, refl, sym, subst, ap, _∙_}
+use mathlib.Core.Bool.{Bool, true, false, cond, not}
+use mathlib.Core.Logic.{_≢_, _⊎_, ⊎-elim}
+use mathlib.Core.List.{[], _∷_}
+use native.Mathlib.Omega.{arith}
+use native.Mathlib.Nat.{eq-or-lt-of-le}
+use lib.ListN.{length, getD, set, length-set, length-append, List·getD-append}
+use lib.Seq.{getD-set-other, getD-at}
+use Rattle.construction.specs.declared.Announcement.{Announcement}
+use Rattle.construction.specs.declared.Record.{Record}
+use Rattle.construction.specs.declared.Operation.{Operation}
+use Rattle.construction.specs.declared.Holder.{Holder}
+use Rattle.construction.specs.declared.Holder.the-variants.{Nobody, Process}
+use Rattle.construction.specs.declared.Flag.the-variants.{Done, Active}
+use Rattle.construction.specs.Cells.{openAnnouncement, openRecord, current, previous, rewritten}
+use Rattle.construction.specs.Instructions.{started}
+use Rattle.construction.specs.Sequential.{sequential}
+use Rattle.construction.specs.Parts.{noOperation, programOf}
+use Rattle.construction.proofs.Basics.{on-set, active-not-done, active-not-exit, exit-not-done, nobody-process, process-same, done-or-not}
+use Rattle.construction.proofs.Simulating.Sequential.{run-length}
+use Rattle.construction.proofs.Invariant.World.{Round, noRound, endingOf, endingIn, World, announcementIn, recordIn, leftIn, callIn, roundIn, wordAt, operationOf, Pending, Phase, Recorded, WorldInvariant, asking, announcing, leaving, taking, storing, ending, freeing, Quiet, Move}
+use Rattle.construction.proofs.Invariant.World.Move.{stay, ask, announce, leave, take, write, end, free}
+use Rattle.construction.specs.declared.Contents.{Contents}
+use Rattle.construction.specs.Machine.{finished}
+
+ending-length : (F : Contents) (s : ℕ) (r : Round) → length (endingOf F s r .words) ≡ length (r .words)
+unfolding endingOf sequential
+ending-length F s r = run-length (F .variables) _ (r .call .inputs) 32 started (r .words)
+
+current-rewritten : (r : Record) (x s : ℕ) → current (rewritten r x s) ≡ x
+unfolding current rewritten
+current-rewritten r x s = go (r .toggle)
+  where
+    go : (b : Bool) → cond (not b) (cond b (r .val1) x) (cond b x (r .val0)) ≡ x
+    go true = refl
+    go false = refl
+
+previous-rewritten : (r : Record) (x s : ℕ) → previous (rewritten r x s) ≡ current r
+unfolding current previous rewritten
+previous-rewritten r x s = go (r .toggle)
+  where
+    go : (b : Bool) → cond (not b) (cond b x (r .val0)) (cond b (r .val1) x) ≡ cond b (r .val1) (r .val0)
+    go true = refl
+    go false = refl
+
+module _ {F : Contents} {w : World} (G : WorldInvariant F w) where
+  -- after announcement i was set to a: by cases on whose is meant
+  pub announcements-set :
+      (P : Announcement → Type 0) (i j : ℕ) (a : Announcement) →
+      i < F .processes → (j ≡ i → P a) → (j ≢ i → P (announcementIn w j)) →
+      P (getD (set (w .announcements) i a) j openAnnouncement)
+  announcements-set P i j a lt = on-set P (w .announcements) i j a openAnnouncement (omega arith)
+
+  phase-ask : (i : ℕ) (q : Operation) (h : Holder) → h ≢ Process i → Phase h w → Phase h (asking w i q)
+  phase-ask i q Nobody ne ph = ph
+  phase-ask i q (Process m) ne ph =
+      let z = getD-set-other (w .calls) i m q noOperation (λ e. ne (ap Process e)) in
+      (ph .0, ph .1, λ d. record { counted = ph .2 d .counted; now = rw z (ph .2 d .now); asked = rw z (ph .2 d .asked) })
+
+  good-ask : (i : ℕ) (q : Operation) → i < F .processes → Quiet w i → WorldInvariant F (asking w i q)
+  good-ask i q lt Q = record {
+    fits = G .fits;
+    lengths = rw length-set (G .lengths);
+    size-words = G .size-words;
+    size-round = G .size-round;
+    left-below = G .left-below;
+    bound-below = G .bound-below;
+    announcement-below = G .announcement-below;
+    fresh = G .fresh;
+    inside = G .inside;
+    active-operation = λ m a.
+        on-set (λ r. operationOf (announcementIn w m) ≡ r) (w .calls) i m q noOperation (omega arith)
+        (λ e. absurd (Q .not-active (rw e at a)))
+        (λ e. G .active-operation m a);
+    phase = phase-ask i q (w .gate .holder) (Q .free-of) (G .phase);
+    recorded = G .recorded;
+  }
+
+  phase-announce :
+      (i : ℕ) (a : Announcement) (h : Holder) → h ≢ Process i → Phase h w → Phase h (announcing w i a)
+  phase-announce i a Nobody ne ph = ph
+  phase-announce i a (Process m) ne ph =
+      let z = getD-set-other (w .announcements) i m a openAnnouncement (λ e. ne (ap Process e)) in (
+        ph .0,
+        rw z (ph .1),
+        rw z (λ d. record { counted = ph .2 d .counted; now = ph .2 d .now; asked = rw z (ph .2 d .asked) }),
+      )
+
+  good-announce :
+      (i : ℕ) (a : Announcement) → i < F .processes → Quiet w i → a .flag ≡ Active → operationOf a ≡ callIn w i →
+      leftIn w i < a .seq → a .seq ≤ w .gate .seq → WorldInvariant F (announcing w i a)
+  good-announce i a lt Q fa op l b = record {
+    fits = G .fits;
+    lengths = rw length-set (G .lengths);
+    size-words = G .size-words;
+    size-round = G .size-round;
+    left-below = G .left-below;
+    bound-below = G .bound-below;
+    announcement-below = λ m.
+        announcements-set (λ r. r .seq ≤ w .gate .seq) i m a lt (λ _. b) (λ _. G .announcement-below m);
+    fresh = λ m.
+        announcements-set (λ r. r .flag ≢ Done → leftIn w m < r .seq) i m a lt (λ e _. rw e l) (λ _. G .fresh m);
+    inside = G .inside;
+    active-operation = λ m.
+        announcements-set (λ r. r .flag ≡ Active → operationOf r ≡ callIn w m) i m a lt
+        (λ e _. rw e op) (λ _. G .active-operation m);
+    phase = phase-announce i a (w .gate .holder) (Q .free-of) (G .phase);
+    recorded = G .recorded;
+  }
+
+  phase-leave :
+      (i : ℕ) → i < F .processes → announcementIn w i .flag ≡ Active → (h : Holder) → Phase h w → Phase h (leaving w i)
+  phase-leave i lt fa Nobody ph = ph
+  phase-leave i lt fa (Process m) ph = (
+    ph .0,
+    announcements-set (λ r. r .flag ≡ Done → w .count ≡ suc (w .gate .seq)) i m _ lt
+        (λ _ q. absurd (exit-not-done refl q)) (λ _. ph .1),
+    announcements-set (λ r. r .flag ≢ Done → Pending (leaving w i) m) i m _ lt
+        (λ e _. busy (ph .2 (λ d. active-not-done fa (rw e at d)))) (λ _ d. busy (ph .2 d)),
+  )
+    where
+      busy : Pending w m → Pending (leaving w i) m
+      busy B = record {
+        counted = B .counted;
+        now = B .now;
+        asked = announcements-set (λ r. operationOf r ≡ callIn w m) i m _ lt
+            (λ e. rw e (rw e at (B .asked))) (λ _. B .asked);
+      }
+
+  good-leave : (i : ℕ) → i < F .processes → announcementIn w i .flag ≡ Active → WorldInvariant F (leaving w i)
+  good-leave i lt fa = record {
+    fits = G .fits;
+    lengths = simp length-set (G .lengths);
+    size-words = G .size-words;
+    size-round = G .size-round;
+    left-below = G .left-below;
+    bound-below = λ m.
+        on-set (λ r. r ≤ w .gate .seq) (w .bound) i m (w .gate .seq) 0 (omega arith)
+        (λ _. omega arith) (λ _. G .bound-below m);
+    announcement-below = λ m.
+        announcements-set (λ r. r .seq ≤ w .gate .seq) i m _ lt (λ _. G .announcement-below i) (λ _. G .announcement-below m);
+    fresh = λ m.
+        announcements-set (λ r. r .flag ≢ Done → leftIn w m < r .seq) i m _ lt
+        (λ e _. rw e (G .fresh i (active-not-done fa))) (λ _. G .fresh m);
+    inside = G .inside;
+    active-operation = λ m.
+        announcements-set (λ r. r .flag ≡ Active → operationOf r ≡ callIn w m) i m _ lt
+        (λ _ q. absurd (active-not-exit q refl)) (λ _. G .active-operation m);
+    phase = phase-leave i lt fa (w .gate .holder) (G .phase);
+    recorded = G .recorded;
+  }
+
+  -- one round more: the earlier ones are as before
+  abbrev newRound : ℕ → Round
+  newRound m = record { words = w .words; call = callIn w m }
+
+  earlier : (m s : ℕ) → s < length (w .rounds) → roundIn (taking w m) s ≡ roundIn w s
+  earlier m s lt = List·getD-append (w .rounds) (newRound m ∷ []) noRound s lt
+
+  latest : (m s : ℕ) → s ≡ length (w .rounds) → roundIn (taking w m) s ≡ newRound m
+  latest m s e = getD-at (w .rounds) (newRound m) [] noRound s (sym e)
+
+  -- a number below the longer list is below the list, or the last
+  split-last : (m s : ℕ) → s < length (taking w m .rounds) → (s ≡ length (w .rounds)) ⊎ (s < length (w .rounds))
+  split-last m s lt = eq-or-lt-of-le (omega (arith, simp length-append at lt))
+
+  good-take :
+      (m : ℕ) → m < F .processes → w .gate .holder ≡ Nobody → announcementIn w m .flag ≢ Done →
+      operationOf (announcementIn w m) ≡ callIn w m → WorldInvariant F (taking w m)
+  good-take m lt hn fl op =
+      let R = G .recorded in
+      let ph : Phase Nobody w = subst (λ (h : Holder). Phase h w) hn (G .phase) in
+      let more : length (taking w m .rounds) ≡ suc (length (w .rounds)) = rw length-append (omega arith) in
+      record {
+        fits = G .fits;
+        lengths = G .lengths;
+        size-words = G .size-words;
+        size-round = λ s sl.
+            ⊎-elim (λ e. rw (latest m s e) (G .size-words)) (λ l. rw (earlier m s l) (G .size-round s l)) (split-last m s sl);
+        left-below = G .left-below;
+        bound-below = G .bound-below;
+        announcement-below = G .announcement-below;
+        fresh = G .fresh;
+        inside = λ j e. rw (← process-same e) lt;
+        active-operation = G .active-operation;
+        phase = (
+          omega arith,
+          λ d. absurd (fl d),
+          λ d. record { counted = ph .1; now = latest m (w .gate .seq) (omega arith); asked = op },
+        );
+        recorded = record {
+          below = λ v. omega (arith, R .below v);
+          old = λ s v sl vl h.
+              ⊎-elim (λ e. rw (latest m s e) (R .words-are v vl (omega arith)))
+              (λ l. rw (earlier m s l) (R .old s v l vl h)) (split-last m s sl);
+          same = λ v vl z. rw (earlier m (recordIn w v .seq) (R .below v)) (R .same v vl z);
+          settled = λ s v sl vl h. rw (earlier m s (omega arith)) (R .settled s v sl vl h);
+          words-are = λ v vl e. absurd (omega arith);
+        };
+      }
+
+  phase-write : (v x : ℕ) (h : Holder) → Phase h w → Phase h (storing w v x)
+  phase-write v x Nobody ph = ph
+  phase-write v x (Process m) ph = (
+    ph .0,
+    ph .1,
+    λ d. let B = ph .2 d in record { counted = B .counted; now = B .now; asked = B .asked },
+  )
+
+  -- the gate is held for an operation of m that is not done
+  module _ (m : ℕ) (hm : w .gate .holder ≡ Process m) (fl : announcementIn w m .flag ≢ Done) where
+    held : Phase (Process m) w
+    held = subst (λ (h : Holder). Phase h w) hm (G .phase)
+
+    many : length (w .rounds) ≡ suc (w .gate .seq)
+    many = held .0
+
+    counted : w .count ≡ w .gate .seq
+    counted = held .2 fl .counted
+
+    -- variable v is written (H36)
+    module _
+        (v x : ℕ) (vl : v < F .variables) (below : recordIn w v .seq < w .gate .seq)
+        (ex : x ≡ wordAt (endingIn F w (w .gate .seq) .words) v) where
+      set-record :
+          (P : Record → Type 0) (u : ℕ) → (u ≡ v → P (rewritten (recordIn w v) x (w .gate .seq))) → (u ≢ v → P (recordIn w u)) →
+          P (recordIn (storing w v x) u)
+      set-record P u =
+          on-set P (w .records) v u (rewritten (recordIn w v) x (w .gate .seq)) (openRecord 0) (omega (arith, G .lengths, G .fits))
+
+      recorded-write : Recorded F (storing w v x .records) (w .rounds) (w .count) (w .words)
+      unfolding rewritten
+      recorded-write =
+          let R = G .recorded in
+          record {
+            below = λ u. set-record (λ q. q .seq < length (w .rounds)) u (λ _. omega (arith, many)) (λ _. R .below u);
+            old = λ s u sl ul.
+                set-record (λ q. q .seq < s → current q ≡ wordAt (roundIn w s .words) u) u
+                (λ _ h. absurd (omega (arith, many))) (λ _. R .old s u sl ul);
+            same = λ u ul.
+                set-record
+                (λ q. 0 < q .seq →
+                (previous q ≡ wordAt (roundIn w (q .seq) .words) u) × (current q ≡ wordAt (endingIn F w (q .seq) .words) u))
+                u
+                (λ e h. (
+                  previous-rewritten (recordIn w v) x (w .gate .seq) ∙ rw e (R .old (w .gate .seq) v (omega (arith, many)) vl below),
+                  current-rewritten (recordIn w v) x (w .gate .seq) ∙ rw e ex,
+                ))
+                (λ _. R .same u ul);
+            settled = λ s u sl ul.
+                set-record (λ q. q .seq < s → wordAt (endingIn F w s .words) u ≡ wordAt (roundIn w s .words) u) u
+                (λ _ h. absurd (omega (arith, counted))) (λ _. R .settled s u sl ul);
+            words-are = λ u ul e. absurd (omega (arith, many, counted));
+          }
+
+      good-write : WorldInvariant F (storing w v x)
+      good-write = record {
+        fits = G .fits;
+        lengths = rw length-set (G .lengths);
+        size-words = G .size-words;
+        size-round = G .size-round;
+        left-below = G .left-below;
+        bound-below = G .bound-below;
+        announcement-below = G .announcement-below;
+        fresh = G .fresh;
+        inside = G .inside;
+        active-operation = G .active-operation;
+        phase = phase-write v x (w .gate .holder) (G .phase);
+        recorded = recorded-write;
+      }
+
+    -- the operation is finished (P19, P20)
+    module _
+        (lt : m < F .processes)
+        (all : (v : ℕ) → v < F .variables → recordIn w v .seq < w .gate .seq →
+        wordAt (endingIn F w (w .gate .seq) .words) v ≡ wordAt (roundIn w (w .gate .seq) .words) v) where
+      recorded-end : Recorded F (w .records) (w .rounds) (suc (w .count)) (endingIn F w (w .gate .seq) .words)
+      recorded-end =
+          let R = G .recorded in
+          record {
+            below = R .below;
+            old = R .old;
+            same = R .same;
+            settled = λ s v sl vl h.
+                ⊎-elim (λ (e : s ≡ w .gate .seq). rw e (all v vl (rw e at h))) (λ l. R .settled s v (omega (arith, counted)) vl h)
+                (eq-or-lt-of-le (omega (arith, counted)));
+            words-are = λ v vl e.
+                ⊎-elim (λ (l : recordIn w v .seq ≡ w .gate .seq). let z = R .same v vl (omega (arith, G .left-below m)) .1 in rw l at z)
+                (λ l. R .old (w .gate .seq) v (omega (arith, many)) vl l ∙ sym (all v vl l))
+                (eq-or-lt-of-le (omega (arith, many, R .below v)));
+          }
+
+      good-end : WorldInvariant F (ending F w m)
+      good-end =
+          let a : Announcement = finished (announcementIn w m) (endingIn F w (w .gate .seq) .outputs) in
+          record {
+            fits = G .fits;
+            lengths = simp length-set (G .lengths);
+            size-words =
+                ending-length F (w .gate .seq) (roundIn w (w .gate .seq)) ∙ G .size-round (w .gate .seq) (omega (arith, many));
+            size-round = G .size-round;
+            left-below = G .left-below;
+            bound-below = G .bound-below;
+            announcement-below = λ j.
+                announcements-set (λ r. r .seq ≤ w .gate .seq) m j a lt (λ _. G .announcement-below m) (λ _. G .announcement-below j);
+            fresh = λ j.
+                announcements-set (λ r. r .flag ≢ Done → leftIn w j < r .seq) m j a lt (λ _ q. absurd (q refl)) (λ _. G .fresh j);
+            inside = G .inside;
+            active-operation = λ j.
+                announcements-set (λ r. r .flag ≡ Active → operationOf r ≡ callIn w j) m j a lt
+                (λ _ q. absurd (active-not-done q refl)) (λ _. G .active-operation j);
+            phase = subst (λ (h : Holder). Phase h (ending F w m)) (sym hm) (
+              many,
+              λ _. omega (arith, counted),
+              λ d. absurd (d (announcements-set (λ r. r .flag ≡ Done) m m a lt (λ _. refl) (λ ne. absurd (ne refl)))),
+            );
+            recorded = recorded-end;
+          }
+
+  good-free :
+      (m : ℕ) → m < F .processes → w .gate .holder ≡ Process m → announcementIn w m .flag ≡ Done → WorldInvariant F (freeing w m)
+  good-free m lt hm d =
+      let ph : Phase (Process m) w = subst (λ (h : Holder). Phase h w) hm (G .phase) in
+      let many : length (w .rounds) ≡ suc (w .gate .seq) = ph .0 in
+      let counted : w .count ≡ suc (w .gate .seq) = ph .1 d in
+      let set-left :
+      (P : ℕ → Type 0) (j : ℕ) → (j ≡ m → P (w .gate .seq)) → (j ≢ m → P (leftIn w j)) → P (leftIn (freeing w m) j) =
+      λ P j. on-set P (w .left) m j (w .gate .seq) 0 (omega arith) in
+      record {
+        fits = G .fits;
+        lengths = rw length-set (G .lengths);
+        size-words = G .size-words;
+        size-round = G .size-round;
+        left-below = λ j. set-left (λ b. b < w .gate .seq + 1) j (λ _. omega arith) (λ _. omega (arith, G .left-below j));
+        bound-below = λ j. omega (arith, G .bound-below j);
+        announcement-below = λ j. omega (arith, G .announcement-below j);
+        fresh = λ j q. set-left (λ b. b < announcementIn w j .seq) j (λ e. absurd (q (rw e d))) (λ _. G .fresh j q);
+        inside = λ j e. absurd (nobody-process refl e);
+        active-operation = G .active-operation;
+        phase = (omega arith, omega arith);
+        recorded = G .recorded;
+      }
+
+pub good-move : {F : Contents} {i : ℕ} {w v : World} → WorldInvariant F w → Move F i w v → WorldInvariant F v
+good-move G stay = G
+good-move G (ask q lt Q) = good-ask G _ q lt Q
+good-move G (announce a lt Q fa op l b) = good-announce G _ a lt Q fa op l b
+good-move G (leave lt fa) = good-leave G _ lt fa
+good-move G (take m lt hn fl op z) = good-take G m lt hn fl op
+good-move G (write m v x vl hm fl below ex) = good-write G m hm fl v x vl below ex
+good-move G (end m lt hm fl all) = good-end G m hm fl lt all
+good-move G (free m lt hm d) = good-free G m lt hm d
+
+-- a move takes the gate's number up by one at most
+pub seq-move : {F : Contents} {i : ℕ} {w v : World} → Move F i w v → v .gate .seq ≤ suc (w .gate .seq)
+seq-move stay = omega arith
+seq-move (ask c lt Q) = omega arith
+seq-move (announce a lt Q fa op l b) = omega arith
+seq-move (leave lt fa) = omega arith
+seq-move (take m lt hn fl op z) = omega arith
+seq-move (write m v x vl hm fl below ex) = omega arith
+seq-move (end m lt hm fl all) = omega arith
+seq-move (free m lt hm d) = omega arith
+
+-- the operation that a gate is held for runs on the words so far, and its number is the next
+pub ends-now :
+    {F : Contents} {w : World} → WorldInvariant F w → (m : ℕ) → w .gate .holder ≡ Process m → announcementIn w m .flag ≢ Done →
+    (w .count ≡ w .gate .seq)
+    × (endingIn F w (w .gate .seq)
+    ≡ sequential (F .variables) (programOf F (callIn w m .program) (w .gate .seq)) (callIn w m .inputs) (w .words))
+unfolding endingOf
+ends-now {F} {w} G m hm fl = (counted G m hm fl, ap (endingOf F (w .gate .seq)) (held G m hm fl .2 fl .now))
+
+-- how many rounds there are at most, and operations finished at least
+pub rounds-few : (h : Holder) (w : World) → Phase h w → length (w .rounds) ≤ suc (w .gate .seq)
+rounds-few Nobody w ph = omega arith
+rounds-few (Process m) w ph = omega arith
+
+pub count-many : (h : Holder) (w : World) → Phase h w → w .gate .seq ≤ w .count
+count-many Nobody w ph = omega arith
+count-many (Process m) w ph =
+    ⊎-elim (λ d. omega (arith, ph .1 d)) (λ d. omega (arith, ph .2 d .counted)) (done-or-not (announcementIn w m .flag))

@@ -1,0 +1,326 @@
+-- Card, world and notes go together, and every entry keeps them so.
+use Prim.Native.Nat.{ℕ, _<_}
+use mathlib.Core.Path.{_≡_, refl, sym, subst, ap, _∙_}
+use mathlib.Core.Bool.{Bool, true, false, not}
+use mathlib.Core.Logic.{_≢_, _⊎_, inl, inr, ⊎-elim}
+use mathlib.Core.List.{List, [], _∷_}
+use native.Mathlib.Omega.{arith}
+use lib.ListN.{length, getD}
+use lib.Seq.{getD-set-same, getD-set-other, set-getD}
+use borrow.Author.Tests.{lt-ltb, not-true}
+use Rattle.construction.specs.declared.Flag.{Flag}
+use Rattle.construction.specs.declared.Flag.the-variants.{Done, Active, Exit}
+use Rattle.construction.specs.declared.Words.{Words}
+use Rattle.construction.specs.declared.Gate.{Gate}
+use Rattle.construction.specs.declared.Announcement.{Announcement}
+use Rattle.construction.specs.declared.Card.{Card}
+use Rattle.construction.specs.declared.Contents.{Contents}
+use Rattle.construction.specs.declared.Answer.{Answer}
+use Rattle.construction.specs.declared.Answered.{Answered}
+use Rattle.construction.specs.declared.Refusal.{Refusal}
+use Rattle.construction.specs.declared.Task.{Task}
+use Rattle.construction.specs.declared.Place.{Place}
+use Rattle.construction.specs.declared.Place.the-variants.{P1, P3, P5}
+use Rattle.construction.specs.Cells.{isDone, openAnnouncement}
+use Rattle.construction.specs.Parts.{idleTask, contentsOf, localAt, withLocal, Local}
+use Rattle.construction.specs.Machine.{advance, accessOf}
+use Rattle.construction.specs.Requests.{isVariable, isIdle, isBusy, refused, answerOf, read, invoked, exiting}
+use Rattle.construction.specs.History.{Entry, act, Invocation, History, turned, finishing, withFinishes, Return, Event, eventOf, withResponse, withEntry, Observation, observe}
+use Rattle.construction.proofs.Basics.{true-or-false, true-false, cond-false}
+use Rattle.construction.proofs.Observing.Histories.{turned-same}
+use Rattle.construction.proofs.Statements.OneAccess.{one-access}
+use Rattle.construction.proofs.Observing.Outcomes.{Outcome, outcome}
+use Rattle.construction.proofs.Invariant.World.{World, announcementIn, outputsIn, ending, asking}
+use Rattle.construction.proofs.Invariant.Stages.{isAnnounced, stage, announced-busy, busy-stage}
+use Rattle.construction.proofs.Invariant.Cards.{CardInvariant, Stepped, gate-is, announcements-is, inv-call, inv-exit, inv-step}
+use Rattle.construction.proofs.Invariant.Answers.{read-is, answer-is, holder-announced}
+use Rattle.construction.proofs.Invariant.NextPlaces.{P1-next, P3-next, P3-active, announced-next}
+use Rattle.construction.proofs.Invariant.ActiveFlags.{active-before}
+use Rattle.construction.proofs.Observing.Tracking.{requestOf, Own, Tracks, under-way, NothingFinishes, OneFinishes, kind-of, turned-ends, tracks-calm, tracks-finished, own-next, tracks-place, tracks-called, tracks-returned}
+use Rattle.construction.specs.Linearizability.{FinishesOne, FinishesAtMostOne}
+
+-- the processes of a card that have announced their operation
+abbrev announcedIn : Card → ℕ → Bool
+announcedIn c j = isAnnounced (localAt c j .task .place)
+
+abbrev Follows : Card → Card → World → History → Type 0
+Follows o c w s = Tracks (o .processes) (isBusy c) (announcedIn c) w s
+
+-- a moment in which card, world and notes go together
+pub record Consistent (o : Card) (m : Observation) : Type 0 where
+  pub world : World
+  pub inv : CardInvariant (m .card) world
+  pub tracks : Follows o (m .card) world (m .history)
+  pub text : contentsOf (m .card) ≡ contentsOf o
+
+-- the moment after an entry with a given answer
+abbrev after : Card → Observation → Entry → Answered → Observation
+after o m e r =
+    record {
+      card = r .card;
+      history = withEntry (withFinishes o (m .card .gate .seq) (finishing (m .card) (r .card)) (m .history)) e (eventOf (r .answer));
+    }
+
+module _ (o : Card) (m : Observation) (O : Consistent o m) where
+  abbrev c : Card
+  c = m .card
+
+  abbrev s : History
+  s = m .history
+
+  abbrev w : World
+  w = O .world
+
+  -- an entry that turns no flag
+  unturned :
+      (d : Card) (e : Entry) (a : Answer) → c .announcements ≡ d .announcements →
+      Consistent o (record { card = d; history = withEntry s e (eventOf a) }) → Consistent o (after o m e (record { card = d; answer = a }))
+  unfolding withFinishes
+  unturned d e a z O′ = subst (λ (n : History). Consistent o (record { card = d; history = withEntry n e (eventOf a) })) (sym none) O′
+    where
+      none : withFinishes o (c .gate .seq) (finishing c d) s ≡ s
+      none = rw (← z, turned-same 0 (c .announcements))
+
+  processes-is : c .processes ≡ o .processes
+  processes-is = ap (λ (x : Contents). x .processes) (O .text)
+
+  -- an entry that is turned back
+  refused-kept : (e : Entry) (why : Refusal) → Consistent o (after o m e (refused c why))
+  refused-kept e why = unturned c e (Answer.Refused why) refl (rw (noted-refused e) O)
+    where
+      noted-refused : (e : Entry) → withEntry s e Event.none ≡ s
+      noted-refused (Entry.Call i k inputs) = refl
+      noted-refused (Entry.Exit i) = refl
+      noted-refused (Entry.Step i) = refl
+      noted-refused (Entry.Read v) = refl
+
+  -- a read and an exit request
+  read-kept : (v x : ℕ) → Consistent o (after o m (Entry.Read v) (record { card = c; answer = Answer.Value x }))
+  read-kept v x = unturned c (Entry.Read v) (Answer.Value x) refl O
+
+  exit-kept : (i : ℕ) → i < c .processes → Consistent o (after o m (Entry.Exit i) (record { card = withLocal c i (exiting (localAt c i)); answer = Answer.Taken }))
+  exit-kept i lt =
+      unturned (withLocal c i (exiting (localAt c i))) (Entry.Exit i) Answer.Taken refl
+      (record { world = w; inv = inv-exit c w i (O .inv) lt; tracks = kept; text = O .text })
+    where
+      kept : Follows o (withLocal c i (exiting (localAt c i))) w s
+      kept =
+          subst
+          (λ (l : List Task).
+          Tracks (o .processes) (λ j. not (isIdle (getD l j idleTask .place))) (λ j. isAnnounced (getD l j idleTask .place)) w s)
+          (sym (set-getD (c .tasks) i idleTask)) (O .tracks)
+
+  -- a call
+  call-kept :
+      (i k : ℕ) (inputs : Words) → i < c .processes → isBusy c i ≡ false →
+      Consistent o (after o m (Entry.Call i k inputs) (record { card = withLocal c i (invoked (localAt c i) k inputs); answer = Answer.Taken }))
+  call-kept i k inputs lt f =
+      let x : Invocation = record { process = i; program = k; inputs = inputs } in
+      let d = withLocal c i (invoked (localAt c i) k inputs) in
+      let others : (j : ℕ) → j ≢ i → (isBusy d j ≡ isBusy c j) × (announcedIn d j ≡ announcedIn c j) =
+      λ j ne. rw (getD-set-other (c .tasks) i j (record { place = P1; target = 0 }) idleTask ne) (refl, refl) in
+      let here : localAt d i .task ≡ record { place = P1; target = 0 } =
+      getD-set-same (c .tasks) i _ idleTask (omega (arith, O .inv .sizes .tasks, O .inv .good .fits .few)) in
+      unturned d (Entry.Call i k inputs) Answer.Taken refl
+      (record {
+        world = asking w i (requestOf x);
+        inv = inv-call c w i k inputs (O .inv) lt f;
+        tracks = tracks-called i others (O .tracks) x (O .inv .good) lt refl (ap (λ (t : Task). isAnnounced (t .place)) here);
+        text = O .text;
+      })
+
+  -- an accepted step of process i
+  module _ (i : ℕ) (lt : i < c .processes) (b : isBusy c i ≡ true) (l : c .steps < c .limit) where
+    abbrev d : Card
+    d = advance c i
+
+    S : Stepped c w i
+    S = inv-step c w i (O .inv) lt b l
+
+    abbrev noticed : History
+    noticed = withFinishes o (c .gate .seq) (finishing c d) s
+
+    finishing-is : finishing c d ≡ turned 0 (w .announcements) (S .after .announcements)
+    finishing-is =
+        ap (λ (x : List Announcement). turned 0 x (d .announcements)) (announcements-is (O .inv))
+        ∙ ap (turned 0 (w .announcements)) (announcements-is (S .inv))
+
+    only : announcedIn c i ≡ true → announcementIn (S .after) i .flag ≡ Active → announcementIn w i .flag ≡ Active
+    only t h =
+        let flag : List Announcement → Flag = λ x. getD x i openAnnouncement .flag in
+        ap flag (sym (announcements-is (O .inv))) ∙ active-before c i t (ap flag (announcements-is (S .inv)) ∙ h)
+
+    kind : NothingFinishes (announcedIn c) w (S .after) ⊎ OneFinishes (contentsOf c) w (S .after)
+    kind = kind-of (announcedIn c) (O .inv .good) (S .move) only
+
+    -- the operation that an ending move finishes
+    module _ (E : OneFinishes (contentsOf c) w (S .after)) where
+      ends-announced : announcedIn c (E .process) ≡ true
+      ends-announced = holder-announced (O .inv) (E .process) (E .inside) (E .held)
+
+      ends-own : Own true w s (E .process)
+      ends-own =
+          subst (λ (a : Bool). Own a w s (E .process)) ends-announced
+          (O .tracks .own (E .process) (subst (λ (n : ℕ). E .process < n) processes-is (E .inside))
+          (announced-busy (stage (localAt c (E .process) .task .place)) ends-announced))
+
+      ends-one : finishing c d ≡ E .process ∷ []
+      ends-one = finishing-is ∙ turned-ends (O .inv .good) E
+
+    -- the notes after the step and before its answer
+    abbrev Moved : ℕ → List ℕ → World → Type 0
+    Moved gate is v = Tracks (o .processes) (isBusy c) (announcedIn c) v (withFinishes o gate is s)
+
+    moved : Tracks (o .processes) (isBusy c) (announcedIn c) (S .after) noticed
+    unfolding withFinishes
+    moved = ⊎-elim calm ends kind
+      where
+        calm : NothingFinishes (announcedIn c) w (S .after) → Moved (c .gate .seq) (finishing c d) (S .after)
+        calm C =
+            subst (λ (is : List ℕ). Moved (c .gate .seq) is (S .after)) (sym (finishing-is ∙ C .none))
+            (tracks-calm C (S .calls-is) (O .tracks))
+
+        ends : OneFinishes (contentsOf c) w (S .after) → Moved (c .gate .seq) (finishing c d) (S .after)
+        ends E =
+            subst (λ (is : List ℕ). Moved (c .gate .seq) is (S .after)) (sym (ends-one E))
+            (subst (λ (v : World). Moved (c .gate .seq) (E .process ∷ []) v) (sym (E .becomes))
+            (subst (λ (g : Gate). Moved (g .seq) (E .process ∷ []) (ending (contentsOf c) w (E .process))) (sym (gate-is (O .inv)))
+            (tracks-finished o (O .inv .good) (O .tracks) (E .process) (E .inside) (E .held) (E .undone) (ends-own E)
+            (ap (λ (x : Contents). x .variables) (sym (O .text)))
+            (ap (λ (x : Contents). x .code) (sym (O .text))) (ends-announced E))))
+
+    others : (j : ℕ) → j ≢ i → (isBusy d j ≡ isBusy c j) × (announcedIn d j ≡ announcedIn c j)
+    others j ne =
+        let h : localAt d j .task .place ≡ localAt c j .task .place = ap (λ (t : Local). t .task .place) (S .elsewhere j ne) in
+        rw h (refl, refl)
+
+    abbrev own-place : Place
+    own-place = localAt c i .task .place
+
+    abbrev next-place : Place
+    next-place = localAt d i .task .place
+
+    -- the operation of i itself
+    own-moved : Own (announcedIn c i) (S .after) noticed i
+    own-moved = moved .own i (subst (λ (n : ℕ). i < n) processes-is lt) b
+
+    own-stage : (own-place ≡ P1) ⊎ (own-place ≡ P3) ⊎ (isAnnounced own-place ≡ true)
+    own-stage = busy-stage (stage own-place) b
+
+    has-task : i < length (c .tasks)
+    has-task = omega (arith, O .inv .sizes .tasks, O .inv .good .fits .few)
+
+    has-announcement : i < length (c .announcements)
+    has-announcement =
+        omega (arith, O .inv .good .lengths .announcements, ap length (announcements-is (O .inv)), O .inv .good .fits .few)
+
+    at-P1 : own-place ≡ P1 → next-place ≡ P3
+    at-P1 h = P1-next c i has-task h
+
+    at-P3 : own-place ≡ P3 → next-place ≡ P5
+    at-P3 h = P3-next c i has-task h
+
+    -- it was unannounced if it is so still
+    unannounced : isBusy d i ≡ true → isAnnounced next-place ≡ false → isAnnounced own-place ≡ false
+    unfolding accessOf
+    unannounced busy h =
+        ⊎-elim (λ z. ap isAnnounced z)
+        (⊎-elim (λ z. ap isAnnounced z)
+        (λ t. ⊎-elim (λ z. absurd (true-false _ z h)) (λ z. absurd (true-false _ busy (ap (λ (l : Place). not (isIdle l)) z)))
+        (announced-next c i has-task t))) own-stage
+
+    -- it was announced before, or is active now
+    newly : isAnnounced next-place ≡ true → (isAnnounced own-place ≡ true) ⊎ (announcementIn (S .after) i .flag ≡ Active)
+    newly h =
+        ⊎-elim (λ z. absurd (true-false _ h (ap isAnnounced (at-P1 z))))
+        (⊎-elim
+        (λ z. inr
+        (ap (λ (x : List Announcement). getD x i openAnnouncement .flag) (sym (announcements-is (S .inv)))
+        ∙ ap (λ (a : Announcement). a .flag) (P3-active c i has-task has-announcement z)))
+        inl) own-stage
+
+    -- one that returns was announced
+    returning : isBusy d i ≡ false → isAnnounced own-place ≡ true
+    unfolding accessOf
+    returning idle =
+        ⊎-elim (λ z. absurd (true-false _ (ap (λ (l : Place). not (isIdle l)) (at-P1 z)) idle))
+        (⊎-elim (λ z. absurd (true-false _ (ap (λ (l : Place). not (isIdle l)) (at-P3 z)) idle)) (λ z. z)) own-stage
+
+    text-moved : contentsOf d ≡ contentsOf o
+    text-moved = sym (one-access c i .text) ∙ O .text
+
+    running : isBusy d i ≡ true → Follows o d (S .after) noticed
+    running busy = tracks-place i others moved (λ _. own-next (unannounced busy) newly own-moved)
+
+    -- the notes after the step and what it brought
+    abbrev Ended : Event → Type 0
+    Ended v = Follows o d (S .after) (withResponse noticed i v)
+
+    ended-done : isBusy d i ≡ false → announcementIn (S .after) i .flag ≡ Done → Ended (Event.returned (Return.done (outputsIn (S .after) i)))
+    ended-done idle h =
+        tracks-returned i others moved (Return.done (outputsIn (S .after) i)) own-moved (own-moved .over (returning idle) (ap isDone h)) idle
+
+    ended-exited : isBusy d i ≡ false → announcementIn (S .after) i .flag ≡ Exit → Ended (Event.returned Return.exited)
+    ended-exited idle h = tracks-returned i others moved Return.exited own-moved (own-moved .pending (ap isDone h)) idle
+
+    answered : Ended (eventOf (answerOf (localAt d i)))
+    answered =
+        ⊎-elim (λ busy. by-answer (cond-false (isIdle next-place) _ _ (not-true _ busy)) (running busy))
+        (λ idle. ⊎-elim (λ z. by-answer (z .1) (ended-done idle (z .0))) (λ z. by-answer (z .1) (ended-exited idle (z .0)))
+        (answer-is (S .inv) i (subst (λ (x : Contents). i < x .processes) (one-access c i .text) lt) idle))
+        (true-or-false (isBusy d i))
+      where
+        by-answer : {a : Answer} → answerOf (localAt d i) ≡ a → Ended (eventOf a) → Ended (eventOf (answerOf (localAt d i)))
+        by-answer z f = subst (λ (x : Answer). Ended (eventOf x)) (sym z) f
+
+    step-kept : Consistent o (after o m (Entry.Step i) (record { card = d; answer = answerOf (localAt d i) }))
+    step-kept = record { world = S .after; inv = S .inv; tracks = answered; text = text-moved }
+
+  -- every entry
+  outcome-kept : {e : Entry} {r : Answered} → Outcome c e r → Consistent o (after o m e r)
+  outcome-kept (Outcome.turned-back e why) = refused-kept e why
+  outcome-kept (Outcome.called i k inputs p b) = call-kept i k inputs p b
+  outcome-kept (Outcome.asked i p) = exit-kept i p
+  outcome-kept (Outcome.stepped i p b l) = step-kept i p b l
+  outcome-kept (Outcome.shown v x) = read-kept v x
+
+  pub entry-kept : (e : Entry) → Consistent o (observe o m e)
+  unfolding observe
+  entry-kept e = outcome-kept (outcome c e)
+
+  -- an entry finishes at most one operation
+  abbrev AtMostOne : Entry → Answered → Type 0
+  AtMostOne e r = (finishing c (r .card) ≡ []) ⊎ (act c e ≡ r → FinishesOne m e)
+
+  step-finishes : (i : ℕ) → i < c .processes → isBusy c i ≡ true → c .steps < c .limit →
+      AtMostOne (Entry.Step i) (record { card = advance c i; answer = answerOf (localAt (advance c i) i) })
+  step-finishes i p b l =
+      ⊎-elim (λ C. inl (finishing-is i p b l ∙ C .none))
+      (λ E. inr (λ is. record {
+        process = E .process;
+        only = ap (λ (r : Answered). finishing c (r .card)) is ∙ ends-one i p b l E;
+        underWay = under-way (ends-own i p b l E);
+        stepper = i;
+        byStep = refl;
+      })) (kind i p b l)
+
+  outcome-finishes : {e : Entry} {r : Answered} → Outcome c e r → AtMostOne e r
+  outcome-finishes (Outcome.turned-back e why) = inl (turned-same 0 (c .announcements))
+  outcome-finishes (Outcome.called i k inputs p b) = inl (turned-same 0 (c .announcements))
+  outcome-finishes (Outcome.asked i p) = inl (turned-same 0 (c .announcements))
+  outcome-finishes (Outcome.stepped i p b l) = step-finishes i p b l
+  outcome-finishes (Outcome.shown v x) = inl (turned-same 0 (c .announcements))
+
+  pub finishes-one : (e : Entry) → FinishesAtMostOne m e
+  finishes-one e = ⊎-elim inl (λ f. inr (f refl)) (outcome-finishes (outcome c e))
+
+-- a read shows the word of the bench
+pub read-shown : (o : Card) (m : Observation) → Consistent o m → (v : ℕ) → v < o .variables →
+    read (m .card) v ≡ record { card = m .card; answer = Answer.Value (getD (m .history .words) v 0) }
+unfolding read
+read-shown o m O v l =
+    let inside : v < m .card .variables = subst (λ (x : Contents). v < x .variables) (sym (O .text)) l in
+    let there : isVariable (m .card) v ≡ true = rw (lt-ltb v (m .card .variables) inside) (lt-ltb v 64 (omega (arith, O .inv .good .fits .narrow))) in
+    cond-false (not (isVariable (m .card) v)) _ _ (ap not there)
+    ∙ ap (λ (x : ℕ). record { card = m .card; answer = Answer.Value x })
+    (read-is (m .card) (O .world) (O .inv) v inside ∙ ap (λ (ws : List ℕ). getD ws v 0) (sym (O .tracks .words)))

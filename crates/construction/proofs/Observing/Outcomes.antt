@@ -1,0 +1,39 @@
+-- What an entry can come to: it is turned back and leaves the card, or it is taken.
+use Prim.Native.Nat.{ℕ, _<_}
+use mathlib.Core.Path.{_≡_}
+use mathlib.Core.Bool.{true, false}
+use Rattle.construction.specs.declared.Words.{Words}
+use Rattle.construction.specs.declared.Card.{Card}
+use Rattle.construction.specs.declared.Answer.{Answer}
+use Rattle.construction.specs.declared.Answered.{Answered}
+use Rattle.construction.specs.declared.Refusal.{Refusal}
+use Rattle.construction.specs.Machine.{advance}
+use Rattle.construction.specs.Requests.{isBusy, refused, answerOf, valueOf, invoked, exiting}
+use Rattle.construction.specs.History.{Entry, act}
+use Rattle.construction.proofs.Observing.Entries.{on-call, on-exit, on-step, on-read}
+use Rattle.construction.specs.Parts.{withLocal, localAt}
+
+pub data Outcome (c : Card) : Entry → Answered → Type 0 where
+  turned-back : (e : Entry) (why : Refusal) → Outcome c e (refused c why)
+  called :
+      (i k : ℕ) (inputs : Words) → i < c .processes → isBusy c i ≡ false →
+      Outcome c (Entry.Call i k inputs) (record { card = withLocal c i (invoked (localAt c i) k inputs); answer = Answer.Taken })
+  asked : (i : ℕ) → i < c .processes → Outcome c (Entry.Exit i) (record { card = withLocal c i (exiting (localAt c i)); answer = Answer.Taken })
+  stepped :
+      (i : ℕ) → i < c .processes → isBusy c i ≡ true → c .steps < c .limit →
+      Outcome c (Entry.Step i) (record { card = advance c i; answer = answerOf (localAt (advance c i) i) })
+  shown : (v x : ℕ) → Outcome c (Entry.Read v) (record { card = c; answer = Answer.Value x })
+
+pub outcome : (c : Card) (e : Entry) → Outcome c e (act c e)
+outcome c (Entry.Call i k inputs) =
+    let e = Entry.Call i k inputs in
+    on-call (Outcome c e) c (Outcome.turned-back e) i k inputs (λ lt _. Outcome.called i k inputs lt)
+outcome c (Entry.Exit i) =
+    let e = Entry.Exit i in
+    on-exit (Outcome c e) c (Outcome.turned-back e) i (λ lt _. Outcome.asked i lt)
+outcome c (Entry.Step i) =
+    let e = Entry.Step i in
+    on-step (Outcome c e) c (Outcome.turned-back e) i (Outcome.stepped i)
+outcome c (Entry.Read v) =
+    let e = Entry.Read v in
+    on-read (Outcome c e) c (Outcome.turned-back e) v (λ _. Outcome.shown v (valueOf c v))

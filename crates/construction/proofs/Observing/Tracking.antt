@@ -1,0 +1,361 @@
+-- What the observer's notes have to do with the world: how each move keeps it, and how a call and a return do.
+use Prim.Native.Nat.{ℕ, suc, _≤_, _<_}
+use mathlib.Core.Path.{_≡_, refl, sym, subst, ap, _∙_}
+use mathlib.Core.Bool.{Bool, true, false, cond, true≢false}
+use mathlib.Core.Logic.{_≢_, _⊎_, inl, inr, ⊎-elim}
+use mathlib.Core.List.{List, [], _∷_}
+use native.Mathlib.Omega.{arith}
+use native.Mathlib.Nat.{zero-add}
+use native.Mathlib.Decide.{ℕ-discrete}
+use lib.ListN.{length, getD}
+use lib.Seq.{getD-set-same, getD-set-other}
+use Rattle.construction.specs.declared.Flag.{Flag}
+use Rattle.construction.specs.declared.Flag.the-variants.{Done, Active, Exit}
+use Rattle.construction.specs.declared.Holder.the-variants.{Process}
+use Rattle.construction.specs.declared.Words.{Words}
+use Rattle.construction.specs.declared.Announcement.{Announcement}
+use Rattle.construction.specs.declared.Operation.{Operation}
+use Rattle.construction.specs.declared.Card.{Card}
+use Rattle.construction.specs.Cells.{zeros, isDone, openAnnouncement}
+use Rattle.construction.specs.Sequential.{Ending, sequential}
+use Rattle.construction.specs.Instructions.{noProgram}
+use Rattle.construction.specs.Parts.{noOperation}
+use Rattle.construction.specs.History.{Invocation, History, hasCalled, latest, latestCall, turned, benchRun, withFinish, Return, Event, withResponse}
+use Rattle.construction.proofs.Basics.{on-set, true-or-false, true-false, ne-isDone}
+use Rattle.construction.proofs.Observing.Histories.{on-equal, chosen, passed, latest-below, latest-apart, agree-longer, turns, turned-same, turned-not, turned-one}
+use Rattle.construction.proofs.Invariant.World.{World, announcementIn, callIn, outputsIn, endingIn, WorldInvariant, asking, ending, Move}
+use Rattle.construction.proofs.Invariant.World.Move.{stay, ask, announce, leave, take, write, end, free}
+use Rattle.construction.proofs.Invariant.WorldKept.{ends-now}
+use Rattle.construction.specs.declared.Contents.{Contents}
+use Rattle.construction.specs.Machine.{finished}
+use Rattle.construction.specs.Linearizability.{times, outputsOf, hasReturned, Numbered, Agrees, AllAgree, UnderWay}
+
+-- the flag of process j is done
+abbrev pub doneIn : World → ℕ → Bool
+doneIn w j = isDone (announcementIn w j .flag)
+
+-- what a call asked for
+abbrev pub requestOf : Invocation → Operation
+requestOf x = record { program = x .program; inputs = x .inputs }
+
+-- Process j has an operation under way, its latest taken call. That stands in the order once if it is announced and its flag is done,
+-- with the outputs of the sequential run, and else not.
+pub record Own (announced : Bool) (w : World) (s : History) (j : ℕ) : Type 0 where
+  pub asked : hasCalled (s .operations) j ≡ true
+  pub request : requestOf (latestCall (s .operations) j) ≡ callIn w j
+  pub unreturned : hasReturned (latest (s .operations) j) (s .returns) ≡ false
+  pub early : announced ≡ false → times (latest (s .operations) j) (s .order) ≡ 0
+  pub pending : doneIn w j ≡ false → times (latest (s .operations) j) (s .order) ≡ 0
+  pub over :
+      announced ≡ true → doneIn w j ≡ true →
+      (times (latest (s .operations) j) (s .order) ≡ 1) × (outputsOf (latest (s .operations) j) (s .order) ≡ outputsIn w j)
+
+-- The notes go with the world of p processes, of which some are busy and some have announced their operations
+pub record Tracks (p : ℕ) (busy announced : ℕ → Bool) (w : World) (s : History) : Type 0 where
+  pub words : s .words ≡ w .words
+  pub count : suc (length (s .order)) ≡ w .count
+  pub numbers : Numbered (s .order)
+  pub agree : AllAgree (s .order) (s .returns)
+  pub once : (k : ℕ) → times k (s .order) ≤ 1
+  pub known : (k : ℕ) → length (s .operations) ≤ k → times k (s .order) ≡ 0
+  pub unborn : (k : ℕ) → length (s .operations) ≤ k → hasReturned k (s .returns) ≡ false
+  pub own : (j : ℕ) → j < p → busy j ≡ true → Own (announced j) w s j
+
+pub under-way : {a : Bool} {w : World} {s : History} {j : ℕ} → Own a w s j → UnderWay s j
+under-way O = record { called = O .asked; unreturned = O .unreturned }
+
+-- a move that finishes nothing, and one that finishes the operation of m
+pub record NothingFinishes (announced : ℕ → Bool) (w v : World) : Type 0 where
+  pub none : turned 0 (w .announcements) (v .announcements) ≡ []
+  pub words : v .words ≡ w .words
+  pub count : v .count ≡ w .count
+  pub outs : v .outs ≡ w .outs
+  pub done : (j : ℕ) → announced j ≡ true → doneIn v j ≡ doneIn w j
+
+pub record OneFinishes (F : Contents) (w v : World) : Type 0 where
+  pub process : ℕ
+  pub inside : process < F .processes
+  pub held : w .gate .holder ≡ Process process
+  pub undone : announcementIn w process .flag ≢ Done
+  pub becomes : v ≡ ending F w process
+
+turns-active : (f : Flag) → turns f Active ≡ false
+turns-active Done = refl
+turns-active Active = refl
+turns-active Exit = refl
+
+module _ {F : Contents} {w : World} (announced : ℕ → Bool) (G : WorldInvariant F w) where
+  -- a move that changes none of what the observer sees
+  calm-same : {v : World} → v .announcements ≡ w .announcements → v .words ≡ w .words → v .count ≡ w .count → v .outs ≡ w .outs → NothingFinishes announced w v
+  calm-same a b c d =
+      record {
+        none = ap (turned 0 (w .announcements)) a ∙ turned-same 0 (w .announcements);
+        words = b;
+        count = c;
+        outs = d;
+        done = λ j t. ap (λ (l : List Announcement). isDone (getD l j openAnnouncement .flag)) a;
+      }
+
+  -- every move is one of the two, if a process that has announced its operation does not announce again
+  pub kind-of :
+      {i : ℕ} {v : World} → Move F i w v → (announced i ≡ true → announcementIn v i .flag ≡ Active → announcementIn w i .flag ≡ Active) →
+      NothingFinishes announced w v ⊎ OneFinishes F w v
+  kind-of stay only = inl (calm-same refl refl refl refl)
+  kind-of (ask q lt Q) only = inl (calm-same refl refl refl refl)
+  kind-of {i} (announce a lt Q fa op l b) only =
+      let size : i < length (w .announcements) = omega (arith, G .lengths .announcements, G .fits .few) in
+      inl (record {
+        none = turned-not 0 (w .announcements) i a (rw fa (turns-active (announcementIn w i .flag)));
+        words = refl;
+        count = refl;
+        outs = refl;
+        done = λ j t. on-set (λ x. isDone (x .flag) ≡ doneIn w j) (w .announcements) i j a openAnnouncement size
+            (λ e. absurd (Q .not-active (only (rw (← e) t) (rw (getD-set-same (w .announcements) i a openAnnouncement size) fa)))) (λ ne. refl);
+      })
+  kind-of {i} (leave lt fa) only =
+      let size : i < length (w .announcements) = omega (arith, G .lengths .announcements, G .fits .few) in
+      inl (record {
+        none = turned-not 0 (w .announcements) i _ (rw fa refl);
+        words = refl;
+        count = refl;
+        outs = refl;
+        done = λ j t. on-set (λ x. isDone (x .flag) ≡ doneIn w j) (w .announcements) i j _ openAnnouncement size
+            (λ e. rw (e, fa) refl) (λ ne. refl);
+      })
+  kind-of (take m lt hn fl op z) only = inl (calm-same refl refl refl refl)
+  kind-of (write m u x vl hm fl below ex) only = inl (calm-same refl refl refl refl)
+  kind-of (end m lt hm fl all) only = inr (record { process = m; inside = lt; held = hm; undone = fl; becomes = refl })
+  kind-of (free m lt hm d) only = inl (calm-same refl refl refl refl)
+
+pub turned-ends : {F : Contents} {w v : World} → WorldInvariant F w → (E : OneFinishes F w v) → turned 0 (w .announcements) (v .announcements) ≡ E .process ∷ []
+turned-ends {F} {w} G E =
+    rw (E .becomes)
+    (turned-one 0 (w .announcements) (E .process) _ (omega (arith, G .lengths .announcements, G .fits .few, E .inside))
+    (rw (ne-isDone _ (E .undone)) refl) ∙ rw zero-add)
+
+-- a move that finishes nothing
+own-calm :
+    {a : Bool} {w v : World} {s : History} {j : ℕ} → (a ≡ true → doneIn v j ≡ doneIn w j) → v .outs ≡ w .outs → v .calls ≡ w .calls →
+    Own a w s j → Own a v s j
+own-calm {a} {w} {v} {s} {j} d e f O =
+    record {
+      asked = O .asked;
+      request = O .request ∙ ap (λ (l : List Operation). getD l j noOperation) (sym f);
+      unreturned = O .unreturned;
+      early = O .early;
+      pending = λ z. ⊎-elim (λ t. O .pending (sym (d t) ∙ z)) (O .early) (true-or-false a);
+      over = λ t z.
+          let q = O .over t (sym (d t) ∙ z) in
+          (q .0, q .1 ∙ ap (λ (l : List Words). getD l j zeros) (sym e));
+    }
+
+pub tracks-calm :
+    {p : ℕ} {busy announced : ℕ → Bool} {w v : World} {s : History} → NothingFinishes announced w v → v .calls ≡ w .calls →
+    Tracks p busy announced w s → Tracks p busy announced v s
+tracks-calm C f T =
+    record {
+      words = T .words ∙ sym (C .words);
+      count = T .count ∙ sym (C .count);
+      numbers = T .numbers;
+      agree = T .agree;
+      once = T .once;
+      known = T .known;
+      unborn = T .unborn;
+      own = λ j lt b. own-calm (C .done j) (C .outs) f (T .own j lt b);
+    }
+
+-- a move that finishes the operation of m, whose number the sequential run gives it too
+module _
+    (o : Card) {F : Contents} {p : ℕ} {busy announced : ℕ → Bool} {w : World} {s : History} (G : WorldInvariant F w) (T : Tracks p busy announced w s)
+    (m : ℕ) (lt : m < F .processes) (held : w .gate .holder ≡ Process m) (undone : announcementIn w m .flag ≢ Done)
+    (O : Own true w s m) (vs : o .variables ≡ F .variables) (co : o .code ≡ F .code) where
+  same-run : benchRun o (suc (length (s .order))) (latestCall (s .operations) m) (s .words) ≡ endingIn F w (w .gate .seq)
+  same-run =
+      ap (λ (q : Operation). sequential (o .variables) (getD (o .code) (q .program) noProgram) (q .inputs) (s .words)) (O .request)
+      ∙ (rw (vs, co, T .words) refl ∙ sym (ends-now G m held undone .1))
+
+  number-is : w .gate .seq ≡ suc (length (s .order))
+  number-is = sym (T .count ∙ ends-now G m held undone .0)
+
+  size : m < 8
+  size = omega (arith, G .fits .few)
+
+  own-ended : (j : ℕ) → j ≢ m → {a : Bool} → Own a w s j → Own a (ending F w m) (withFinish o (w .gate .seq) m s) j
+  unfolding times outputsOf
+  own-ended j ne Q =
+      let far : latest (s .operations) m ≢ latest (s .operations) j = latest-apart (s .operations) m j (λ e. ne (sym e)) (O .asked) (Q .asked) in
+      let same : announcementIn (ending F w m) j ≡ announcementIn w j = getD-set-other (w .announcements) m j _ openAnnouncement ne in
+      record {
+        asked = Q .asked;
+        request = Q .request;
+        unreturned = Q .unreturned;
+        early = λ t. passed _ _ _ _ far ∙ Q .early t;
+        pending = λ z. passed _ _ _ _ far ∙ Q .pending (ap (λ (x : Announcement). isDone (x .flag)) (sym same) ∙ z);
+        over = λ t z.
+            let q = Q .over t (ap (λ (x : Announcement). isDone (x .flag)) (sym same) ∙ z) in
+            (passed _ _ _ _ far ∙ q .0, passed _ _ _ _ far ∙ (q .1 ∙ sym (getD-set-other (w .outs) m j _ zeros ne)));
+      }
+
+  own-finished : Own true (ending F w m) (withFinish o (w .gate .seq) m s) m
+  unfolding times outputsOf
+  own-finished =
+      record {
+        asked = O .asked;
+        request = O .request;
+        unreturned = O .unreturned;
+        early = λ t. absurd (true≢false t);
+        pending = λ z. absurd (true≢false (ap (λ (x : Announcement). isDone (x .flag)) (sym here) ∙ z));
+        over = λ t z. (
+          chosen (latest (s .operations) m) _ _ (times (latest (s .operations) m) (s .order)) refl ∙ ap suc (O .pending (ne-isDone _ undone)),
+          chosen (latest (s .operations) m) _ _ (outputsOf (latest (s .operations) m) (s .order)) refl ∙ (ap (λ (e : Ending). e .outputs) same-run ∙ sym out),
+        );
+      }
+    where
+      here : announcementIn (ending F w m) m ≡ finished (announcementIn w m) (endingIn F w (w .gate .seq) .outputs)
+      here = getD-set-same (w .announcements) m _ openAnnouncement (omega (arith, size, G .lengths .announcements))
+
+      out : outputsIn (ending F w m) m ≡ endingIn F w (w .gate .seq) .outputs
+      out = getD-set-same (w .outs) m _ zeros (omega (arith, size, G .lengths .outs))
+
+  pub tracks-finished : announced m ≡ true → Tracks p busy announced (ending F w m) (withFinish o (w .gate .seq) m s)
+  unfolding times
+  tracks-finished ann =
+      record {
+        words = ap (λ (e : Ending). e .words) same-run;
+        count = ap suc (T .count);
+        numbers = (number-is, T .numbers);
+        agree = agree-longer _ (s .order) (s .returns) (O .unreturned) (T .agree);
+        once = λ k.
+            on-equal (λ b. cond b (suc (times k (s .order))) (times k (s .order)) ≤ 1) (latest (s .operations) m) k
+            (λ e. let z : times k (s .order) ≡ 0 = rw (← e) (O .pending (ne-isDone _ undone)) in omega arith) (λ _. T .once k);
+        known = λ k h.
+            let far : latest (s .operations) m ≢ k = λ e. omega (arith, latest-below (s .operations) m (O .asked)) in
+            passed _ _ _ _ far ∙ T .known k h;
+        unborn = T .unborn;
+        own = λ j l b. one j (ℕ-discrete j m) (T .own j l b);
+      }
+    where
+      one : (j : ℕ) → Dec (j ≡ m) → Own (announced j) w s j → Own (announced j) (ending F w m) (withFinish o (w .gate .seq) m s) j
+      one j (yes e) Q = rw (e, ann) own-finished
+      one j (no ne) Q = own-ended j ne Q
+
+-- process i goes on at another place with its operation under way: unannounced only if it was, and announced only if it was or just then
+pub own-next :
+    {a b : Bool} {w : World} {s : History} {i : ℕ} → (b ≡ false → a ≡ false) → (b ≡ true → (a ≡ true) ⊎ (announcementIn w i .flag ≡ Active)) →
+    Own a w s i → Own b w s i
+own-next {w = w} {i = i} f g O =
+    record {
+      asked = O .asked;
+      request = O .request;
+      unreturned = O .unreturned;
+      early = λ t. O .early (f t);
+      pending = O .pending;
+      over = λ t z.
+          ⊎-elim (λ h. O .over h z)
+          (λ act. absurd (true-false _ z (ap isDone act))) (g t);
+    }
+
+-- the processes of another card, all but i as they were
+module _
+    {p : ℕ} {busy announced busy′ announced′ : ℕ → Bool} {w : World} {s : History} (i : ℕ)
+    (others : (j : ℕ) → j ≢ i → (busy′ j ≡ busy j) × (announced′ j ≡ announced j)) (T : Tracks p busy announced w s) where
+  -- by cases on whose operation is meant
+  on-process :
+      (P : ℕ → Type 0) → (busy′ i ≡ true → P i) → ((j : ℕ) → j ≢ i → Own (announced′ j) w s j → P j) →
+      (j : ℕ) → j < p → busy′ j ≡ true → P j
+  on-process P mine other j l b = go (ℕ-discrete j i)
+    where
+      go : Dec (j ≡ i) → P j
+      go (yes e) = subst P (sym e) (mine (rw (← e) b))
+      go (no ne) = other j ne (rw (others j ne .1) (T .own j l (sym (others j ne .0) ∙ b)))
+
+  -- process i goes on
+  pub tracks-place : (busy′ i ≡ true → Own (announced′ i) w s i) → Tracks p busy′ announced′ w s
+  tracks-place mine =
+      record {
+        words = T .words;
+        count = T .count;
+        numbers = T .numbers;
+        agree = T .agree;
+        once = T .once;
+        known = T .known;
+        unborn = T .unborn;
+        own = on-process (λ j. Own (announced′ j) w s j) mine (λ j ne O. O);
+      }
+
+  -- a call of process i is taken
+  pub tracks-called :
+      {F : Contents} (x : Invocation) → WorldInvariant F w → i < F .processes → x .process ≡ i → announced′ i ≡ false →
+      Tracks p busy′ announced′ (asking w i (requestOf x))
+      (record { operations = x ∷ s .operations; order = s .order; returns = s .returns; words = s .words })
+  unfolding hasCalled latest latestCall
+  tracks-called x G lt e quiet =
+      record {
+        words = T .words;
+        count = T .count;
+        numbers = T .numbers;
+        agree = T .agree;
+        once = T .once;
+        known = λ k h. T .known k (omega arith);
+        unborn = λ k h. T .unborn k (omega arith);
+        own = on-process (λ j. Own (announced′ j) (asking w i (requestOf x)) after j) (λ _. new) old;
+      }
+    where
+      after : History
+      after = record { operations = x ∷ s .operations; order = s .order; returns = s .returns; words = s .words }
+
+      new : Own (announced′ i) (asking w i (requestOf x)) after i
+      new =
+          let number : latest (x ∷ s .operations) i ≡ length (s .operations) = chosen (x .process) i _ (latest (s .operations) i) e in
+          let none : times (latest (x ∷ s .operations) i) (s .order) ≡ 0 = rw number (T .known (length (s .operations)) (omega arith)) in
+          record {
+            asked = chosen (x .process) i true (hasCalled (s .operations) i) e;
+            request =
+                ap requestOf (chosen (x .process) i x (latestCall (s .operations) i) e)
+                ∙ sym (getD-set-same (w .calls) i (requestOf x) noOperation (omega (arith, G .lengths .calls, G .fits .few)));
+            unreturned = rw number (T .unborn (length (s .operations)) (omega arith));
+            early = λ t. none;
+            pending = λ t. none;
+            over = λ t. absurd (true-false _ t quiet);
+          }
+
+      old : (j : ℕ) → j ≢ i → Own (announced′ j) w s j → Own (announced′ j) (asking w i (requestOf x)) after j
+      old j ne O =
+          let q : x .process ≢ j = λ r. ne (sym r ∙ e) in
+          let number : latest (x ∷ s .operations) j ≡ latest (s .operations) j = passed (x .process) j (length (s .operations)) _ q in
+          record {
+            asked = passed (x .process) j true (hasCalled (s .operations) j) q ∙ O .asked;
+            request =
+                ap requestOf (passed (x .process) j x (latestCall (s .operations) j) q)
+                ∙ (O .request ∙ sym (getD-set-other (w .calls) i j (requestOf x) noOperation ne));
+            unreturned = rw number (O .unreturned);
+            early = λ t. rw number (O .early t);
+            pending = λ t. rw number (O .pending t);
+            over = λ t d. rw number (O .over t d);
+          }
+
+  -- process i returns as the order says
+  pub tracks-returned :
+      {b : Bool} (r : Return) → Own b w s i → Agrees (s .order) (latest (s .operations) i) r → busy′ i ≡ false →
+      Tracks p busy′ announced′ w (withResponse s i (Event.returned r))
+  unfolding hasReturned
+  tracks-returned r O agrees idle =
+      record {
+        words = T .words;
+        count = T .count;
+        numbers = T .numbers;
+        agree = (agrees, T .agree);
+        once = T .once;
+        known = T .known;
+        unborn = λ k h.
+            let far : latest (s .operations) i ≢ k = λ e. omega (arith, latest-below (s .operations) i (O .asked)) in
+            passed _ _ _ _ far ∙ T .unborn k h;
+        own = on-process (λ j. Own (announced′ j) w (withResponse s i (Event.returned r)) j) (λ t. absurd (true-false _ t idle)) (λ j ne Q. record {
+          asked = Q .asked;
+          request = Q .request;
+          unreturned = passed _ _ _ _ (latest-apart (s .operations) i j (λ e. ne (sym e)) (O .asked) (Q .asked)) ∙ Q .unreturned;
+          early = Q .early;
+          pending = Q .pending;
+          over = Q .over;
+        });
+      }

@@ -1,0 +1,5 @@
+-- A helper's simulation on its dictionary agrees with the sequential run (lines H1 to H30).
+pub mod Sequential
+pub mod Dictionaries
+pub mod Weights
+pub mod Simulations

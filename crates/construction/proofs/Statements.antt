@@ -1,0 +1,10 @@
+-- The theorems that docs/STATEMENTS.md names.
+pub mod OneAccess
+pub mod AnswerFields
+pub mod Refusals
+pub mod ExitRequests
+pub mod TextKept
+pub mod Linearizability
+pub mod Limits
+pub mod Examples
+pub mod LinearizabilityExample

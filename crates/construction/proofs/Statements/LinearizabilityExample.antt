@@ -1,0 +1,70 @@
+-- Demand 3 is not empty: card K with two processes, one exited and one done, and with one process that calls twice; notes by computation.
+use Prim.Native.Nat.{_<_}
+use mathlib.Core.Path.{_≡_, refl}
+use mathlib.Core.Bool.{true}
+use mathlib.Core.List.{List, [], _∷_, _++_}
+use native.Mathlib.Omega.{arith}
+use lib.ListN.{length, replicate}
+use Rattle.grammar.specs.Reading.{four, field, number, digits, hasWord}
+use Rattle.construction.specs.declared.Card.{Card}
+use Rattle.construction.specs.Opening.{opened, readCard, varsFrom, programsFrom, readProgram, insFrom, fresh}
+use Rattle.construction.specs.Lines.{cardLine, judgeCard, varLine, judgeVar, sheetLine, judgeSheet, insLine, judgeIns}
+use Rattle.construction.specs.Instructions.{decode, effectOf, fetch, word, withWord, load, store, forward, withRegister, withOutput, skipped}
+use Rattle.construction.specs.Sequential.{sequential, runFrom}
+use Rattle.construction.specs.Requests.{call, requestExit, step, read, valueOf}
+use Rattle.construction.specs.Machine.{advance, perform, accessOf, accessGate, accessAnnouncement, firstChoice, beginHelp, note, writing}
+use Rattle.construction.specs.Helping.{simulate, simulateFrom}
+use Rattle.construction.specs.Dictionary.{position, assign, valueUnder, insert, altered, unaltered, nextWrite}
+use Rattle.construction.specs.Cells.{sameWords, sameGate, sameAnnouncement, sameRecord, swapGate, swapAnnouncement, swapRecord, released, current, previous, rewritten}
+use Rattle.construction.specs.History.{Entry, Return, run, observe, observeAll, withFinishes, latest, latestCall, turned}
+use Rattle.construction.specs.Examples.{one, cardK, twoProcesses}
+use Rattle.construction.proofs.Statements.Linearizability.{linearizability}
+use Rattle.construction.specs.Linearizability.{Linearizable, hasReturned, rank}
+
+-- card K with two processes, both called, one with an exit request
+abbrev two : Card
+two = opened (twoProcesses .text) .card
+
+-- card K with one process that calls, returns, and calls again
+abbrev single : Card
+single = opened cardK .card
+
+abbrev first : List Entry
+first = Entry.Call 0 0 (one 9) ∷ replicate 14 (Entry.Step 0)
+
+abbrev second : List Entry
+second = Entry.Call 0 0 (one 5) ∷ replicate 14 (Entry.Step 0)
+
+-- Of the two, operation 1 alone withFinishes, under number 1 with output 7; operation 0 returned exited and operation 1 done; the bench has 9.
+-- The single one has returned before its second call, and both its operations stand in the order.
+pub record Computed : Type 0 where
+  pub notes-two :
+      run two (twoProcesses .entries) .history
+      ≡ record {
+        operations =
+            record { process = 1; program = 0; inputs = one 9 } ∷ record { process = 0; program = 0; inputs = one 5 } ∷ [];
+        order = record { operation = 1; gate = 1; outputs = one 7 } ∷ [];
+        returns =
+            record { operation = 1; return = Return.done (one 7) } ∷ record { operation = 0; return = Return.exited } ∷ [];
+        words = 9 ∷ [];
+      }
+  pub returned-first : hasReturned 0 (run single first .history .returns) ≡ true
+  pub called-first : length (run single first .history .operations) ≡ 1
+  pub order-both :
+      run single (first ++ second) .history .order
+      ≡ record { operation = 1; gate = 2; outputs = one 9 } ∷ record { operation = 0; gate = 1; outputs = one 7 } ∷ []
+
+pub computed : Computed
+unfolding opened readCard cardLine judgeCard four field number digits hasWord varsFrom varLine judgeVar programsFrom readProgram sheetLine judgeSheet insFrom insLine judgeIns decode fresh call requestExit step read valueOf advance perform accessOf accessGate accessAnnouncement firstChoice beginHelp note writing simulate simulateFrom effectOf fetch word withWord load store forward withRegister withOutput skipped position assign valueUnder insert altered unaltered nextWrite sameWords sameGate sameAnnouncement sameRecord swapGate swapAnnouncement swapRecord released current previous rewritten observe observeAll withFinishes latest latestCall turned sequential runFrom hasReturned
+computed = record { notes-two = refl; returned-first = refl; called-first = refl; order-both = refl }
+
+-- the theorem of both
+pub linearizable-two : Linearizable two (twoProcesses .entries)
+linearizable-two = linearizability (twoProcesses .text) (twoProcesses .entries)
+
+-- the premises of the last clause hold of the single one's operations, and so does what it says
+pub precedes-both : rank 0 (run single (first ++ second) .history .order) < rank 1 (run single (first ++ second) .history .order)
+unfolding rank
+precedes-both =
+    linearizability cardK (first ++ second) .precedes first second refl 0 1 (computed .returned-first) (omega (arith, computed .called-first))
+    (rw (computed .order-both) (omega arith)) (rw (computed .order-both) (omega arith))

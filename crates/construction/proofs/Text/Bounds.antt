@@ -1,0 +1,124 @@
+-- What every text opens to lies within the bounds of document 01, 'The card and its edges', also where the text is refused.
+use Prim.Native.Nat.{ℕ, zero, suc, _≤_}
+use mathlib.Core.Path.{_≡_, refl, _∙_}
+use mathlib.Core.List.{List}
+use native.Mathlib.Omega.{arith}
+use lib.ListN.{length, getD, length-set}
+use lib.Dec.{ltb, eqb}
+use Rattle.construction.specs.declared.CardLine.{CardLine}
+use Rattle.construction.specs.declared.Contents.{Contents}
+use Rattle.construction.specs.declared.Reading.{Reading}
+use Rattle.construction.specs.declared.ProgramReading.{ProgramReading}
+use Rattle.construction.specs.Instructions.{noProgram}
+use Rattle.construction.specs.Lines.{cardLine, varLine, sheetLine, insLine}
+use Rattle.construction.specs.Opening.{noContents, withLine, insFrom, readProgram, withProgram, programsFrom, withStart, varsFrom, atEnd, thenPrograms, afterCard, readCard}
+use Rattle.construction.proofs.Basics.{on-test, set-keeps, getD-replicate-same}
+use Rattle.construction.proofs.Text.Lines.{card-read}
+use Rattle.construction.proofs.Text.Reading.{afterFields, afterLength, on-ins, on-sheet, on-program, on-var, on-accepted, on-card}
+
+-- the bounds of a card's contents
+pub record Bounded (x : Contents) : Type 0 where
+  pub processes : x .processes ≤ 8
+  pub variables : x .variables ≤ 64
+  pub limit : x .limit ≤ 1000000000000000000
+  pub starts : length (x .starts) ≡ 64
+  pub code : length (x .code) ≡ 8
+  pub lines : (k : ℕ) → length (getD (x .code) k noProgram .lines) ≡ 32
+
+-- a program has 32 places, whatever was read
+abbrev Lines : ProgramReading → Type 0
+Lines r = length (r .program .lines) ≡ 32
+
+ins-lines : (n : ℕ) (t : List ℕ) (m k : ℕ) (r : ProgramReading) → Lines r → Lines (insFrom n t m k r)
+unfolding insFrom
+ins-lines n t zero k r h = h
+ins-lines n t (suc m) k r h =
+    on-ins Lines (insLine n t (r .at)) r k (λ x. insFrom n t m (suc k) x)
+    (λ y i _. ins-lines n t m (suc k) (withLine r k y i) (rw length-set h)) (λ why. refl)
+
+program-lines : (n : ℕ) (t : List ℕ) (at line : ℕ) → Lines (readProgram n t at line)
+unfolding readProgram
+program-lines n t at line =
+    on-sheet Lines n t (sheetLine t at) line (λ m i _. ins-lines n t m 0 (afterLength m i (suc line)) refl) (λ why. refl)
+
+-- the bounds hold at the first line and after each later one
+empty-bounded : Bounded noContents
+empty-bounded =
+    record {
+      processes = omega arith;
+      variables = omega arith;
+      limit = omega arith;
+      starts = refl;
+      code = refl;
+      lines = λ k. rw (getD-replicate-same 8 k noProgram);
+    }
+
+abbrev Within : Reading → Type 0
+Within r = Bounded (r .contents)
+
+vars-bounded : (t : List ℕ) (m k : ℕ) (r : Reading) → Within r → Within (varsFrom t m k r)
+unfolding varsFrom
+vars-bounded t zero k r h = h
+vars-bounded t (suc m) k r h =
+    on-var Within (varLine t (r .at)) r k (λ x. varsFrom t m (suc k) x)
+    (λ v i _.
+    vars-bounded t m (suc k) (withStart r k v i)
+    (record {
+      processes = h .processes;
+      variables = h .variables;
+      limit = h .limit;
+      starts = rw length-set (h .starts);
+      code = h .code;
+      lines = h .lines;
+    }))
+    (λ why. empty-bounded)
+
+with-program : (r : Reading) (k : ℕ) (x : ProgramReading) → Lines x → Within r → Within (withProgram r k x)
+with-program r k x l h =
+    record {
+      processes = h .processes;
+      variables = h .variables;
+      limit = h .limit;
+      starts = h .starts;
+      code = rw length-set (h .code);
+      lines = λ j.
+          set-keeps (λ y. length (y .lines) ≡ 32) (r .contents .code) k j (x .program) noProgram (λ _. l) (h .lines j);
+    }
+
+programs-bounded : (t : List ℕ) (m k : ℕ) (r : Reading) → Within r → Within (programsFrom t m k r)
+unfolding programsFrom
+programs-bounded t zero k r h = h
+programs-bounded t (suc m) k r h =
+    let x = readProgram (r .contents .variables) t (r .at) (r .line) in
+    on-program Within (x .verdict) x r k (λ y. programsFrom t m (suc k) y)
+    (λ _. programs-bounded t m (suc k) (withProgram r k x)
+    (with-program r k x (program-lines (r .contents .variables) t (r .at) (r .line)) h))
+    (λ why line. empty-bounded)
+
+end-bounded : (t : List ℕ) (r : Reading) → Within r → Within (atEnd t r)
+end-bounded t r h = on-test Within (eqb (r .at) (length t)) (λ _. h) (λ _. empty-bounded)
+
+card-bounded : (t : List ℕ) (x : CardLine) → cardLine t 0 ≡ x → Within (afterCard t x)
+card-bounded t x e =
+    on-card Within t x
+    (λ p n s l i f.
+    let c = card-read t 0 p n s l i (e ∙ f) .fits in
+    let first : Within (afterFields p n s l i) = record {
+      processes = c .processes .1;
+      variables = c .variables .1;
+      limit = c .limit .1;
+      starts = refl;
+      code = refl;
+      lines = empty-bounded .lines;
+    } in
+    let vars = vars-bounded t n 0 (afterFields p n s l i) first in
+    let r = varsFrom t n 0 (afterFields p n s l i) in
+    let programs = on-accepted Within r (λ y. programsFrom t s 0 y) (λ _. programs-bounded t s 0 r vars) (λ _ _ _. vars) in
+    let q = thenPrograms t s r in
+    on-accepted Within q (λ y. atEnd t y) (λ _. end-bounded t q programs) (λ _ _ _. programs))
+    (λ why. empty-bounded)
+
+pub opened-bounded : (t : List ℕ) → Bounded (readCard t .contents)
+unfolding readCard
+opened-bounded t =
+    on-test Within (ltb 16384 (length t)) (λ _. empty-bounded) (λ _. card-bounded t (cardLine t 0) refl)

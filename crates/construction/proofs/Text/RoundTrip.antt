@@ -1,0 +1,396 @@
+-- A text that opens is the text of the card that it opens to; a refused one opens to the empty card, which writes as no bytes
+-- (document 01, 'The card text' and 'Turned back').
+use mathlib.Core.Bool.{Bool, true, false, cond, _&&_}
+use mathlib.Core.Path.{_≡_, refl, sym, _∙_, ap}
+use mathlib.Core.List.{List, [], _++_, append-assoc, append-nil}
+use Prim.Native.Nat.{ℕ, zero, suc, _+_, _<_, _≤_}
+use lib.Dec.{eqb, ltb}
+use lib.ListN.{getD, drop, length, length-set, length-replicate}
+use lib.Seq.{drop-length, getD-set-same, getD-set-other}
+use native.Mathlib.Omega.{arith}
+use borrow.Author.Tests.{ne-eqb, eqb-true}
+use Rattle.construction.proofs.Basics.{on-test, and-true, clash}
+use Rattle.grammar.proofs.Bytes.{word-text}
+use Rattle.grammar.proofs.RoundTrip.{Small, field-text, four-text}
+use Rattle.construction.specs.declared.CardLine.{CardLine}
+use Rattle.construction.specs.declared.VarLine.{VarLine}
+use Rattle.construction.specs.declared.SheetLine.{SheetLine}
+use Rattle.construction.specs.declared.InsLine.{InsLine}
+use Rattle.construction.specs.declared.Instruction.{Instruction}
+use Rattle.construction.specs.declared.Encoded.{Encoded}
+use Rattle.construction.specs.declared.Decoded.{Decoded}
+use Rattle.construction.specs.declared.Contents.{Contents}
+use Rattle.construction.specs.declared.Verdict.{Verdict}
+use Rattle.construction.specs.declared.Line.{Line}
+use Rattle.construction.specs.declared.ProgramReading.{ProgramReading}
+use Rattle.construction.specs.declared.Reading.{Reading}
+use Rattle.construction.specs.Instructions.{inRange, valid, decode, encoded, encode, noLine, noProgram}
+use Rattle.construction.specs.Lines.{
+  cardWord,
+  varWord,
+  sheetWord,
+  insWord,
+  cardLine,
+  varLine,
+  sheetLine,
+  insLine,
+  cardText,
+  varText,
+  sheetText,
+  encodedText,
+  insText,
+}
+use Rattle.construction.specs.Opening.{
+  noContents,
+  fresh,
+  withLine,
+  insFrom,
+  readProgram,
+  withProgram,
+  programsFrom,
+  withStart,
+  varsFrom,
+  atEnd,
+  thenEnd,
+  thenPrograms,
+  readCard,
+  opened,
+}
+use Rattle.construction.specs.Writing.{varsText, linesText, programText, programsText, textOf}
+use Rattle.construction.proofs.Text.Lines.{pair-true, skip-true, card-read, var-read, sheet-read, ins-read}
+use Rattle.construction.proofs.Text.Reading.{afterFields, afterLength, on-ins, on-sheet, on-program, on-var, on-accepted, on-card}
+
+abbrev Accepted : Verdict → Type 0
+Accepted v = v ≡ Verdict.Accepted
+
+-- ---- what a line that was read looks like
+module _ (t : List ℕ) (at : ℕ) where
+  card-text : (p n s l i : ℕ) → cardLine t at ≡ CardLine.Fields p n s l i → drop at t ≡ cardText p n s l ++ drop i t
+  unfolding cardText
+  card-text p n s l i e =
+      let r = card-read t at p n s l i e in
+      let f = r .fits in
+      let small : Small p n s l =
+      record {
+        small-a = omega (arith, f .processes);
+        small-b = omega (arith, f .variables);
+        small-c = omega (arith, f .programs);
+        small-d = omega (arith, f .limit);
+      } in
+      word-text t cardWord at (r .word-there)
+      ∙ ap (λ (x : List ℕ). cardWord ++ x) (four-text t (at + 5) p n s l i small (r .numbers-there))
+
+  var-text : (v i : ℕ) → varLine t at ≡ VarLine.Start v i → drop at t ≡ varText v ++ drop i t
+  unfolding varText
+  var-text v i e =
+      let r = var-read t at v i e in
+      let f = r .fits in
+      word-text t varWord at (r .word-there)
+      ∙ ap (λ (x : List ℕ). varWord ++ x) (field-text t 10 (at + 4) v i (omega arith) (r .field-there))
+
+  sheet-text : (m i : ℕ) → sheetLine t at ≡ SheetLine.Length m i → drop at t ≡ sheetText m ++ drop i t
+  unfolding sheetText
+  sheet-text m i e =
+      let r = sheet-read t at m i e in
+      let f = r .fits in
+      word-text t sheetWord at (r .word-there)
+      ∙ ap (λ (x : List ℕ). sheetWord ++ x) (field-text t 10 (at + 6) m i (omega arith) (r .field-there))
+
+-- ---- an instruction that was decoded encodes to its numbers
+record Decodes (x : Encoded) (y : Instruction) : Type 0 where
+  back : encode y ≡ x
+  small : Small (x .code) (x .a) (x .b) (x .c)
+
+module _ (n : ℕ) (x : Encoded) (h : n ≤ 256) (y : Instruction) where
+  code-case :
+      (j : ℕ) (test : Bool) (z : Instruction) {rest : Decoded} → (x .code ≡ j → test ≡ true → z ≡ y → Decodes x y) → (rest ≡ Decoded.Valid y → Decodes x y) →
+      cond (eqb (x .code) j) (valid test z) rest ≡ Decoded.Valid y → Decodes x y
+  code-case j test z {rest} this later =
+      on-test (λ (d : Decoded). d ≡ Decoded.Valid y → Decodes x y) (eqb (x .code) j)
+      (λ p. on-test (λ (d : Decoded). d ≡ Decoded.Valid y → Decodes x y) test (λ q e. this (eqb-true (x .code) j p) q (cc)) (λ q e. clash (cc)))
+      (λ p. later)
+
+  numbers : (j c : ℕ) → x .code ≡ j → x .c ≡ c → encoded j (x .a) (x .b) c ≡ x
+  numbers j c p q = λ i. record { code = sym p i; a = x .a; b = x .b; c = sym q i }
+
+  pair :
+      (j A B : ℕ) (z : Instruction) → j < 13 → A ≤ 4294967296 → B ≤ 4294967296 → encode z ≡ encoded j (x .a) (x .b) 0 →
+      x .code ≡ j → ltb (x .a) A && (ltb (x .b) B && eqb (x .c) 0) ≡ true → z ≡ y → Decodes x y
+  pair j A B z u v w t p q e =
+      let b = pair-true (x .a) (x .b) (x .c) A B q in
+      record {
+        back = ap encode (sym e) ∙ t ∙ numbers j 0 p (b .2);
+        small = record { small-a = omega arith; small-b = omega arith; small-c = omega arith; small-d = omega arith };
+      }
+
+  skip :
+      (j : ℕ) (z : Instruction) → j < 13 → encode z ≡ encoded j (x .a) (x .b) (x .c) →
+      x .code ≡ j → ltb (x .a) 4 && (ltb (x .b) 4 && inRange 1 31 (x .c)) ≡ true → z ≡ y → Decodes x y
+  skip j z u t p q e =
+      let b = skip-true (x .a) (x .b) (x .c) q in
+      record {
+        back = ap encode (sym e) ∙ t ∙ numbers j (x .c) p refl;
+        small = record { small-a = omega arith; small-b = omega arith; small-c = omega arith; small-d = omega arith };
+      }
+
+  stop : x .code ≡ 12 → eqb (x .a) 0 && (eqb (x .b) 0 && eqb (x .c) 0) ≡ true → Instruction.Stop ≡ y → Decodes x y
+  unfolding encode
+  stop p q e =
+      let q₁ = and-true (eqb (x .a) 0) _ q in
+      let q₂ = and-true (eqb (x .b) 0) _ (q₁ .1) in
+      let ha : x .a ≡ 0 = eqb-true (x .a) 0 (q₁ .0) in
+      let hb : x .b ≡ 0 = eqb-true (x .b) 0 (q₂ .0) in
+      let hc : x .c ≡ 0 = eqb-true (x .c) 0 (q₂ .1) in
+      record {
+        back = ap encode (sym e) ∙ (λ i. record { code = sym p i; a = sym ha i; b = sym hb i; c = sym hc i });
+        small = record { small-a = omega arith; small-b = omega arith; small-c = omega arith; small-d = omega arith };
+      }
+
+  decoded-encodes : decode n x ≡ Decoded.Valid y → Decodes x y
+  unfolding decode encode
+  decoded-encodes =
+      code-case 1 _ (Instruction.Input (x .a) (x .b)) (pair 1 4 4 _ (omega arith) (omega arith) (omega arith) refl)
+      (code-case 2 _ (Instruction.Constant (x .a) (x .b)) (pair 2 4 4294967296 _ (omega arith) (omega arith) (omega arith) refl)
+      (code-case 3 _ (Instruction.Load (x .a) (x .b)) (pair 3 4 n _ (omega arith) (omega arith) (omega arith) refl)
+      (code-case 4 _ (Instruction.Store (x .a) (x .b)) (pair 4 n 4 _ (omega arith) (omega arith) (omega arith) refl)
+      (code-case 5 _ (Instruction.LoadAt (x .a) (x .b)) (pair 5 4 4 _ (omega arith) (omega arith) (omega arith) refl)
+      (code-case 6 _ (Instruction.StoreAt (x .a) (x .b)) (pair 6 4 4 _ (omega arith) (omega arith) (omega arith) refl)
+      (code-case 7 _ (Instruction.Add (x .a) (x .b)) (pair 7 4 4 _ (omega arith) (omega arith) (omega arith) refl)
+      (code-case 8 _ (Instruction.Subtract (x .a) (x .b)) (pair 8 4 4 _ (omega arith) (omega arith) (omega arith) refl)
+      (code-case 9 _ (Instruction.SkipEqual (x .a) (x .b) (x .c)) (skip 9 _ (omega arith) refl)
+      (code-case 10 _ (Instruction.SkipLess (x .a) (x .b) (x .c)) (skip 10 _ (omega arith) refl)
+      (code-case 11 _ (Instruction.Output (x .a) (x .b)) (pair 11 4 4 _ (omega arith) (omega arith) (omega arith) refl)
+      (code-case 12 _ Instruction.Stop stop
+      (λ e. clash (cc)))))))))))))
+
+ins-text : (n : ℕ) → n ≤ 256 → (t : List ℕ) (at : ℕ) (x : Instruction) (i : ℕ) → insLine n t at ≡ InsLine.Ins x i → drop at t ≡ insText x ++ drop i t
+unfolding insText
+ins-text n h t at x i e =
+    let r = ins-read n t at x i e in
+    let d = decoded-encodes n (r .numbers) h x (r .fits) in
+    word-text t insWord at (r .word-there)
+    ∙ ap (λ (y : List ℕ). insWord ++ y) (four-text t (at + 4) _ _ _ _ i (d .small) (r .numbers-there))
+    ∙ ap (λ (y : Encoded). encodedText y ++ drop i t) (sym (d .back))
+
+-- ---- the numbers of the `card` line stay while the others are read
+record Fields (p n s l : ℕ) (x : Contents) : Type 0 where
+  processes : x .processes ≡ p
+  variables : x .variables ≡ n
+  programs : x .programs ≡ s
+  limit : x .limit ≡ l
+
+abbrev SameFields : Reading → Reading → Type 0
+SameFields r z = Fields (r .contents .processes) (r .contents .variables) (r .contents .programs) (r .contents .limit) (z .contents)
+
+same : {x : Contents} → Fields (x .processes) (x .variables) (x .programs) (x .limit) x
+same = record { processes = refl; variables = refl; programs = refl; limit = refl }
+
+-- ---- the `var` lines
+record VarsRead (t : List ℕ) (m k : ℕ) (r z : Reading) : Type 0 where
+  text : drop (r .at) t ≡ varsText m k (z .contents .starts) ++ drop (z .at) t
+  fields : SameFields r z
+  code : z .contents .code ≡ r .contents .code
+  below : (j : ℕ) → j < k → getD (z .contents .starts) j 0 ≡ getD (r .contents .starts) j 0
+
+vars-read :
+    (t : List ℕ) (m k : ℕ) (r : Reading) → k + m ≤ length (r .contents .starts) → Accepted (varsFrom t m k r .verdict) →
+    VarsRead t m k r (varsFrom t m k r)
+unfolding varsFrom varsText
+vars-read t zero k r h = λ e. record { text = refl; fields = same; code = refl; below = λ j p. refl }
+vars-read t (suc m) k r h =
+    on-var (λ z. Accepted (z .verdict) → VarsRead t (suc m) k r z) (varLine t (r .at)) r k (λ x. varsFrom t m (suc k) x)
+    (λ v i f e.
+    let y : Reading = withStart r k v i in
+    let q = vars-read t m (suc k) y (omega (arith, length-set (r .contents .starts) k v)) e in
+    let g : getD (varsFrom t m (suc k) y .contents .starts) k 0 ≡ v = q .below k (omega arith) ∙ getD-set-same (r .contents .starts) k v 0 (omega arith) in
+    record {
+      text = rw (g, append-assoc (varText v)) (var-text t (r .at) v i f ∙ ap (λ (l : List ℕ). varText v ++ l) (q .text));
+      fields = q .fields;
+      code = q .code;
+      below = λ j p. q .below j (omega arith) ∙ getD-set-other (r .contents .starts) k j v 0 (λ (z : j ≡ k). omega arith);
+    })
+    (λ why e. clash (cc))
+
+-- ---- the lines of a program
+record LinesRead (t : List ℕ) (m k : ℕ) (r z : ProgramReading) : Type 0 where
+  text : drop (r .at) t ≡ linesText m k (z .program .lines) ++ drop (z .at) t
+  length-kept : z .program .length ≡ r .program .length
+  below : (j : ℕ) → j < k → getD (z .program .lines) j noLine ≡ getD (r .program .lines) j noLine
+
+lines-read :
+    (n : ℕ) → n ≤ 256 → (t : List ℕ) (m k : ℕ) (r : ProgramReading) → k + m ≤ length (r .program .lines) →
+    Accepted (insFrom n t m k r .verdict) → LinesRead t m k r (insFrom n t m k r)
+unfolding insFrom linesText
+lines-read n s t zero k r h = λ e. record { text = refl; length-kept = refl; below = λ j p. refl }
+lines-read n s t (suc m) k r h =
+    on-ins (λ z. Accepted (z .verdict) → LinesRead t (suc m) k r z) (insLine n t (r .at)) r k (λ x. insFrom n t m (suc k) x)
+    (λ v i f e.
+    let y : ProgramReading = withLine r k v i in
+    let b : Line = record { instruction = v } in
+    let q = lines-read n s t m (suc k) y (omega (arith, length-set (r .program .lines) k b)) e in
+    let g : getD (insFrom n t m (suc k) y .program .lines) k noLine ≡ b = q .below k (omega arith) ∙ getD-set-same (r .program .lines) k b noLine (omega arith) in
+    record {
+      text = rw (g, append-assoc (insText v)) (ins-text n s t (r .at) v i f ∙ ap (λ (l : List ℕ). insText v ++ l) (q .text));
+      length-kept = q .length-kept;
+      below = λ j p. q .below j (omega arith) ∙ getD-set-other (r .program .lines) k j b noLine (λ (z : j ≡ k). omega arith);
+    })
+    (λ why e. clash (cc))
+
+program-text :
+    (n : ℕ) → n ≤ 256 → (t : List ℕ) (at line : ℕ) → Accepted (readProgram n t at line .verdict) →
+    drop at t ≡ programText (readProgram n t at line .program) ++ drop (readProgram n t at line .at) t
+unfolding readProgram
+program-text n s t at line =
+    on-sheet (λ x. Accepted (x .verdict) → drop at t ≡ programText (x .program) ++ drop (x .at) t) n t (sheetLine t at) line
+    (λ m i f e.
+    let q = lines-read n s t m 0 (afterLength m i (suc line)) (omega (arith, sheet-read t at m i f .fits, length-replicate 32 noLine)) e in
+    rw (q .length-kept, append-assoc (sheetText m)) (sheet-text t at m i f ∙ ap (λ (l : List ℕ). sheetText m ++ l) (q .text)))
+    (λ why e. clash (cc))
+
+-- ---- the programs
+record ProgramsRead (t : List ℕ) (m k : ℕ) (r z : Reading) : Type 0 where
+  text : drop (r .at) t ≡ programsText m k (z .contents .code) ++ drop (z .at) t
+  fields : SameFields r z
+  starts : z .contents .starts ≡ r .contents .starts
+  below : (j : ℕ) → j < k → getD (z .contents .code) j noProgram ≡ getD (r .contents .code) j noProgram
+
+programs-read :
+    (t : List ℕ) (m k : ℕ) (r : Reading) → r .contents .variables ≤ 256 → k + m ≤ length (r .contents .code) →
+    Accepted (programsFrom t m k r .verdict) → ProgramsRead t m k r (programsFrom t m k r)
+unfolding programsFrom programsText
+programs-read t zero k r s h = λ e. record { text = refl; fields = same; starts = refl; below = λ j p. refl }
+programs-read t (suc m) k r s h =
+    let x = readProgram (r .contents .variables) t (r .at) (r .line) in
+    on-program (λ z. Accepted (z .verdict) → ProgramsRead t (suc m) k r z) (x .verdict) x r k (λ y. programsFrom t m (suc k) y)
+    (λ a e.
+    let q = programs-read t m (suc k) (withProgram r k x) s (omega (arith, length-set (r .contents .code) k (x .program))) e in
+    let g : getD (programsFrom t m (suc k) (withProgram r k x) .contents .code) k noProgram ≡ x .program =
+    q .below k (omega arith) ∙ getD-set-same (r .contents .code) k (x .program) noProgram (omega arith) in
+    record {
+      text =
+          rw (g, append-assoc (programText (x .program)))
+          (program-text (r .contents .variables) s t (r .at) (r .line) a ∙ ap (λ (l : List ℕ). programText (x .program) ++ l) (q .text));
+      fields = q .fields;
+      starts = q .starts;
+      below = λ j p. q .below j (omega arith) ∙ getD-set-other (r .contents .code) k j (x .program) noProgram (λ (z : j ≡ k). omega arith);
+    })
+    (λ why line e. clash (cc))
+
+-- ---- the whole text
+-- what has been read is the text of the card so far
+abbrev SoFar : List ℕ → Reading → Type 0
+SoFar t z = t ≡ textOf (fresh (z .contents)) ++ drop (z .at) t
+
+-- a reading that is accepted has the card that writes as t
+abbrev WritesAs : List ℕ → Reading → Type 0
+WritesAs t z = Accepted (z .verdict) → textOf (fresh (z .contents)) ≡ t
+
+module _ (t : List ℕ) (p n s l i : ℕ) (f : cardLine t 0 ≡ CardLine.Fields p n s l i) where
+  abbrev begun : Reading
+  begun = afterFields p n s l i
+
+  all-read : (v z : Reading) → VarsRead t n 0 begun v → ProgramsRead t s 0 v z → SoFar t z
+  unfolding textOf fresh
+  all-read v z a b =
+      let c = card-read t 0 p n s l i f .fits in
+      let x₁ : z .contents .processes ≡ p = b .fields .processes ∙ a .fields .processes in
+      let x₂ : z .contents .variables ≡ n = b .fields .variables ∙ a .fields .variables in
+      let x₃ : z .contents .programs ≡ s = b .fields .programs ∙ a .fields .programs in
+      let x₄ : z .contents .limit ≡ l = b .fields .limit ∙ a .fields .limit in
+      let q : eqb p 0 ≡ false = ne-eqb p 0 (λ (y : p ≡ 0). omega (arith, c .processes)) in
+      let w : t ≡ cardText p n s l ++ (varsText n 0 (v .contents .starts) ++ (programsText s 0 (z .contents .code) ++ drop (z .at) t)) =
+      card-text t 0 p n s l i f
+      ∙ ap (λ (y : List ℕ). cardText p n s l ++ y) (a .text ∙ ap (λ (y : List ℕ). varsText n 0 (v .contents .starts) ++ y) (b .text)) in
+      rw (x₁, x₂, x₃, x₄, b .starts, q) (w ∙ simp append-assoc)
+
+  programs-after : (v : Reading) → VarsRead t n 0 begun v → Accepted (programsFrom t s 0 v .verdict) → SoFar t (programsFrom t s 0 v)
+  programs-after v a e =
+      let c = card-read t 0 p n s l i f .fits in
+      all-read v (programsFrom t s 0 v) a
+      (programs-read t s 0 v
+      (omega (arith, c .variables, a .fields .variables))
+      (rw (a .code) (omega (arith, c .programs, length-replicate 8 noProgram)))
+      e)
+
+  vars-there : Accepted (varsFrom t n 0 begun .verdict) → VarsRead t n 0 begun (varsFrom t n 0 begun)
+  vars-there e = vars-read t n 0 begun (omega (arith, card-read t 0 p n s l i f .fits .variables, length-replicate {A = ℕ} 64 0)) e
+
+  body-there :
+      (v : Reading) → (Accepted (v .verdict) → VarsRead t n 0 begun v) → Accepted (thenPrograms t s v .verdict) →
+      SoFar t (thenPrograms t s v)
+  body-there v a =
+      on-accepted (λ z. Accepted (z .verdict) → SoFar t z) v (λ x. programsFrom t s 0 x)
+      (λ q. programs-after v (a q)) (λ why line q e. clash (cc))
+
+  end-there : (z : Reading) → SoFar t z → WritesAs t (atEnd t z)
+  end-there z q =
+      on-test (WritesAs t) (eqb (z .at) (length t))
+      (λ h e. sym (q ∙ rw (eqb-true (z .at) (length t) h, drop-length t, append-nil)))
+      (λ h e. clash (cc))
+
+  card-there : (z : Reading) → (Accepted (z .verdict) → SoFar t z) → WritesAs t (thenEnd t z)
+  card-there z a =
+      on-accepted (WritesAs t) z (λ x. atEnd t x)
+      (λ q. end-there z (a q)) (λ why line q e. clash (cc))
+
+  fields-there : WritesAs t (thenEnd t (thenPrograms t s (varsFrom t n 0 begun)))
+  fields-there = card-there (thenPrograms t s (varsFrom t n 0 begun)) (body-there (varsFrom t n 0 begun) vars-there)
+
+-- a text that opens is given back byte for byte
+pub given-back : (t : List ℕ) → opened t .verdict ≡ Verdict.Accepted → textOf (opened t .card) ≡ t
+unfolding opened readCard
+given-back t =
+    on-test (WritesAs t) (ltb 16384 (length t))
+    (λ h e. clash (cc))
+    (λ h. on-card (WritesAs t) t (cardLine t 0) (fields-there t) (λ why e. clash (cc)))
+
+-- what is written of it opens to the same card
+pub reads-back : (t : List ℕ) → opened t .verdict ≡ Verdict.Accepted → opened (textOf (opened t .card)) ≡ opened t
+reads-back t e = ap opened (given-back t e)
+
+-- two texts that open to the same card are the same text
+pub injective : (t u : List ℕ) → opened t .verdict ≡ Verdict.Accepted → opened u .verdict ≡ Verdict.Accepted → opened t .card ≡ opened u .card → t ≡ u
+injective t u p q e = sym (given-back t p) ∙ ap textOf e ∙ given-back u q
+
+-- ---- a refused text opens to the empty card, which writes as no bytes
+-- a reading that is refused has no contents
+abbrev Empty : Reading → Type 0
+Empty r = (Accepted (r .verdict) → ⊥) → r .contents ≡ noContents
+
+vars-empty : (t : List ℕ) (m k : ℕ) (r : Reading) → Accepted (r .verdict) → Empty (varsFrom t m k r)
+unfolding varsFrom
+vars-empty t zero k r e = λ n. absurd (n e)
+vars-empty t (suc m) k r e =
+    on-var Empty (varLine t (r .at)) r k (λ x. varsFrom t m (suc k) x) (λ v i _. vars-empty t m (suc k) (withStart r k v i) refl) (λ why n. refl)
+
+programs-empty : (t : List ℕ) (m k : ℕ) (r : Reading) → Accepted (r .verdict) → Empty (programsFrom t m k r)
+unfolding programsFrom
+programs-empty t zero k r e = λ n. absurd (n e)
+programs-empty t (suc m) k r e =
+    let x = readProgram (r .contents .variables) t (r .at) (r .line) in
+    on-program Empty (x .verdict) x r k (λ y. programsFrom t m (suc k) y)
+    (λ _. programs-empty t m (suc k) (withProgram r k x) refl) (λ why line n. refl)
+
+end-empty : (t : List ℕ) (r : Reading) → Accepted (r .verdict) → Empty (atEnd t r)
+end-empty t r e = on-test Empty (eqb (r .at) (length t)) (λ h n. absurd (n e)) (λ h n. refl)
+
+read-empty : (t : List ℕ) → Empty (readCard t)
+unfolding readCard
+read-empty t =
+    on-test Empty (ltb 16384 (length t)) (λ h n. refl)
+    (λ h. on-card Empty t (cardLine t 0)
+    (λ p n s l i _.
+    let v = varsFrom t n 0 (afterFields p n s l i) in
+    let vars = vars-empty t n 0 (afterFields p n s l i) refl in
+    let u = thenPrograms t s v in
+    let programs = on-accepted Empty v (λ x. programsFrom t s 0 x) (λ e. programs-empty t s 0 v e) (λ _ _ _. vars) in
+    on-accepted Empty u (λ x. atEnd t x) (λ e. end-empty t u e) (λ _ _ _. programs))
+    (λ why n. refl))
+
+pub refused-empty : (t : List ℕ) → (opened t .verdict ≡ Verdict.Accepted → ⊥) → opened t .card ≡ fresh noContents
+unfolding opened
+refused-empty t n = ap fresh (read-empty t n)
+
+pub refused-no-bytes : (t : List ℕ) → (opened t .verdict ≡ Verdict.Accepted → ⊥) → textOf (opened t .card) ≡ []
+unfolding textOf fresh
+refused-no-bytes t n = ap textOf (refused-empty t n)

@@ -20,6 +20,7 @@ CONSEQUENCE = re.compile(r"\b(was|were) not admitted\b")
 NAMES = re.compile(
     r" has no (`|field|member|module|function|constructor|clause|case|implicit argument)|\bnot in scope\b"
     r"|expected a type, but|(expected type|has type) `[^`]*\b(Need|InvT|MeasureT)-"
+    r"|this λ has \d+ binders, but its type has room for|explicit arguments? more than"
 )
 # A definition or a function that is not well formed; no fact is proved in these folders.
 DEFINITIONS = re.compile(r"(must-fail/[^/]+/[^/]+|crates/[^/]+)/(src|specs)/")

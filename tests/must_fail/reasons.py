@@ -22,9 +22,11 @@ NAMES = re.compile(
     r"|expected a type, but|(expected type|has type) `[^`]*\b(Need|InvT|MeasureT)-"
     r"|this λ has \d+ binders, but its type has room for|explicit arguments? more than"
 )
-# A definition or a function that is not well formed; no fact is proved in these folders.
+# A definition or a contract that is not well formed: no proof stands in these folders, so that an error there is about a fact only where the prover
+# searched for a proof by itself.
 DEFINITIONS = re.compile(r"(must-fail/[^/]+/[^/]+|crates/[^/]+)/(src|specs)/")
-ERROR = re.compile(r"^(?P<file>\S+?)(:\d+:\d+)?: error: (?P<text>.*)")
+SOUGHT = re.compile(r"`(search|omega)`: ")
+ERROR = re.compile(r"^(?!note:|\s)(?P<file>.+?)(:\d+:\d+)?: error: (?P<text>.*)")
 # A function without a proof file, whose needs the prover searches for by itself.
 UNPROVED = re.compile(r"^fn (?P<file>\S+): (?P<text>no proof: .*)")
 SEARCHED = "`search` does not close"
@@ -35,7 +37,8 @@ def errors(log):
     for line in log.splitlines():
         match = ERROR.match(line)
         if match and not CONSEQUENCE.search(match["text"]):
-            form = DEFINITIONS.search(match["file"]) or NAMES.search(match["text"])
+            definition = DEFINITIONS.search(match["file"]) and not SOUGHT.search(match["text"])
+            form = definition or NAMES.search(match["text"])
             yield match["file"], "form" if form else "fact", match["text"]
         match = UNPROVED.match(line)
         if match:

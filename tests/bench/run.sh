@@ -15,6 +15,16 @@ trap 'rm -rf "$work"' EXIT
 passed=0
 failed=0
 
+# judge NAME FOUND EXPECTED: counts whether two files are the same
+judge() {
+    if cmp -s "$2" "$3"; then
+        passed=$((passed + 1))
+    else
+        echo "differs: $1 ($(cmp "$2" "$3" 2>&1 | tail -n 1))"
+        failed=$((failed + 1))
+    fi
+}
+
 # compare NAME FOLDER: runs the program in a folder of its own with the two files of FOLDER
 compare() {
     local run="$work/run"
@@ -25,12 +35,8 @@ compare() {
             cp "$2/$file" "$run/"
         fi
     done
-    if (cd "$run" && "$program") >"$work/output" 2>"$work/errors" </dev/null && cmp -s "$work/output" "$2/expected.txt"; then
-        passed=$((passed + 1))
-    else
-        echo "differs: $1 ($(cmp "$work/output" "$2/expected.txt" 2>&1 | tail -n 1))"
-        failed=$((failed + 1))
-    fi
+    (cd "$run" && "$program") >"$work/output" 2>"$work/errors" </dev/null || echo "ended with status $?" >>"$work/output"
+    judge "$1" "$work/output" "$2/expected.txt"
 }
 
 # repeat COUNT LINE: that line so many times
@@ -70,6 +76,16 @@ cp "$card_k" "$large/card.txt"
 repeat 65536 '' >"$large/calls.txt"
 awk 'BEGIN { for (i = 1; i <= 65536; i++) print "line," i ",refused,2" }' >"$large/expected.txt"
 compare lines-65536 "$large"
+
+# an output that is closed early ends the program
+(cd "$large" && timeout 20 "$program") 2>/dev/null </dev/null | head -n 1 >"$work/output" || true
+head -n 1 "$large/expected.txt" >"$work/first"
+judge closed-output "$work/output" "$work/first"
+
+# an output that cannot be written is told in one line on standard error
+(cd "$large" && "$program") >/dev/full 2>"$work/errors" </dev/null || true
+echo "bench: the session could not be written: No space left on device" >"$work/expected"
+judge full-output "$work/errors" "$work/expected"
 
 # one line of 65,536 bytes without an end, and with one
 awk 'BEGIN { for (i = 0; i < 65536; i++) printf "9" }' >"$large/calls.txt"

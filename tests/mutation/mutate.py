@@ -7,7 +7,7 @@ Each change alters one token of the code (a constant, a byte, a comparison, an o
 arguments swapped; never a contract, a comment or a type) in a copy of the repository, and the prover is asked. The verdicts:
 
     refused        a fact that the contract asks for no longer holds
-    reshaped       the proof names parts that the changed code lacks, which shows nothing of the contract
+    reshaped       the proof names parts that the changed code lacks, which shows nothing of the contract (tests/must_fail/reasons.py tells them apart)
     invalid        the compiler's front end refuses the change
     still proved   the change has no effect, or the contract leaves something open: printed for a person to judge
 
@@ -25,6 +25,9 @@ import tempfile
 import threading
 
 ROOT = pathlib.Path(__file__).resolve().parents[2]
+sys.path.insert(0, str(ROOT / "tests" / "must_fail"))
+from reasons import reason  # noqa: E402
+
 WORKERS = os.cpu_count() or 1
 VERDICTS = ("refused", "reshaped", "invalid", "still proved")
 
@@ -105,9 +108,7 @@ def ask(copy, command, crate):
         return "still proved"
     if "logic=not-proved" not in output:
         return "invalid"
-    errors = [line for line in output.splitlines() if "error:" in line or "no proof of" in line or "does not close" in line]
-    facts = [line for line in errors if " has no " not in line and "was not admitted" not in line]
-    return "refused" if facts else "reshaped"
+    return "refused" if reason(output)[0] == "fact" else "reshaped"
 
 
 def judge(copy, crate, change):

@@ -4,11 +4,7 @@ use libc::STDOUT_FILENO;
 use session::State;
 use session::running::put_lines;
 use session::running::start;
-ghost use mathlib.Core.Path.{_≡_};
-ghost use Prim.Native.Nat.{_<_};
-ghost use lib.ListN.{length};
 ghost use Rattle.io.specs.Counts.{Counts};
-ghost use Rattle.session.specs.Session.{fitting};
 
 // Reads as much of a file as the buffer takes. A file that cannot be opened counts as empty.
 fn read_file(path: &[u8], buffer: &mut [u8]) -> usize
@@ -23,42 +19,43 @@ fn read_file(path: &[u8], buffer: &mut [u8]) -> usize
     count
 }
 
-// Prints as many whole lines as a large buffer takes: all of them, or at least one.
-fn print_piece(state: State, calls: &[u8]) -> State
-    ensures { λ r. ⌜ (r ≡ fitting (now (calls .entry)) state 65536 .state) × (state .at < length (now (calls .entry)) → state .at < r .at) ⌝ }
-{
-    let mut buffer = io::large_buffer();
-    let printed = put_lines(state, calls, &mut buffer);
-    let length = printed.length;
-    io::write_all(STDOUT_FILENO, &buffer[..length]);
-    printed.state
-}
-
-// Prints the lines of a session until no command is left.
-fn print_lines(first: State, calls: &[u8]) {
+// Prints the lines of a session, as many whole ones at a time as a large buffer takes, until no command is left or some cannot be
+// written. Whether all were written.
+fn print_lines(first: State, calls: &[u8]) -> bool {
     let mut state = first;
     let mut at = state.at;
     while at < calls.len() {
-        state = print_piece(state, calls);
+        let mut buffer = io::large_buffer();
+        let printed = put_lines(state, calls, &mut buffer);
+        let length = printed.length;
+        if !io::write_all(STDOUT_FILENO, &buffer[..length]) {
+            return false;
+        }
+        state = printed.state;
         at = state.at;
     }
+    true
 }
 
-// Prints a session: a refusal, or its lines.
-fn print_session(card: &[u8], calls: &[u8]) {
+// Prints a session: a refusal, or its lines. Whether all of it was written.
+fn print_session(card: &[u8], calls: &[u8]) -> bool {
     let mut buffer = io::buffer();
     let started = start(card, calls, &mut buffer);
     let length = started.length;
-    io::write_all(STDOUT_FILENO, &buffer[..length]);
+    if !io::write_all(STDOUT_FILENO, &buffer[..length]) {
+        return false;
+    }
     let state = started.state;
-    print_lines(state, calls);
+    print_lines(state, calls)
 }
 
-// At most one byte more than its limit is read of each file.
+// At most one byte more than its limit is read of each file. A program has no exit status, so what cannot be written is told on standard error.
 fn main() {
     let mut card = [0u8; 16385];
     let mut calls = [0u8; 65537];
     let card_length = read_file(b"card.txt", &mut card);
     let calls_length = read_file(b"calls.txt", &mut calls);
-    print_session(&card[..card_length], &calls[..calls_length]);
+    if !print_session(&card[..card_length], &calls[..calls_length]) {
+        os::fail(b"bench: the session could not be written");
+    }
 }

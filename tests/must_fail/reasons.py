@@ -1,0 +1,88 @@
+#!/usr/bin/env python3
+"""Why the prover refused a change: at a fact, or only for names and shape, which shows nothing of a contract.
+
+    tests/must_fail/reasons.py [CRATE..]      reads the logs that `rt must-fail` or `rt ci` left of the must-fail edits, of every crate or of those named
+    tests/must_fail/reasons.py --self-test    reads the stored logs in samples/, whose names begin with what is to be found
+
+Reading logs, it prints a line for each edit that shows nothing and then a count, and fails if there is such an edit. `reason` is the rule;
+tests/mutation/mutate.py uses it too.
+"""
+import pathlib
+import re
+import sys
+
+ROOT = pathlib.Path(__file__).resolve().parents[2]
+SAMPLES = pathlib.Path(__file__).resolve().parent / "samples"
+
+# What follows from another error says nothing by itself.
+CONSEQUENCE = re.compile(r"\b(was|were) not admitted\b")
+# The proof names what the changed code lacks, or is handed what it has no place for.
+NAMES = re.compile(
+    r" has no (`|field|member|module|function|constructor|clause|case|implicit argument)|\bnot in scope\b"
+    r"|expected a type, but|(expected type|has type) `[^`]*\b(Need|InvT|MeasureT)-"
+    r"|this λ has \d+ binders, but its type has room for|explicit arguments? more than"
+)
+# A definition or a contract that is not well formed: no proof stands in these folders, so that an error there is about a fact only where the prover
+# searched for a proof by itself.
+DEFINITIONS = re.compile(r"(must-fail/[^/]+/[^/]+|crates/[^/]+)/(src|specs)/")
+SOUGHT = re.compile(r"`(search|omega)`: ")
+ERROR = re.compile(r"^(?!note:|\s)(?P<file>.+?)(:\d+:\d+)?: error: (?P<text>.*)")
+# A function without a proof file, whose needs the prover searches for by itself.
+UNPROVED = re.compile(r"^fn (?P<file>\S+): (?P<text>no proof: .*)")
+SEARCHED = "`search` does not close"
+
+
+def errors(log):
+    """The errors of a log in order: the file or function, 'fact' or 'form', and the text. Consequences of other errors are left out."""
+    for line in log.splitlines():
+        match = ERROR.match(line)
+        if match and not CONSEQUENCE.search(match["text"]):
+            definition = DEFINITIONS.search(match["file"]) and not SOUGHT.search(match["text"])
+            form = definition or NAMES.search(match["text"])
+            yield match["file"], "form" if form else "fact", match["text"]
+        match = UNPROVED.match(line)
+        if match:
+            yield match["file"], "fact" if SEARCHED in match["text"] else "form", match["text"]
+
+
+def reason(log):
+    """Why a change was refused: 'fact' if its first error is about a fact, in a file without an error about names or shape, else 'form'. And the error."""
+    found = list(errors(log))
+    if not found:
+        return "form", "no error but those that follow from others"
+    for file, kind, text in found:
+        if kind == "form" and file == found[0][0]:
+            return "form", text
+    return found[0][1], found[0][2]
+
+
+def judge_edits(crates):
+    """Prints each must-fail edit that shows nothing, and the count; true if there is none."""
+    edits = sorted(path for path in ROOT.glob("crates/*/must-fail/*.edit") if not crates or path.parts[-3] in crates)
+    failures = 0
+    for edit in edits:
+        crate, name = edit.parts[-3], edit.stem
+        log = ROOT / "target" / "must-fail" / crate / name / ".log"
+        if not log.is_file():
+            kind, text = "form", f"no log at {log.relative_to(ROOT)}"
+        else:
+            kind, text = reason(log.read_text(errors="replace"))
+        if kind != "fact":
+            failures += 1
+            print(f"must-fail {crate}/{name}: refused for names or shape, not at a fact: {text[:300]}")
+    print(f"{len(edits)} must-fail edits, {failures} not refused at a fact")
+    return failures == 0
+
+
+def self_test():
+    """Judges the stored logs; true if each has what its name begins with."""
+    samples = sorted(SAMPLES.glob("*.log"))
+    wrong = [path.name for path in samples if reason(path.read_text())[0] != path.name.split("-")[0]]
+    for name in wrong:
+        print(f"samples/{name}: not what its name says: {reason((SAMPLES / name).read_text())}")
+    print(f"{len(samples)} stored logs, {len(wrong)} judged wrongly")
+    return bool(samples) and not wrong
+
+
+if __name__ == "__main__":
+    sys.exit(0 if (self_test() if sys.argv[1:] == ["--self-test"] else judge_edits(sys.argv[1:])) else 1)

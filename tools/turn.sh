@@ -1,3 +1,4 @@
+# shellcheck shell=bash
 # To be sourced. Two runs that prove in one repository at the same time spoil each other's logs and may fail without a reason, so they take turns.
 #
 # take_turn NAME: waits until no other run proves in this repository; NAME is who says so. The lock is held by descriptor 9, until it is closed,

@@ -1,6 +1,7 @@
 pub mod Basics
 pub mod Mapping
 pub mod TextLines
+pub mod Decoding
 pub mod TextReading
 pub mod TextWriting
 pub mod TextRoundTrip

@@ -1,6 +1,7 @@
 -- The twelve instructions (document 01, 'The card text'): what one does, decoding and encoding.
 use Prim.Native.Nat.{ℕ, suc, _+_, _-_, _%_, min}
 use mathlib.Core.Bool.{Bool, cond, _&&_}
+use mathlib.Core.List.{List, [], _∷_}
 use lib.Dec.{eqb, leb, ltb}
 use lib.ListN.{getD, replicate}
 use Rattle.construction.specs.declared.Words.{Words}
@@ -9,6 +10,10 @@ use Rattle.construction.specs.declared.Line.{Line}
 use Rattle.construction.specs.declared.Program.{Program}
 use Rattle.construction.specs.declared.Effect.{Effect}
 use Rattle.construction.specs.declared.Simulation.{Simulation}
+use Rattle.construction.specs.declared.OperandKind.{OperandKind}
+use Rattle.construction.specs.declared.OperandKind.the-variants.{Unused, Register, Word, Variable, Skip}
+use Rattle.construction.specs.declared.Format.{Format}
+use Rattle.construction.specs.declared.Format.the-variants.{Unknown, Known}
 use Rattle.construction.specs.declared.Decoded.{Decoded}
 use Rattle.construction.specs.declared.Encoded.{Encoded}
 use Rattle.construction.specs.declared.Refusal.the-variants.{BadInstruction}
@@ -103,44 +108,64 @@ fetch program k = cond (ltb k (program .length)) (getD (program .lines) k noLine
 abbrev pub nextEffect : ℕ → Program → Words → Simulation → Effect
 nextEffect n program inputs s = effectOf n inputs (s .registers) (fetch program (s .counter))
 
--- 'Registers, inputs and outputs are numbered 0 to 3, variables 0 to n - 1', unused operands are 0, skips 1 to 31
-abbrev pub small : ℕ → Bool
-small x = ltb x 4
-
+-- a number from low to high
 abbrev pub inRange : ℕ → ℕ → ℕ → Bool
 inRange low high x = leb low x && leb x high
 
-abbrev pub valid : Bool → Instruction → Decoded
-valid b i = cond b (Decoded.Valid i) (Decoded.Refused BadInstruction)
+-- a row of the table of codes: the kinds of the operands a, b and c, and the instruction 'with only its own operands'
+pub record CodeRow : Type 0 where
+  pub format : Format
+  pub instruction : ℕ → ℕ → ℕ → Instruction
+
+abbrev pub row : OperandKind → OperandKind → OperandKind → (ℕ → ℕ → ℕ → Instruction) → CodeRow
+row a b c make = record { format = Known a b c; instruction = make }
+
+abbrev pub noRow : CodeRow
+noRow = record { format = Unknown; instruction = λ a b c. Instruction.Stop }
+
+-- the table: a row for each code, from 0, which is none, to 12
+abbrev pub codes : List CodeRow
+codes =
+    noRow
+    ∷ row Register Register Unused (λ a b c. Instruction.Input a b)
+    ∷ row Register Word Unused (λ a b c. Instruction.Constant a b)
+    ∷ row Register Variable Unused (λ a b c. Instruction.Load a b)
+    ∷ row Variable Register Unused (λ a b c. Instruction.Store a b)
+    ∷ row Register Register Unused (λ a b c. Instruction.LoadAt a b)
+    ∷ row Register Register Unused (λ a b c. Instruction.StoreAt a b)
+    ∷ row Register Register Unused (λ a b c. Instruction.Add a b)
+    ∷ row Register Register Unused (λ a b c. Instruction.Subtract a b)
+    ∷ row Register Register Skip (λ a b c. Instruction.SkipEqual a b c)
+    ∷ row Register Register Skip (λ a b c. Instruction.SkipLess a b c)
+    ∷ row Register Register Unused (λ a b c. Instruction.Output a b)
+    ∷ row Unused Unused Unused (λ a b c. Instruction.Stop)
+    ∷ []
+
+abbrev pub rowOf : ℕ → CodeRow
+rowOf code = getD codes code noRow
+
+abbrev pub instructionOf : Encoded → Instruction
+instructionOf x = rowOf (x .code) .instruction (x .a) (x .b) (x .c)
+
+-- 'Registers, inputs and outputs are numbered 0 to 3, variables 0 to n - 1', a constant is a word, a skip 1 to 31; 'unused ones are 0'
+abbrev pub fits : ℕ → OperandKind → ℕ → Bool
+fits n Unused x = eqb x 0
+fits n Register x = ltb x 4
+fits n Word x = ltb x 4294967296
+fits n Variable x = ltb x n
+fits n Skip x = inRange 1 31 x
+
+-- whether each operand passes a test against its kind
+abbrev pub eachOperand : (OperandKind → ℕ → Bool) → OperandKind → OperandKind → OperandKind → Encoded → Bool
+eachOperand test a b c x = test a (x .a) && (test b (x .b) && test c (x .c))
 
 -- `code,a,b,c` on a card of n variables to an instruction, or refusal 4
+abbrev pub decodeAs : Format → ℕ → Encoded → Decoded
+decodeAs Unknown n x = Decoded.Refused BadInstruction
+decodeAs (Known a b c) n x = cond (eachOperand (fits n) a b c x) (Decoded.Valid (instructionOf x)) (Decoded.Refused BadInstruction)
+
 unfoldable pub decode : ℕ → Encoded → Decoded
-decode n x =
-    cond (eqb (x .code) 1)
-    (valid (small (x .a) && (small (x .b) && eqb (x .c) 0)) (Instruction.Input (x .a) (x .b)))
-    (cond (eqb (x .code) 2)
-    (valid (small (x .a) && (ltb (x .b) 4294967296 && eqb (x .c) 0)) (Instruction.Constant (x .a) (x .b)))
-    (cond (eqb (x .code) 3)
-    (valid (small (x .a) && (ltb (x .b) n && eqb (x .c) 0)) (Instruction.Load (x .a) (x .b)))
-    (cond (eqb (x .code) 4)
-    (valid (ltb (x .a) n && (small (x .b) && eqb (x .c) 0)) (Instruction.Store (x .a) (x .b)))
-    (cond (eqb (x .code) 5)
-    (valid (small (x .a) && (small (x .b) && eqb (x .c) 0)) (Instruction.LoadAt (x .a) (x .b)))
-    (cond (eqb (x .code) 6)
-    (valid (small (x .a) && (small (x .b) && eqb (x .c) 0)) (Instruction.StoreAt (x .a) (x .b)))
-    (cond (eqb (x .code) 7)
-    (valid (small (x .a) && (small (x .b) && eqb (x .c) 0)) (Instruction.Add (x .a) (x .b)))
-    (cond (eqb (x .code) 8)
-    (valid (small (x .a) && (small (x .b) && eqb (x .c) 0)) (Instruction.Subtract (x .a) (x .b)))
-    (cond (eqb (x .code) 9)
-    (valid (small (x .a) && (small (x .b) && inRange 1 31 (x .c))) (Instruction.SkipEqual (x .a) (x .b) (x .c)))
-    (cond (eqb (x .code) 10)
-    (valid (small (x .a) && (small (x .b) && inRange 1 31 (x .c))) (Instruction.SkipLess (x .a) (x .b) (x .c)))
-    (cond (eqb (x .code) 11)
-    (valid (small (x .a) && (small (x .b) && eqb (x .c) 0)) (Instruction.Output (x .a) (x .b)))
-    (cond (eqb (x .code) 12)
-    (valid (eqb (x .a) 0 && (eqb (x .b) 0 && eqb (x .c) 0)) Instruction.Stop)
-    (Decoded.Refused BadInstruction))))))))))))
+decode n x = decodeAs (rowOf (x .code) .format) n x
 
 abbrev pub encoded : ℕ → ℕ → ℕ → ℕ → Encoded
 encoded code a b c = record { code = code; a = a; b = b; c = c }

@@ -60,6 +60,22 @@ pub enum Instruction {
     Output { output: u8, register: u8 },
 }
 
+// What an operand of an instruction is: not used, a register (also an input or an output), a word, a variable, or a number of
+// instructions to skip.
+pub enum OperandKind {
+    Unused,
+    Register,
+    Word,
+    Variable,
+    Skip,
+}
+
+// The format of a code: the kinds of its operands a, b and c, or that there is no such code.
+pub enum Format {
+    Unknown,
+    Known(OperandKind, OperandKind, OperandKind),
+}
+
 // An instruction that was decoded, or why there is none.
 pub enum Decoded {
     Valid(Instruction),

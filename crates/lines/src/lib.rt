@@ -3,8 +3,17 @@
 use construction::CardLine;
 use construction::Decoded;
 use construction::Encoded;
+use construction::Format;
+use construction::Format::Known;
+use construction::Format::Unknown;
 use construction::InsLine;
 use construction::Instruction;
+use construction::OperandKind;
+use construction::OperandKind::Register;
+use construction::OperandKind::Skip;
+use construction::OperandKind::Unused;
+use construction::OperandKind::Variable;
+use construction::OperandKind::Word;
 use construction::Refusal;
 use construction::SheetLine;
 use construction::VarLine;
@@ -15,9 +24,8 @@ use grammar::reading::four_at;
 use grammar::reading::has_word;
 ghost use mathlib.Core.Path.{_≡_};
 ghost use mathlib.Core.Bool.{_&&_};
-ghost use Prim.Native.Nat.{ℕ, _%_, _<_, _≤_};
-ghost use lib.Dec.{eqb, ltb};
-ghost use Rattle.construction.specs.Instructions.{inRange, valid as validDecoded, decode as decoded};
+ghost use Prim.Native.Nat.{_%_};
+ghost use Rattle.construction.specs.Instructions.{inRange, fits, eachOperand, rowOf, instructionOf, encoded, decode as decoded};
 ghost use Rattle.construction.specs.Lines.{cardFits, cardLine, varLine, sheetLine, insOf, insLine};
 
 fn both(a: bool, b: bool) -> bool
@@ -32,28 +40,122 @@ fn in_range(low: u64, high: u64, x: u64) -> bool
     both(low <= x, x <= high)
 }
 
-// Two operands below their bounds, and the third unused.
-fn pair(x: Encoded, bound_a: u64, bound_b: u64) -> bool
-    ensures { λ r. ⌜ r ≡ ltb (x .a) «bound_a» && (ltb (x .b) «bound_b» && eqb (x .c) 0) ⌝ }
+// The table of codes, from code 0, which is none, to code 12.
+const FORMATS: [Format; 13] = [
+    Unknown,
+    Known(Register, Register, Unused),
+    Known(Register, Word, Unused),
+    Known(Register, Variable, Unused),
+    Known(Variable, Register, Unused),
+    Known(Register, Register, Unused),
+    Known(Register, Register, Unused),
+    Known(Register, Register, Unused),
+    Known(Register, Register, Unused),
+    Known(Register, Register, Skip),
+    Known(Register, Register, Skip),
+    Known(Register, Register, Unused),
+    Known(Unused, Unused, Unused),
+];
+
+// The format of a code.
+fn format_of(code: u64) -> Format
+    ensures { λ r. ⌜ r ≡ rowOf code .format ⌝ }
 {
-    both(x.a < bound_a, both(x.b < bound_b, x.c == 0))
+    if code < 13 {
+        FORMATS[code as usize]
+    } else {
+        Unknown
+    }
 }
 
-// Two registers, and the number of instructions to skip.
-fn skip(x: Encoded) -> bool
-    ensures { λ r. ⌜ r ≡ ltb (x .a) 4 && (ltb (x .b) 4 && inRange 1 31 (x .c)) ⌝ }
+// The instruction of a code whose operands are bytes.
+fn instruction_of(code: u64, a: u8, b: u8, c: u8) -> Instruction
+    ensures { λ r. ⌜ r ≡ instructionOf (encoded code a b c) ⌝ }
 {
-    both(x.a < 4, both(x.b < 4, in_range(1, 31, x.c)))
+    let instructions = [
+        Instruction::Stop,
+        Instruction::Input {
+            register: a,
+            input: b,
+        },
+        Instruction::Constant {
+            register: a,
+            constant: b as u32,
+        },
+        Instruction::Load {
+            register: a,
+            variable: b,
+        },
+        Instruction::Store {
+            variable: a,
+            register: b,
+        },
+        Instruction::LoadAt {
+            register: a,
+            address: b,
+        },
+        Instruction::StoreAt {
+            address: a,
+            register: b,
+        },
+        Instruction::Add {
+            register: a,
+            operand: b,
+        },
+        Instruction::Subtract {
+            register: a,
+            operand: b,
+        },
+        Instruction::SkipEqual {
+            left: a,
+            right: b,
+            skip: c,
+        },
+        Instruction::SkipLess {
+            left: a,
+            right: b,
+            skip: c,
+        },
+        Instruction::Output {
+            output: a,
+            register: b,
+        },
+        Instruction::Stop,
+    ];
+    if code < 13 {
+        instructions[code as usize]
+    } else {
+        Instruction::Stop
+    }
 }
 
-// No operand is used.
-fn unused(x: Encoded) -> bool
-    ensures { λ r. ⌜ r ≡ eqb (x .a) 0 && (eqb (x .b) 0 && eqb (x .c) 0) ⌝ }
+// Whether an operand fits its kind, on a card of so many variables.
+fn operand_fits(variables: u8, kind: OperandKind, x: u64) -> bool
+    ensures { λ r. ⌜ r ≡ fits variables kind x ⌝ }
 {
-    both(x.a == 0, both(x.b == 0, x.c == 0))
+    match kind {
+        Unused => x == 0,
+        Register => x < 4,
+        Word => x < 4_294_967_296,
+        Variable => x < variables as u64,
+        Skip => in_range(1, 31, x),
+    }
 }
 
-// An operand as a byte or a word: the operand itself where it is below the bound that is tested.
+// Whether the operands fit their kinds a, b and c.
+fn operands_fit(variables: u8, a: OperandKind, b: OperandKind, c: OperandKind, x: Encoded) -> bool
+    ensures { λ r. ⌜ r ≡ eachOperand (fits variables) a b c x ⌝ }
+{
+    both(
+        operand_fits(variables, a, x.a),
+        both(
+            operand_fits(variables, b, x.b),
+            operand_fits(variables, c, x.c),
+        ),
+    )
+}
+
+// An operand as a byte or a word: the operand itself where it fits its kind.
 fn low_byte(x: u64) -> u8
     ensures { λ r. ⌜ r ≡ x % 256 ⌝ }
 {
@@ -66,148 +168,24 @@ fn low_word(x: u64) -> u32
     (x % 4_294_967_296) as u32
 }
 
-fn valid(fits: bool, instruction: Instruction) -> Decoded
-    ensures { λ r. ⌜ r ≡ validDecoded fits instruction ⌝ }
-{
-    if fits {
-        Decoded::Valid(instruction)
-    } else {
-        Decoded::Refused(Refusal::BadInstruction)
-    }
-}
-
-// Codes 1 to 4: inputs, constants and variables.
-fn decode_first(variables: u8, x: Encoded) -> Decoded
-    requires { ⌜ x .code ≤ 4 ⌝ }
-    ensures { λ r. ⌜ r ≡ decoded variables x ⌝ }
-{
-    let n = variables as u64;
-    let a = low_byte(x.a);
-    let b = low_byte(x.b);
-    let code = x.code;
-    match code {
-        1 => valid(
-            pair(x, 4, 4),
-            Instruction::Input {
-                register: a,
-                input: b,
-            },
-        ),
-        2 => valid(
-            pair(x, 4, 4_294_967_296),
-            Instruction::Constant {
-                register: a,
-                constant: low_word(x.b),
-            },
-        ),
-        3 => valid(
-            pair(x, 4, n),
-            Instruction::Load {
-                register: a,
-                variable: b,
-            },
-        ),
-        4 => valid(
-            pair(x, n, 4),
-            Instruction::Store {
-                variable: a,
-                register: b,
-            },
-        ),
-        _ => Decoded::Refused(Refusal::BadInstruction),
-    }
-}
-
-// Codes 5 to 8: two registers.
-fn decode_registers(x: Encoded) -> Decoded
-    requires { ⌜ (4 < x .code) × (x .code ≤ 8) ⌝ }
-    ensures { λ r. ⌜ ((n : ℕ) → r ≡ decoded n x) ⌝ }
-{
-    let fits = pair(x, 4, 4);
-    let a = low_byte(x.a);
-    let b = low_byte(x.b);
-    let code = x.code;
-    match code {
-        5 => valid(
-            fits,
-            Instruction::LoadAt {
-                register: a,
-                address: b,
-            },
-        ),
-        6 => valid(
-            fits,
-            Instruction::StoreAt {
-                address: a,
-                register: b,
-            },
-        ),
-        7 => valid(
-            fits,
-            Instruction::Add {
-                register: a,
-                operand: b,
-            },
-        ),
-        _ => valid(
-            fits,
-            Instruction::Subtract {
-                register: a,
-                operand: b,
-            },
-        ),
-    }
-}
-
-// Codes 9 to 12: skips, outputs and the end.
-fn decode_last(x: Encoded) -> Decoded
-    requires { ⌜ 8 < x .code ⌝ }
-    ensures { λ r. ⌜ ((n : ℕ) → r ≡ decoded n x) ⌝ }
-{
-    let a = low_byte(x.a);
-    let b = low_byte(x.b);
-    let c = low_byte(x.c);
-    let code = x.code;
-    match code {
-        9 => valid(
-            skip(x),
-            Instruction::SkipEqual {
-                left: a,
-                right: b,
-                skip: c,
-            },
-        ),
-        10 => valid(
-            skip(x),
-            Instruction::SkipLess {
-                left: a,
-                right: b,
-                skip: c,
-            },
-        ),
-        11 => valid(
-            pair(x, 4, 4),
-            Instruction::Output {
-                output: a,
-                register: b,
-            },
-        ),
-        12 => valid(unused(x), Instruction::Stop),
-        _ => Decoded::Refused(Refusal::BadInstruction),
-    }
-}
-
-// The instruction of a code and its operands, on a card of so many variables.
+// The instruction of a code and its operands, on a card of so many variables. Only a constant is longer than a byte.
 pub fn decode(variables: u8, x: Encoded) -> Decoded
     ensures { λ r. ⌜ r ≡ decoded variables x ⌝ }
 {
-    if x.code <= 4 {
-        return decode_first(variables, x);
-    }
-    if x.code <= 8 {
-        decode_registers(x)
+    let Known(kind_a, kind_b, kind_c) = format_of(x.code) else {
+        return Decoded::Refused(Refusal::BadInstruction);
+    };
+    if operands_fit(variables, kind_a, kind_b, kind_c, x) {
+        let a = low_byte(x.a);
+        if x.code == 2 {
+            return Decoded::Valid(Instruction::Constant {
+                register: a,
+                constant: low_word(x.b),
+            });
+        }
+        Decoded::Valid(instruction_of(x.code, a, low_byte(x.b), low_byte(x.c)))
     } else {
-        decode_last(x)
+        Decoded::Refused(Refusal::BadInstruction)
     }
 }
 

@@ -1,12 +1,11 @@
--- Instructions and lines of a card text, by the tests that decide them (document 01, 'The card text').
-use mathlib.Core.Bool.{Bool, true, false, _&&_}
-use mathlib.Core.Path.{_≡_, refl, sym, _∙_, ap}
+-- The lines of a card text, by the tests that decide them (document 01, 'The card text').
+use mathlib.Core.Bool.{Bool, true, false}
+use mathlib.Core.Path.{_≡_, refl, _∙_}
 use mathlib.Core.List.{List}
-use Prim.Native.Nat.{ℕ, _+_, _%_, _<_, _≤_}
-use lib.Dec.{eqb, ltb, leb}
+use Prim.Native.Nat.{ℕ, _+_, _<_, _≤_}
+use lib.Dec.{ltb, leb}
 use native.Mathlib.Omega.{arith}
-use native.Mathlib.Nat.{mod-eq-of-lt}
-use borrow.Author.Tests.{ne-eqb, lt-ltb, le-ltb, eqb-true, ltb-true, leb-true}
+use borrow.Author.Tests.{lt-ltb, le-ltb, ltb-true, leb-true}
 use Rattle.grammar.specs.declared.Number.{Number}
 use Rattle.grammar.specs.declared.Numbers.{Numbers}
 use Rattle.grammar.specs.Reading.{field, four, hasWord}
@@ -18,136 +17,12 @@ use Rattle.construction.specs.declared.InsLine.{InsLine}
 use Rattle.construction.specs.declared.Instruction.{Instruction}
 use Rattle.construction.specs.declared.Encoded.{Encoded}
 use Rattle.construction.specs.declared.Decoded.{Decoded}
-use Rattle.construction.specs.declared.Refusal.the-variants.{Malformed, OutOfRange, BadInstruction}
-use Rattle.construction.specs.Instructions.{inRange, valid, decode, encoded}
+use Rattle.construction.specs.declared.Refusal.the-variants.{Malformed, OutOfRange}
+use Rattle.construction.specs.Instructions.{inRange, decode, encoded}
 use Rattle.construction.specs.Lines.{cardWord, varWord, sheetWord, insWord, cardFits, cardLine, judgeCard, varLine, judgeVar, sheetLine, judgeSheet, insOf, insLine, judgeIns}
 
 pub range-true : (low high x : ℕ) → inRange low high x ≡ true → (low ≤ x) × (x ≤ high)
 range-true low high x e = let h = and-true (leb low x) (leb x high) e in (leb-true low x (h .0), leb-true x high (h .1))
-
--- ---- operands that fit are told whole by their low bytes
-module _ (a b c : ℕ) where
-  pub pair-true : (A B : ℕ) → ltb a A && (ltb b B && eqb c 0) ≡ true → (a < A) × (b < B) × (c ≡ 0)
-  pair-true A B q =
-      let q₁ = and-true (ltb a A) _ q in
-      let q₂ = and-true (ltb b B) _ (q₁ .1) in
-      (ltb-true a A (q₁ .0), ltb-true b B (q₂ .0), eqb-true c 0 (q₂ .1))
-
-  pub skip-true : ltb a 4 && (ltb b 4 && inRange 1 31 c) ≡ true → (a < 4) × (b < 4) × (c ≤ 31)
-  skip-true q =
-      let q₁ = and-true (ltb a 4) _ q in
-      let q₂ = and-true (ltb b 4) _ (q₁ .1) in
-      (ltb-true a 4 (q₁ .0), ltb-true b 4 (q₂ .0), range-true 1 31 c (q₂ .1) .1)
-
--- only what a test lets through matters
-valid-same : (f : Bool) {x y : Instruction} → (f ≡ true → x ≡ y) → valid f x ≡ valid f y
-valid-same true h = ap (λ (z : Instruction). Decoded.Valid z) (h refl)
-valid-same false h = refl
-
-pub valid-pair :
-    (K : ℕ → ℕ → Instruction) (A B M N a b c : ℕ) {a₁ b₁ : ℕ} {f : Bool} {r : Decoded} → A ≤ M → B ≤ N →
-    f ≡ (ltb a A && (ltb b B && eqb c 0)) → a₁ ≡ a % M → b₁ ≡ b % N → r ≡ valid f (K a₁ b₁) →
-    r ≡ valid (ltb a A && (ltb b B && eqb c 0)) (K a b)
-valid-pair K A B M N a b c {a₁} {b₁} {f} {r} p q e ea eb d =
-    d
-    ∙ valid-same f (λ t. same (pair-true a b c A B (sym e ∙ t)))
-    ∙ ap (λ (z : Bool). valid z (K a b)) e
-  where
-    same : (a < A) × (b < B) × (c ≡ 0) → K a₁ b₁ ≡ K a b
-    same h =
-        let u : a₁ ≡ a = ea ∙ mod-eq-of-lt (omega arith) in
-        let v : b₁ ≡ b = eb ∙ mod-eq-of-lt (omega arith) in
-        rw (u, v)
-
-pub valid-skip :
-    (K : ℕ → ℕ → ℕ → Instruction) (a b c : ℕ) {a₁ b₁ c₁ : ℕ} {f : Bool} {r : Decoded} →
-    f ≡ (ltb a 4 && (ltb b 4 && inRange 1 31 c)) → a₁ ≡ a % 256 → b₁ ≡ b % 256 → c₁ ≡ c % 256 → r ≡ valid f (K a₁ b₁ c₁) →
-    r ≡ valid (ltb a 4 && (ltb b 4 && inRange 1 31 c)) (K a b c)
-valid-skip K a b c {a₁} {b₁} {c₁} {f} {r} e ea eb ec d =
-    d
-    ∙ valid-same f (λ t. same (skip-true a b c (sym e ∙ t)))
-    ∙ ap (λ (z : Bool). valid z (K a b c)) e
-  where
-    same : (a < 4) × (b < 4) × (c ≤ 31) → K a₁ b₁ c₁ ≡ K a b c
-    same h =
-        let u : a₁ ≡ a = omega arith in
-        let v : b₁ ≡ b = omega arith in
-        let w : c₁ ≡ c = omega arith in
-        rw (u, v, w)
-
--- ---- decoding by its code
-module _ (n : ℕ) (x : Encoded) where
-  pub decode-1 : x .code ≡ 1 → decode n x ≡ valid (ltb (x .a) 4 && (ltb (x .b) 4 && eqb (x .c) 0)) (Instruction.Input (x .a) (x .b))
-  unfolding decode
-  decode-1 e = rw e
-
-  pub decode-2 : x .code ≡ 2 → decode n x ≡ valid (ltb (x .a) 4 && (ltb (x .b) 4294967296 && eqb (x .c) 0)) (Instruction.Constant (x .a) (x .b))
-  unfolding decode
-  decode-2 e = rw e
-
-  pub decode-3 : x .code ≡ 3 → decode n x ≡ valid (ltb (x .a) 4 && (ltb (x .b) n && eqb (x .c) 0)) (Instruction.Load (x .a) (x .b))
-  unfolding decode
-  decode-3 e = rw e
-
-  pub decode-4 : x .code ≡ 4 → decode n x ≡ valid (ltb (x .a) n && (ltb (x .b) 4 && eqb (x .c) 0)) (Instruction.Store (x .a) (x .b))
-  unfolding decode
-  decode-4 e = rw e
-
-  pub decode-5 : x .code ≡ 5 → decode n x ≡ valid (ltb (x .a) 4 && (ltb (x .b) 4 && eqb (x .c) 0)) (Instruction.LoadAt (x .a) (x .b))
-  unfolding decode
-  decode-5 e = rw e
-
-  pub decode-6 : x .code ≡ 6 → decode n x ≡ valid (ltb (x .a) 4 && (ltb (x .b) 4 && eqb (x .c) 0)) (Instruction.StoreAt (x .a) (x .b))
-  unfolding decode
-  decode-6 e = rw e
-
-  pub decode-7 : x .code ≡ 7 → decode n x ≡ valid (ltb (x .a) 4 && (ltb (x .b) 4 && eqb (x .c) 0)) (Instruction.Add (x .a) (x .b))
-  unfolding decode
-  decode-7 e = rw e
-
-  pub decode-8 : x .code ≡ 8 → decode n x ≡ valid (ltb (x .a) 4 && (ltb (x .b) 4 && eqb (x .c) 0)) (Instruction.Subtract (x .a) (x .b))
-  unfolding decode
-  decode-8 e = rw e
-
-  pub decode-9 : x .code ≡ 9 → decode n x ≡ valid (ltb (x .a) 4 && (ltb (x .b) 4 && inRange 1 31 (x .c))) (Instruction.SkipEqual (x .a) (x .b) (x .c))
-  unfolding decode
-  decode-9 e = rw e
-
-  pub decode-10 : x .code ≡ 10 → decode n x ≡ valid (ltb (x .a) 4 && (ltb (x .b) 4 && inRange 1 31 (x .c))) (Instruction.SkipLess (x .a) (x .b) (x .c))
-  unfolding decode
-  decode-10 e = rw e
-
-  pub decode-11 : x .code ≡ 11 → decode n x ≡ valid (ltb (x .a) 4 && (ltb (x .b) 4 && eqb (x .c) 0)) (Instruction.Output (x .a) (x .b))
-  unfolding decode
-  decode-11 e = rw e
-
-  pub decode-12 : x .code ≡ 12 → decode n x ≡ valid (eqb (x .a) 0 && (eqb (x .b) 0 && eqb (x .c) 0)) Instruction.Stop
-  unfolding decode
-  decode-12 e = rw e
-
-  pub decode-0 : x .code ≡ 0 → decode n x ≡ Decoded.Refused BadInstruction
-  unfolding decode
-  decode-0 e = rw e
-
-  pub decode-past : 12 < x .code → decode n x ≡ Decoded.Refused BadInstruction
-  unfolding decode
-  decode-past h = rw (
-    other 1 (omega arith),
-    other 2 (omega arith),
-    other 3 (omega arith),
-    other 4 (omega arith),
-    other 5 (omega arith),
-    other 6 (omega arith),
-    other 7 (omega arith),
-    other 8 (omega arith),
-    other 9 (omega arith),
-    other 10 (omega arith),
-    other 11 (omega arith),
-    other 12 (omega arith),
-  )
-    where
-      other : (k : ℕ) → k < x .code → eqb (x .code) k ≡ false
-      other k p = ne-eqb (x .code) k (λ (z : x .code ≡ k). omega arith)
 
 -- ---- a `card` line
 module _ (t : List ℕ) (at : ℕ) {w : Bool} (e : w ≡ hasWord t at cardWord) where

@@ -1,6 +1,6 @@
 -- A text that opens is the text of the card that it opens to; a refused one opens to the empty card, which writes as no bytes
 -- (document 01, 'The card text' and 'Turned back').
-use mathlib.Core.Bool.{Bool, true, false, cond, _&&_}
+use mathlib.Core.Bool.{false}
 use mathlib.Core.Path.{_≡_, refl, sym, _∙_, ap}
 use mathlib.Core.List.{List, [], _++_, append-assoc, append-nil}
 use Prim.Native.Nat.{ℕ, zero, suc, _+_, _<_, _≤_}
@@ -9,7 +9,7 @@ use lib.ListN.{getD, drop, length, length-set, length-replicate}
 use lib.Seq.{drop-length, getD-set-same, getD-set-other}
 use native.Mathlib.Omega.{arith}
 use borrow.Author.Tests.{ne-eqb, eqb-true}
-use Rattle.construction.proofs.Basics.{on-test, and-true, clash}
+use Rattle.construction.proofs.Basics.{on-test, clash}
 use Rattle.grammar.proofs.Bytes.{word-text}
 use Rattle.grammar.proofs.RoundTrip.{Small, field-text, four-text}
 use Rattle.construction.specs.declared.CardLine.{CardLine}
@@ -18,13 +18,12 @@ use Rattle.construction.specs.declared.SheetLine.{SheetLine}
 use Rattle.construction.specs.declared.InsLine.{InsLine}
 use Rattle.construction.specs.declared.Instruction.{Instruction}
 use Rattle.construction.specs.declared.Encoded.{Encoded}
-use Rattle.construction.specs.declared.Decoded.{Decoded}
 use Rattle.construction.specs.declared.Contents.{Contents}
 use Rattle.construction.specs.declared.Verdict.{Verdict}
 use Rattle.construction.specs.declared.Line.{Line}
 use Rattle.construction.specs.declared.ProgramReading.{ProgramReading}
 use Rattle.construction.specs.declared.Reading.{Reading}
-use Rattle.construction.specs.Instructions.{inRange, valid, decode, encoded, encode, noLine, noProgram}
+use Rattle.construction.specs.Instructions.{noLine, noProgram}
 use Rattle.construction.specs.Lines.{
   cardWord,
   varWord,
@@ -57,7 +56,8 @@ use Rattle.construction.specs.Opening.{
   opened,
 }
 use Rattle.construction.specs.Writing.{varsText, linesText, programText, programsText, textOf}
-use Rattle.construction.proofs.Text.Lines.{pair-true, skip-true, card-read, var-read, sheet-read, ins-read}
+use Rattle.construction.proofs.Text.Lines.{card-read, var-read, sheet-read, ins-read}
+use Rattle.construction.proofs.Text.Decoding.{decoded-encodes}
 use Rattle.construction.proofs.Text.Reading.{afterFields, afterLength, on-ins, on-sheet, on-program, on-var, on-accepted, on-card}
 
 abbrev Accepted : Verdict → Type 0
@@ -95,73 +95,6 @@ module _ (t : List ℕ) (at : ℕ) where
       let f = r .fits in
       word-text t sheetWord at (r .word-there)
       ∙ ap (λ (x : List ℕ). sheetWord ++ x) (field-text t 10 (at + 6) m i (omega arith) (r .field-there))
-
--- ---- an instruction that was decoded encodes to its numbers
-record Decodes (x : Encoded) (y : Instruction) : Type 0 where
-  back : encode y ≡ x
-  small : Small (x .code) (x .a) (x .b) (x .c)
-
-module _ (n : ℕ) (x : Encoded) (h : n ≤ 256) (y : Instruction) where
-  code-case :
-      (j : ℕ) (test : Bool) (z : Instruction) {rest : Decoded} → (x .code ≡ j → test ≡ true → z ≡ y → Decodes x y) → (rest ≡ Decoded.Valid y → Decodes x y) →
-      cond (eqb (x .code) j) (valid test z) rest ≡ Decoded.Valid y → Decodes x y
-  code-case j test z {rest} this later =
-      on-test (λ (d : Decoded). d ≡ Decoded.Valid y → Decodes x y) (eqb (x .code) j)
-      (λ p. on-test (λ (d : Decoded). d ≡ Decoded.Valid y → Decodes x y) test (λ q e. this (eqb-true (x .code) j p) q (cc)) (λ q e. clash (cc)))
-      (λ p. later)
-
-  numbers : (j c : ℕ) → x .code ≡ j → x .c ≡ c → encoded j (x .a) (x .b) c ≡ x
-  numbers j c p q = λ i. record { code = sym p i; a = x .a; b = x .b; c = sym q i }
-
-  pair :
-      (j A B : ℕ) (z : Instruction) → j < 13 → A ≤ 4294967296 → B ≤ 4294967296 → encode z ≡ encoded j (x .a) (x .b) 0 →
-      x .code ≡ j → ltb (x .a) A && (ltb (x .b) B && eqb (x .c) 0) ≡ true → z ≡ y → Decodes x y
-  pair j A B z u v w t p q e =
-      let b = pair-true (x .a) (x .b) (x .c) A B q in
-      record {
-        back = ap encode (sym e) ∙ t ∙ numbers j 0 p (b .2);
-        small = record { small-a = omega arith; small-b = omega arith; small-c = omega arith; small-d = omega arith };
-      }
-
-  skip :
-      (j : ℕ) (z : Instruction) → j < 13 → encode z ≡ encoded j (x .a) (x .b) (x .c) →
-      x .code ≡ j → ltb (x .a) 4 && (ltb (x .b) 4 && inRange 1 31 (x .c)) ≡ true → z ≡ y → Decodes x y
-  skip j z u t p q e =
-      let b = skip-true (x .a) (x .b) (x .c) q in
-      record {
-        back = ap encode (sym e) ∙ t ∙ numbers j (x .c) p refl;
-        small = record { small-a = omega arith; small-b = omega arith; small-c = omega arith; small-d = omega arith };
-      }
-
-  stop : x .code ≡ 12 → eqb (x .a) 0 && (eqb (x .b) 0 && eqb (x .c) 0) ≡ true → Instruction.Stop ≡ y → Decodes x y
-  unfolding encode
-  stop p q e =
-      let q₁ = and-true (eqb (x .a) 0) _ q in
-      let q₂ = and-true (eqb (x .b) 0) _ (q₁ .1) in
-      let ha : x .a ≡ 0 = eqb-true (x .a) 0 (q₁ .0) in
-      let hb : x .b ≡ 0 = eqb-true (x .b) 0 (q₂ .0) in
-      let hc : x .c ≡ 0 = eqb-true (x .c) 0 (q₂ .1) in
-      record {
-        back = ap encode (sym e) ∙ (λ i. record { code = sym p i; a = sym ha i; b = sym hb i; c = sym hc i });
-        small = record { small-a = omega arith; small-b = omega arith; small-c = omega arith; small-d = omega arith };
-      }
-
-  decoded-encodes : decode n x ≡ Decoded.Valid y → Decodes x y
-  unfolding decode encode
-  decoded-encodes =
-      code-case 1 _ (Instruction.Input (x .a) (x .b)) (pair 1 4 4 _ (omega arith) (omega arith) (omega arith) refl)
-      (code-case 2 _ (Instruction.Constant (x .a) (x .b)) (pair 2 4 4294967296 _ (omega arith) (omega arith) (omega arith) refl)
-      (code-case 3 _ (Instruction.Load (x .a) (x .b)) (pair 3 4 n _ (omega arith) (omega arith) (omega arith) refl)
-      (code-case 4 _ (Instruction.Store (x .a) (x .b)) (pair 4 n 4 _ (omega arith) (omega arith) (omega arith) refl)
-      (code-case 5 _ (Instruction.LoadAt (x .a) (x .b)) (pair 5 4 4 _ (omega arith) (omega arith) (omega arith) refl)
-      (code-case 6 _ (Instruction.StoreAt (x .a) (x .b)) (pair 6 4 4 _ (omega arith) (omega arith) (omega arith) refl)
-      (code-case 7 _ (Instruction.Add (x .a) (x .b)) (pair 7 4 4 _ (omega arith) (omega arith) (omega arith) refl)
-      (code-case 8 _ (Instruction.Subtract (x .a) (x .b)) (pair 8 4 4 _ (omega arith) (omega arith) (omega arith) refl)
-      (code-case 9 _ (Instruction.SkipEqual (x .a) (x .b) (x .c)) (skip 9 _ (omega arith) refl)
-      (code-case 10 _ (Instruction.SkipLess (x .a) (x .b) (x .c)) (skip 10 _ (omega arith) refl)
-      (code-case 11 _ (Instruction.Output (x .a) (x .b)) (pair 11 4 4 _ (omega arith) (omega arith) (omega arith) refl)
-      (code-case 12 _ Instruction.Stop stop
-      (λ e. clash (cc)))))))))))))
 
 ins-text : (n : ℕ) → n ≤ 256 → (t : List ℕ) (at : ℕ) (x : Instruction) (i : ℕ) → insLine n t at ≡ InsLine.Ins x i → drop at t ≡ insText x ++ drop i t
 unfolding insText

@@ -1,9 +1,0 @@
-use borrow.Author.Needs.{needs}
-use Rattle.lines.proofs.skip.Statement.{statement}
-use Rattle.lines.proofs.skip.Tie as tie
-
-returns : tie.Need-returns
-returns c = cc
-
-pub skip-spec : {M : Type 1} → statement M
-skip-spec = tie.close (tie.spec (λ c κs. search needs) (λ c κs. search needs) (λ c κs. search needs) returns)

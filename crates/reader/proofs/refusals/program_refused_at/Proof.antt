@@ -1,6 +1,6 @@
 use borrow.Author.Needs.{needs}
-use Rattle.reader.proofs.blank.program_refused_at.Statement.{statement}
-use Rattle.reader.proofs.blank.program_refused_at.Tie as tie
+use Rattle.reader.proofs.refusals.program_refused_at.Statement.{statement}
+use Rattle.reader.proofs.refusals.program_refused_at.Tie as tie
 
 returns : tie.Need-returns
 returns c = cc

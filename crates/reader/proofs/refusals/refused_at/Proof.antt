@@ -1,6 +1,6 @@
 use borrow.Author.Needs.{needs}
-use Rattle.reader.proofs.blank.refused_at.Statement.{statement}
-use Rattle.reader.proofs.blank.refused_at.Tie as tie
+use Rattle.reader.proofs.refusals.refused_at.Statement.{statement}
+use Rattle.reader.proofs.refusals.refused_at.Tie as tie
 
 returns : tie.Need-returns
 returns c = cc

@@ -1,6 +1,6 @@
 use borrow.Author.Needs.{needs}
-use Rattle.reader.proofs.blank.begun_contents.Statement.{statement}
-use Rattle.reader.proofs.blank.begun_contents.Tie as tie
+use Rattle.reader.proofs.begun_contents.Statement.{statement}
+use Rattle.reader.proofs.begun_contents.Tie as tie
 
 returns : tie.Need-returns
 returns c = cc

@@ -6,8 +6,8 @@ use mathlib.Core.Path.{_≡_, refl}
 use Prim.Native.Nat.{_-_, _≤_}
 use native.Mathlib.Omega.{arith}
 use borrow.Author.Needs.{needs}
-use Rattle.reader.proofs.blank.open_records.Statement.{statement}
-use Rattle.reader.proofs.blank.open_records.Tie as tie
+use Rattle.opening.proofs.open_records.Statement.{statement}
+use Rattle.opening.proofs.open_records.Tie as tie
 
 abbrev Inv-loop : tie.InvT-loop
 Inv-loop starts records₀ k₀ records k = (take k records ≡ map openRecord (take k starts)) × (k ≤ 64) × (length records ≡ 64)

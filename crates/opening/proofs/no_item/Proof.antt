@@ -1,6 +1,6 @@
 use borrow.Author.Needs.{needs}
-use Rattle.parts.proofs.no_item.Statement.{statement}
-use Rattle.parts.proofs.no_item.Tie as tie
+use Rattle.opening.proofs.no_item.Statement.{statement}
+use Rattle.opening.proofs.no_item.Tie as tie
 
 returns : tie.Need-returns
 returns c = rw (c .open-record .ensures)

@@ -1,6 +1,6 @@
 use borrow.Author.Needs.{needs}
-use Rattle.parts.proofs.empty.Statement.{statement}
-use Rattle.parts.proofs.empty.Tie as tie
+use Rattle.opening.proofs.empty.Statement.{statement}
+use Rattle.opening.proofs.empty.Tie as tie
 
 returns : tie.Need-returns
 returns c = rw (c .no-item .ensures)

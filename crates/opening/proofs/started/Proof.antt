@@ -1,6 +1,6 @@
 use borrow.Author.Needs.{needs}
-use Rattle.parts.proofs.started.Statement.{statement}
-use Rattle.parts.proofs.started.Tie as tie
+use Rattle.opening.proofs.started.Statement.{statement}
+use Rattle.opening.proofs.started.Tie as tie
 
 returns : tie.Need-returns
 returns c = rw (c .before .zeros .ensures, c .zeros2 .ensures)

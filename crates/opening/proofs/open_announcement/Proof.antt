@@ -1,6 +1,6 @@
 use borrow.Author.Needs.{needs}
-use Rattle.parts.proofs.open_announcement.Statement.{statement}
-use Rattle.parts.proofs.open_announcement.Tie as tie
+use Rattle.opening.proofs.open_announcement.Statement.{statement}
+use Rattle.opening.proofs.open_announcement.Tie as tie
 
 returns : tie.Need-returns
 returns c = rw (c .zeros .ensures)

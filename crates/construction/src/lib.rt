@@ -275,13 +275,6 @@ pub struct SwappedRecord {
     pub won: bool,
 }
 
-// The answer to a swap on a lent row.
-pub enum RowSwap {
-    Won,
-    Lost,
-    Refused(Refusal),
-}
-
 // What the first line of a card text yields: its fields and the place past it, or why it is refused.
 pub enum CardLine {
     Fields {

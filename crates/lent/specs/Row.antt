@@ -7,8 +7,8 @@ use lib.Dec.{leb}
 use lib.ListN.{length, getD, set}
 use Rattle.construction.specs.declared.Record.{Record}
 use Rattle.construction.specs.declared.SwappedRecord.{SwappedRecord}
-use Rattle.construction.specs.declared.RowSwap.{RowSwap}
-use Rattle.construction.specs.declared.RowSwap.the-variants.{Won, Lost, Refused}
+use Rattle.lent.specs.declared.RowSwap.{RowSwap}
+use Rattle.lent.specs.declared.RowSwap.the-variants.{Won, Lost, Refused}
 use Rattle.construction.specs.declared.Refusal.the-variants.{NoPlace}
 use Rattle.construction.specs.Cells.{openRecord, swapRecord}
 use Rattle.construction.specs.Answers.{numberOf}

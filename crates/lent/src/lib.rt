@@ -3,10 +3,16 @@
 use construction::Gate;
 use construction::Record;
 use construction::Refusal;
-use construction::RowSwap;
 ghost use mathlib.Core.Path.{_≡_};
 ghost use Rattle.construction.specs.Cells.{swapGate};
 ghost use Rattle.lent.specs.Row.{tells, rowAnswer, rowAfter, refusalOf, rowRefusal};
+
+// The answer to a swap on a lent row.
+pub enum RowSwap {
+    Won,
+    Lost,
+    Refused(Refusal),
+}
 
 // Swaps the gate that its owner lends; it alone may change.
 pub fn swap_lent_gate(gate: &mut Gate, expected: Gate, new: Gate) -> bool

@@ -45,15 +45,15 @@ use denote.Triple.Clauses.{ensured, lasts}
 use denote.Exit.{yes}
 use Rattle.construction.specs.declared.Record.{Record}
 use Rattle.construction.specs.declared.SwappedRecord.{SwappedRecord}
-use Rattle.construction.specs.declared.RowSwap.{RowSwap}
+use Rattle.lent.specs.declared.RowSwap.{RowSwap}
 use Rattle.construction.specs.declared.Refusal.{Refusal}
 use Rattle.construction.specs.Cells.{openRecord, swapRecord}
 use Rattle.construction.proofs.Record as T
 use Rattle.construction.proofs.Record.Laws as T′
 use Rattle.construction.proofs.SwappedRecord as S
 use Rattle.construction.proofs.SwappedRecord.Laws as S′
-use Rattle.construction.proofs.RowSwap as Q
-use Rattle.construction.proofs.RowSwap.Laws as Q′
+use Rattle.lent.proofs.RowSwap as Q
+use Rattle.lent.proofs.RowSwap.Laws as Q′
 use Rattle.construction.proofs.Refusal as F
 use Rattle.construction.proofs.Refusal.Laws as F′
 use Rattle.cells.proofs.swap_record as swap

@@ -40,11 +40,11 @@ use denote.Triple.Walked.{says, Stays, stay-none, walkOf, AllGo, goes-none, Walk
 use denote.Triple.Clauses.{ensured, lasts}
 use denote.Exit.{yes}
 use Rattle.construction.specs.declared.Record.{Record}
-use Rattle.construction.specs.declared.RowSwap.{RowSwap}
+use Rattle.lent.specs.declared.RowSwap.{RowSwap}
 use Rattle.construction.proofs.Record as T
 use Rattle.construction.proofs.Record.Laws as T′
-use Rattle.construction.proofs.RowSwap as Q
-use Rattle.construction.proofs.RowSwap.Laws as Q′
+use Rattle.lent.proofs.RowSwap as Q
+use Rattle.lent.proofs.RowSwap.Laws as Q′
 use Rattle.lent.specs.Row.{rowAnswer, rowAfter, refusalOf, rowRefusal}
 use Rattle.lent.proofs.swap_in_row as row
 use Rattle.lent.proofs.swap_in_row.Symbol as row-def

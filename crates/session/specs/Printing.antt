@@ -58,11 +58,11 @@ answerText a = answerWord a ++ valuesText (valuesOf a)
 
 -- 'the verb and first number'; of a malformed command `line,N`, where N is the number of its line
 unfoldable pub headText : ℕ → Command → List ℕ
-headText line (Command.Call i k x next) = callWord ++ fieldText 44 i
-headText line (Command.Exit i next) = wishWord ++ fieldText 44 i
-headText line (Command.Step i next) = stepWord ++ fieldText 44 i
-headText line (Command.Read v next) = lookWord ++ fieldText 44 v
-headText line (Command.Malformed next) = lineWord ++ fieldText 44 line
+headText line (Command.Call i k x) = callWord ++ fieldText 44 i
+headText line (Command.Exit i) = wishWord ++ fieldText 44 i
+headText line (Command.Step i) = stepWord ++ fieldText 44 i
+headText line (Command.Read v) = lookWord ++ fieldText 44 v
+headText line Command.Malformed = lineWord ++ fieldText 44 line
 
 -- the line of a command and its answer
 unfoldable pub lineText : ℕ → Command → Answer → List ℕ

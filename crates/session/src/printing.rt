@@ -61,18 +61,11 @@ fn put_head(buffer: &mut [u8], at: usize, line: u64, command: Command) -> usize
             process,
             program: _,
             inputs: _,
-            next: _,
         } => put_number(buffer, at, b"call,", b',', process as u64),
-        Command::Exit { process, next: _ } => {
-            put_number(buffer, at, b"wish,", b',', process as u64)
-        }
-        Command::Step { process, next: _ } => {
-            put_number(buffer, at, b"step,", b',', process as u64)
-        }
-        Command::Read { variable, next: _ } => {
-            put_number(buffer, at, b"look,", b',', variable as u64)
-        }
-        Command::Malformed { next: _ } => put_number(buffer, at, b"line,", b',', line),
+        Command::Exit { process } => { put_number(buffer, at, b"wish,", b',', process as u64) }
+        Command::Step { process } => { put_number(buffer, at, b"step,", b',', process as u64) }
+        Command::Read { variable } => { put_number(buffer, at, b"look,", b',', variable as u64) }
+        Command::Malformed => put_number(buffer, at, b"line,", b',', line),
     }
 }
 

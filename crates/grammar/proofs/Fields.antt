@@ -131,12 +131,3 @@ module _ (t : List ℕ) (at a b c d l : ℕ) where
   pub four-parts : four t at ≡ Values a b c d l → Four t at a b c d l
   unfolding four
   four-parts e = from-a (field t 44 at) refl e
-
-  pub four-within : four t at ≡ Values a b c d l → (at < l) × (l ≤ length t)
-  four-within e =
-      let p = four-parts e in
-      let x = field-within t 44 at a (p .at-b) (p .field-a) in
-      let y = field-within t 44 (p .at-b) b (p .at-c) (p .field-b) in
-      let z = field-within t 44 (p .at-c) c (p .at-d) (p .field-c) in
-      let w = field-within t 10 (p .at-d) d l (p .field-d) in
-      omega arith

@@ -114,7 +114,7 @@ fn begin_help(card: Card, i: usize) -> Card
     let read = parts::announcement_at(announcements, steps::holder_of(holder));
     after.copies[i] = read;
     if steps::helps(read, held.seq) {
-        return crate::help::help(after, i, parts::started(), parts::empty());
+        return crate::help::help(after, i, opening::started(), opening::empty());
     }
     let task = card.tasks[i];
     after.tasks[i] = Task {

@@ -2,8 +2,6 @@
 use Prim.Native.Nat.{ℕ}
 use mathlib.Core.List.{List}
 use lib.ListN.{replicate}
-use Rattle.construction.specs.declared.Holder.{Holder}
-use Rattle.construction.specs.declared.Gate.{Gate}
 use Rattle.construction.specs.declared.CardLine.{CardLine}
 use Rattle.construction.specs.declared.VarLine.{VarLine}
 use Rattle.construction.specs.declared.SheetLine.{SheetLine}
@@ -73,7 +71,3 @@ withCode x code =
       starts = x .starts;
       code = code;
     }
-
--- a gate that nobody holds ('Gate: holder (a process or none) and seq; at opening none and 1')
-abbrev pub freeGate : ℕ → Gate
-freeGate seq = record { holder = Holder.Nobody; seq = seq }

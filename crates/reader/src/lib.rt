@@ -1,15 +1,11 @@
 // The reader of a card text (document 01, "The card text" and "Turned back"): the text is judged by its length, then line by line,
-// and the card is made once, at the end. It rests on the crates lines, parts and construction.
-mod blank; // blank.rt: what a card, a program or a refused reading starts from
-mod refusals; // refusals.rt: the refusal of a line
+// and the card is made once, at the end. It rests on the crates lines, opening and construction.
+mod refusals; // refusals.rt: refused readings, and the refusal of a line
 
-use crate::blank::begun_contents;
-use crate::blank::fresh_card;
-use crate::blank::no_line;
-use crate::blank::program_refused_at;
-use crate::blank::refused_at;
 use crate::refusals::card_refusal;
 use crate::refusals::ins_refusal;
+use crate::refusals::program_refused_at;
+use crate::refusals::refused_at;
 use crate::refusals::sheet_refusal;
 use crate::refusals::var_refusal;
 use construction::CardLine;
@@ -28,15 +24,32 @@ ghost use mathlib.Core.Path.{_≡_};
 ghost use Prim.Native.Nat.{_≤_};
 ghost use Rattle.construction.specs.Opening.{insFrom, readProgram, programsFrom, varsFrom, thenEnd, thenPrograms, readCard, opened};
 ghost use Rattle.construction.specs.Instructions.{noLine};
-ghost use Rattle.reader.specs.Gathering.{programSoFar, soFar};
+ghost use Rattle.reader.specs.Gathering.{programSoFar, soFar, begun};
 ghost use lib.ListN.{replicate};
+
+// The contents after the `card` line alone.
+pub(crate) fn begun_contents(processes: u8, variables: u8, programs: u8, limit: u64) -> Contents
+    ensures { λ r. ⌜ r ≡ begun processes variables programs limit ⌝ }
+{
+    let program = opening::no_program();
+    let code = [program; 8];
+    let starts = [0u32; 64];
+    Contents {
+        processes,
+        variables,
+        programs,
+        limit,
+        starts,
+        code,
+    }
+}
 
 // The lines of a program, as many as its `sheet` line says.
 fn read_lines(variables: u8, text: &[u8], length: u8, start: usize, first: u64) -> ProgramReading
     requires { ⌜ (length ≤ 32) × (first ≤ 10000) ⌝ }
     ensures { λ r. ⌜ r ≡ insFrom variables (now (text .entry)) length 0 (programSoFar length (replicate 32 noLine) start first) ⌝ }
 {
-    let blank = no_line();
+    let blank = opening::no_line();
     let mut lines = [blank; 32];
     let mut at = start;
     let mut number = first;
@@ -185,6 +198,6 @@ pub fn open(text: &[u8]) -> Opened
     let read = read_card(text);
     let contents = read.contents;
     let verdict = read.verdict;
-    let card = fresh_card(contents);
+    let card = opening::fresh(contents);
     Opened { card, verdict }
 }

@@ -1,11 +1,42 @@
-// `let .. else` cannot bind the refusal of a line, so a match gives it.
+// What a refused text is read to, and the refusal of a line: `let .. else` cannot bind that, so a match gives it.
+use crate::begun_contents;
 use construction::CardLine;
 use construction::InsLine;
+use construction::ProgramReading;
+use construction::Reading;
 use construction::Refusal;
 use construction::SheetLine;
 use construction::VarLine;
+use construction::Verdict;
 ghost use mathlib.Core.Path.{_≡_};
+ghost use Rattle.construction.specs.Opening.{refusedAt, programRefusedAt};
 ghost use Rattle.reader.specs.Gathering.{cardRefusal, varRefusal, sheetRefusal, insRefusal};
+
+pub(crate) fn refused_at(refusal: Refusal, line: u64) -> Reading
+    ensures { λ r. ⌜ r ≡ refusedAt refusal line ⌝ }
+{
+    let contents = begun_contents(0, 0, 0, 0);
+    let verdict = Verdict::Refused { refusal, line };
+    Reading {
+        verdict,
+        contents,
+        at: 0,
+        line,
+    }
+}
+
+pub(crate) fn program_refused_at(refusal: Refusal, line: u64) -> ProgramReading
+    ensures { λ r. ⌜ r ≡ programRefusedAt refusal line ⌝ }
+{
+    let program = opening::no_program();
+    let verdict = Verdict::Refused { refusal, line };
+    ProgramReading {
+        verdict,
+        program,
+        at: 0,
+        line,
+    }
+}
 
 pub(crate) fn card_refusal(line: CardLine) -> Refusal
     ensures { λ r. ⌜ r ≡ cardRefusal line ⌝ }

@@ -1,4 +1,3 @@
-pub mod CommandLaws
 pub mod PrintingLaws
 pub mod SessionLaws
 pub mod Histories

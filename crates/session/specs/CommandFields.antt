@@ -5,8 +5,8 @@ use Rattle.construction.specs.Answers.{Fields, fields, refusedWith}
 use Rattle.session.specs.declared.Command.{Command}
 
 unfoldable pub commandFields : Command → Fields
-commandFields (Command.Call i k x next) = fields "call" (i ∷ k ∷ x .w0 ∷ x .w1 ∷ x .w2 ∷ x .w3 ∷ [])
-commandFields (Command.Exit i next) = fields "wish" (i ∷ [])
-commandFields (Command.Step i next) = fields "step" (i ∷ [])
-commandFields (Command.Read v next) = fields "look" (v ∷ [])
-commandFields (Command.Malformed next) = refusedWith 2
+commandFields (Command.Call i k x) = fields "call" (i ∷ k ∷ x .w0 ∷ x .w1 ∷ x .w2 ∷ x .w3 ∷ [])
+commandFields (Command.Exit i) = fields "wish" (i ∷ [])
+commandFields (Command.Step i) = fields "step" (i ∷ [])
+commandFields (Command.Read v) = fields "look" (v ∷ [])
+commandFields Command.Malformed = refusedWith 2

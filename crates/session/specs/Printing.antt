@@ -15,11 +15,11 @@ verbText f = f .word ++ numbersText (take 1 (f .numbers))
 
 -- what the line of a command begins with; of a malformed one `line,N`, where N is the number of its line
 unfoldable pub headText : ℕ → Command → List ℕ
-headText line (Command.Call i k x next) = verbText (commandFields (Command.Call i k x next))
-headText line (Command.Exit i next) = verbText (commandFields (Command.Exit i next))
-headText line (Command.Step i next) = verbText (commandFields (Command.Step i next))
-headText line (Command.Read v next) = verbText (commandFields (Command.Read v next))
-headText line (Command.Malformed next) = verbText (fields "line" (line ∷ []))
+headText line (Command.Call i k x) = verbText (commandFields (Command.Call i k x))
+headText line (Command.Exit i) = verbText (commandFields (Command.Exit i))
+headText line (Command.Step i) = verbText (commandFields (Command.Step i))
+headText line (Command.Read v) = verbText (commandFields (Command.Read v))
+headText line Command.Malformed = verbText (fields "line" (line ∷ []))
 
 -- a line: what it begins with, and the fields that follow
 abbrev pub lineWith : List ℕ → Fields → List ℕ

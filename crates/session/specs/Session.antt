@@ -15,18 +15,19 @@ use Rattle.construction.specs.Requests.{refused}
 use Rattle.construction.specs.History.{Entry, act}
 use Rattle.construction.specs.Opening.{opened}
 use Rattle.session.specs.declared.Command.{Command}
+use Rattle.session.specs.declared.Parsed.{Parsed}
 use Rattle.session.specs.declared.State.{State}
 use Rattle.session.specs.declared.Printed.{Printed}
-use Rattle.session.specs.Commands.{nextOf, commands}
+use Rattle.session.specs.Commands.{commands}
 use Rattle.session.specs.Printing.{lineText, longest, cardRefusal, callsRefusal}
 
 -- the entries that a command names: one, or none where it is malformed
 abbrev pub entriesOf : Command → List Entry
-entriesOf (Command.Call i k x next) = Entry.Call i k x ∷ []
-entriesOf (Command.Exit i next) = Entry.Exit i ∷ []
-entriesOf (Command.Step i next) = Entry.Step i ∷ []
-entriesOf (Command.Read v next) = Entry.Read v ∷ []
-entriesOf (Command.Malformed next) = []
+entriesOf (Command.Call i k x) = Entry.Call i k x ∷ []
+entriesOf (Command.Exit i) = Entry.Exit i ∷ []
+entriesOf (Command.Step i) = Entry.Step i ∷ []
+entriesOf (Command.Read v) = Entry.Read v ∷ []
+entriesOf Command.Malformed = []
 
 -- the card acts on that entry; a malformed command is refusal 2 and leaves the card as it was
 abbrev pub executeEntries : Card → List Entry → Answered
@@ -37,14 +38,14 @@ unfoldable pub execute : Card → Command → Answered
 execute c m = executeEntries c (entriesOf m)
 
 -- 'It prints a line for each': the line of a command, and the session after it. N counts all lines from 1; line numbers have 64 bits.
-unfoldable pub lineOf : State → Command → List ℕ
-lineOf s m = lineText (s .line) m (execute (s .card) m .answer)
+unfoldable pub lineOf : State → Parsed → List ℕ
+lineOf s m = lineText (s .line) (m .command) (execute (s .card) (m .command) .answer)
 
-unfoldable pub afterLine : State → Command → State
-afterLine s m = record { card = execute (s .card) m .card; at = nextOf m; line = placeAfter (s .line) 1 }
+unfoldable pub afterLine : State → Parsed → State
+afterLine s m = record { card = execute (s .card) (m .command) .card; at = m .next; line = placeAfter (s .line) 1 }
 
 -- the lines one after the other, the card going from command to command
-unfoldable pub linesOf : State → List Command → List ℕ
+unfoldable pub linesOf : State → List Parsed → List ℕ
 linesOf s [] = []
 linesOf s (m ∷ ms) = lineOf s m ++ linesOf (afterLine s m) ms
 
@@ -52,37 +53,47 @@ unfoldable pub linesText : List ℕ → State → List ℕ
 linesText t s = linesOf s (commands t (s .at))
 
 -- the session that is left after the last line, and the entries of demand 3 that the commands name
-unfoldable pub lastState : State → List Command → State
+unfoldable pub lastState : State → List Parsed → State
 lastState s [] = s
 lastState s (m ∷ ms) = lastState (afterLine s m) ms
 
-unfoldable pub entries : List Command → List Entry
+unfoldable pub entries : List Parsed → List Entry
 entries [] = []
-entries (m ∷ ms) = entriesOf m ++ entries ms
+entries (m ∷ ms) = entriesOf (m .command) ++ entries ms
 
--- the session before its first command
-abbrev pub firstState : Card → State
-firstState c = record { card = c; at = 0; line = 1 }
-
--- calls over the limit print one line only, and so does a refused card, 'judged before the calls'
-abbrev pub callsText : List ℕ → Card → List ℕ
-callsText calls c = cond (ltb 65536 (length calls)) callsRefusal (linesText calls (firstState c))
-
-abbrev pub verdictText : List ℕ → Card → Verdict → List ℕ
-verdictText calls c Verdict.Accepted = callsText calls c
-verdictText calls c (Verdict.Refused r line) = cardRefusal (Verdict.Refused r line)
-
--- the whole session: what the bench program prints for a card text and a calls text
-unfoldable pub session : List ℕ → List ℕ → List ℕ
-session card calls = verdictText calls (opened card .card) (opened card .verdict)
-
--- The session in pieces. Lines gathered so far, and the session after them.
+-- Lines gathered so far, and the session after them.
 pub record Gathered : Type 0 where
   pub text : List ℕ
   pub state : State
 
--- as many whole lines as `room` bytes take
-unfoldable pub gather : ℕ → Gathered → List Command → Gathered
+-- What is printed before any command: nothing, or a refusal, past which no command is left. Calls over the limit print only that line, and
+-- so does a refused card, 'judged before the calls'.
+abbrev pub firstState : Card → State
+firstState c = record { card = c; at = 0; line = 1 }
+
+abbrev pub overState : List ℕ → Card → State
+overState calls c = record { card = c; at = length calls; line = 1 }
+
+abbrev pub callsBeginning : List ℕ → Card → Gathered
+callsBeginning calls c =
+    cond (ltb 65536 (length calls))
+    (record { text = callsRefusal; state = overState calls c })
+    (record { text = []; state = firstState c })
+
+abbrev pub verdictBeginning : List ℕ → Card → Verdict → Gathered
+verdictBeginning calls c Verdict.Accepted = callsBeginning calls c
+verdictBeginning calls c (Verdict.Refused r line) =
+    record { text = cardRefusal (Verdict.Refused r line); state = overState calls c }
+
+unfoldable pub beginning : List ℕ → List ℕ → Gathered
+beginning card calls = verdictBeginning calls (opened card .card) (opened card .verdict)
+
+-- the whole session: what the bench program prints for a card text and a calls text
+unfoldable pub session : List ℕ → List ℕ → List ℕ
+session card calls = beginning card calls .text ++ linesText calls (beginning card calls .state)
+
+-- The session in pieces: as many whole lines as `room` bytes take
+unfoldable pub gather : ℕ → Gathered → List Parsed → Gathered
 gather room g [] = g
 gather room g (m ∷ ms) =
     cond (leb (length (g .text ++ lineOf (g .state) m)) room)
@@ -93,7 +104,7 @@ abbrev pub fitting : List ℕ → State → ℕ → Gathered
 fitting t s room = gather room (record { text = []; state = s }) (commands t (s .at))
 
 -- the line of the first of these commands
-abbrev pub firstLine : State → List Command → List ℕ
+abbrev pub firstLine : State → List Parsed → List ℕ
 firstLine s [] = []
 firstLine s (m ∷ ms) = lineOf s m
 
@@ -116,24 +127,6 @@ pub record Prints (t : List ℕ) (s : State) (b : List ℕ) (r : Printed) (z : L
   pub text : linesText t s ≡ take (r .length) z ++ linesText t (r .state)
   pub within : r .length ≤ length b
   pub onward : longest ≤ length b → s .at < length t → s .at < r .state .at
-
--- What is printed before any command, and the session after it: a refusal, past which no command is left, or nothing.
-abbrev pub overState : List ℕ → Card → State
-overState calls c = record { card = c; at = length calls; line = 1 }
-
-abbrev pub callsBeginning : List ℕ → Card → Gathered
-callsBeginning calls c =
-    cond (ltb 65536 (length calls))
-    (record { text = callsRefusal; state = overState calls c })
-    (record { text = []; state = firstState c })
-
-abbrev pub verdictBeginning : List ℕ → Card → Verdict → Gathered
-verdictBeginning calls c Verdict.Accepted = callsBeginning calls c
-verdictBeginning calls c (Verdict.Refused r line) =
-    record { text = cardRefusal (Verdict.Refused r line); state = overState calls c }
-
-unfoldable pub beginning : List ℕ → List ℕ → Gathered
-beginning card calls = verdictBeginning calls (opened card .card) (opened card .verdict)
 
 -- Starting a session with a buffer: what is printed and the session after it, the buffer, and that this and the lines that follow are all.
 pub record Begins (x : Gathered) (b : List ℕ) (r : Printed) (z : List ℕ) : Type 0 where

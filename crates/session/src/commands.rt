@@ -1,19 +1,18 @@
-// The command at a place of a calls text. Every place is allowed.
+// The command at a place of a calls text.
 use crate::Command;
-use crate::Inputs;
+use crate::Parsed;
 use crate::Word;
 use construction::Words;
 use grammar::Number;
-use grammar::Numbers;
 use grammar::reading::field_at;
-use grammar::reading::four_at;
 use grammar::reading::has_word;
 ghost use mathlib.Core.Path.{_≡_};
-ghost use lib.ListN.{drop};
-ghost use Rattle.session.specs.Commands.{word, areWords, inputs as inputsOf, lineEnd, callAt, command};
+ghost use Prim.Native.Nat.{_<_};
+ghost use lib.ListN.{length};
+ghost use Rattle.session.specs.Commands.{word, malformed, callAt, command};
 
 // A field that has 32 bits, ended by a separator that belongs to it.
-pub fn word_at(calls: &[u8], separator: u8, at: usize) -> Word
+fn word_at(calls: &[u8], separator: u8, at: usize) -> Word
     ensures { λ r. ⌜ r ≡ word (now (calls .entry)) separator at ⌝ }
 {
     let Number::Value { value, next } = field_at(calls, separator, at) else {
@@ -29,109 +28,89 @@ pub fn word_at(calls: &[u8], separator: u8, at: usize) -> Word
     }
 }
 
-// Whether four numbers have 32 bits each.
-fn are_words(a: u64, b: u64, c: u64, d: u64) -> bool
-    ensures { λ r. ⌜ r ≡ areWords a b c d ⌝ }
+// A command that is malformed: its line is searched for its end.
+fn malformed_at(calls: &[u8], at: usize) -> Parsed
+    ensures { λ r. ⌜ r ≡ malformed (now (calls .entry)) at ⌝ }
 {
-    a < 4_294_967_296 && (b < 4_294_967_296 && (c < 4_294_967_296 && d < 4_294_967_296))
-}
-
-// The four inputs that a call ends with.
-pub fn inputs_at(calls: &[u8], at: usize) -> Inputs
-    ensures { λ r. ⌜ r ≡ inputsOf (now (calls .entry)) at ⌝ }
-{
-    let Numbers::Values { a, b, c, d, next } = four_at(calls, at) else {
-        return Inputs::Malformed;
-    };
-    if are_words(a, b, c, d) {
-        let inputs = Words {
-            w0: a as u32,
-            w1: b as u32,
-            w2: c as u32,
-            w3: d as u32,
-        };
-        return Inputs::Values { inputs, next };
-    }
-    Inputs::Malformed
-}
-
-// A call after its verb; `past` is the place past its line.
-fn call_at(calls: &[u8], at: usize, past: usize) -> Command
-    ensures { λ r. ⌜ r ≡ callAt (now (calls .entry)) past at ⌝ }
-{
-    let Word::Value {
-        value: process,
-        next: i,
-    } = word_at(calls, b',', at)
-    else {
-        return Command::Malformed { next: past };
-    };
-    let Word::Value {
-        value: program,
-        next: j,
-    } = word_at(calls, b',', i)
-    else {
-        return Command::Malformed { next: past };
-    };
-    let Inputs::Values { inputs, next } = inputs_at(calls, j) else {
-        return Command::Malformed { next: past };
-    };
-    Command::Call {
-        process,
-        program,
-        inputs,
-        next,
-    }
-}
-
-// The place past the line that goes on at a place.
-pub fn line_end(calls: &[u8], at: usize) -> usize
-    ensures { λ r. ⌜ r ≡ lineEnd at (drop at (now (calls .entry))) ⌝ }
-{
+    let command = Command::Malformed;
     let mut i = at;
     while i < calls.len() {
         if calls[i] == b'\n' {
-            return i + 1;
+            return Parsed {
+                command,
+                next: i + 1,
+            };
         }
         i = i + 1;
     }
-    i
+    Parsed { command, next: i }
 }
 
-// The command at a place.
-pub fn command_at(calls: &[u8], at: usize) -> Command
+fn call_at(calls: &[u8], at: usize) -> Parsed
+    requires { ⌜ at < length (now calls) ⌝ }
+    ensures { λ r. ⌜ r ≡ callAt (now (calls .entry)) at ⌝ }
+{
+    let Word::Value { value, next } = word_at(calls, b',', at + 5) else {
+        return malformed_at(calls, at);
+    };
+    let process = value;
+    let Word::Value { value, next } = word_at(calls, b',', next) else {
+        return malformed_at(calls, at);
+    };
+    let program = value;
+    let Word::Value { value, next } = word_at(calls, b',', next) else {
+        return malformed_at(calls, at);
+    };
+    let w0 = value;
+    let Word::Value { value, next } = word_at(calls, b',', next) else {
+        return malformed_at(calls, at);
+    };
+    let w1 = value;
+    let Word::Value { value, next } = word_at(calls, b',', next) else {
+        return malformed_at(calls, at);
+    };
+    let w2 = value;
+    let Word::Value { value, next } = word_at(calls, b'\n', next) else {
+        return malformed_at(calls, at);
+    };
+    let w3 = value;
+    let inputs = Words { w0, w1, w2, w3 };
+    let command = Command::Call {
+        process,
+        program,
+        inputs,
+    };
+    Parsed { command, next }
+}
+
+// The command at a place of the text.
+pub(crate) fn command_at(calls: &[u8], at: usize) -> Parsed
+    requires { ⌜ at < length (now calls) ⌝ }
     ensures { λ r. ⌜ r ≡ command (now (calls .entry)) at ⌝ }
 {
-    let past = line_end(calls, at);
     if has_word(calls, at, b"call,") {
-        return call_at(calls, at + 5, past);
+        return call_at(calls, at);
     }
     if has_word(calls, at, b"wish,") {
         let Word::Value { value, next } = word_at(calls, b'\n', at + 5) else {
-            return Command::Malformed { next: past };
+            return malformed_at(calls, at);
         };
-        return Command::Exit {
-            process: value,
-            next,
-        };
+        let command = Command::Exit { process: value };
+        return Parsed { command, next };
     }
     if has_word(calls, at, b"step,") {
         let Word::Value { value, next } = word_at(calls, b'\n', at + 5) else {
-            return Command::Malformed { next: past };
+            return malformed_at(calls, at);
         };
-        return Command::Step {
-            process: value,
-            next,
-        };
+        let command = Command::Step { process: value };
+        return Parsed { command, next };
     }
     if has_word(calls, at, b"look,") {
         let Word::Value { value, next } = word_at(calls, b'\n', at + 5) else {
-            return Command::Malformed { next: past };
+            return malformed_at(calls, at);
         };
-        return Command::Read {
-            variable: value,
-            next,
-        };
+        let command = Command::Read { variable: value };
+        return Parsed { command, next };
     }
-    Command::Malformed { next: past }
+    malformed_at(calls, at)
 }

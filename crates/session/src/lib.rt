@@ -1,7 +1,7 @@
 // A session of the bench program (document 01, "The bench program"): a card text and a calls text to the printed text, on slices.
 // It rests on the crates grammar (fields and decimals), reader (the card text), card (the four requests) and construction (types and
 // definitions). Every public function is total, and its contract gives its whole result and every byte of the buffer.
-pub mod commands; // commands.rt: the command at a place of a calls text
+mod commands; // commands.rt: the command at a place of a calls text
 pub mod printing; // printing.rt: the printed lines
 pub mod running; // running.rt: the session, as many whole lines at a time as a buffer takes
 
@@ -14,35 +14,29 @@ pub enum Word {
     Malformed,
 }
 
-// The four inputs of a call, and the place past its line.
-pub enum Inputs {
-    Values { inputs: Words, next: usize },
-    Malformed,
-}
-
-// A command, and the place past its line.
+// A command, with its own fields only.
 pub enum Command {
     Call {
         process: u32,
         program: u32,
         inputs: Words,
-        next: usize,
     },
     Exit {
         process: u32,
-        next: usize,
     },
     Step {
         process: u32,
-        next: usize,
     },
     Read {
         variable: u32,
-        next: usize,
     },
-    Malformed {
-        next: usize,
-    },
+    Malformed,
+}
+
+// The command at a place, and the place past its line.
+pub struct Parsed {
+    pub command: Command,
+    pub next: usize,
 }
 
 // A session under way: the card, the place of the next command and the number of its line.

@@ -25,12 +25,11 @@ fn put_head(buffer: &mut [u8], at: usize, line: u64, command: Command) -> usize
             process,
             program: _,
             inputs: _,
-            next: _,
         } => put_number(buffer, at, b"call,", process as u64),
-        Command::Exit { process, next: _ } => put_number(buffer, at, b"wish,", process as u64),
-        Command::Step { process, next: _ } => put_number(buffer, at, b"step,", process as u64),
-        Command::Read { variable, next: _ } => put_number(buffer, at, b"look,", variable as u64),
-        Command::Malformed { next: _ } => put_number(buffer, at, b"line,", line),
+        Command::Exit { process } => put_number(buffer, at, b"wish,", process as u64),
+        Command::Step { process } => put_number(buffer, at, b"step,", process as u64),
+        Command::Read { variable } => put_number(buffer, at, b"look,", variable as u64),
+        Command::Malformed => put_number(buffer, at, b"line,", line),
     }
 }
 

@@ -13,8 +13,7 @@ use construction::Refusal;
 use construction::Verdict;
 ghost use mathlib.Core.Path.{_≡_};
 ghost use Rattle.grammar.specs.Writing.{placeAfter};
-ghost use Rattle.session.specs.Commands.{nextOf};
-ghost use Rattle.session.specs.Session.{execute as executed, Prints, callsBeginning, Begins, Starts};
+ghost use Rattle.session.specs.Session.{execute as executed, Prints, Starts};
 
 // The most bytes of calls that are read.
 const LIMIT: usize = 65_536;
@@ -30,33 +29,14 @@ pub fn execute(card: Card, command: Command) -> Answered
             process,
             program,
             inputs,
-            next: _,
         } => card::call(card, process, program, inputs),
-        Command::Exit { process, next: _ } => card::request_exit(card, process),
-        Command::Step { process, next: _ } => card::step(card, process),
-        Command::Read { variable, next: _ } => card::read(card, variable),
-        Command::Malformed { next: _ } => Answered {
+        Command::Exit { process } => card::request_exit(card, process),
+        Command::Step { process } => card::step(card, process),
+        Command::Read { variable } => card::read(card, variable),
+        Command::Malformed => Answered {
             card,
             answer: Answer::Refused(Refusal::Malformed),
         },
-    }
-}
-
-// The place past a command's line.
-fn next_of(command: Command) -> usize
-    ensures { λ r. ⌜ r ≡ nextOf command ⌝ }
-{
-    match command {
-        Command::Call {
-            process: _,
-            program: _,
-            inputs: _,
-            next,
-        } => next,
-        Command::Exit { process: _, next } => next,
-        Command::Step { process: _, next } => next,
-        Command::Read { variable: _, next } => next,
-        Command::Malformed { next } => next,
     }
 }
 
@@ -66,47 +46,40 @@ fn next_line(line: u64) -> u64
     if line < LARGEST { line + 1 } else { line }
 }
 
-fn printed(card: Card, at: usize, line: u64, length: usize) -> Printed
-    ensures { λ r. ⌜ r ≡ record { state = record { card = card; at = at; line = line }; length = length } ⌝ }
-{
-    let state = State { card, at, line };
-    Printed { state, length }
-}
-
 // Prints the lines of the session from a state on, as many whole ones as fit into the buffer.
 pub fn put_lines(state: State, calls: &[u8], buffer: &mut [u8]) -> Printed
     ensures { λ r. ⌜ Prints (now (calls .entry)) state (now (buffer .entry)) r (now (buffer .exit)) ⌝ }
 {
-    let mut card = state.card;
-    let mut at = state.at;
-    let mut line = state.line;
+    let mut state = state;
     let mut length: usize = 0;
-    while at < calls.len() {
-        let command = command_at(calls, at);
+    while state.at < calls.len() {
+        let parsed = command_at(calls, state.at);
+        let command = parsed.command;
+        let card = state.card;
         let answered = execute(card, command);
         let answer = answered.answer;
-        let end = put_line(buffer, length, line, command, answer);
+        let end = put_line(buffer, length, state.line, command, answer);
         if buffer.len() < end {
-            return printed(card, at, line, length);
+            return Printed { state, length };
         }
         let after = answered.card;
-        card = after;
-        at = next_of(command);
-        line = next_line(line);
+        let line = next_line(state.line);
+        state = State {
+            card: after,
+            at: parsed.next,
+            line,
+        };
         length = end;
     }
-    printed(card, at, line, length)
+    Printed { state, length }
 }
 
-// The session of a card that is accepted: its first command, or the refusal of its calls.
-fn start_calls(card: Card, calls: &[u8], buffer: &mut [u8]) -> Printed
-    ensures { λ r. ⌜ Begins (callsBeginning (now (calls .entry)) card) (now (buffer .entry)) r (now (buffer .exit)) ⌝ }
+// A session before its first command, after what is printed before that.
+fn begun(card: Card, at: usize, length: usize) -> Printed
+    ensures { λ r. ⌜ r ≡ record { state = record { card = card; at = at; line = 1 }; length = length } ⌝ }
 {
-    if LIMIT < calls.len() {
-        let length = put_calls_refusal(buffer);
-        return printed(card, calls.len(), 1, length);
-    }
-    printed(card, 0, 1, 0)
+    let state = State { card, at, line: 1 };
+    Printed { state, length }
 }
 
 // Starts a session: a refusal is printed into the buffer, and no command is left after it.
@@ -116,11 +89,13 @@ pub fn start(card: &[u8], calls: &[u8], buffer: &mut [u8]) -> Printed
     let opened = reader::open(card);
     let first = opened.card;
     let verdict = opened.verdict;
-    match verdict {
-        Verdict::Accepted => start_calls(first, calls, buffer),
-        Verdict::Refused { refusal, line } => {
-            let length = put_card_refusal(buffer, refusal, line);
-            printed(first, calls.len(), 1, length)
-        }
+    if let Verdict::Refused { refusal, line } = verdict {
+        let length = put_card_refusal(buffer, refusal, line);
+        return begun(first, calls.len(), length);
     }
+    if LIMIT < calls.len() {
+        let length = put_calls_refusal(buffer);
+        return begun(first, calls.len(), length);
+    }
+    begun(first, 0, 0)
 }

@@ -1,10 +1,11 @@
-use Rattle.construction.proofs.Text.Reading as laws
+use Rattle.construction.specs.Opening.{opened}
 use borrow.Author.Needs.{needs}
 use Rattle.reader.proofs.open.Statement.{statement}
 use Rattle.reader.proofs.open.Tie as tie
 
 returns : tie.Need-returns
-returns c = laws.opened-made _ (c .before .before .read-card .ensures) (c .fresh-card .ensures)
+unfolding opened
+returns c = rw (c .fresh .ensures, c .before .before .read-card .ensures)
 
 pub open-spec : {M : Type 1} → statement M
 open-spec = tie.close (tie.spec (λ c κs. search needs) (λ c κs. search needs) returns)

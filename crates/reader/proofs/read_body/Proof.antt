@@ -1,6 +1,6 @@
 use Rattle.reader.specs.Gathering.{soFar}
 use Rattle.construction.specs.declared.Reading.{Reading}
-use Rattle.construction.proofs.Text.Reading as laws
+use Rattle.reader.proofs.Laws as laws
 use mathlib.Core.Path.{ap}
 use native.Mathlib.Omega.{arith}
 use borrow.Author.Needs.{needs}

@@ -1,21 +1,25 @@
 use Rattle.construction.proofs.Text.Lines.{card-read}
-use Rattle.construction.proofs.Text.Reading as laws
+use Rattle.construction.specs.Opening.{readCard}
+use borrow.Author.Tests.{lt-ltb, le-ltb}
 use mathlib.Core.Path.{sym, _∙_}
 use borrow.Author.Needs.{needs}
 use Rattle.reader.proofs.read_card.Statement.{statement}
 use Rattle.reader.proofs.read_card.Tie as tie
 
 returns : tie.Need-returns
-returns c = (c .refused-at .ensures) ∙ laws.card-long _ (c .before .if1 .taken)
+unfolding readCard
+returns c = rw (lt-ltb _ _ (c .before .if1 .taken)) (c .refused-at .ensures)
 
 returns-2 : tie.Need-returns-2
-returns-2 c = rw (c .refused-at2 .ensures, c .before .card-refusal .ensures, c .before .before .enum-told .given .1) (laws.card-lines _ (c .before .before .before .before .before .if1 .left) (sym (c .before .before .enum-told .given .1) ∙ (c .before .before .before .before .card-line .ensures)))
+unfolding readCard
+returns-2 c = rw (le-ltb _ _ (c .before .before .before .before .before .if1 .left), c .refused-at2 .ensures, c .before .card-refusal .ensures, ← c .before .before .before .before .card-line .ensures, c .before .before .enum-told .given .1)
 
 read-body-requires : tie.Need-read-body-requires
 read-body-requires c κs = let f = card-read (c .before .before .before .before .before .before .before .args .text .now) 0 (c .before .before .line .given .0 .0) (c .before .before .line .given .0 .1 .0) (c .before .before .line .given .0 .1 .1 .0) (c .before .before .line .given .0 .1 .1 .1 .0) (c .before .before .line .given .0 .1 .1 .1 .1 .0) (sym (c .before .before .before .before .card-line .ensures) ∙ (c .before .before .line .given .1)) .fits in (f .variables .1, f .programs .1)
 
 returns-3 : tie.Need-returns-3
-returns-3 c = rw (c .read-body .ensures, c .before .begun-contents .ensures) (laws.card-lines _ (c .before .before .before .before .before .before .if1 .left) (sym (c .before .before .before .line .given .1) ∙ (c .before .before .before .before .before .card-line .ensures)))
+unfolding readCard
+returns-3 c = rw (le-ltb _ _ (c .before .before .before .before .before .before .if1 .left), c .read-body .ensures, c .before .begun-contents .ensures, ← c .before .before .before .before .before .card-line .ensures, c .before .before .before .line .given .1)
 
 pub read-card-spec : {M : Type 1} → statement M
 read-card-spec =

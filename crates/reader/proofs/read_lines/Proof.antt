@@ -1,12 +1,13 @@
 use Rattle.reader.specs.Gathering.{programSoFar}
 use Rattle.construction.specs.Opening.{insFrom}
 use Rattle.construction.specs.Instructions.{noLine}
-use Rattle.construction.proofs.Text.Reading as laws
+use Rattle.reader.proofs.Laws as laws
 use lib.ListN as list
 use lib.ListN.{replicate, length-set}
-use mathlib.Core.Path.{_≡_, refl, sym, _∙_}
+use mathlib.Core.Path.{_≡_, refl}
 use Prim.Native.Nat.{_+_, _-_, _≤_}
 use native.Mathlib.Numerals.{add-one}
+use native.Mathlib.Nat.{sub-zero, sub-eq-zero-of-le}
 use native.Mathlib.Omega.{arith}
 use borrow.Author.Needs.{needs}
 use Rattle.reader.proofs.read_lines.Statement.{statement}
@@ -19,16 +20,19 @@ abbrev μ-loop : tie.MeasureT-loop
 μ-loop variables text length start first lines₀ at₀ number₀ count k₀ lines at number k = count - k
 
 loop-holds : tie.Need-loop-holds Inv-loop μ-loop
-loop-holds c = (rw (c .no-line .ensures) (laws.ins-start _ _ _ _), omega arith, omega arith, refl)
+loop-holds c = (rw (c .no-line .ensures, sub-zero), omega arith, omega arith, refl)
 
 returns : tie.Need-returns Inv-loop μ-loop
-returns c = rw (c .program-refused-at .ensures, c .before .ins-refusal .ensures, c .before .before .enum-told .given .1) (sym ((c .before .before .before .before .before .before .loop .inv .0) ∙ laws.ins-refused _ _ _ _ _ (c .before .before .before .before .before .loop-test .taken) (c .before .before .before .before .ins-line .ensures) (c .before .before .enum-told .given .1)))
+unfolding insFrom
+returns c = rw (c .program-refused-at .ensures, c .before .ins-refusal .ensures, c .before .before .before .before .before .before .loop .inv .0, laws.one-less _ _ (c .before .before .before .before .before .loop-test .taken), ← c .before .before .before .before .ins-line .ensures, c .before .before .enum-told .given .1)
 
 loop-again : tie.Need-loop-again Inv-loop μ-loop
-loop-again c = ((c .before .before .before .before .before .loop .inv .0) ∙ laws.ins-more _ _ _ _ _ (c .before .before .before .before .loop-test .taken) (c .before .before .before .ins-line .ensures) (c .before .line .given .1) (rw add-one), omega arith, omega arith, simp length-set (c .before .before .before .before .before .loop .inv .3))
+unfolding insFrom
+loop-again c = (rw (c .before .before .before .before .before .loop .inv .0, laws.one-less _ _ (c .before .before .before .before .loop-test .taken), ← c .before .before .before .ins-line .ensures, c .before .line .given .1) (simp add-one), omega arith, omega arith, simp length-set (c .before .before .before .before .before .loop .inv .3))
 
 returns-2 : tie.Need-returns-2 Inv-loop μ-loop
-returns-2 c = sym ((c .before .loop .inv .0) ∙ laws.ins-end _ _ _ _ _ (c .loop-test .left))
+unfolding insFrom
+returns-2 c = rw (c .before .loop .inv .0, sub-eq-zero-of-le (c .loop-test .left))
 
 pub read-lines-spec : {M : Type 1} → statement M
 read-lines-spec =

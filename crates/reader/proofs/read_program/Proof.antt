@@ -1,5 +1,6 @@
 use Rattle.construction.proofs.Text.Lines.{sheet-read}
-use Rattle.construction.proofs.Text.Reading as laws
+use Rattle.construction.specs.Opening.{readProgram}
+use native.Mathlib.Numerals.{add-one}
 use mathlib.Core.Path.{sym, _∙_}
 use native.Mathlib.Omega.{arith}
 use borrow.Author.Needs.{needs}
@@ -7,13 +8,15 @@ use Rattle.reader.proofs.read_program.Statement.{statement}
 use Rattle.reader.proofs.read_program.Tie as tie
 
 returns : tie.Need-returns
-returns c = rw (c .program-refused-at .ensures, c .before .sheet-refusal .ensures, c .before .before .enum-told .given .1) (laws.program-refused _ _ _ _ (c .before .before .before .before .sheet-line .ensures) (c .before .before .enum-told .given .1))
+unfolding readProgram
+returns c = rw (c .program-refused-at .ensures, c .before .sheet-refusal .ensures, ← c .before .before .before .before .sheet-line .ensures, c .before .before .enum-told .given .1)
 
 read-lines-requires : tie.Need-read-lines-requires
 read-lines-requires c κs = omega (arith, sheet-read (c .before .before .before .before .before .args .text .now) (c .before .before .before .before .before .args .at) (c .before .line .given .0 .0) (c .before .line .given .0 .1 .0) (sym (c .before .before .before .sheet-line .ensures) ∙ (c .before .line .given .1)) .fits)
 
 returns-2 : tie.Need-returns-2
-returns-2 c = (c .read-lines .ensures) ∙ laws.program-read _ _ _ _ (c .before .before .before .before .sheet-line .ensures) (c .before .before .line .given .1)
+unfolding readProgram
+returns-2 c = rw (c .read-lines .ensures, ← c .before .before .before .before .sheet-line .ensures, c .before .before .line .given .1, add-one)
 
 pub read-program-spec : {M : Type 1} → statement M
 read-program-spec =

@@ -5,8 +5,10 @@ use Rattle.construction.specs.Opening.{programsFrom}
 use lib.ListN as list
 use lib.ListN.{length-set}
 use Prim.Native.Nat.{_+_, _-_, _*_, _≤_}
-use Rattle.construction.proofs.Text.Reading as laws
-use mathlib.Core.Path.{_≡_, sym, _∙_, ap}
+use Rattle.reader.proofs.Laws as laws
+use mathlib.Core.Path.{_≡_, ap}
+use native.Mathlib.Numerals.{add-one}
+use native.Mathlib.Nat.{sub-zero, sub-eq-zero-of-le}
 use native.Mathlib.Omega.{arith}
 use borrow.Author.Needs.{needs}
 use Rattle.reader.proofs.read_programs.Statement.{statement}
@@ -19,19 +21,22 @@ abbrev μ-loop : tie.MeasureT-loop
 μ-loop text count contents start first variables code₀ at₀ number₀ all k₀ code at number k = all - k
 
 loop-holds : tie.Need-loop-holds Inv-loop μ-loop
-loop-holds c = (laws.programs-start _ _ _, omega arith, omega arith, (let e : list.length (c .before .before .args .contents .code) ≡ 8 = simp length-map at (c .before .before .good .1 .1 .0 .1 .1 .1 .1 .1 .1 .1 .0 .1 .0 .1) in e))
+loop-holds c = (rw sub-zero, omega arith, omega arith, (let e : list.length (c .before .before .args .contents .code) ≡ 8 = simp length-map at (c .before .before .good .1 .1 .0 .1 .1 .1 .1 .1 .1 .1 .0 .1 .0 .1) in e))
 
 read-program-requires : tie.Need-read-program-requires Inv-loop μ-loop
 read-program-requires c κs = omega arith
 
 returns : tie.Need-returns Inv-loop μ-loop
-returns c = (c .refused-at .ensures) ∙ sym ((c .before .before .before .before .before .before .loop .inv .0) ∙ laws.programs-refused _ _ _ _ (c .before .before .before .before .before .loop-test .taken) (c .before .before .before .before .read-program .ensures) (c .before .before .verdict .given .1))
+unfolding programsFrom
+returns c = rw (c .refused-at .ensures, c .before .before .before .before .before .before .loop .inv .0, laws.one-less _ _ (c .before .before .before .before .before .loop-test .taken), ← c .before .before .before .before .read-program .ensures, c .before .before .verdict .given .1)
 
 loop-again : tie.Need-loop-again Inv-loop μ-loop
-loop-again c = ((c .before .before .before .before .before .loop .inv .0) ∙ laws.programs-more _ _ _ _ (c .before .before .before .before .loop-test .taken) (c .before .before .before .read-program .ensures) (c .before .enum-told .given .1), omega arith, omega (arith, ap (λ (y : ProgramReading). y .line) (c .before .before .before .read-program .ensures), laws.program-line (c .before .before .before .before .before .before .before .before .args .contents .variables) (c .before .before .before .before .before .before .before .before .args .text .now) (c .before .before .before .before .before .loop .at) (c .before .before .before .before .before .loop .number)), simp length-set ((c .before .before .before .before .before .loop .inv .3)))
+unfolding programsFrom
+loop-again c = (rw (c .before .before .before .before .before .loop .inv .0, laws.one-less _ _ (c .before .before .before .before .loop-test .taken), ← c .before .before .before .read-program .ensures, c .before .enum-told .given .1, add-one), omega arith, omega (arith, ap (λ (y : ProgramReading). y .line) (c .before .before .before .read-program .ensures), laws.program-line (c .before .before .before .before .before .before .before .before .args .contents .variables) (c .before .before .before .before .before .before .before .before .args .text .now) (c .before .before .before .before .before .loop .at) (c .before .before .before .before .before .loop .number)), simp length-set ((c .before .before .before .before .before .loop .inv .3)))
 
 returns-2 : tie.Need-returns-2 Inv-loop μ-loop
-returns-2 c = sym ((c .before .before .loop .inv .0) ∙ laws.programs-end _ _ _ _ (c .before .loop-test .left))
+unfolding programsFrom
+returns-2 c = rw (c .before .before .loop .inv .0, sub-eq-zero-of-le (c .before .loop-test .left))
 
 pub read-programs-spec : {M : Type 1} → statement M
 read-programs-spec =

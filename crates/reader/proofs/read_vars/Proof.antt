@@ -1,11 +1,12 @@
 use Rattle.reader.specs.Gathering.{soFar, withStarts}
 use Rattle.construction.specs.Opening.{varsFrom}
-use Rattle.construction.proofs.Text.Reading as laws
+use Rattle.reader.proofs.Laws as laws
 use lib.ListN as list
 use lib.ListN.{length-set}
-use mathlib.Core.Path.{_≡_, sym, _∙_}
+use mathlib.Core.Path.{_≡_}
 use Prim.Native.Nat.{_+_, _-_, _≤_}
 use native.Mathlib.Numerals.{add-one}
+use native.Mathlib.Nat.{sub-zero, sub-eq-zero-of-le}
 use native.Mathlib.Omega.{arith}
 use borrow.Author.Needs.{needs}
 use Rattle.reader.proofs.read_vars.Statement.{statement}
@@ -18,16 +19,19 @@ abbrev μ-loop : tie.MeasureT-loop
 μ-loop text count contents start first starts₀ at₀ number₀ all k₀ starts at number k = all - k
 
 loop-holds : tie.Need-loop-holds Inv-loop μ-loop
-loop-holds c = (laws.vars-start _ _ _, omega arith, omega arith, search needs)
+loop-holds c = (rw sub-zero, omega arith, omega arith, search needs)
 
 returns : tie.Need-returns Inv-loop μ-loop
-returns c = rw (c .refused-at .ensures, c .before .var-refusal .ensures, c .before .before .enum-told .given .1) (sym ((c .before .before .before .before .before .before .loop .inv .0) ∙ laws.vars-refused _ _ _ _ (c .before .before .before .before .before .loop-test .taken) (c .before .before .before .before .var-line .ensures) (c .before .before .enum-told .given .1)))
+unfolding varsFrom
+returns c = rw (c .refused-at .ensures, c .before .var-refusal .ensures, c .before .before .before .before .before .before .loop .inv .0, laws.one-less _ _ (c .before .before .before .before .before .loop-test .taken), ← c .before .before .before .before .var-line .ensures, c .before .before .enum-told .given .1)
 
 loop-again : tie.Need-loop-again Inv-loop μ-loop
-loop-again c = ((c .before .before .before .before .before .loop .inv .0) ∙ laws.vars-more _ _ _ _ (c .before .before .before .before .loop-test .taken) (c .before .before .before .var-line .ensures) (c .before .line .given .1) (rw add-one), omega arith, omega arith, simp length-set (c .before .before .before .before .before .loop .inv .3))
+unfolding varsFrom
+loop-again c = (rw (c .before .before .before .before .before .loop .inv .0, laws.one-less _ _ (c .before .before .before .before .loop-test .taken), ← c .before .before .before .var-line .ensures, c .before .line .given .1) (simp add-one), omega arith, omega arith, simp length-set (c .before .before .before .before .before .loop .inv .3))
 
 returns-2 : tie.Need-returns-2 Inv-loop μ-loop
-returns-2 c = sym ((c .before .before .loop .inv .0) ∙ laws.vars-end _ _ _ _ (c .before .loop-test .left))
+unfolding varsFrom
+returns-2 c = rw (c .before .before .loop .inv .0, sub-eq-zero-of-le (c .before .loop-test .left))
 
 pub read-vars-spec : {M : Type 1} → statement M
 read-vars-spec =

@@ -1,35 +1,95 @@
-use Rattle.session.proofs.CommandLaws as laws
-use mathlib.Core.Path.{sym, _∙_}
+use Rattle.session.specs.Commands.{callAt}
 use borrow.Author.Needs.{needs}
 use Rattle.session.proofs.commands.call_at.Statement.{statement}
 use Rattle.session.proofs.commands.call_at.Tie as tie
 
 returns : tie.Need-returns
-returns c = laws.call-no-process _ _ _ (sym (c .enum-told .given .1) ∙ (c .before .before .word-at .ensures))
+unfolding callAt
+returns c = rw (← c .before .before .before .word-at .ensures, c .before .enum-told .given .1) (c .malformed-at .ensures)
 
 returns-2 : tie.Need-returns-2
-returns-2 c = laws.call-no-program _ _ _ (sym (c .before .before .before .before .process .given .1) ∙ (c .before .before .before .before .before .before .word-at .ensures)) (sym (c .enum-told2 .given .1) ∙ (c .before .before .word-at2 .ensures))
+unfolding callAt
+returns-2 c =
+    let c₁ = c .before .before .before .before in
+    rw (← c₁ .before .before .before .word-at .ensures, c₁ .before .value .given .1, ← c .before .before .before .word-at2 .ensures, c .before .enum-told2 .given .1) (c .malformed-at2 .ensures)
 
 returns-3 : tie.Need-returns-3
-returns-3 c = laws.call-no-inputs _ _ _ (sym (c .before .before .before .before .before .before .before .before .process .given .1) ∙ (c .before .before .before .before .before .before .before .before .before .before .word-at .ensures)) (sym (c .before .before .before .before .program .given .1) ∙ (c .before .before .before .before .before .before .word-at2 .ensures)) (sym (c .enum-told3 .given .1) ∙ (c .before .before .inputs-at .ensures))
+unfolding callAt
+returns-3 c =
+    let c₂ = c .before .before .before .before in
+    let c₁ = c₂ .before .before .before .before in
+    rw (← c₁ .before .before .before .word-at .ensures, c₁ .before .value .given .1, ← c₂ .before .before .before .word-at2 .ensures, c₂ .before .value2 .given .1, ← c .before .before .before .word-at3 .ensures, c .before .enum-told3 .given .1) (c .malformed-at3 .ensures)
 
 returns-4 : tie.Need-returns-4
-returns-4 c = laws.call-values _ _ _ (sym (c .before .before .before .before .before .before .before .before .before .process .given .1) ∙ (c .before .before .before .before .before .before .before .before .before .before .before .word-at .ensures)) (sym (c .before .before .before .before .before .program .given .1) ∙ (c .before .before .before .before .before .before .before .word-at2 .ensures)) (sym (c .before .inputs .given .1) ∙ (c .before .before .before .inputs-at .ensures))
+unfolding callAt
+returns-4 c =
+    let c₃ = c .before .before .before .before in
+    let c₂ = c₃ .before .before .before .before in
+    let c₁ = c₂ .before .before .before .before in
+    rw (← c₁ .before .before .before .word-at .ensures, c₁ .before .value .given .1, ← c₂ .before .before .before .word-at2 .ensures, c₂ .before .value2 .given .1, ← c₃ .before .before .before .word-at3 .ensures, c₃ .before .value3 .given .1, ← c .before .before .before .word-at4 .ensures, c .before .enum-told4 .given .1) (c .malformed-at4 .ensures)
+
+returns-5 : tie.Need-returns-5
+unfolding callAt
+returns-5 c =
+    let c₄ = c .before .before .before .before in
+    let c₃ = c₄ .before .before .before .before in
+    let c₂ = c₃ .before .before .before .before in
+    let c₁ = c₂ .before .before .before .before in
+    rw (← c₁ .before .before .before .word-at .ensures, c₁ .before .value .given .1, ← c₂ .before .before .before .word-at2 .ensures, c₂ .before .value2 .given .1, ← c₃ .before .before .before .word-at3 .ensures, c₃ .before .value3 .given .1, ← c₄ .before .before .before .word-at4 .ensures, c₄ .before .value4 .given .1, ← c .before .before .before .word-at5 .ensures, c .before .enum-told5 .given .1) (c .malformed-at5 .ensures)
+
+returns-6 : tie.Need-returns-6
+unfolding callAt
+returns-6 c =
+    let c₅ = c .before .before .before .before in
+    let c₄ = c₅ .before .before .before .before in
+    let c₃ = c₄ .before .before .before .before in
+    let c₂ = c₃ .before .before .before .before in
+    let c₁ = c₂ .before .before .before .before in
+    rw (← c₁ .before .before .before .word-at .ensures, c₁ .before .value .given .1, ← c₂ .before .before .before .word-at2 .ensures, c₂ .before .value2 .given .1, ← c₃ .before .before .before .word-at3 .ensures, c₃ .before .value3 .given .1, ← c₄ .before .before .before .word-at4 .ensures, c₄ .before .value4 .given .1, ← c₅ .before .before .before .word-at5 .ensures, c₅ .before .value5 .given .1, ← c .before .before .before .word-at6 .ensures, c .before .enum-told6 .given .1) (c .malformed-at6 .ensures)
+
+returns-7 : tie.Need-returns-7
+unfolding callAt
+returns-7 c =
+    let c₅ = c .before .before .before .before in
+    let c₄ = c₅ .before .before .before .before in
+    let c₃ = c₄ .before .before .before .before in
+    let c₂ = c₃ .before .before .before .before in
+    let c₁ = c₂ .before .before .before .before in
+    rw (← c₁ .before .before .before .word-at .ensures, c₁ .before .value .given .1, ← c₂ .before .before .before .word-at2 .ensures, c₂ .before .value2 .given .1, ← c₃ .before .before .before .word-at3 .ensures, c₃ .before .value3 .given .1, ← c₄ .before .before .before .word-at4 .ensures, c₄ .before .value4 .given .1, ← c₅ .before .before .before .word-at5 .ensures, c₅ .before .value5 .given .1, ← c .before .before .before .word-at6 .ensures, c .before .value6 .given .1)
 
 pub call-at-spec : {M : Type 1} → statement M
 call-at-spec =
     tie.close
     (tie.spec
+    (λ c. search needs)
     (λ c κs. search needs)
     (λ c. search needs)
     (λ c. search needs)
+    (λ c κs. search needs)
     returns
     (λ c κs. search needs)
     (λ c. search needs)
     (λ c. search needs)
+    (λ c κs. search needs)
     returns-2
     (λ c κs. search needs)
     (λ c. search needs)
     (λ c. search needs)
+    (λ c κs. search needs)
     returns-3
-    returns-4)
+    (λ c κs. search needs)
+    (λ c. search needs)
+    (λ c. search needs)
+    (λ c κs. search needs)
+    returns-4
+    (λ c κs. search needs)
+    (λ c. search needs)
+    (λ c. search needs)
+    (λ c κs. search needs)
+    returns-5
+    (λ c κs. search needs)
+    (λ c. search needs)
+    (λ c. search needs)
+    (λ c κs. search needs)
+    returns-6
+    returns-7)

@@ -1,17 +1,20 @@
-use Rattle.session.proofs.CommandLaws as laws
-use mathlib.Core.Path.{sym, _∙_}
+use Rattle.session.specs.Commands.{word}
+use borrow.Author.Tests.{lt-ltb, le-ltb}
 use borrow.Author.Needs.{needs}
 use Rattle.session.proofs.commands.word_at.Statement.{statement}
 use Rattle.session.proofs.commands.word_at.Tie as tie
 
 returns : tie.Need-returns
-returns c = laws.word-malformed _ _ _ (sym (c .enum-told .given .1) ∙ (c .before .before .field-at .ensures))
+unfolding word
+returns c = rw (← c .before .before .field-at .ensures, c .enum-told .given .1)
 
 returns-2 : tie.Need-returns-2
-returns-2 c = laws.word-value _ _ _ (sym (c .before .before .value .given .1) ∙ (c .before .before .before .before .field-at .ensures)) (c .if1 .taken)
+unfolding word
+returns-2 c = rw (← c .before .before .before .before .field-at .ensures, c .before .before .value .given .1, lt-ltb _ _ (c .if1 .taken))
 
 returns-3 : tie.Need-returns-3
-returns-3 c = laws.word-large _ _ _ (sym (c .before .before .value .given .1) ∙ (c .before .before .before .before .field-at .ensures)) (c .if1 .left)
+unfolding word
+returns-3 c = rw (← c .before .before .before .before .field-at .ensures, c .before .before .value .given .1, le-ltb _ _ (c .if1 .left))
 
 pub word-at-spec : {M : Type 1} → statement M
 word-at-spec =

@@ -1,38 +1,37 @@
-use Rattle.session.proofs.SessionLaws as laws
-use lib.ListN.{length}
-use Prim.Native.Nat.{_-_}
-use borrow.Author.Needs.{needs}
 use native.Mathlib.Omega.{arith}
+use borrow.Author.Needs.{needs}
+use Prim.Native.Nat.{_-_}
+use lib.ListN as list
+use Rattle.session.proofs.SessionLaws as laws
 use Rattle.session.proofs.running.put_lines.Statement.{statement}
 use Rattle.session.proofs.running.put_lines.Tie as tie
 
 abbrev Inv-loop : tie.InvT-loop
-Inv-loop calls buffer₀ card₀ at₀ line₀ n₀ buffer card at line n =
-    laws.Going calls (record { card = card₀; at = at₀; line = line₀ }) buffer₀ (record { card = card; at = at; line = line }) n buffer
+Inv-loop calls buffer₀ state₀ length₀ buffer state length = laws.Going calls state₀ buffer₀ state length buffer
 
 abbrev μ-loop : tie.MeasureT-loop
-μ-loop calls buffer₀ card₀ at₀ line₀ n₀ buffer card at line n = length calls - at
+μ-loop calls buffer₀ state₀ length₀ buffer state length = list.length calls - state .at
 
 loop-holds : tie.Need-loop-holds Inv-loop μ-loop
-loop-holds c = laws.going _ _ _
+loop-holds c = laws.going _ _ _ (omega arith)
 
 same-length : tie.Need-same-length Inv-loop μ-loop
-same-length c = laws.stopped-length (c .before .before .before .before .before .before .before .before .before .loop .inv) (c .before .before .before .before .before .before .before .before .loop-test .taken) (c .before .before .before .before .before .before .before .command-at .ensures) (c .before .before .before .before .before .before .execute .ensures) (c .before .before .before .before .put-line .ensures)
+same-length c = laws.stopped-length (c .before .before .before .before .before .before .before .before .before .before .loop .inv) (c .before .before .before .before .before .before .before .before .if1 .taken) (c .before .before .before .before .before .before .before .command-at .ensures) (c .before .before .before .before .before .execute .ensures) (c .before .before .before .put-line .ensures)
 
 returns : tie.Need-returns Inv-loop μ-loop
-returns c = laws.stopped (c .before .before .before .before .before .before .before .before .before .loop .inv) (c .before .before .before .before .before .before .before .before .loop-test .taken) (c .before .before .before .before .before .before .before .command-at .ensures) (c .before .before .before .before .before .before .execute .ensures) (c .before .before .before .before .put-line .ensures) (c .printed .ensures) (c .before .if1 .taken)
+returns c = laws.stopped (c .before .before .before .before .before .before .before .before .before .before .loop .inv) (c .before .before .before .before .before .before .before .before .if1 .taken) (c .before .before .before .before .before .before .before .command-at .ensures) (c .before .before .before .before .before .execute .ensures) (c .before .before .before .put-line .ensures) (c .if2 .taken)
 
 loop-less : tie.Need-loop-less Inv-loop μ-loop
-loop-less c = laws.less (c .before .before .before .before .before .before .before .before .before .before .before .loop .inv) (c .before .before .before .before .before .before .before .before .before .before .loop-test .taken) (c .before .before .before .before .before .before .before .before .before .command-at .ensures) (c .before .before .before .before .before .before .before .before .execute .ensures) (c .before .before .before .before .before .before .put-line .ensures) (c .before .next-of .ensures)
+loop-less c = laws.less (c .before .before .before .before .before .before .before .before .before .before .before .before .loop .inv) (c .before .before .before .before .before .before .before .before .before .before .if1 .taken) (c .before .before .before .before .before .before .before .before .before .command-at .ensures) (c .before .before .before .before .before .before .before .execute .ensures) (c .before .before .before .before .before .put-line .ensures)
 
 loop-again : tie.Need-loop-again Inv-loop μ-loop
-loop-again c = laws.again (c .before .before .before .before .before .before .before .before .before .before .before .loop .inv) (c .before .before .before .before .before .before .before .before .before .before .loop-test .taken) (c .before .before .before .before .before .before .before .before .before .command-at .ensures) (c .before .before .before .before .before .before .before .before .execute .ensures) (c .before .before .before .before .before .before .put-line .ensures) (c .before .next-of .ensures) (c .next-line .ensures) (omega arith) (c .before .before .before .if1 .left)
+loop-again c = laws.again (c .before .before .before .before .before .before .before .before .before .before .before .before .loop .inv) (c .before .before .before .before .before .before .before .before .before .before .if1 .taken) (c .before .before .before .before .before .before .before .before .before .command-at .ensures) (c .before .before .before .before .before .before .before .execute .ensures) (c .before .before .before .before .before .put-line .ensures) (c .next-line .ensures) (c .before .before .if2 .left)
 
 same-length-2 : tie.Need-same-length-2 Inv-loop μ-loop
-same-length-2 c = (c .before .before .loop .inv .same)
+same-length-2 c = laws.same (c .before .before .loop .inv)
 
 returns-2 : tie.Need-returns-2 Inv-loop μ-loop
-returns-2 c = laws.ended (c .before .before .loop .inv) (c .printed2 .ensures) (c .before .loop-test .left)
+returns-2 c = laws.ended (c .before .before .loop .inv) (c .if1 .left)
 
 pub put-lines-spec : {M : Type 1} → statement M
 put-lines-spec =
@@ -44,13 +43,10 @@ put-lines-spec =
     (λ c κs. search needs)
     (λ c κs. search needs)
     (λ c κs. search needs)
-    (λ c κs. search needs)
     same-length
     returns
     (λ c κs. search needs)
-    (λ c κs. search needs)
     loop-less
     loop-again
-    (λ c κs. search needs)
     same-length-2
     returns-2)

@@ -1,0 +1,165 @@
+// What stands at opening, by value: the opening value of each part of a card, and the card of given contents as its text opens it
+// (document 01, "Shared cells"). It rests on the crate construction, which declares the types and defines each result.
+use construction::Announcement;
+use construction::Card;
+use construction::Contents;
+use construction::Dictionary;
+use construction::Flag;
+use construction::Gate;
+use construction::Holder;
+use construction::Instruction;
+use construction::Item;
+use construction::Line;
+use construction::Operation;
+use construction::Place;
+use construction::Program;
+use construction::Record;
+use construction::Simulation;
+use construction::Task;
+use construction::Words;
+ghost use mathlib.Core.Path.{_≡_};
+ghost use mathlib.Core.List.{map};
+ghost use Rattle.construction.specs.Cells.{zeros, openAnnouncement, openRecord};
+ghost use Rattle.construction.specs.Instructions.{started, noLine, noProgram};
+ghost use Rattle.construction.specs.Dictionary.{noItem, empty};
+ghost use Rattle.construction.specs.Opening.{fresh};
+
+pub fn zeros() -> Words
+    ensures { λ r. ⌜ r ≡ zeros ⌝ }
+{
+    Words {
+        w0: 0,
+        w1: 0,
+        w2: 0,
+        w3: 0,
+    }
+}
+
+pub fn open_announcement() -> Announcement
+    ensures { λ r. ⌜ r ≡ openAnnouncement ⌝ }
+{
+    Announcement {
+        program: 0,
+        flag: Flag::Done,
+        seq: 0,
+        words: zeros(),
+    }
+}
+
+// The record of a variable with this starting value.
+pub fn open_record(start: u32) -> Record
+    ensures { λ r. ⌜ r ≡ openRecord start ⌝ }
+{
+    Record {
+        val0: start,
+        val1: 0,
+        toggle: false,
+        seq: 0,
+    }
+}
+
+// The records of all variables.
+fn open_records(starts: [u32; 64]) -> [Record; 64]
+    ensures { λ r. ⌜ r ≡ map openRecord starts ⌝ }
+{
+    let record = open_record(0);
+    let mut records = [record; 64];
+    let mut k: usize = 0;
+    while k < 64 {
+        records[k] = open_record(starts[k]);
+        k = k + 1;
+    }
+    records
+}
+
+// What stands at a place of a program past its lines.
+pub fn no_line() -> Line
+    ensures { λ r. ⌜ r ≡ noLine ⌝ }
+{
+    Line {
+        instruction: Instruction::Stop,
+    }
+}
+
+// A program of no lines.
+pub fn no_program() -> Program
+    ensures { λ r. ⌜ r ≡ noProgram ⌝ }
+{
+    Program {
+        length: 0,
+        lines: [no_line(); 32],
+    }
+}
+
+// The state of a program that starts.
+pub fn started() -> Simulation
+    ensures { λ r. ⌜ r ≡ started ⌝ }
+{
+    Simulation {
+        counter: 0,
+        registers: zeros(),
+        outputs: zeros(),
+    }
+}
+
+// What stands at a place of a dictionary that nothing was noted at.
+pub fn no_item() -> Item
+    ensures { λ r. ⌜ r ≡ noItem ⌝ }
+{
+    Item {
+        variable: 0,
+        value: 0,
+        cell: open_record(0),
+    }
+}
+
+// Line H1.
+pub fn empty() -> Dictionary
+    ensures { λ r. ⌜ r ≡ empty ⌝ }
+{
+    Dictionary {
+        length: 0,
+        items: [no_item(); 32],
+    }
+}
+
+// The card of these contents as its text opens it.
+pub fn fresh(contents: Contents) -> Card
+    ensures { λ r. ⌜ r ≡ fresh contents ⌝ }
+{
+    let starts = contents.starts;
+    let code = contents.code;
+    let announcement = open_announcement();
+    Card {
+        processes: contents.processes,
+        variables: contents.variables,
+        programs: contents.programs,
+        limit: contents.limit,
+        starts,
+        code,
+        gate: Gate {
+            holder: Holder::Nobody,
+            seq: 1,
+        },
+        announcements: [announcement; 8],
+        records: open_records(starts),
+        steps: 0,
+        tasks: [Task {
+            place: Place::Idle,
+            target: 0,
+        }; 8],
+        operations: [Operation {
+            program: 0,
+            inputs: zeros(),
+        }; 8],
+        exits: [false; 8],
+        counts: [0; 8],
+        gates: [Gate {
+            holder: Holder::Nobody,
+            seq: 0,
+        }; 8],
+        copies: [announcement; 8],
+        simulations: [started(); 8],
+        dictionaries: [empty(); 8],
+    }
+}

@@ -1,9 +1,0 @@
-use borrow.Author.Needs.{needs}
-use Rattle.parts.proofs.started.Statement.{statement}
-use Rattle.parts.proofs.started.Tie as tie
-
-returns : tie.Need-returns
-returns c = rw (c .before .zeros .ensures, c .zeros2 .ensures)
-
-pub started-spec : {M : Type 1} → statement M
-started-spec = tie.close (tie.spec (λ c κs. search needs) (λ c κs. search needs) returns)

@@ -1,0 +1,75 @@
+-- The reading of a card text, line by line (document 01, 'The card text'): bounds of the line's number, and what follows the first line.
+use mathlib.Core.Path.{_≡_, sym, _∙_, ap}
+use mathlib.Core.List.{List}
+use Prim.Native.Nat.{ℕ, zero, suc, _+_, _-_, _<_, _≤_}
+use lib.ListN.{length}
+use native.Mathlib.Omega.{arith}
+use borrow.Author.Tests.{eq-eqb, ne-eqb}
+use Rattle.construction.specs.declared.Refusal.{Refusal}
+use Rattle.construction.specs.declared.Refusal.the-variants.{Malformed}
+use Rattle.construction.specs.declared.Verdict.{Verdict}
+use Rattle.construction.specs.declared.ProgramReading.{ProgramReading}
+use Rattle.construction.specs.declared.Reading.{Reading}
+use Rattle.construction.specs.Lines.{varLine, sheetLine, insLine}
+use Rattle.construction.specs.Opening.{refusedAt, withLine, insFrom, readProgram, programsFrom, withStart, varsFrom, ifAccepted, atEnd, thenEnd, thenPrograms}
+use Rattle.construction.proofs.TextLines.{sheet-read}
+use Rattle.construction.proofs.TextReading.{afterLength, on-ins, on-sheet, on-var}
+
+-- ---- a loop that has k of its m turns behind it
+pub one-less : (m k : ℕ) → k < m → m - k ≡ suc (m - (k + 1))
+one-less m k h = omega arith
+
+-- ---- the number of the line after a program, and after the `var` lines
+ins-line : (n : ℕ) (t : List ℕ) (m k : ℕ) (r : ProgramReading) → insFrom n t m k r .line ≤ r .line + m
+unfolding insFrom
+ins-line n t zero k r = omega arith
+ins-line n t (suc m) k r =
+    on-ins (λ x. x .line ≤ r .line + suc m) (insLine n t (r .at)) r k (λ x. insFrom n t m (suc k) x)
+    (λ y i _. omega (arith, ins-line n t m (suc k) (withLine r k y i))) (λ why. omega arith)
+
+pub program-line : (n : ℕ) (t : List ℕ) (at line : ℕ) → readProgram n t at line .line ≤ line + 33
+unfolding readProgram
+program-line n t at line =
+    on-sheet (λ x. x .line ≤ line + 33) n t (sheetLine t at) line
+    (λ m i e. omega (arith, ins-line n t m 0 (afterLength m i (suc line)), sheet-read t at m i e .fits)) (λ why. omega arith)
+
+pub vars-line : (t : List ℕ) (m k : ℕ) (r : Reading) → varsFrom t m k r .line ≤ r .line + m
+unfolding varsFrom
+vars-line t zero k r = omega arith
+vars-line t (suc m) k r =
+    on-var (λ x. x .line ≤ r .line + suc m) (varLine t (r .at)) r k (λ x. varsFrom t m (suc k) x)
+    (λ v i _. omega (arith, vars-line t m (suc k) (withStart r k v i))) (λ why. omega arith)
+
+-- ---- what follows the first line
+module _ {v : Verdict} (r : Reading) (go : Reading → Reading) where
+  goes-on : v ≡ Verdict.Accepted → ifAccepted v r go ≡ go r
+  goes-on p = rw p
+
+  stops : {why : Refusal} {line : ℕ} → v ≡ Verdict.Refused why line → ifAccepted v r go ≡ r
+  stops p = rw p
+
+module _ (t : List ℕ) (s : ℕ) (a : Reading) where
+  pub body-no-vars : {why : Refusal} {line : ℕ} → a .verdict ≡ Verdict.Refused why line → a ≡ thenEnd t (thenPrograms t s a)
+  body-no-vars p = sym (ap (λ (x : Reading). thenEnd t x) (stops a (λ x. programsFrom t s 0 x) p) ∙ stops a (λ x. atEnd t x) p)
+
+  module _
+      (b : Reading) (p : a .verdict ≡ Verdict.Accepted)
+      (e : b ≡ programsFrom t s 0 (record { verdict = Verdict.Accepted; contents = a .contents; at = a .at; line = a .line })) where
+    whole : _≡_ {A = Reading} (record { verdict = Verdict.Accepted; contents = a .contents; at = a .at; line = a .line }) a
+    whole = λ i. record { verdict = sym p i; contents = a .contents; at = a .at; line = a .line }
+
+    body : thenEnd t b ≡ thenEnd t (thenPrograms t s a)
+    body = ap (λ (x : Reading). thenEnd t x) (e ∙ ap (λ (x : Reading). programsFrom t s 0 x) whole ∙ sym (goes-on a (λ x. programsFrom t s 0 x) p))
+
+    pub body-no-programs : {why : Refusal} {line : ℕ} → b .verdict ≡ Verdict.Refused why line → b ≡ thenEnd t (thenPrograms t s a)
+    body-no-programs q = sym (stops b (λ x. atEnd t x) q) ∙ body
+
+    module _ (q : b .verdict ≡ Verdict.Accepted) where
+      ended : atEnd t b ≡ thenEnd t (thenPrograms t s a)
+      ended = sym (goes-on b (λ x. atEnd t x) q) ∙ body
+
+      pub body-whole : b .at ≡ length t → b ≡ thenEnd t (thenPrograms t s a)
+      body-whole z = sym (rw (eq-eqb (b .at) (length t) z)) ∙ ended
+
+      pub body-left : (b .at ≡ length t → ⊥) → refusedAt Malformed (b .line) ≡ thenEnd t (thenPrograms t s a)
+      body-left z = sym (rw (ne-eqb (b .at) (length t) z)) ∙ ended

@@ -9,7 +9,6 @@ use Rattle.grammar.proofs.Puts.{Room, rest-all, rest-step, rest-last}
 use Rattle.construction.specs.declared.Card.{Card}
 use Rattle.construction.specs.declared.Answer.{Answer}
 use Rattle.construction.specs.declared.Verdict.{Verdict}
-use Rattle.construction.specs.declared.Refusal.{Refusal}
 use Rattle.construction.specs.declared.Refusal.the-variants.{TooLong}
 use Rattle.construction.specs.Answers.{bytes, Fields, numberOf, refusedWith, answerFields, verdictFields, fieldsText}
 use Rattle.answers.proofs.Texts.{PutWithin, put-short}

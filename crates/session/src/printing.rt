@@ -10,7 +10,6 @@ use construction::Refusal;
 use construction::Verdict;
 use grammar::writing::put_byte;
 use grammar::writing::put_word;
-ghost use mathlib.Core.Path.{_≡_};
 ghost use Prim.Native.Nat.{_+_, _≤_};
 ghost use Rattle.grammar.specs.Writing.{Put};
 ghost use Rattle.construction.specs.declared.Verdict.{Verdict as VerdictOf};

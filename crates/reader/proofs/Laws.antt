@@ -12,8 +12,8 @@ use Rattle.construction.specs.declared.ProgramReading.{ProgramReading}
 use Rattle.construction.specs.declared.Reading.{Reading}
 use Rattle.construction.specs.Lines.{varLine, sheetLine, insLine}
 use Rattle.construction.specs.Opening.{refusedAt, withLine, insFrom, readProgram, programsFrom, withStart, varsFrom, ifAccepted, atEnd, thenEnd, thenPrograms}
-use Rattle.construction.proofs.TextLines.{sheet-read}
-use Rattle.construction.proofs.TextReading.{afterLength, on-ins, on-sheet, on-var}
+use Rattle.construction.proofs.Text.Lines.{sheet-read}
+use Rattle.construction.proofs.Text.Reading.{afterLength, on-ins, on-sheet, on-var}
 
 -- ---- a loop that has k of its m turns behind it
 pub one-less : (m k : ℕ) → k < m → m - k ≡ suc (m - (k + 1))

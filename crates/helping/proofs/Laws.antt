@@ -7,7 +7,7 @@ use native.Mathlib.Omega.{arith}
 use native.Mathlib.Numerals.{add-one}
 use lib.Dec.{eqb, ltb}
 use lib.ListN.{length, getD, set, take, drop, length-take, length-set, length-map, drop-of-length-le}
-use lib.Seq.{drop-cons, getD-take, map-set-same, length-take-le}
+use lib.Seq.{drop-cons, getD-take, map-set-same, length-take-le, take-all}
 use borrow.Author.Tests.{eq-eqb, ne-eqb, lt-ltb, le-ltb}
 use Rattle.construction.specs.declared.Words.{Words}
 use Rattle.construction.specs.declared.Program.{Program}
@@ -22,7 +22,7 @@ use Rattle.construction.specs.Instructions.{effectOf, noLine, nextEffect, withR
 use Rattle.programs.specs.Fetching.{instructionAt}
 use Rattle.programs.proofs.Laws.{fetched}
 use Rattle.construction.specs.Dictionary.{noItem, noted, position, find, valueAt, withValue, assign, valueUnder, insert, altered, unaltered, nextWrite}
-use Rattle.helping.specs.Keys.{keys, placeOf}
+use Rattle.helping.specs.Numbers.{keys, values, placeOf, revalued, withValues, Numbered}
 use Rattle.construction.specs.Helping.{ended, lacks, simulateFrom, simulate}
 
 -- a value assigned, and an item inserted
@@ -127,6 +127,103 @@ enough-keys d ks end h =
 find-by-keys : (d : Dictionary) (ks : List ℕ) (v end k : ℕ) → Keyed d ks end → k ≡ placeOf (take end ks) v → k ≡ find d v
 find-by-keys d ks v end k h q =
     q ∙ rw (h .0, h .1) (position-is v (length (noted d)) (d .items) ∙ rw (take-again (d .length) (d .items)))
+
+-- items with other values: with none, with their own, ..
+revalued-none : (es : List Item) → revalued es [] ≡ es
+unfolding revalued
+revalued-none [] = refl
+revalued-none (e ∷ es) = refl
+
+revalued-own : (es : List Item) → revalued es (map (λ (e : Item). e .value) es) ≡ es
+unfolding revalued
+revalued-own [] = refl
+revalued-own (e ∷ es) = rw (revalued-own es)
+
+-- .. their keys and how many there are, ..
+revalued-keys : (es : List Item) (xs : List ℕ) → map (λ (e : Item). e .variable) (revalued es xs) ≡ map (λ (e : Item). e .variable) es
+unfolding revalued
+revalued-keys [] xs = refl
+revalued-keys (e ∷ es) [] = refl
+revalued-keys (e ∷ es) (x ∷ xs) = rw (revalued-keys es xs)
+
+revalued-length : (es : List Item) (xs : List ℕ) → length (revalued es xs) ≡ length es
+unfolding revalued
+revalued-length [] xs = refl
+revalued-length (e ∷ es) [] = refl
+revalued-length (e ∷ es) (x ∷ xs) = rw (revalued-length es xs)
+
+-- .. the value at a place, ..
+revalued-at :
+    (es : List Item) (xs : List ℕ) (k : ℕ) → k < length es → length xs ≡ length es →
+    getD xs k 0 ≡ getD (revalued es xs) k noItem .value
+unfolding revalued
+revalued-at [] xs k p q = absurd (omega arith)
+revalued-at (e ∷ es) [] k p q = absurd (omega arith)
+revalued-at (e ∷ es) (x ∷ xs) zero p q = refl
+revalued-at (e ∷ es) (x ∷ xs) (suc k) p q = revalued-at es xs k (omega arith) (omega arith)
+
+-- .. another value at a place, ..
+revalued-set :
+    (es : List Item) (xs : List ℕ) (k x : ℕ) → length xs ≡ length es →
+    revalued es (set xs k x) ≡ set (revalued es xs) k (withValue (getD (revalued es xs) k noItem) x)
+unfolding revalued
+revalued-set [] xs k x q = refl
+revalued-set (e ∷ es) [] k x q = absurd (omega arith)
+revalued-set (e ∷ es) (y ∷ xs) zero x q = refl
+revalued-set (e ∷ es) (y ∷ xs) (suc k) x q = rw (revalued-set es xs k x (omega arith))
+
+-- .. and with one value more
+revalued-more :
+    (es : List Item) (xs : List ℕ) (k : ℕ) → k < length es → k < length xs →
+    set (revalued es (take k xs)) k (withValue (getD (revalued es (take k xs)) k noItem) (getD xs k 0))
+    ≡ revalued es (take (suc k) xs)
+unfolding revalued
+revalued-more [] xs k p q = absurd (omega arith)
+revalued-more (e ∷ es) [] k p q = absurd (omega arith)
+revalued-more (e ∷ es) (x ∷ xs) zero p q = rw (revalued-none es)
+revalued-more (e ∷ es) (x ∷ xs) (suc k) p q = rw (revalued-more es xs k (omega arith) (omega arith))
+
+-- a dictionary that takes values one after the other: none, ..
+pub no-values : (d : Dictionary) → d ≡ withValues d []
+no-values d = rw (revalued-none (d .items))
+
+module _ (d : Dictionary) (xs : List ℕ) (k : ℕ) (b : Dictionary) (e : b ≡ withValues d (take k xs)) where
+  -- .. one more, ..
+  pub more-values :
+      k < length (d .items) → k < length xs →
+      _≡_ {A = Dictionary}
+      (record { length = b .length; items = set (b .items) k (withValue (getD (b .items) k noItem) (getD xs k 0)) })
+      (withValues d (take (k + 1) xs))
+  more-values p q = rw (e, add-one k, revalued-more (d .items) xs k p q)
+
+  -- .. all
+  pub all-values : length xs ≤ k → b ≡ withValues d xs
+  all-values p = e ∙ rw (take-all k xs p)
+
+-- a dictionary and the numbers that stand in it
+module _ {ks before : List ℕ} {end : ℕ} {d : Dictionary} (h : Numbered ks before end d) where
+  pub keyed : (xs : List ℕ) → Keyed (withValues d xs) ks end
+  keyed xs = (
+    h .count ∙ simp (length-take, revalued-length),
+    h .keyed ∙ sym (revalued-keys (d .items) xs),
+  )
+
+  pub enough : end ≤ length ks
+  enough = enough-keys d ks end (h .count, h .keyed)
+
+  pub own-values : withValues d before ≡ d
+  own-values = rw (h .valued, revalued-own (d .items))
+
+  pub long : length before ≡ length (d .items)
+  long = rw (h .valued, length-map (d .items) (λ (e : Item). e .value))
+
+  module _ (xs : List ℕ) (same : length xs ≡ length before) (k : ℕ) (inside : k < end) where
+    pub value-is : getD xs k 0 ≡ valueAt (withValues d xs) k
+    value-is = revalued-at (d .items) xs k (omega (arith, h .count, length-take (d .length) (d .items))) (same ∙ long)
+
+    pub assigned : (x : ℕ) → withValues d (set xs k x) ≡ assign (withValues d xs) k x
+    unfolding assign
+    assigned x = rw (revalued-set (d .items) xs k x (same ∙ long))
 
 -- a simulation whose result is `total` goes on from s and d with so many instructions left
 abbrev pub Going : ℕ → Program → Words → Simulated → List ℕ → ℕ → ℕ → Simulation → Dictionary → Type 0

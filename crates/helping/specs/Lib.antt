@@ -1,2 +1,3 @@
 -- The definitions that the contracts of helping add to those of construction
-pub mod Keys
+pub mod Numbers
+pub mod Pauses

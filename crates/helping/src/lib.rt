@@ -1,187 +1,165 @@
-// Helping (lines H1 to H36 of the paper) as code: the dictionary, which only this crate's functions touch, and the simulation of a
-// program on it. It rests on the crates construction (types and definitions), cells and programs.
+// Helping (lines P16 to P18 and H1 to H36 of the paper): what a process goes on with that helps the operation whose turn it is. A program is
+// simulated on the numbers of a dictionary, and only `note` takes a dictionary, updates it and gives it back.
+// It rests on the crates construction (types and definitions), cells, parts and programs.
+pub mod dictionary; // dictionary.rt: the items of a dictionary, its numbers, and which item is to be written next
+mod simulation; // simulation.rt: a program that runs on lent keys and values
+
+use crate::dictionary::insert;
+use crate::dictionary::item_of;
+use crate::dictionary::next_write;
+use crate::dictionary::noted;
+use crate::dictionary::numbers_of;
+use crate::simulation::simulate;
+use construction::Announcement;
+use construction::Began;
 use construction::Dictionary;
-use construction::Effect;
-use construction::Item;
-use construction::Line;
+use construction::Helped;
 use construction::Pause;
+use construction::Place;
 use construction::Program;
 use construction::Record;
-use construction::Simulated;
 use construction::Simulation;
+use construction::Task;
 use construction::Words;
+use construction::Writing;
 ghost use mathlib.Core.Path.{_≡_};
-ghost use Prim.Native.Nat.{_≤_};
-ghost use lib.ListN.{length, take};
-ghost use Rattle.construction.specs.Instructions.{effectOf};
-ghost use Rattle.programs.specs.Fetching.{instructionAt};
-ghost use Rattle.helping.specs.Keys.{keys, placeOf};
-ghost use Rattle.construction.specs.Dictionary.{noted, valueUnder, itemOf, insert, altered, nextWrite};
-ghost use Rattle.construction.specs.Helping.{ended, lacks, simulate};
+ghost use Rattle.construction.specs.Machine.{helps, beginHelp, note, writing};
+ghost use Rattle.helping.specs.Pauses.{writeTask, pauseTask};
 
-// How many items are noted.
-fn noted(dictionary: Dictionary) -> u8
-    ensures { λ r. ⌜ (r ≡ length (noted dictionary)) × (r ≤ 32) ⌝ }
+// Line P17.
+pub fn helps(announcement: Announcement, number: u64) -> bool
+    ensures { λ r. ⌜ r ≡ helps announcement number ⌝ }
 {
-    let length = dictionary.length;
-    if length < 32 { length } else { 32 }
+    let flag = announcement.flag;
+    !cells::is_done(flag) && announcement.seq <= number
 }
 
-// The variables of all items.
-fn keys(dictionary: Dictionary) -> [u8; 32]
-    ensures { λ r. ⌜ r ≡ keys dictionary ⌝ }
+// Lines H31 and H32: the write of the next item of so many, or P19 past the last.
+fn write_from(next: u8, end: u8) -> Task
+    ensures { λ r. ⌜ r ≡ writeTask next end ⌝ }
 {
-    let mut keys = [0u8; 32];
+    if next < end {
+        return Task {
+            place: Place::H36,
+            target: next,
+        };
+    }
+    Task {
+        place: Place::P19,
+        target: 0,
+    }
+}
+
+// Where a simulation goes on that stands still: it reads a record, or writes what it altered.
+fn after_pause(pause: Pause, next: u8, end: u8) -> Task
+    ensures { λ r. ⌜ r ≡ pauseTask pause next end ⌝ }
+{
+    match pause {
+        Pause::Ended => write_from(next, end),
+        Pause::Lacks(variable) => Task {
+            place: Place::H21,
+            target: variable,
+        },
+    }
+}
+
+// Lines P16 to P18, H1: the program of an announcement starts. It runs up to its first touch of a variable, so that there is nothing
+// of a dictionary yet: no keys and no values.
+pub fn begin_help(
+    n: u8,
+    program: Program,
+    cell: Announcement,
+    number: u64,
+    task: Task,
+    simulation: Simulation,
+) -> Began
+    ensures { λ r. ⌜ r ≡ beginHelp n program cell number task simulation ⌝ }
+{
+    if helps(cell, number) {
+        let inputs = cell.words;
+        let keys = [0u8; 32];
+        let mut values = [0u32; 32];
+        let paused = simulate(n, program, inputs, opening::started(), &keys, 0, &mut values);
+        let pause = paused.pause;
+        let state = paused.simulation;
+        return Began {
+            helps: true,
+            task: after_pause(pause, 0, 0),
+            simulation: state,
+        };
+    }
+    Began {
+        helps: false,
+        task: Task {
+            place: Place::P21,
+            target: task.target,
+        },
+        simulation,
+    }
+}
+
+// Lines H21 to H25: a record that was read is noted, and the program goes on. Its values are taken out of the dictionary and put back.
+pub fn note(
+    n: u8,
+    program: Program,
+    inputs: Words,
+    cell: Record,
+    number: u64,
+    task: Task,
+    simulation: Simulation,
+    dictionary: Dictionary,
+) -> Helped
+    ensures { λ r. ⌜ r ≡ note n program inputs cell number task simulation dictionary ⌝ }
+{
+    if number < cell.seq {
+        return Helped {
+            task: Task {
+                place: Place::P19,
+                target: task.target,
+            },
+            simulation,
+            dictionary,
+        };
+    }
+    let mut d = insert(dictionary, item_of(number, task.target, cell));
+    let numbers = numbers_of(d);
+    let keys = numbers.keys;
+    let mut values = numbers.values;
+    let end = noted(d.length);
+    let paused = simulate(n, program, inputs, simulation, &keys, end, &mut values);
+    let pause = paused.pause;
+    let state = paused.simulation;
     let mut k: usize = 0;
     while k < 32 {
-        keys[k] = dictionary.items[k].variable;
+        d.items[k].value = values[k];
         k = k + 1;
     }
-    keys
-}
-
-// The place of a variable among the first keys, or how many these are.
-fn find(keys: &[u8; 32], end: u8, variable: u8) -> u8
-    requires { ⌜ (end ≤ 32) × (end ≤ length (now keys)) ⌝ }
-    ensures { λ r. ⌜ r ≡ placeOf (take end (now (keys .entry))) variable ⌝ }
-{
-    let mut k: u8 = 0;
-    while k < end {
-        let at = k as usize;
-        if keys[at] == variable {
-            return k;
-        }
-        k = k + 1;
-    }
-    k
-}
-
-// Lines H23 to H25: the value of a record under the held gate's number.
-pub fn value_under(seq: u64, cell: Record) -> u32
-    ensures { λ r. ⌜ r ≡ valueUnder seq cell ⌝ }
-{
-    if cell.seq < seq {
-        cells::current(cell)
-    } else {
-        cells::previous(cell)
+    let next = next_write(number, d, 0);
+    Helped {
+        task: after_pause(pause, next, end),
+        simulation: state,
+        dictionary: d,
     }
 }
 
-// The item of a record that was read.
-pub fn item_of(seq: u64, variable: u8, cell: Record) -> Item
-    ensures { λ r. ⌜ r ≡ itemOf seq variable cell ⌝ }
+// Line H36: the item that is written, and where its helper goes on.
+pub fn writing(number: u64, task: Task, dictionary: Dictionary) -> Writing
+    ensures { λ r. ⌜ r ≡ writing number task dictionary ⌝ }
 {
-    Item {
-        variable,
-        value: value_under(seq, cell),
-        cell,
-    }
-}
-
-// Lines H24 and H25: one item more, unless the dictionary is full.
-pub fn insert(dictionary: Dictionary, item: Item) -> Dictionary
-    ensures { λ r. ⌜ r ≡ insert dictionary item ⌝ }
-{
-    let mut d = dictionary;
-    let length = d.length;
-    if length < 32 {
-        let at = length as usize;
-        d.items[at] = item;
-        d.length = length + 1;
-    }
-    d
-}
-
-// Line H32: whether an item is to be written.
-pub fn altered(seq: u64, item: Item) -> bool
-    ensures { λ r. ⌜ r ≡ altered seq item ⌝ }
-{
-    let cell = item.cell;
-    cell.seq < seq && cells::current(cell) != item.value
-}
-
-// Line H31: the place of the first item to be written, from a place on.
-pub fn next_write(seq: u64, dictionary: Dictionary, from: u8) -> u8
-    ensures { λ r. ⌜ r ≡ nextWrite seq dictionary from ⌝ }
-{
-    let end = noted(dictionary);
-    let mut k = from;
-    while k < end {
-        let at = k as usize;
+    let at = task.target as usize;
+    if at < 32 {
         let item = dictionary.items[at];
-        if altered(seq, item) {
-            return k;
-        }
-        k = k + 1;
+        let next = next_write(number, dictionary, task.target + 1);
+        return Writing {
+            item,
+            task: write_from(next, noted(dictionary.length)),
+        };
     }
-    k
-}
-
-// What the instruction at the counter does, given the line that stands there in a program of this length.
-fn next_effect(n: u8, length: u8, line: Line, inputs: Words, simulation: Simulation) -> Effect
-    ensures { λ r. ⌜ r ≡ effectOf n inputs (simulation .registers) (instructionAt length (simulation .counter) line) ⌝ }
-{
-    let registers = simulation.registers;
-    let instruction = programs::instruction_at(length, simulation.counter, line);
-    programs::effect_of(n, inputs, registers, instruction)
-}
-
-fn ended(simulation: Simulation, dictionary: Dictionary) -> Simulated
-    ensures { λ r. ⌜ r ≡ ended simulation dictionary ⌝ }
-{
-    Simulated {
-        pause: Pause::Ended,
-        simulation,
-        dictionary,
+    Writing {
+        item: opening::no_item(),
+        task: Task {
+            place: Place::P19,
+            target: 0,
+        },
     }
-}
-
-fn lacks(variable: u8, simulation: Simulation, dictionary: Dictionary) -> Simulated
-    ensures { λ r. ⌜ r ≡ lacks variable simulation dictionary ⌝ }
-{
-    Simulated {
-        pause: Pause::Lacks(variable),
-        simulation,
-        dictionary,
-    }
-}
-
-// Lines H7 and H20 to H30: the program is simulated until it ends or its dictionary lacks a variable. Lines and values are read
-// and written here, so that neither the program nor the dictionary is copied for an instruction.
-pub fn simulate(n: u8, program: Program, inputs: Words, s: Simulation, d: Dictionary) -> Simulated
-    ensures { λ r. ⌜ r ≡ simulate n program inputs s d ⌝ }
-{
-    let keys = keys(d);
-    let end = noted(d);
-    let mut s = s;
-    let mut d = d;
-    let mut fuel: u8 = 32;
-    while 0 < fuel {
-        fuel = fuel - 1;
-        let at = (s.counter % 32) as usize;
-        let line = program.lines[at];
-        let effect = next_effect(n, program.length, line, inputs, s);
-        match effect {
-            Effect::Stop => return ended(s, d),
-            Effect::Set { register, value } => s = programs::with_register(s, register, value),
-            Effect::Load { register, variable } => {
-                let source = find(&keys, end, variable);
-                if end <= source {
-                    return lacks(variable, s, d);
-                }
-                s = programs::with_register(s, register, d.items[source as usize].value);
-            }
-            Effect::Store { variable, value } => {
-                let target = find(&keys, end, variable);
-                if end <= target {
-                    return lacks(variable, s, d);
-                }
-                d.items[target as usize].value = value;
-                s = programs::skipped(s, 0);
-            }
-            Effect::Output { output, value } => s = programs::with_output(s, output, value),
-            Effect::Skip { count } => s = programs::skipped(s, count),
-        }
-    }
-    ended(s, d)
 }

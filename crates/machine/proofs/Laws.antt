@@ -1,47 +1,50 @@
--- Stores past the end of a card's arrays, and what stands in them
-use Prim.Native.Nat.{ℕ, _≤_, _<_, _+_, _%_}
-use mathlib.Core.List.{[]}
-use mathlib.Core.Path.{_≡_}
+-- The choices between places by the tests that decide them, over plain values
+use Prim.Native.Nat.{ℕ, _%_, _≤_, _<_}
+use mathlib.Core.Bool.{false}
+use mathlib.Core.List.{[], _∷_}
+use mathlib.Core.Path.{_≡_, refl}
+use native.Mathlib.Nat.{mod-lt}
 use native.Mathlib.Omega.{arith}
-use lib.ListN.{length, getD, List·getD-eq-default}
-use lib.Seq.{set-out}
-use Rattle.parts.proofs.Laws.{inside}
-use Rattle.construction.specs.declared.Announcement.{Announcement}
-use Rattle.construction.specs.declared.Card.{Card}
+use borrow.Author.Tests.{lt-ltb, le-ltb}
+use types.Run.{OneOf, miss}
+use denote.Enum.Declared.{tagOf}
+use Rattle.construction.proofs.Place.{the-type}
 use Rattle.construction.specs.declared.Place.{Place}
-use Rattle.construction.specs.declared.Record.{Record}
-use Rattle.construction.specs.declared.Task.{Task}
-use Rattle.construction.specs.Dictionary.{empty}
-use Rattle.construction.specs.Cells.{swapAnnouncement}
-use Rattle.construction.specs.Parts.{idleTask, taskAt, countAt, announcementAt, dictionaryAt, withRecord, withSteps, withTask}
-use Rattle.construction.specs.Machine.{accessOf, goTo, replaceAnnouncement, perform, advance}
+use Rattle.construction.specs.declared.Place.the-variants.{Idle, P1, P3, P5, P7, P10, C2, C4, P13, P14, P16, H21, H36, P19, P20, P21, P22, F1, F3}
+use Rattle.construction.specs.Machine.{accessOf, firstChoice}
+use Rattle.construction.specs.Requests.{isIdle}
 
--- a swap of an announcement that is not there stores nothing
-pub no-announcement :
-    (c : Card) (i m : ℕ) (expected new : Announcement) (next : Place) → length (c .announcements) ≡ 8 → 8 ≤ m →
-    withTask c i (goTo (taskAt c i) next) ≡ replaceAnnouncement c i m expected new next
-no-announcement c i m expected new next e p =
-    rw (set-out (c .announcements) m (swapAnnouncement (announcementAt c m) expected new .cell) (omega arith))
+module _ (seq p : ℕ) where
+  pub choice-small : 0 < p → p < 256 → seq % p < 256
+  choice-small h k = omega (arith, mod-lt seq h)
 
--- a swap of a record that is not there stores nothing
-pub no-record :
-    (c : Card) (i v : ℕ) (r : Record) (t : Task) → length (c .records) ≡ 64 → 64 ≤ v →
-    withTask c i t ≡ withTask (withRecord c v r) i t
-no-record c i v r t e p = rw (set-out (c .records) v r (omega arith))
+  pub choice-of : 0 < p → seq % p ≡ firstChoice seq p
+  unfolding firstChoice
+  choice-of h = rw (lt-ltb _ _ h)
 
--- the dictionary of a process that is there, whatever stands past the end
-pub dictionary-at :
-    (c : Card) (i : ℕ) → length (c .dictionaries) ≡ 8 → i < 8 →
-    getD (c .dictionaries) i (record { length = 0; items = [] }) ≡ dictionaryAt c i
-dictionary-at c i e p = inside (c .dictionaries) i (record { length = 0; items = [] }) empty (omega arith)
+  pub choice-none : p ≤ 0 → 0 ≡ firstChoice seq p
+  unfolding firstChoice
+  choice-none h = rw (le-ltb _ _ h)
 
--- a process that is not there has no operation: its step is counted and alters nothing else
-pub past-room :
-    (c : Card) (i : ℕ) → length (c .tasks) ≡ 8 → length (c .counts) ≡ 8 → 8 ≤ i →
-    withSteps c ((c .steps + 1) % 18446744073709551616) ≡ advance c i
-unfolding advance perform accessOf
-past-room c i e f p =
-    rw (
-      List·getD-eq-default (c .tasks) idleTask {n = i} (omega arith),
-      set-out (c .counts) i ((countAt c i + 1) % 18446744073709551616) (omega arith),
-    )
+-- every place but the first is one of a process with an operation under way
+pub under-way : (p : Place) → OneOf (1 ∷ 2 ∷ 3 ∷ 4 ∷ 5 ∷ 6 ∷ 7 ∷ 8 ∷ 9 ∷ 10 ∷ 11 ∷ 12 ∷ 13 ∷ 14 ∷ 15 ∷ 16 ∷ 17 ∷ 18 ∷ []) (tagOf the-type p) → false ≡ isIdle p
+unfolding accessOf
+under-way Idle h = absurd (miss (1 ∷ 2 ∷ 3 ∷ 4 ∷ 5 ∷ 6 ∷ 7 ∷ 8 ∷ 9 ∷ 10 ∷ 11 ∷ 12 ∷ 13 ∷ 14 ∷ 15 ∷ 16 ∷ 17 ∷ 18 ∷ []) 0 tt h)
+under-way P1 h = refl
+under-way P3 h = refl
+under-way P5 h = refl
+under-way P7 h = refl
+under-way P10 h = refl
+under-way C2 h = refl
+under-way C4 h = refl
+under-way P13 h = refl
+under-way P14 h = refl
+under-way P16 h = refl
+under-way H21 h = refl
+under-way H36 h = refl
+under-way P19 h = refl
+under-way P20 h = refl
+under-way P21 h = refl
+under-way P22 h = refl
+under-way F1 h = refl
+under-way F3 h = refl

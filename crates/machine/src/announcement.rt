@@ -1,154 +1,197 @@
-// The accesses of an announcement (lines P3, P6, P7, C2, C4, P16, P19, P20, P22).
+// The accesses of an announcement (lines P3, P6, P7, C2, C4, P19, P20, P22), and the answer of an operation that returns. `last` is the
+// announcement that the process last read (the paper's a).
+use crate::outcome;
+use crate::places::by_flag;
+use crate::places::first_choice;
+use crate::places::holder_of;
 use construction::Announcement;
 use construction::AnnouncementAccess;
-use construction::Card;
+use construction::AnnouncementAccessed;
+use construction::Answer;
 use construction::Flag;
+use construction::Gate;
+use construction::Operation;
 use construction::Place;
+use construction::Swap;
 use construction::Task;
+use construction::Words;
 ghost use mathlib.Core.Path.{_≡_};
-ghost use Prim.Native.Nat.{_<_};
-ghost use Rattle.construction.specs.Machine.{replaceAnnouncement, accessAnnouncement};
+ghost use Rattle.construction.specs.Machine.{announced, flagged, withdrawn, finished, readAnnouncement, replaceAnnouncement, whose, accessAnnouncement};
+ghost use Rattle.construction.specs.Requests.{returned};
 
-// Lines P2 and P3.
-fn announce(card: Card, i: usize) -> Card
-    requires { ⌜ i < 8 ⌝ }
-    ensures { λ r. ⌜ r ≡ accessAnnouncement AnnouncementAccess.Announce card i ⌝ }
+// Line P2: what a process announces.
+pub fn announced(operation: Operation, gate: Gate) -> Announcement
+    ensures { λ r. ⌜ r ≡ announced operation gate ⌝ }
 {
-    let mut after = card;
-    let operation = card.operations[i];
-    let held = card.gates[i];
-    let task = card.tasks[i];
-    let new = steps::announced(operation, held);
-    after.announcements[i] = new;
-    after.copies[i] = new;
-    after.tasks[i] = Task {
-        place: Place::P5,
-        target: task.target,
-    };
-    after
+    let words = operation.inputs;
+    Announcement {
+        program: operation.program,
+        flag: Flag::Active,
+        seq: gate.seq,
+        words,
+    }
 }
 
-// Announcement m is swapped from one to another, and process i goes on at a place.
+// An announcement with another flag.
+pub fn flagged(announcement: Announcement, flag: Flag) -> Announcement
+    ensures { λ r. ⌜ r ≡ flagged announcement flag ⌝ }
+{
+    let words = announcement.words;
+    Announcement {
+        program: announcement.program,
+        flag,
+        seq: announcement.seq,
+        words,
+    }
+}
+
+// Line P6: what a process announces that asks to exit.
+pub fn withdrawn(last: Announcement, operation: Operation) -> Announcement
+    ensures { λ r. ⌜ r ≡ withdrawn last operation ⌝ }
+{
+    let words = operation.inputs;
+    Announcement {
+        program: last.program,
+        flag: Flag::Exit,
+        seq: last.seq,
+        words,
+    }
+}
+
+// Lines P19 and P20: what a helper makes of the announcement that it helped.
+pub fn finished(last: Announcement, outputs: Words) -> Announcement
+    ensures { λ r. ⌜ r ≡ finished last outputs ⌝ }
+{
+    Announcement {
+        program: last.program,
+        flag: Flag::Done,
+        seq: last.seq,
+        words: outputs,
+    }
+}
+
+// The announcement of process m is read.
+fn read_announcement(cell: Announcement, m: u8, next: Place) -> AnnouncementAccessed
+    ensures { λ r. ⌜ r ≡ readAnnouncement cell m next ⌝ }
+{
+    AnnouncementAccessed {
+        cell,
+        read: cell,
+        task: Task {
+            place: next,
+            target: m,
+        },
+        swap: Swap::None,
+    }
+}
+
+// An announcement is swapped.
 fn replace_announcement(
-    card: Card,
-    i: usize,
-    m: u8,
+    cell: Announcement,
+    last: Announcement,
+    task: Task,
     expected: Announcement,
     new: Announcement,
     next: Place,
-) -> Card
-    requires { ⌜ i < 8 ⌝ }
-    ensures { λ r. ⌜ r ≡ replaceAnnouncement card i m expected new next ⌝ }
+) -> AnnouncementAccessed
+    ensures { λ r. ⌜ r ≡ replaceAnnouncement cell last task expected new next ⌝ }
 {
-    let mut after = card;
-    let task = card.tasks[i];
-    after.tasks[i] = Task {
-        place: next,
-        target: task.target,
-    };
-    let at = m as usize;
-    if at < 8 {
-        let cell = card.announcements[at];
-        let swapped = cells::swap_announcement(cell, expected, new);
-        let stored = swapped.cell;
-        after.announcements[at] = stored;
+    let swapped = cells::swap_announcement(cell, expected, new);
+    let after = swapped.cell;
+    AnnouncementAccessed {
+        cell: after,
+        read: last,
+        task: Task {
+            place: next,
+            target: task.target,
+        },
+        swap: outcome(swapped.won),
     }
-    after
 }
 
-// Line P6.
-fn withdraw(card: Card, i: usize) -> Card
-    requires { ⌜ i < 8 ⌝ }
-    ensures { λ r. ⌜ r ≡ accessAnnouncement AnnouncementAccess.Withdraw card i ⌝ }
+// Whose announcement an access of a process is of, on a card of so many processes.
+pub fn whose(access: AnnouncementAccess, processes: u8, process: u8, gate: Gate) -> u8
+    ensures { λ r. ⌜ r ≡ whose access processes process gate ⌝ }
 {
-    let copy = card.copies[i];
-    let operation = card.operations[i];
-    let new = steps::withdrawn(copy, operation);
-    replace_announcement(card, i, i as u8, copy, new, Place::P7)
-}
-
-// Lines P7, C4 with C6, P22.
-fn read_own(card: Card, i: usize, done: Place, active: Place, exit: Place) -> Card
-    requires { ⌜ i < 8 ⌝ }
-    ensures { λ r. ⌜ r ≡ accessAnnouncement (AnnouncementAccess.ReadOwn done active exit) card i ⌝ }
-{
-    let mut after = card;
-    let read = card.announcements[i];
-    let flag = read.flag;
-    after.copies[i] = read;
-    after.tasks[i] = Task {
-        place: steps::by_flag(flag, done, active, exit),
-        target: i as u8,
-    };
-    after
-}
-
-// Lines C1 and C2.
-fn read_first(card: Card, i: usize) -> Card
-    requires { ⌜ i < 8 ⌝ }
-    ensures { λ r. ⌜ r ≡ accessAnnouncement AnnouncementAccess.ReadFirst card i ⌝ }
-{
-    let mut after = card;
-    let held = card.gates[i];
-    let m = steps::first_choice(held.seq, card.processes);
-    let announcements = card.announcements;
-    let read = parts::announcement_at(announcements, m);
-    let flag = read.flag;
-    after.copies[i] = read;
-    after.tasks[i] = Task {
-        place: steps::by_flag(flag, Place::C4, Place::P13, Place::C4),
-        target: m,
-    };
-    after
-}
-
-// Lines P16 to P18, H1.
-fn begin_help(card: Card, i: usize) -> Card
-    requires { ⌜ i < 8 ⌝ }
-    ensures { λ r. ⌜ r ≡ accessAnnouncement AnnouncementAccess.Help card i ⌝ }
-{
-    let mut after = card;
-    let held = card.gates[i];
-    let holder = held.holder;
-    let announcements = card.announcements;
-    let read = parts::announcement_at(announcements, steps::holder_of(holder));
-    after.copies[i] = read;
-    if steps::helps(read, held.seq) {
-        return crate::help::help(after, i, opening::started(), opening::empty());
-    }
-    let task = card.tasks[i];
-    after.tasks[i] = Task {
-        place: Place::P21,
-        target: task.target,
-    };
-    after
-}
-
-// Lines P19 and P20.
-fn finish(card: Card, i: usize, flag: Flag, next: Place) -> Card
-    requires { ⌜ i < 8 ⌝ }
-    ensures { λ r. ⌜ r ≡ accessAnnouncement (AnnouncementAccess.Finish flag next) card i ⌝ }
-{
-    let held = card.gates[i];
-    let holder = held.holder;
-    let copy = card.copies[i];
-    let simulation = card.simulations[i];
-    let expected = steps::flagged(copy, flag);
-    let new = steps::finished(copy, simulation);
-    replace_announcement(card, i, steps::holder_of(holder), expected, new, next)
-}
-
-// The accesses of an announcement.
-pub(crate) fn access_announcement(access: AnnouncementAccess, card: Card, i: usize) -> Card
-    requires { ⌜ i < 8 ⌝ }
-    ensures { λ r. ⌜ r ≡ accessAnnouncement access card i ⌝ }
-{
+    let holder = gate.holder;
     match access {
-        AnnouncementAccess::Announce => announce(card, i),
-        AnnouncementAccess::Withdraw => withdraw(card, i),
-        AnnouncementAccess::ReadOwn { done, active, exit } => read_own(card, i, done, active, exit),
-        AnnouncementAccess::ReadFirst => read_first(card, i),
-        AnnouncementAccess::Help => begin_help(card, i),
-        AnnouncementAccess::Finish { flag, next } => finish(card, i, flag, next),
+        AnnouncementAccess::Announce => process,
+        AnnouncementAccess::Withdraw => process,
+        AnnouncementAccess::ReadOwn {
+            done: _,
+            active: _,
+            exit: _,
+        } => process,
+        AnnouncementAccess::ReadFirst => first_choice(gate.seq, processes),
+        AnnouncementAccess::Finish { flag: _, next: _ } => holder_of(holder),
+    }
+}
+
+// The accesses of the announcement of process m.
+pub fn access_announcement(
+    access: AnnouncementAccess,
+    m: u8,
+    cell: Announcement,
+    operation: Operation,
+    gate: Gate,
+    last: Announcement,
+    outputs: Words,
+    task: Task,
+) -> AnnouncementAccessed
+    ensures { λ r. ⌜ r ≡ accessAnnouncement access m cell operation gate last outputs task ⌝ }
+{
+    let now = cell.flag;
+    match access {
+        AnnouncementAccess::Announce => {
+            let new = announced(operation, gate);
+            AnnouncementAccessed {
+                cell: new,
+                read: new,
+                task: Task {
+                    place: Place::P5,
+                    target: task.target,
+                },
+                swap: Swap::None,
+            }
+        }
+        AnnouncementAccess::Withdraw => replace_announcement(
+            cell,
+            last,
+            task,
+            last,
+            withdrawn(last, operation),
+            Place::P7,
+        ),
+        AnnouncementAccess::ReadOwn { done, active, exit } => read_announcement(
+            cell,
+            m,
+            by_flag(now, done, active, exit),
+        ),
+        AnnouncementAccess::ReadFirst => read_announcement(
+            cell,
+            m,
+            by_flag(now, Place::C4, Place::P13, Place::C4),
+        ),
+        AnnouncementAccess::Finish { flag, next } => replace_announcement(
+            cell,
+            last,
+            task,
+            flagged(last, flag),
+            finished(last, outputs),
+            next,
+        ),
+    }
+}
+
+// Lines P23, P24 and F4: the answer of an operation that returns.
+pub fn returned(last: Announcement, steps: u64) -> Answer
+    ensures { λ r. ⌜ r ≡ returned last (last .flag) steps ⌝ }
+{
+    let flag = last.flag;
+    let outputs = last.words;
+    match flag {
+        Flag::Done => Answer::Done { outputs, steps },
+        Flag::Active => Answer::Done { outputs, steps },
+        Flag::Exit => Answer::Exited { steps },
     }
 }

@@ -1,66 +1,80 @@
-// The accesses of the gate (lines P1, P10, P13, P14, P21, F1, F3).
-use construction::Card;
+// The accesses of the gate (lines P1, P10, P13, P14, P21, F1, F3). `last` is the gate that the process last read (the paper's g).
+use crate::outcome;
+use crate::places::after_last;
+use crate::places::by_holder;
 use construction::Gate;
 use construction::GateAccess;
+use construction::GateAccessed;
+use construction::Holder;
 use construction::Place;
+use construction::Swap;
 use construction::Task;
 ghost use mathlib.Core.Path.{_≡_};
-ghost use Prim.Native.Nat.{_<_};
-ghost use Rattle.construction.specs.Machine.{readGate, replaceGate, accessGate};
+ghost use Rattle.construction.specs.Machine.{nominated, readGate, replaceGate, accessGate};
 
-// The gate is read, and process i goes on at a place.
-fn read_gate(card: Card, i: usize, next: Place) -> Card
-    requires { ⌜ i < 8 ⌝ }
-    ensures { λ r. ⌜ r ≡ readGate card i next ⌝ }
+// Line P13: the gate that a nomination stores.
+pub fn nominated(gate: Gate, nominee: u8) -> Gate
+    ensures { λ r. ⌜ r ≡ nominated gate nominee ⌝ }
 {
-    let mut after = card;
-    let gate = card.gate;
-    let task = card.tasks[i];
-    after.gates[i] = gate;
-    after.tasks[i] = Task {
-        place: next,
-        target: task.target,
-    };
-    after
+    Gate {
+        holder: Holder::Process(nominee),
+        seq: gate.seq,
+    }
 }
 
-// The gate is swapped from the one last read to another, and process i goes on at a place.
-fn replace_gate(card: Card, i: usize, new: Gate, next: Place) -> Card
-    requires { ⌜ i < 8 ⌝ }
-    ensures { λ r. ⌜ r ≡ replaceGate card i new next ⌝ }
+// The gate is read.
+fn read_gate(cell: Gate, task: Task, next: Place) -> GateAccessed
+    ensures { λ r. ⌜ r ≡ readGate cell task next ⌝ }
 {
-    let mut after = card;
-    let gate = card.gate;
-    let held = card.gates[i];
-    let task = card.tasks[i];
-    let swapped = cells::swap_gate(gate, held, new);
-    let cell = swapped.cell;
-    after.gate = cell;
-    after.tasks[i] = Task {
-        place: next,
-        target: task.target,
-    };
-    after
+    GateAccessed {
+        cell,
+        read: cell,
+        task: Task {
+            place: next,
+            target: task.target,
+        },
+        swap: Swap::None,
+    }
 }
 
-// The accesses of the gate.
-pub(crate) fn access_gate(access: GateAccess, card: Card, i: usize) -> Card
-    requires { ⌜ i < 8 ⌝ }
-    ensures { λ r. ⌜ r ≡ accessGate access card i ⌝ }
+// The gate is swapped from the one last read to another.
+fn replace_gate(cell: Gate, last: Gate, task: Task, new: Gate, next: Place) -> GateAccessed
+    ensures { λ r. ⌜ r ≡ replaceGate cell last task new next ⌝ }
 {
-    let gate = card.gate;
-    let holder = gate.holder;
-    let held = card.gates[i];
-    let task = card.tasks[i];
+    let swapped = cells::swap_gate(cell, last, new);
+    let after = swapped.cell;
+    GateAccessed {
+        cell: after,
+        read: last,
+        task: Task {
+            place: next,
+            target: task.target,
+        },
+        swap: outcome(swapped.won),
+    }
+}
+
+// The accesses of the gate, for a process.
+pub fn access_gate(
+    access: GateAccess,
+    process: u8,
+    cell: Gate,
+    last: Gate,
+    task: Task,
+) -> GateAccessed
+    ensures { λ r. ⌜ r ≡ accessGate access process cell last task ⌝ }
+{
+    let holder = cell.holder;
     match access {
-        GateAccess::Read { held, free } => read_gate(card, i, steps::by_holder(holder, held, free)),
-        GateAccess::ReadLast => read_gate(card, i, steps::after_last(holder, i as u8)),
+        GateAccess::Read { held, free } => read_gate(cell, task, by_holder(holder, held, free)),
+        GateAccess::ReadLast => read_gate(cell, task, after_last(holder, process)),
         GateAccess::Nominate => replace_gate(
-            card,
-            i,
-            steps::nominated(held, task.target),
+            cell,
+            last,
+            task,
+            nominated(last, task.target),
             Place::P14,
         ),
-        GateAccess::Release { next } => replace_gate(card, i, cells::released(held), next),
+        GateAccess::Release { next } => replace_gate(cell, last, task, cells::released(last), next),
     }
 }

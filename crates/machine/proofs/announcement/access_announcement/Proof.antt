@@ -1,24 +1,27 @@
+use Rattle.construction.specs.Machine.{accessAnnouncement}
 use borrow.Author.Needs.{needs}
 use Rattle.machine.proofs.announcement.access_announcement.Statement.{statement}
 use Rattle.machine.proofs.announcement.access_announcement.Tie as tie
 
 returns : tie.Need-returns
-returns c = rw (c .before .enum-told .given .1) (c .announce .ensures)
+unfolding accessAnnouncement
+returns c = rw (c .before .enum-told .given .1, c .announced .ensures)
 
 returns-2 : tie.Need-returns-2
-returns-2 c = rw (c .before .enum-told2 .given .1) (c .withdraw .ensures)
+unfolding accessAnnouncement
+returns-2 c = rw (c .before .before .enum-told2 .given .1, ← c .before .withdrawn .ensures) (c .replace-announcement .ensures)
 
 returns-3 : tie.Need-returns-3
-returns-3 c = rw (c .before .before .access .given .1) (c .read-own .ensures)
+unfolding accessAnnouncement
+returns-3 c = rw (c .before .before .before .access .given .1, ← c .before .by-flag .ensures) (c .read-announcement .ensures)
 
 returns-4 : tie.Need-returns-4
-returns-4 c = rw (c .before .enum-told3 .given .1) (c .read-first .ensures)
+unfolding accessAnnouncement
+returns-4 c = rw (c .before .before .enum-told3 .given .1, ← c .before .by-flag2 .ensures) (c .read-announcement2 .ensures)
 
 returns-5 : tie.Need-returns-5
-returns-5 c = rw (c .before .enum-told4 .given .1) (c .begin-help .ensures)
-
-returns-6 : tie.Need-returns-6
-returns-6 c = rw (c .before .before .access2 .given .1) (c .finish .ensures)
+unfolding accessAnnouncement
+returns-5 c = rw (c .before .before .before .before .access2 .given .1, ← c .before .before .flagged .ensures, ← c .before .finished .ensures) (c .replace-announcement2 .ensures)
 
 pub access-announcement-spec : {M : Type 1} → statement M
 access-announcement-spec =
@@ -28,17 +31,19 @@ access-announcement-spec =
     (λ c κs. search needs)
     (λ c. search needs)
     (λ c κs. search needs)
-    (λ c. search needs)
     (λ c κs. search needs)
     (λ c. search needs)
     (λ c κs. search needs)
-    (λ c. search needs)
     (λ c κs. search needs)
     (λ c. search needs)
+    (λ c κs. search needs)
+    (λ c κs. search needs)
+    (λ c. search needs)
+    (λ c κs. search needs)
+    (λ c κs. search needs)
     (λ c κs. search needs)
     returns
     returns-2
     returns-3
     returns-4
-    returns-5
-    returns-6)
+    returns-5)

@@ -17,21 +17,15 @@ returns-3 c = rw (c .before .before .enum-told2 .given .1, ← c .before .nomina
 
 returns-4 : tie.Need-returns-4
 unfolding accessGate
-returns-4 c =
-    rw (c .before .before .before .access2 .given .1, ← c .before .released .ensures) (c .replace-gate2 .ensures)
+returns-4 c = rw (c .before .before .before .access2 .given .1, ← c .before .released .ensures) (c .replace-gate2 .ensures)
 
 pub access-gate-spec : {M : Type 1} → statement M
 access-gate-spec =
     tie.close
     (tie.spec
     (λ c. search needs)
-    (λ c. search needs)
-    (λ c. search needs)
-    (λ c. search needs)
-    (λ c. search needs)
     (λ c κs. search needs)
     (λ c κs. search needs)
-    (λ c. search needs)
     (λ c. search needs)
     (λ c κs. search needs)
     (λ c κs. search needs)

@@ -1,0 +1,64 @@
+use Rattle.construction.proofs.Mapping as mapping
+use Rattle.construction.specs.declared.Item.{Item}
+use Rattle.construction.specs.Dictionary.{noItem}
+use lib.ListN.{length, take, length-set}
+use mathlib.Core.List.{map}
+use mathlib.Core.Path.{_≡_, refl}
+use Prim.Native.Nat.{_-_, _≤_}
+use native.Mathlib.Omega.{arith}
+use Rattle.helping.proofs.Rooms as rooms
+use Rattle.helping.proofs.dictionary.numbers_of.Statement.{statement}
+use Rattle.helping.proofs.dictionary.numbers_of.Tie as tie
+
+abbrev Inv-loop : tie.InvT-loop
+Inv-loop dictionary keys₀ values₀ k₀ keys values k =
+    (take k keys ≡ map (λ (e : Item). e .variable) (take k (dictionary .items))) × (take k values ≡ map (λ (e : Item). e .value) (take k (dictionary .items)))
+    × (length keys ≡ 32) × (length values ≡ 32) × (k ≤ 32)
+
+abbrev μ-loop : tie.MeasureT-loop
+μ-loop dictionary keys₀ values₀ k₀ keys values k = 32 - k
+
+loop-holds : tie.Need-loop-holds Inv-loop μ-loop
+loop-holds c = (refl, refl, refl, refl, omega arith)
+
+loop-again : tie.Need-loop-again Inv-loop μ-loop
+loop-again c =
+    let start = c .before .before in
+    let items = start .args .t1 .items in
+    let l = c .before .loop in
+    let e : length items ≡ 32 = rooms.items (start .args .t1) _ (start .good .0) in (
+      mapping.map-turn (λ (e : Item). e .variable) items (l .keys) (l .k) noItem _ (omega arith) (omega arith) refl (l .inv .0),
+      mapping.map-turn (λ (e : Item). e .value) items (l .values) (l .k) noItem _ (omega arith) (omega arith) refl (l .inv .1),
+      simp length-set (l .inv .2),
+      simp length-set (l .inv .3),
+      omega arith,
+    )
+
+returns : tie.Need-returns Inv-loop μ-loop
+returns c =
+    let start = c .before .before in
+    let items = start .args .t1 .items in
+    let l = c .before .loop in
+    let e : length items ≡ 32 = rooms.items (start .args .t1) _ (start .good .0) in (
+      mapping.map-done (λ (e : Item). e .variable) items (l .keys) (l .k) (omega arith) (omega arith) (l .inv .0),
+      mapping.map-done (λ (e : Item). e .value) items (l .values) (l .k) (omega arith) (omega arith) (l .inv .1),
+    )
+
+pub numbers-of-spec : {M : Type 1} → statement M
+numbers-of-spec =
+    tie.close
+    (tie.spec
+    Inv-loop
+    μ-loop
+    loop-holds
+    (λ c. omega arith)
+    (λ c. omega arith)
+    (λ c. omega arith)
+    (λ c. omega arith)
+    (λ c. omega arith)
+    (λ c. omega arith)
+    (λ c. omega arith)
+    (λ c. omega arith)
+    (λ c. omega arith)
+    loop-again
+    returns)

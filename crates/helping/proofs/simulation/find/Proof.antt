@@ -1,0 +1,42 @@
+use Rattle.helping.specs.Numbers.{placeOf}
+use lib.ListN.{drop, take}
+use mathlib.Core.Path.{_≡_}
+use Prim.Native.Nat.{_+_, _-_, _≤_}
+use native.Mathlib.Omega.{arith}
+use Rattle.helping.proofs.Laws as laws
+use Rattle.helping.proofs.simulation.find.Statement.{statement}
+use Rattle.helping.proofs.simulation.find.Tie as tie
+
+abbrev Inv-loop : tie.InvT-loop
+Inv-loop keys end variable k₀ k =
+    (placeOf (take end keys) variable ≡ k + placeOf (drop k (take end keys)) variable) × (k ≤ end)
+
+abbrev μ-loop : tie.MeasureT-loop
+μ-loop keys end variable k₀ k = end - k
+
+loop-holds : tie.Need-loop-holds Inv-loop μ-loop
+loop-holds c = (omega arith, omega arith)
+
+returns : tie.Need-returns Inv-loop μ-loop
+returns c = laws.key-here _ _ _ _ _ (omega arith) (c .before .before .before .loop .inv .0) (c .before .before .loop-test .taken) (c .if1 .taken)
+
+loop-again : tie.Need-loop-again Inv-loop μ-loop
+loop-again c = (laws.key-more _ _ _ _ _ (omega arith) (c .before .before .before .loop .inv .0) (c .before .before .loop-test .taken) (c .if1 .left), omega arith)
+
+returns-2 : tie.Need-returns-2 Inv-loop μ-loop
+returns-2 c = laws.key-end _ _ _ _ _ (omega arith) (c .before .loop .inv .0) (c .loop-test .left)
+
+pub find-spec : {M : Type 1} → statement M
+find-spec =
+    tie.close
+    (tie.spec
+    Inv-loop
+    μ-loop
+    loop-holds
+    (λ c. omega arith)
+    (λ c. omega arith)
+    returns
+    (λ c. omega arith)
+    (λ c. omega arith)
+    loop-again
+    returns-2)

@@ -1,0 +1,52 @@
+-- The numbers that stand in a dictionary as arrays of their own: a program runs on its keys and values, and copies no dictionary.
+use Prim.Native.Nat.{ℕ, suc}
+use mathlib.Core.Bool.{cond}
+use mathlib.Core.List.{List, [], _∷_, map}
+use mathlib.Core.Path.{_≡_}
+use lib.Dec.{eqb}
+use lib.ListN.{length}
+use Rattle.construction.specs.declared.Words.{Words}
+use Rattle.construction.specs.declared.Program.{Program}
+use Rattle.construction.specs.declared.Item.{Item}
+use Rattle.construction.specs.declared.Dictionary.{Dictionary}
+use Rattle.construction.specs.declared.Simulation.{Simulation}
+use Rattle.construction.specs.declared.Simulated.{Simulated}
+use Rattle.construction.specs.Dictionary.{noted, withValue}
+use Rattle.construction.specs.Helping.{simulate}
+use Rattle.helping.specs.declared.simulation.Paused.{Paused}
+
+-- the variable and the value of each item (document 01: the noted records of a book)
+abbrev pub keys : Dictionary → List ℕ
+keys d = map (λ (e : Item). e .variable) (d .items)
+
+abbrev pub values : Dictionary → List ℕ
+values d = map (λ (e : Item). e .value) (d .items)
+
+-- lines H20 and H26: the place of a variable among keys; the number of keys if it is not there
+unfoldable pub placeOf : List ℕ → ℕ → ℕ
+placeOf [] v = 0
+placeOf (x ∷ xs) v = cond (eqb x v) 0 (suc (placeOf xs v))
+
+-- a dictionary whose first items have other values
+unfoldable pub revalued : List Item → List ℕ → List Item
+revalued [] xs = []
+revalued (e ∷ es) [] = e ∷ es
+revalued (e ∷ es) (x ∷ xs) = withValue e x ∷ revalued es xs
+
+abbrev pub withValues : Dictionary → List ℕ → Dictionary
+withValues d xs = record { length = d .length; items = revalued (d .items) xs }
+
+-- these keys and values stand in a dictionary, and so many items are noted
+pub record Numbered (ks xs : List ℕ) (end : ℕ) (d : Dictionary) : Type 0 where
+  pub keyed : ks ≡ keys d
+  pub valued : xs ≡ values d
+  pub count : end ≡ length (noted d)
+
+-- a simulation that stands still, with its dictionary
+abbrev pub standing : Paused → Dictionary → Simulated
+standing r d = record { pause = r .pause; simulation = r .simulation; dictionary = d }
+
+-- a run on numbers leaves what the simulation leaves on every dictionary in which they stand
+pub record Runs (n : ℕ) (program : Program) (inputs : Words) (s : Simulation) (ks : List ℕ) (end : ℕ) (before after : List ℕ) (r : Paused) : Type 0 where
+  pub long : length after ≡ length before
+  pub left : (d : Dictionary) → Numbered ks before end d → simulate n program inputs s d ≡ standing r (withValues d after)

@@ -1,0 +1,138 @@
+// The access of each place (lines P1 to P24, C1 to C6, F1 to F4, H21, H36), and the choices that the lines make between places.
+use construction::Access;
+use construction::AnnouncementAccess;
+use construction::Flag;
+use construction::GateAccess;
+use construction::Holder;
+use construction::Place;
+ghost use mathlib.Core.Path.{_≡_};
+ghost use Rattle.construction.specs.Machine.{accessOf, byHolder, byFlag, holderOf, firstChoice, afterLast};
+ghost use Rattle.construction.specs.Requests.{isIdle};
+
+// Lines P1, P10 and P14: the gate is read.
+fn read_gate(held: Place, free: Place) -> Access
+    ensures { λ r. ⌜ r ≡ Access.Gate (GateAccess.Read held free) ⌝ }
+{
+    Access::Gate(GateAccess::Read { held, free })
+}
+
+// Lines P21 and F3: the gate is released.
+fn release(next: Place) -> Access
+    ensures { λ r. ⌜ r ≡ Access.Gate (GateAccess.Release next) ⌝ }
+{
+    Access::Gate(GateAccess::Release { next })
+}
+
+// Lines P7, C4 and P22: one's own announcement is read.
+fn read_own(done: Place, active: Place, exit: Place) -> Access
+    ensures { λ r. ⌜ r ≡ Access.Announcement (AnnouncementAccess.ReadOwn done active exit) ⌝ }
+{
+    Access::Announcement(AnnouncementAccess::ReadOwn { done, active, exit })
+}
+
+// Lines P19 and P20: the announcement of the gate's holder is swapped to done.
+fn finish(flag: Flag, next: Place) -> Access
+    ensures { λ r. ⌜ r ≡ Access.Announcement (AnnouncementAccess.Finish flag next) ⌝ }
+{
+    Access::Announcement(AnnouncementAccess::Finish { flag, next })
+}
+
+// Lines P5, P6 and P10: with an exit request P6, without one P10.
+fn top(exit: bool) -> Access
+    ensures { λ r. ⌜ r ≡ accessOf Place.P5 exit ⌝ }
+{
+    if exit {
+        return Access::Announcement(AnnouncementAccess::Withdraw);
+    }
+    read_gate(Place::P16, Place::C2)
+}
+
+// The access of each place.
+pub fn access_of(place: Place, exit: bool) -> Access
+    ensures { λ r. ⌜ r ≡ accessOf place exit ⌝ }
+{
+    match place {
+        Place::Idle => Access::None,
+        Place::P1 => read_gate(Place::P3, Place::P3),
+        Place::P3 => Access::Announcement(AnnouncementAccess::Announce),
+        Place::P5 => top(exit),
+        Place::P7 => read_own(Place::F1, Place::P10, Place::P10),
+        Place::P10 => read_gate(Place::P16, Place::C2),
+        Place::C2 => Access::Announcement(AnnouncementAccess::ReadFirst),
+        Place::C4 => read_own(Place::F1, Place::P13, Place::P13),
+        Place::P13 => Access::Gate(GateAccess::Nominate),
+        Place::P14 => read_gate(Place::P16, Place::P22),
+        Place::P16 => Access::Help,
+        Place::H21 => Access::Note,
+        Place::H36 => Access::Write,
+        Place::P19 => finish(Flag::Active, Place::P20),
+        Place::P20 => finish(Flag::Exit, Place::P21),
+        Place::P21 => release(Place::P22),
+        Place::P22 => read_own(Place::F1, Place::P5, Place::Idle),
+        Place::F1 => Access::Gate(GateAccess::ReadLast),
+        Place::F3 => release(Place::Idle),
+    }
+}
+
+// Whether a process at a place has no operation under way.
+pub fn is_idle(place: Place) -> bool
+    ensures { λ r. ⌜ r ≡ isIdle place ⌝ }
+{
+    match place {
+        Place::Idle => true,
+        _ => false,
+    }
+}
+
+// Lines P11 and P15.
+pub fn by_holder(holder: Holder, held: Place, free: Place) -> Place
+    ensures { λ r. ⌜ r ≡ byHolder holder held free ⌝ }
+{
+    match holder {
+        Holder::Nobody => free,
+        Holder::Process(_) => held,
+    }
+}
+
+// Lines P4, P8, P23, C3 and C5.
+pub fn by_flag(flag: Flag, done: Place, active: Place, exit: Place) -> Place
+    ensures { λ r. ⌜ r ≡ byFlag flag done active exit ⌝ }
+{
+    match flag {
+        Flag::Done => done,
+        Flag::Active => active,
+        Flag::Exit => exit,
+    }
+}
+
+// Lines F2 and F4.
+pub fn after_last(holder: Holder, process: u8) -> Place
+    ensures { λ r. ⌜ r ≡ afterLast holder process ⌝ }
+{
+    if cells::same_holder(holder, Holder::Process(process)) {
+        Place::F3
+    } else {
+        Place::Idle
+    }
+}
+
+// The process that holds a gate, 0 where nobody does.
+pub fn holder_of(holder: Holder) -> u8
+    ensures { λ r. ⌜ r ≡ holderOf holder ⌝ }
+{
+    match holder {
+        Holder::Nobody => 0,
+        Holder::Process(m) => m,
+    }
+}
+
+// Line C1: the process whose turn it is.
+pub fn first_choice(seq: u64, processes: u8) -> u8
+    ensures { λ r. ⌜ r ≡ firstChoice seq processes ⌝ }
+{
+    if 0 < processes {
+        let m = seq % (processes as u64);
+        return m as u8;
+    }
+    0
+}

@@ -1,9 +1,0 @@
-use borrow.Author.Needs.{needs}
-use Rattle.steps.proofs.helps.Statement.{statement}
-use Rattle.steps.proofs.helps.Tie as tie
-
-returns : tie.Need-returns
-returns c = rw (← c .before .before .is-done .ensures, c .before .if1 .taken)
-
-pub helps-spec : {M : Type 1} → statement M
-helps-spec = tie.close (tie.spec (λ c κs. search needs) returns (λ c. search needs))

@@ -24,7 +24,6 @@ use grammar::reading::four_at;
 use grammar::reading::has_word;
 ghost use mathlib.Core.Path.{_≡_};
 ghost use mathlib.Core.Bool.{_&&_};
-ghost use Prim.Native.Nat.{_%_};
 ghost use Rattle.construction.specs.Instructions.{inRange, fits, eachOperand, rowOf, instructionOf, encoded, decode as decoded};
 ghost use Rattle.construction.specs.Lines.{cardFits, cardLine, varLine, sheetLine, insOf, insLine};
 
@@ -155,20 +154,8 @@ fn operands_fit(variables: u8, a: OperandKind, b: OperandKind, c: OperandKind, x
     )
 }
 
-// An operand as a byte or a word: the operand itself where it fits its kind.
-fn low_byte(x: u64) -> u8
-    ensures { λ r. ⌜ r ≡ x % 256 ⌝ }
-{
-    (x % 256) as u8
-}
-
-fn low_word(x: u64) -> u32
-    ensures { λ r. ⌜ r ≡ x % 4294967296 ⌝ }
-{
-    (x % 4_294_967_296) as u32
-}
-
-// The instruction of a code and its operands, on a card of so many variables. Only a constant is longer than a byte.
+// The instruction of a code and its operands, on a card of so many variables. An operand that fits is told whole by its low byte, a constant by
+// its low word.
 pub fn decode(variables: u8, x: Encoded) -> Decoded
     ensures { λ r. ⌜ r ≡ decoded variables x ⌝ }
 {
@@ -176,14 +163,17 @@ pub fn decode(variables: u8, x: Encoded) -> Decoded
         return Decoded::Refused(Refusal::BadInstruction);
     };
     if operands_fit(variables, kind_a, kind_b, kind_c, x) {
-        let a = low_byte(x.a);
+        let a = (x.a % 256) as u8;
+        let b = (x.b % 256) as u8;
+        let c = (x.c % 256) as u8;
+        let constant = (x.b % 4_294_967_296) as u32;
         if x.code == 2 {
             return Decoded::Valid(Instruction::Constant {
                 register: a,
-                constant: low_word(x.b),
+                constant,
             });
         }
-        Decoded::Valid(instruction_of(x.code, a, low_byte(x.b), low_byte(x.c)))
+        Decoded::Valid(instruction_of(x.code, a, b, c))
     } else {
         Decoded::Refused(Refusal::BadInstruction)
     }

@@ -138,11 +138,9 @@ module _ (n : ℕ) (x : Encoded) {f : Format} (e : f ≡ rowOf (x .code) .format
       unfolding decode
       decode-valid s = rw (← e, p, ← q, z, s ∙ built n x h (sym e ∙ p) (sym q ∙ z))
 
-      pub decode-constant :
-          {a b : ℕ} → x .code ≡ 2 → a ≡ x .a % 256 → b ≡ x .b % 4294967296 → Decoded.Valid (Instruction.Constant a b) ≡ decode n x
-      decode-constant k u v = decode-valid (rw (eq-eqb (x .code) 2 k, u, v))
+      pub decode-constant : x .code ≡ 2 → Decoded.Valid (Instruction.Constant (x .a % 256) (x .b % 4294967296)) ≡ decode n x
+      decode-constant k = decode-valid (rw (eq-eqb (x .code) 2 k))
 
       pub decode-bytes :
-          {a b c : ℕ} {y : Instruction} → (x .code ≡ 2 → ⊥) → a ≡ x .a % 256 → b ≡ x .b % 256 → c ≡ x .c % 256 →
-          y ≡ instructionOf (encoded (x .code) a b c) → Decoded.Valid y ≡ decode n x
-      decode-bytes k u v w s = decode-valid (s ∙ rw (ne-eqb (x .code) 2 k, u, v, w))
+          {y : Instruction} → (x .code ≡ 2 → ⊥) → y ≡ instructionOf (encoded (x .code) (x .a % 256) (x .b % 256) (x .c % 256)) → Decoded.Valid y ≡ decode n x
+      decode-bytes k s = decode-valid (s ∙ rw (ne-eqb (x .code) 2 k))

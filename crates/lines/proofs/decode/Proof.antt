@@ -8,10 +8,10 @@ returns : tie.Need-returns
 returns c = laws.decode-unknown _ _ (c .before .before .format-of .ensures) (c .enum-told .given .1)
 
 returns-2 : tie.Need-returns-2
-returns-2 c = laws.decode-constant _ _ (c .before .before .before .before .before .before .before .before .before .format-of .ensures) (c .before .before .before .before .before .before .before .kind-a .given .1) (c .before .before .before .before .before .operands-fit .ensures) (omega arith) (c .before .before .before .before .if1 .taken) (c .before .if2 .taken) (c .before .before .before .low-byte .ensures) (c .low-word .ensures)
+returns-2 c = laws.decode-constant _ _ (c .before .before .before .before .before .before .before .before .before .before .before .format-of .ensures) (c .before .before .before .before .before .before .before .before .before .kind-a .given .1) (c .before .before .before .before .before .before .before .operands-fit .ensures) (omega arith) (c .before .before .before .before .before .before .if1 .taken) (c .if2 .taken)
 
 returns-3 : tie.Need-returns-3
-returns-3 c = laws.decode-bytes _ _ (c .before .before .before .before .before .before .before .before .before .before .before .format-of .ensures) (c .before .before .before .before .before .before .before .before .before .kind-a .given .1) (c .before .before .before .before .before .before .before .operands-fit .ensures) (omega arith) (c .before .before .before .before .before .before .if1 .taken) (c .before .before .before .if2 .left) (c .before .before .before .before .before .low-byte .ensures) (c .before .before .low-byte2 .ensures) (c .before .low-byte3 .ensures) (c .instruction-of .ensures)
+returns-3 c = laws.decode-bytes _ _ (c .before .before .before .before .before .before .before .before .before .before .before .before .format-of .ensures) (c .before .before .before .before .before .before .before .before .before .before .kind-a .given .1) (c .before .before .before .before .before .before .before .before .operands-fit .ensures) (omega arith) (c .before .before .before .before .before .before .before .if1 .taken) (c .before .if2 .left) (c .instruction-of .ensures)
 
 returns-4 : tie.Need-returns-4
 returns-4 c = laws.decode-unfit _ _ (c .before .before .before .before .before .format-of .ensures) (c .before .before .before .kind-a .given .1) (c .before .operands-fit .ensures) (c .if1 .left)
@@ -25,11 +25,11 @@ decode-spec =
     (λ c. search needs)
     returns
     (λ c κs. search needs)
-    (λ c κs. search needs)
-    (λ c κs. search needs)
+    (λ c. search needs)
+    (λ c. search needs)
+    (λ c. search needs)
+    (λ c. search needs)
     returns-2
-    (λ c κs. search needs)
-    (λ c κs. search needs)
     (λ c κs. search needs)
     returns-3
     returns-4)

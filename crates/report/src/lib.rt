@@ -113,7 +113,7 @@ fn show_record(variable: u64, record: Record) {
 }
 
 // The gate, the announcements of all processes and the record of a variable.
-pub fn show_cells(card: Card, variable: u32) -> Card {
+pub fn show_cells(card: Card, variable: u32) {
     let gate = card.gate;
     show_gate(gate);
     for i in 0..8 {
@@ -127,5 +127,4 @@ pub fn show_cells(card: Card, variable: u32) -> Card {
         let record = card.records[at];
         show_record(at as u64, record);
     }
-    card
 }

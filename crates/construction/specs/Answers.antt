@@ -68,12 +68,12 @@ unfoldable pub verdictFields : Verdict → Fields
 verdictFields Verdict.Accepted = fields "accepted" []
 verdictFields (Verdict.Refused r line) = fields "refused" (numberOf r ∷ line ∷ [])
 
--- the writer 'tells the length', or is turned back
+-- the writer 'tells the length', or is refused
 unfoldable pub writtenFields : Written → Fields
 writtenFields (Written.Bytes n) = fields "" (n ∷ [])
 writtenFields (Written.Refused r) = refusedWith (numberOf r)
 
--- a swap on a lent row 'tells which', or is turned back
+-- a swap on a lent row 'tells which', or is refused
 unfoldable pub rowFields : RowSwap → Fields
 rowFields RowSwap.Won = fields "won" []
 rowFields RowSwap.Lost = fields "lost" []

@@ -46,7 +46,7 @@ isIdle l = isNone (accessOf l false)
 abbrev pub isBusy : Card → ℕ → Bool
 isBusy c i = not (isIdle (localAt c i .task .place))
 
--- an entry that is turned back leaves the card as it was
+-- an entry that is refused leaves the card as it was
 abbrev pub refused : Card → Refusal → Answered
 refused c r = record { card = c; answer = Answer.Refused r }
 
@@ -93,7 +93,9 @@ requestExit c i =
     (cond (not (isBusy c i)) (refused c NotBusy)
     (record { card = withLocal c i (exiting (localAt c i)); answer = Answer.Taken }))
 
--- lines P23, P24 and F4: exited, or done with the words of the announcement last read
+-- lines P23, P24 and F4: exited, or done with the words of the announcement last read. An active flag cannot occur: an operation returns at P22
+-- if that read exit, and at F1 or F3, which only reads of done lead to, and neither alters the announcement last read. As for every flag there is
+-- an answer, that case is given like done, which leaves exited to the flag exit alone.
 abbrev pub returned : Announcement → Flag → ℕ → Answer
 returned a Done steps = Answer.Done (a .words) steps
 returned a Active steps = Answer.Done (a .words) steps

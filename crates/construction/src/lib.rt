@@ -269,27 +269,35 @@ pub struct Operation {
 
 // The card: its text, the shared cells, and the local state of each process.
 pub struct Card {
+    // document 01: p, n, s and the step limit
     pub processes: u8,
     pub variables: u8,
     pub programs: u8,
     pub limit: u64,
+    // the starting values, and the sheets
     pub starts: [u32; 64],
     pub code: [Program; 8],
+    // the shared cells: the gate, the announcement of each process, the record of each variable
     pub gate: Gate,
     pub announcements: [Announcement; 8],
     pub records: [Record; 64],
+    // the accepted steps of the card
     pub steps: u64,
+    // of each process: the access of its next step, and what its call asked for
     pub tasks: [Task; 8],
     pub operations: [Operation; 8],
+    // the wish to exit, and the own steps of the operation
     pub exits: [bool; 8],
     pub counts: [u64; 8],
+    // the gate and the announcement that it last read (the paper's g and a)
     pub gates: [Gate; 8],
     pub copies: [Announcement; 8],
+    // the sheet that it runs in helping, with registers and outputs; its book of noted records
     pub simulations: [Simulation; 8],
     pub dictionaries: [Dictionary; 8],
 }
 
-// Why something is turned back: rows 1 to 11 of document 01's table.
+// Why something is refused: rows 1 to 11 of document 01's table.
 pub enum Refusal {
     TooLong,
     Malformed,

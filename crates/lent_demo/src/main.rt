@@ -1,5 +1,5 @@
 // A test program over the crate lent: it lends a row of four records and a gate, makes won, lost and refused swaps,
-// compares every cell afterwards, and prints a line for each case. It rests on the crates construction, answers, cells and lent.
+// compares every cell afterwards, and prints a line for each case. It rests on the crates construction, answers, cells, lent and report.
 use answers::put_row_swap;
 use construction::Gate;
 use construction::Holder;
@@ -7,9 +7,11 @@ use construction::Record;
 use construction::RowSwap;
 use construction::SwappedGate;
 use libc::STDOUT_FILENO;
+use report::same::both;
 ghost use mathlib.Core.Path.{_≡_};
 ghost use Rattle.construction.specs.Cells.{swapGate};
 ghost use Rattle.lent.specs.Row.{rowAnswer, rowAfter};
+ghost use Rattle.lent_demo.specs.Rows.{recordOf, firstRow, sameRow};
 
 // A row that came back from a loan, and what the swap answered.
 struct Returned {
@@ -45,7 +47,9 @@ fn swap_gate(mut gate: Gate, expected: Gate, new: Gate) -> SwappedGate
     gate_and_outcome(gate, won)
 }
 
-fn record(val0: u32, val1: u32, toggle: bool, seq: u64) -> Record {
+fn record(val0: u32, val1: u32, toggle: bool, seq: u64) -> Record
+    ensures { λ r. ⌜ r ≡ recordOf val0 val1 toggle seq ⌝ }
+{
     Record {
         val0,
         val1,
@@ -55,7 +59,9 @@ fn record(val0: u32, val1: u32, toggle: bool, seq: u64) -> Record {
 }
 
 // Four records; each differs from the first in one field.
-fn first_row() -> [Record; 4] {
+fn first_row() -> [Record; 4]
+    ensures { λ r. ⌜ r ≡ firstRow ⌝ }
+{
     let first = record(1, 2, false, 5);
     let second = record(1, 2, true, 5);
     let third = record(1, 2, false, 6);
@@ -63,11 +69,19 @@ fn first_row() -> [Record; 4] {
     [first, second, third, fourth]
 }
 
-fn same_row(a: [Record; 4], b: [Record; 4]) -> bool {
-    cells::same_record(a[0], b[0])
-        && cells::same_record(a[1], b[1])
-        && cells::same_record(a[2], b[2])
-        && cells::same_record(a[3], b[3])
+fn same_row(a: [Record; 4], b: [Record; 4]) -> bool
+    ensures { λ r. ⌜ r ≡ sameRow a b ⌝ }
+{
+    both(
+        cells::same_record(a[0], b[0]),
+        both(
+            cells::same_record(a[1], b[1]),
+            both(
+                cells::same_record(a[2], b[2]),
+                cells::same_record(a[3], b[3]),
+            ),
+        ),
+    )
 }
 
 fn write_answer(answer: RowSwap) {
@@ -103,6 +117,15 @@ fn won_row(label: &[u8], place: usize) {
         wanted[place] = new;
         let expected = row[place];
         row_case(label, place, expected, new, wanted);
+    }
+}
+
+// A swap that wins and changes its record, compared with the row as it was: the comparison tells them apart.
+fn changed_row(label: &[u8], place: usize) {
+    if place < 4 {
+        let row = first_row();
+        let expected = row[place];
+        row_case(label, place, expected, record(9, 8, true, 7), row);
     }
 }
 
@@ -147,6 +170,7 @@ fn gate_cases() {
         seq: 8,
     };
     gate_case(b"gate,equal,", held, free);
+    gate_case(b"gate,the gate as it was,", held, held);
     gate_case(
         b"gate,other seq,",
         Gate {
@@ -177,6 +201,7 @@ fn main() {
     won_row(b"row,0,equal", 0);
     won_row(b"row,2,equal", 2);
     won_row(b"row,3,equal", 3);
+    changed_row(b"row,3,the row as it was", 3);
     kept_row(b"row,1,other toggle", 1);
     kept_row(b"row,2,other seq", 2);
     kept_row(b"row,3,other value", 3);

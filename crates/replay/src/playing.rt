@@ -129,7 +129,7 @@ fn play_entries(card: Card, line: &[u8], start: usize) {
         if line[at] == b' ' {
             let entry = entry_of(byte_at(line, at + 1), operands_at(line, at + 2));
             if entry.verb == b'p' {
-                card = show_cells(card, entry.number);
+                show_cells(card, entry.number);
             } else {
                 card = play_entry(card, entry);
             }

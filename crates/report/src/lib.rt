@@ -1,5 +1,8 @@
-// Lines that test programs write to standard output: an answer with the verb and first number of its entry and whether the card changed,
-// and the shared cells. It rests on the crates construction, answers, io and libc. No contract can say what is written.
+// What test programs share: lines that they write to standard output (an answer with the verb and first number of its entry and whether the card
+// changed, and the shared cells), and the comparison of cards. It rests on the crates construction, answers, cells, writer, io and libc.
+// What is computed equals its definition in specs/; no contract can say what is written, so whatever writes gives nothing back.
+pub mod same; // same.rt: whether two cards are the same in every part
+
 use answers::put_answer;
 use answers::put_verdict;
 use construction::Announcement;
@@ -113,7 +116,7 @@ fn show_record(variable: u64, record: Record) {
 }
 
 // The gate, the announcements of all processes and the record of a variable.
-pub fn show_cells(card: Card, variable: u32) -> Card {
+pub fn show_cells(card: Card, variable: u32) {
     let gate = card.gate;
     show_gate(gate);
     for i in 0..8 {
@@ -127,5 +130,4 @@ pub fn show_cells(card: Card, variable: u32) -> Card {
         let record = card.records[at];
         show_record(at as u64, record);
     }
-    card
 }

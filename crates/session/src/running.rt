@@ -21,7 +21,7 @@ const LIMIT: usize = 65_536;
 const LARGEST: u64 = 18_446_744_073_709_551_615;
 
 // The answer of the card to a command.
-pub fn execute(card: Card, command: Command) -> Answered
+pub(crate) fn execute(card: Card, command: Command) -> Answered
     ensures { λ r. ⌜ r ≡ executed card command ⌝ }
 {
     match command {

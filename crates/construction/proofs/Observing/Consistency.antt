@@ -84,7 +84,7 @@ module _ (o : Card) (m : Observation) (O : Consistent o m) where
   processes-is : c .processes ≡ o .processes
   processes-is = ap (λ (x : Contents). x .processes) (O .text)
 
-  -- an entry that is turned back
+  -- an entry that is refused
   refused-kept : (e : Entry) (why : Refusal) → Consistent o (after o m e (refused c why))
   refused-kept e why = unturned c e (Answer.Refused why) refl (rw (noted-refused e) O)
     where

@@ -1,4 +1,4 @@
--- Calls, exit requests, steps and reads by cases: turned back with the card as it was, or taken.
+-- Calls, exit requests, steps and reads by cases: refused with the card as it was, or taken.
 use Prim.Native.Nat.{ℕ, _<_}
 use mathlib.Core.Path.{_≡_, refl}
 use mathlib.Core.Bool.{Bool, true, false, cond, not}

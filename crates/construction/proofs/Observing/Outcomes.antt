@@ -1,4 +1,4 @@
--- What an entry can come to: it is turned back and leaves the card, or it is taken.
+-- What an entry can come to: it is refused and leaves the card, or it is taken.
 use Prim.Native.Nat.{ℕ, _<_}
 use mathlib.Core.Path.{_≡_}
 use mathlib.Core.Bool.{true, false}

@@ -1,2 +1,4 @@
 -- Laws that the proofs of the functions cite
-pub mod Laws
+pub mod Arrays
+pub mod Requests
+pub mod Accesses

@@ -79,7 +79,15 @@ pub fn begin_help(
         let inputs = cell.words;
         let keys = [0u8; 32];
         let mut values = [0u32; 32];
-        let paused = simulate(n, program, inputs, opening::started(), &keys, 0, &mut values);
+        let paused = simulate(
+            n,
+            program,
+            inputs,
+            opening::started(),
+            &keys,
+            0,
+            &mut values,
+        );
         let pause = paused.pause;
         let state = paused.simulation;
         return Began {

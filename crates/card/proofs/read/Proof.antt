@@ -1,20 +1,30 @@
-use Rattle.construction.specs.Requests.{read}
-use Rattle.card.proofs.Laws as laws
+use Rattle.card.proofs.Arrays as arrays
+use Rattle.card.proofs.Requests as requests
 use borrow.Author.Needs.{needs}
 use Rattle.card.proofs.read.Statement.{statement}
 use Rattle.card.proofs.read.Tie as tie
 
 returns : tie.Need-returns
-unfolding read
-returns c = rw (← c .before .before .is-below .ensures, c .before .if1 .taken) (c .refused .ensures)
+returns c = requests.read-refused _ _ _ (c .before .is-below .ensures) (c .if1 .taken)
 
-value-of-requires : tie.Need-value-of-requires
-value-of-requires c κs = laws.in-room _ _ _ (c .before .is-below .ensures) (c .if1 .left)
+element-copy-out-cell : tie.Need-element-copy-out-cell
+element-copy-out-cell c = requests.variable-room (c .before .before .before .before .before .args .t1) _ _ (c .before .before .before .before .is-below .ensures) (c .before .before .before .if1 .left)
 
 returns-2 : tie.Need-returns-2
-unfolding read
-returns-2 c = rw (← c .before .before .is-below .ensures, c .before .if1 .left, c .value-of .ensures)
+returns-2 c = let start = c .before .before .before .before .before .before .before .before in requests.read-shown _ _ _ (c .before .before .before .before .before .before .before .is-below .ensures) (c .before .before .before .before .before .before .if1 .left) (arrays.rooms (start .args .t1) _ (start .good .0) .announcements) _ (c .before .before .before .before .holder-of .ensures) _ (c .before .announcement-at .ensures) _ (c .value-of .ensures)
 
 pub read-spec : {M : Type 1} → statement M
 read-spec =
-    tie.close (tie.spec (λ c κs. search needs) (λ c κs. search needs) returns value-of-requires returns-2)
+    tie.close
+    (tie.spec
+    (λ c κs. search needs)
+    returns
+    (λ c κs. search needs)
+    (λ c. search needs)
+    (λ c. search needs)
+    (λ c. search needs)
+    (λ c. search needs)
+    element-copy-out-cell
+    (λ c κs. search needs)
+    (λ c κs. search needs)
+    returns-2)

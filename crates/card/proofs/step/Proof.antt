@@ -1,70 +1,185 @@
-use borrow.Author.Tests.{lt-ltb, le-ltb}
+use native.Mathlib.Nat.{mod-eq-of-lt}
+use Prim.Native.Nat.{_%_, _<_}
+use mathlib.Core.Path.{_≡_, refl, sym, _∙_}
+use native.Mathlib.Omega.{arith}
+use borrow.Author.Tests.{not-true, not-false}
+use lib.Seq.{set-getD}
+use Rattle.construction.specs.declared.Answered.{Answered}
 use Rattle.construction.specs.Requests.{step}
-use Rattle.card.proofs.Laws as laws
+use Rattle.card.proofs.Arrays as arrays
+use Rattle.card.proofs.Requests as requests
+use Rattle.card.proofs.Accesses as accesses
 use borrow.Author.Needs.{needs}
 use Rattle.card.proofs.step.Statement.{statement}
 use Rattle.card.proofs.step.Tie as tie
 
-returns : tie.Need-returns
-unfolding step
-returns c = rw (← c .before .before .is-below .ensures, c .before .if1 .taken) (c .refused .ensures)
+-- where the access is chosen: the step is accepted
+step-is :
+    (c : tie.After-access-of) → let a = c .before .before .before .before .before .before .before .before .before .before .before .args in
+    (y : Answered) → y ≡ requests.steppedAt (a .card) (a .process % 8) → y ≡ step (a .card) (a .process)
+step-is c =
+    let tested = c .before .before .before .before .before .before .before in
+    requests.step-taken _ _ _ (tested .before .before .judge-step .ensures)
+    (sym (tested .before .is-taken .ensures) ∙ not-false _ (tested .if1 .left))
 
-element-copy-out-task : tie.Need-element-copy-out-task
-element-copy-out-task c = laws.in-room _ _ _ (c .before .is-below .ensures) (c .if1 .left)
+accepted :
+    (c : tie.After-access-of) → let a = c .before .before .before .before .before .before .before .before .before .before .before .args in
+    accesses.Accepted (a .card) (a .process % 8) (c .before .before .wrapping-add-u642 .result) (c .before .before .before .wrapping-add-u64 .result)
+    (c .access-of .result)
+accepted c =
+    let start = c .before .before .before .before .before .before .before .before .before .before .before in
+    record {
+      rooms = arrays.rooms (start .args .card) _ (start .good .0);
+      process = omega arith;
+      counted = c .before .before .wrapping-add-u642 .ensures;
+      own = c .before .before .before .wrapping-add-u64 .ensures;
+      chosen = c .access-of .ensures;
+    }
+
+returns : tie.Need-returns
+returns c = requests.step-refused _ _ _ (c .before .before .judge-step .ensures) (sym (c .before .is-taken .ensures) ∙ not-true _ (c .if1 .taken))
 
 returns-2 : tie.Need-returns-2
-unfolding step
-returns-2 c =
-    rw (
-      ← c .before .before .before .before .before .is-below .ensures,
-      c .before .before .before .before .if1 .left,
-      ← c .before .before .is-idle .ensures,
-      c .before .if2 .taken,
-    ) (c .refused2 .ensures)
+returns-2 c = let at = c .before .before .before in step-is at _ (accesses.at-none (accepted at) _ (c .before .enum-told .given .1) (c .answer-of .ensures))
 
 returns-3 : tie.Need-returns-3
-unfolding step
-returns-3 c =
-    rw (
-      ← c .before .before .before .before .before .before .is-below .ensures,
-      c .before .before .before .before .before .if1 .left,
-      ← c .before .before .before .is-idle .ensures,
-      c .before .before .if2 .left,
-      le-ltb _ _ (c .before .if3 .taken),
-    ) (c .refused3 .ensures)
-
-answer-of-requires : tie.Need-answer-of-requires
-answer-of-requires c κs =
-    laws.in-room _ _ _ (c .before .before .before .before .before .before .is-below .ensures)
-    (c .before .before .before .before .before .if1 .left)
+returns-3 c = let at = c .before .before .before .before .before .before .before .before .before in step-is at _ (accesses.at-gate (accepted at) _ _ (c .before .before .before .before .before .before .before .access .given .1) _ (c .before .before .before .before .access-gate .ensures) (c .answer-of2 .ensures))
 
 returns-4 : tie.Need-returns-4
-unfolding step
-returns-4 c =
-    rw (
-      ← c .before .before .before .before .before .before .before .is-below .ensures,
-      c .before .before .before .before .before .before .if1 .left,
-      ← c .before .before .before .before .is-idle .ensures,
-      c .before .before .before .if2 .left,
-      lt-ltb _ _ (c .before .before .if3 .left),
-      ← c .before .advance .ensures,
-      c .answer-of .ensures,
-    )
+returns-4 c = let at = c .before .before .before .before .before .before .before .before .before .before .before .before .before .before .before in step-is at _ (accesses.at-announcement (accepted at) _ _ (c .before .before .before .before .before .before .before .before .before .before .before .before .before .access2 .given .1) _ (c .before .before .before .before .before .before .before .before .before .before .before .whose .ensures) _ (c .before .before .before .before .before .before .announcement-at .ensures) _ (c .before .before .before .before .before .access-announcement .ensures) (c .before .answer-of3 .ensures) _ (rw (mod-eq-of-lt (c .if2 .taken))))
+
+returns-5 : tie.Need-returns-5
+returns-5 c = let at = c .before .before .before .before .before .before .before .before .before .before .before .before .before .before .before in step-is at _ (accesses.at-announcement (accepted at) _ _ (c .before .before .before .before .before .before .before .before .before .before .before .before .before .access2 .given .1) _ (c .before .before .before .before .before .before .before .before .before .before .before .whose .ensures) _ (c .before .before .before .before .before .before .announcement-at .ensures) _ (c .before .before .before .before .before .access-announcement .ensures) (c .before .answer-of3 .ensures) _ (arrays.not-stored _ _ (accepted at .rooms .announcements) _ _ (c .if2 .left)))
+
+returns-6 : tie.Need-returns-6
+returns-6 c = let at = c .before .before .before .before .before .before .before .before .before .before .before .before .before .before in step-is at _ (accesses.at-help (accepted at) _ (c .before .before .before .before .before .before .before .before .before .before .before .before .enum-told2 .given .1) _ (c .before .before .before .before .before .before .before .before .before .before .before .holder-of .ensures) _ (c .before .before .before .before .before .before .before .before .before .announcement-at2 .ensures) _ (c .before .before .before .before .before .before .program-at .ensures) _ (c .before .before .before .before .before .begin-help .ensures) (c .before .before .answer-of4 .ensures) _ (rw (c .before .if3 .taken, c .empty .ensures)))
+
+returns-7 : tie.Need-returns-7
+returns-7 c = let at = c .before .before .before .before .before .before .before .before .before .before .before .before .before in step-is at _ (accesses.at-help (accepted at) _ (c .before .before .before .before .before .before .before .before .before .before .before .enum-told2 .given .1) _ (c .before .before .before .before .before .before .before .before .before .before .holder-of .ensures) _ (c .before .before .before .before .before .before .before .before .announcement-at2 .ensures) _ (c .before .before .before .before .before .program-at .ensures) _ (c .before .before .before .before .begin-help .ensures) (c .before .answer-of4 .ensures) _ (rw (c .if3 .left) (sym (set-getD _ _ _))))
+
+returns-8 : tie.Need-returns-8
+returns-8 c = let at = c .before .before .before .before .before .before .before .before .before .before .before .before .before .before in step-is at _ (accesses.at-note (accepted at) _ (c .before .before .before .before .before .before .before .before .before .before .before .before .enum-told3 .given .1) _ (c .before .before .before .before .before .before .record-at .ensures) _ (c .before .before .before .before .before .program-at2 .ensures) _ (c .before .before .before .before .note .ensures) (c .answer-of5 .ensures))
+
+returns-9 : tie.Need-returns-9
+returns-9 c = let at = c .before .before .before .before .before .before .before .before .before .before .before .before in step-is at _ (accesses.at-write (accepted at) _ (c .before .before .before .before .before .before .before .before .before .before .enum-told4 .given .1) _ (c .before .before .before .before .before .before .before .before .writing .ensures) _ (c .before .before .before .before .record-at2 .ensures) _ (c .before .before .before .write .ensures) (c .before .answer-of6 .ensures) _ (rw (mod-eq-of-lt (c .if4 .taken))))
+
+returns-10 : tie.Need-returns-10
+returns-10 c = let at = c .before .before .before .before .before .before .before .before .before .before .before .before in step-is at _ (accesses.at-write (accepted at) _ (c .before .before .before .before .before .before .before .before .before .before .enum-told4 .given .1) _ (c .before .before .before .before .before .before .before .before .writing .ensures) _ (c .before .before .before .before .record-at2 .ensures) _ (c .before .before .before .write .ensures) (c .before .answer-of6 .ensures) _ (arrays.not-stored _ _ (accepted at .rooms .records) _ _ (c .if4 .left)))
 
 pub step-spec : {M : Type 1} → statement M
 step-spec =
     tie.close
     (tie.spec
+    (λ c. search needs)
+    (λ c. search needs)
+    (λ c. search needs)
+    (λ c. search needs)
     (λ c κs. search needs)
     (λ c κs. search needs)
     returns
     (λ c. search needs)
-    element-copy-out-task
+    (λ c. search needs)
+    (λ c. search needs)
+    (λ c. search needs)
+    (λ c. search needs)
+    (λ c. search needs)
     (λ c κs. search needs)
     (λ c κs. search needs)
+    (λ c. search needs)
+    (λ c. search needs)
+    (λ c. search needs)
+    (λ c κs. search needs)
+    (λ c. search needs)
+    (λ c κs. search needs)
+    (λ c. search needs)
+    (λ c κs. search needs)
+    (λ c. search needs)
+    (λ c. search needs)
+    (λ c. search needs)
+    (λ c. search needs)
+    (λ c κs. search needs)
+    (λ c. search needs)
+    (λ c κs. search needs)
+    (λ c. search needs)
+    (λ c. search needs)
+    (λ c. search needs)
+    (λ c. search needs)
+    (λ c. search needs)
+    (λ c. search needs)
+    (λ c. search needs)
+    (λ c κs. search needs)
+    (λ c κs. search needs)
+    (λ c. search needs)
+    (λ c. search needs)
+    (λ c. search needs)
+    (λ c. search needs)
+    (λ c κs. search needs)
+    (λ c. search needs)
+    (λ c. search needs)
+    (λ c. search needs)
+    (λ c κs. search needs)
+    (λ c. search needs)
+    (λ c. search needs)
+    (λ c. search needs)
+    (λ c κs. search needs)
+    (λ c. search needs)
+    (λ c. search needs)
+    (λ c. search needs)
+    (λ c. search needs)
+    (λ c. search needs)
+    (λ c κs. search needs)
+    (λ c κs. search needs)
+    (λ c. search needs)
+    (λ c. search needs)
+    (λ c. search needs)
+    (λ c. search needs)
+    (λ c. search needs)
+    (λ c. search needs)
+    (λ c κs. search needs)
+    (λ c κs. search needs)
+    (λ c. search needs)
+    (λ c. search needs)
+    (λ c. search needs)
+    (λ c. search needs)
+    (λ c. search needs)
+    (λ c. search needs)
+    (λ c. search needs)
+    (λ c. search needs)
+    (λ c. search needs)
+    (λ c. search needs)
+    (λ c. search needs)
+    (λ c. search needs)
+    (λ c. search needs)
+    (λ c κs. search needs)
+    (λ c κs. search needs)
+    (λ c κs. search needs)
+    (λ c. search needs)
+    (λ c. search needs)
+    (λ c. search needs)
+    (λ c. search needs)
+    (λ c. search needs)
+    (λ c. search needs)
+    (λ c κs. search needs)
+    (λ c. search needs)
+    (λ c. search needs)
+    (λ c. search needs)
+    (λ c κs. search needs)
+    (λ c. search needs)
+    (λ c. search needs)
+    (λ c. search needs)
+    (λ c κs. search needs)
+    (λ c κs. search needs)
+    (λ c. search needs)
+    (λ c. search needs)
+    (λ c κs. search needs)
+    (λ c. search needs)
+    (λ c. search needs)
     returns-2
-    (λ c κs. search needs)
     returns-3
-    (λ c κs. search needs)
-    answer-of-requires
-    returns-4)
+    returns-4
+    returns-5
+    returns-6
+    returns-7
+    returns-8
+    returns-9
+    returns-10)

@@ -1,6 +1,6 @@
 use borrow.Author.Tests.{lt-ltb, le-ltb}
-use Rattle.card.proofs.is_below.Statement.{statement}
-use Rattle.card.proofs.is_below.Tie as tie
+use Rattle.card.proofs.judging.is_below.Statement.{statement}
+use Rattle.card.proofs.judging.is_below.Tie as tie
 
 returns : tie.Need-returns
 returns c = rw (lt-ltb _ _ (c .if1 .taken))

@@ -1,0 +1,266 @@
+-- What each access leaves: the card that code puts together from the pieces that changed is that of an accepted step.
+use Prim.Native.Nat.{ℕ, _+_, _%_, _<_}
+use mathlib.Core.Bool.{Bool, true, false, cond}
+use mathlib.Core.List.{List, []}
+use mathlib.Core.Path.{_≡_, refl, sym, _∙_}
+use native.Mathlib.Omega.{arith}
+use lib.Dec.{ltb}
+use native.Mathlib.Nat.{mod-eq-of-lt}
+use lib.ListN.{length, getD, set}
+use lib.Seq.{set-getD, getD-set-same}
+use Rattle.card.proofs.Arrays.{inside}
+use Rattle.construction.specs.declared.Gate.{Gate}
+use Rattle.construction.specs.declared.Announcement.{Announcement}
+use Rattle.construction.specs.declared.Record.{Record}
+use Rattle.construction.specs.declared.Task.{Task}
+use Rattle.construction.specs.declared.Operation.{Operation}
+use Rattle.construction.specs.declared.Program.{Program}
+use Rattle.construction.specs.declared.Simulation.{Simulation}
+use Rattle.construction.specs.declared.Dictionary.{Dictionary}
+use Rattle.construction.specs.declared.Words.{Words}
+use Rattle.construction.specs.declared.Place.the-variants.{P1}
+use Rattle.construction.specs.declared.Card.{Card}
+use Rattle.construction.specs.declared.Answer.{Answer}
+use Rattle.construction.specs.declared.Answered.{Answered}
+use Rattle.construction.specs.declared.Access.{Access}
+use Rattle.construction.specs.declared.GateAccess.{GateAccess}
+use Rattle.construction.specs.declared.AnnouncementAccess.{AnnouncementAccess}
+use Rattle.construction.specs.declared.GateAccessed.{GateAccessed}
+use Rattle.construction.specs.declared.AnnouncementAccessed.{AnnouncementAccessed}
+use Rattle.construction.specs.declared.Began.{Began}
+use Rattle.construction.specs.declared.Helped.{Helped}
+use Rattle.construction.specs.declared.Writing.{Writing}
+use Rattle.construction.specs.declared.SwappedRecord.{SwappedRecord}
+use Rattle.construction.specs.Cells.{openAnnouncement, openRecord}
+use Rattle.construction.specs.Instructions.{started, noProgram}
+use Rattle.construction.specs.Dictionary.{empty}
+use Rattle.construction.specs.Parts.{Local, idleTask, noOperation, noGate, announcementAt, recordAt, localAt, withCells, withGate, withAnnouncement, withRecord, withLocal, withSteps}
+use Rattle.construction.specs.Machine.{accessOf, accessIn, after, accessGate, accessAnnouncement, whose, holderOf, beginHelp, note, writing, write, writtenVariable, perform, advance}
+use Rattle.construction.specs.Requests.{invoked, exiting, answerOf}
+use Rattle.card.specs.Judging.{stepAnswer}
+use Rattle.card.proofs.Arrays.{Rooms, found}
+use Rattle.card.proofs.Requests.{steppedAt}
+
+-- a card with other arrays of what the processes keep
+abbrev withArrays :
+    Card → List Task → List Operation → List Bool → List ℕ → List Gate → List Announcement → List Simulation → List Dictionary → Card
+withArrays c tasks operations exits counts gates copies simulations dictionaries =
+    record {
+      processes = c .processes;
+      variables = c .variables;
+      programs = c .programs;
+      limit = c .limit;
+      starts = c .starts;
+      code = c .code;
+      gate = c .gate;
+      announcements = c .announcements;
+      records = c .records;
+      steps = c .steps;
+      tasks = tasks;
+      operations = operations;
+      exits = exits;
+      counts = counts;
+      gates = gates;
+      copies = copies;
+      simulations = simulations;
+      dictionaries = dictionaries;
+    }
+
+-- a call and an exit request leave the rest of a process as it was
+module _ (c : Card) (i : ℕ) where
+  pub called :
+      (k : ℕ) (inputs : Words) → i < 8 →
+      withArrays c (set (c .tasks) (i % 8) (record { place = P1; target = 0 })) (set (c .operations) (i % 8) (record { program = k; inputs = inputs }))
+      (set (c .exits) (i % 8) false) (set (c .counts) (i % 8) 0) (c .gates) (c .copies) (c .simulations) (c .dictionaries)
+      ≡ withLocal c i (invoked (localAt c i) k inputs)
+  called k inputs p =
+      rw (
+        mod-eq-of-lt p,
+        set-getD (c .gates) i noGate,
+        set-getD (c .copies) i openAnnouncement,
+        set-getD (c .simulations) i started,
+        set-getD (c .dictionaries) i empty,
+      )
+
+  pub asked :
+      i < 8 →
+      withArrays c (c .tasks) (c .operations) (set (c .exits) (i % 8) true) (c .counts) (c .gates) (c .copies) (c .simulations) (c .dictionaries)
+      ≡ withLocal c i (exiting (localAt c i))
+  asked p =
+      rw (
+        mod-eq-of-lt p,
+        set-getD (c .tasks) i idleTask,
+        set-getD (c .operations) i noOperation,
+        set-getD (c .counts) i 0,
+        set-getD (c .gates) i noGate,
+        set-getD (c .copies) i openAnnouncement,
+        set-getD (c .simulations) i started,
+        set-getD (c .dictionaries) i empty,
+      )
+
+-- a step of process i that is accepted: n is the count of steps after it, m that of the process's own, and a is its access
+pub record Accepted (c : Card) (i n m : ℕ) (a : Access) : Type 0 where
+  pub rooms : Rooms c
+  pub process : i < 8
+  pub counted : n ≡ (c .steps + 1) % 18446744073709551616
+  pub own : m ≡ (localAt c i .steps + 1) % 18446744073709551616
+  pub chosen : a ≡ accessOf (localAt c i .task .place) (localAt c i .exit)
+
+module _ {c : Card} {i n m : ℕ} {a : Access} (h : Accepted c i n m a) where
+  abbrev l : Local
+  l = localAt c i
+
+  -- the cells and the process after an access, and the answer
+  stepped :
+      (g : Gate) (announcements : List Announcement) (records : List Record) (task : Task) (gate : Gate) (b : Announcement) (s : Simulation) (d : Dictionary) →
+      perform (accessIn l) c i .card ≡ withLocal (withCells c g announcements records) i (after l task gate b s d) →
+      (t : Answer) → t ≡ stepAnswer (task .place) b m →
+      record { card = withSteps (withLocal (withCells c g announcements records) i (after l task gate b s d)) n; answer = t } ≡ steppedAt c i
+  unfolding advance
+  stepped g announcements records task gate b s d performed t answered =
+      rw (
+        performed,
+        ← h .own,
+        ← h .counted,
+        getD-set-same (c .tasks) i task idleTask (omega (arith, h .process, h .rooms .tasks)),
+        getD-set-same (c .counts) i m 0 (omega (arith, h .process, h .rooms .counts)),
+        getD-set-same (c .copies) i b openAnnouncement (omega (arith, h .process, h .rooms .copies)),
+        answered,
+      )
+
+  -- the dictionary that code takes out
+  own-dictionary : getD (c .dictionaries) i (record { length = 0; items = [] }) ≡ localAt c i .dictionary
+  own-dictionary = inside (c .dictionaries) i (record { length = 0; items = [] }) empty (omega (arith, h .process, h .rooms .dictionaries))
+
+  module _ (t : Answer) where
+    -- what code leaves: other cells, both counts, and the arrays that the access alters
+    abbrev left : Card → List Task → List Gate → List Announcement → List Simulation → List Dictionary → Type 0
+    left d tasks gates copies simulations dictionaries =
+        record {
+          card = withSteps (withArrays d tasks (c .operations) (c .exits) (set (c .counts) i m) gates copies simulations dictionaries) n;
+          answer = t;
+        }
+        ≡ steppedAt c i
+
+    pub at-none :
+        a ≡ Access.None → t ≡ stepAnswer (localAt c i .task .place) (localAt c i .announcement) m →
+        left c (c .tasks) (c .gates) (c .copies) (c .simulations) (c .dictionaries)
+    unfolding perform
+    at-none e told =
+        rw (
+          ← h .own,
+          set-getD (c .tasks) i idleTask,
+          set-getD (c .operations) i noOperation,
+          set-getD (c .exits) i false,
+          set-getD (c .gates) i noGate,
+          set-getD (c .copies) i openAnnouncement,
+          set-getD (c .simulations) i started,
+          set-getD (c .dictionaries) i empty,
+        ) at
+        (stepped (c .gate) (c .announcements) (c .records) (localAt c i .task) (localAt c i .gate) (localAt c i .announcement) (localAt c i .simulation) (localAt c i .dictionary)
+        (rw (← h .chosen, e)) t told)
+
+    pub at-gate :
+        (b : GateAccess) → a ≡ Access.Gate b → (r : GateAccessed) → r ≡ accessGate b i (c .gate) (localAt c i .gate) (localAt c i .task) →
+        t ≡ stepAnswer (r .task .place) (localAt c i .announcement) m →
+        left (withGate c (r .cell)) (set (c .tasks) i (r .task)) (set (c .gates) i (r .read)) (c .copies) (c .simulations) (c .dictionaries)
+    unfolding perform
+    at-gate b e r er told =
+        rw (
+          ← h .own,
+          set-getD (c .operations) i noOperation,
+          set-getD (c .exits) i false,
+          set-getD (c .copies) i openAnnouncement,
+          set-getD (c .simulations) i started,
+          set-getD (c .dictionaries) i empty,
+        ) at
+        (stepped (r .cell) (c .announcements) (c .records) (r .task) (r .read) (localAt c i .announcement) (localAt c i .simulation) (localAt c i .dictionary)
+        (rw (← h .chosen, e, ← er)) t told)
+
+    pub at-announcement :
+        (b : AnnouncementAccess) → a ≡ Access.Announcement b → (k : ℕ) → k ≡ whose b (c .processes) i (localAt c i .gate) →
+        (cell : Announcement) → cell ≡ cond (ltb k 8) (getD (c .announcements) (k % 8) openAnnouncement) openAnnouncement →
+        (r : AnnouncementAccessed) → r ≡ accessAnnouncement b k cell (localAt c i .operation) (localAt c i .gate) (localAt c i .announcement) (localAt c i .simulation .outputs) (localAt c i .task) →
+        t ≡ stepAnswer (r .task .place) (r .read) m → (row : List Announcement) → row ≡ set (c .announcements) k (r .cell) →
+        left (withCells c (c .gate) row (c .records)) (set (c .tasks) i (r .task)) (c .gates) (set (c .copies) i (r .read)) (c .simulations) (c .dictionaries)
+    unfolding perform
+    at-announcement b e k ek cell ec r er told row stored =
+        rw (
+          ← stored,
+          ← h .own,
+          set-getD (c .operations) i noOperation,
+          set-getD (c .exits) i false,
+          set-getD (c .gates) i noGate,
+          set-getD (c .simulations) i started,
+          set-getD (c .dictionaries) i empty,
+        ) at
+        (stepped (c .gate) (set (c .announcements) k (r .cell)) (c .records) (r .task) (localAt c i .gate) (r .read) (localAt c i .simulation) (localAt c i .dictionary)
+        (rw (← h .chosen, e, ← ek, ← found (c .announcements) 8 (h .rooms .announcements) k openAnnouncement openAnnouncement cell ec, ← er)) t told)
+
+    pub at-help :
+        a ≡ Access.Help → (k : ℕ) → k ≡ holderOf (localAt c i .gate .holder) →
+        (cell : Announcement) → cell ≡ cond (ltb k 8) (getD (c .announcements) (k % 8) openAnnouncement) openAnnouncement →
+        (program : Program) → program ≡ cond (ltb (cell .program) 8) (getD (c .code) (cell .program % 8) (record { length = 0; lines = [] })) noProgram →
+        (r : Began) → r ≡ beginHelp (c .variables) program cell (localAt c i .gate .seq) (localAt c i .task) (localAt c i .simulation) →
+        t ≡ stepAnswer (r .task .place) cell m → (ds : List Dictionary) → ds ≡ set (c .dictionaries) i (cond (r .helps) empty (localAt c i .dictionary)) →
+        left c (set (c .tasks) i (r .task)) (c .gates) (set (c .copies) i cell) (set (c .simulations) i (r .simulation)) ds
+    unfolding perform
+    at-help e k ek cell ec program ep r er told ds stored =
+        let announced = found (c .announcements) 8 (h .rooms .announcements) k openAnnouncement openAnnouncement cell ec in
+        let helped = found (c .code) 8 (h .rooms .code) (cell .program) (record { length = 0; lines = [] }) noProgram program ep in
+        rw (
+          ← stored,
+          ← h .own,
+          set-getD (c .operations) i noOperation,
+          set-getD (c .exits) i false,
+          set-getD (c .gates) i noGate,
+        ) at
+        (stepped (c .gate) (c .announcements) (c .records) (r .task) (localAt c i .gate) cell (r .simulation) (cond (r .helps) empty (localAt c i .dictionary))
+        (rw (← h .chosen, e, ← ek, ← announced, ← helped, ← er, announced, set-getD (c .announcements) k openAnnouncement)) t told)
+
+    pub at-note :
+        a ≡ Access.Note →
+        (cell : Record) → cell ≡ cond (ltb (localAt c i .task .target) 64) (getD (c .records) (localAt c i .task .target % 64) (openRecord 0)) (openRecord 0) →
+        (program : Program) → program ≡ cond (ltb (localAt c i .announcement .program) 8) (getD (c .code) (localAt c i .announcement .program % 8) (record { length = 0; lines = [] })) noProgram →
+        (r : Helped) → r ≡ note (c .variables) program (localAt c i .announcement .words) cell (localAt c i .gate .seq) (localAt c i .task) (localAt c i .simulation) (getD (c .dictionaries) i (record { length = 0; items = [] })) →
+        t ≡ stepAnswer (r .task .place) (localAt c i .announcement) m →
+        left c (set (c .tasks) i (r .task)) (c .gates) (c .copies) (set (c .simulations) i (r .simulation)) (set (c .dictionaries) i (r .dictionary))
+    unfolding perform
+    at-note e cell ec program ep r er told =
+        let v = localAt c i .task .target in
+        let read = found (c .records) 64 (h .rooms .records) v (openRecord 0) (openRecord 0) cell ec in
+        let helped = found (c .code) 8 (h .rooms .code) (localAt c i .announcement .program) (record { length = 0; lines = [] }) noProgram program ep in
+        let noted = rw own-dictionary at er in
+        rw (
+          ← h .own,
+          set-getD (c .operations) i noOperation,
+          set-getD (c .exits) i false,
+          set-getD (c .gates) i noGate,
+          set-getD (c .copies) i openAnnouncement,
+        ) at
+        (stepped (c .gate) (c .announcements) (c .records) (r .task) (localAt c i .gate) (localAt c i .announcement) (r .simulation) (r .dictionary)
+        (rw (← h .chosen, e, ← read, ← helped, ← noted, read, set-getD (c .records) v (openRecord 0))) t told)
+
+    pub at-write :
+        a ≡ Access.Write →
+        (w : Writing) → w ≡ writing (localAt c i .gate .seq) (localAt c i .task) (getD (c .dictionaries) i (record { length = 0; items = [] })) →
+        (cell : Record) → cell ≡ cond (ltb (w .item .variable) 64) (getD (c .records) (w .item .variable % 64) (openRecord 0)) (openRecord 0) →
+        (r : SwappedRecord) → r ≡ write cell (w .item) (localAt c i .gate .seq) →
+        t ≡ stepAnswer (w .task .place) (localAt c i .announcement) m → (row : List Record) → row ≡ set (c .records) (w .item .variable) (r .cell) →
+        left (withCells c (c .gate) (c .announcements) row) (set (c .tasks) i (w .task)) (c .gates) (c .copies) (c .simulations) (c .dictionaries)
+    unfolding perform
+    at-write e w ew cell ec r er told row stored =
+        let read = found (c .records) 64 (h .rooms .records) (w .item .variable) (openRecord 0) (openRecord 0) cell ec in
+        let written = rw own-dictionary at ew in
+        rw (
+          ← stored,
+          ← h .own,
+          set-getD (c .operations) i noOperation,
+          set-getD (c .exits) i false,
+          set-getD (c .gates) i noGate,
+          set-getD (c .copies) i openAnnouncement,
+          set-getD (c .simulations) i started,
+          set-getD (c .dictionaries) i empty,
+        ) at
+        (stepped (c .gate) (c .announcements) (set (c .records) (w .item .variable) (r .cell)) (w .task) (localAt c i .gate) (localAt c i .announcement) (localAt c i .simulation) (localAt c i .dictionary)
+        (rw (← h .chosen, e, writtenVariable, ← written, ← read, ← er)) t told)

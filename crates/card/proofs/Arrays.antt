@@ -1,0 +1,64 @@
+-- The arrays of a card that code holds are full; and what stands at a place that may lie past the room of an array.
+use Prim.Native.Nat.{ℕ, zero, suc, _%_, _<_, _≤_}
+use mathlib.Core.Bool.{Bool, true, false, cond}
+use mathlib.Core.List.{List, [], _∷_}
+use mathlib.Core.Path.{_≡_, refl, sym, _∙_}
+use native.Mathlib.Nat.{mod-eq-of-lt}
+use native.Mathlib.Omega.{arith}
+use lib.Dec.{ltb}
+use lib.ListN.{length, getD, set, length-map, List·getD-eq-default}
+use lib.Seq.{set-out}
+use borrow.Author.Tests.{ltb-true, ltb-false}
+use mir.Val.{Val}
+use denote.Laws.{Is}
+use denote.Struct.Declared.{row}
+use Rattle.construction.proofs.Card.{the-type}
+use Rattle.construction.specs.declared.Card.{Card}
+
+-- a place of an array, whatever stands past its end
+pub inside : {A : Type 0} (l : List A) (i : ℕ) (d e : A) → i < length l → getD l i d ≡ getD l i e
+inside [] i d e p = absurd (omega arith)
+inside (x ∷ l) zero d e p = refl
+inside (x ∷ l) (suc i) d e p = inside l i d e (omega arith)
+
+pub record Rooms (c : Card) : Type 0 where
+  pub code : length (c .code) ≡ 8
+  pub announcements : length (c .announcements) ≡ 8
+  pub records : length (c .records) ≡ 64
+  pub tasks : length (c .tasks) ≡ 8
+  pub counts : length (c .counts) ≡ 8
+  pub copies : length (c .copies) ≡ 8
+  pub dictionaries : length (c .dictionaries) ≡ 8
+
+pub rooms : (c : Card) (vs : List Val) → Is (row the-type) c vs → Rooms c
+rooms c vs p =
+    let limit = p .1 .1 .1 .1 .1 in
+    let code = limit .1 .1 in
+    let announcements = code .1 .1 in
+    let records = announcements .1 in
+    let tasks = records .1 .1 in
+    let counts = tasks .1 .1 .1 in
+    let copies = counts .1 .1 in
+    let dictionaries = copies .1 .1 in
+    record {
+      code = simp length-map at (code .0 .1 .0 .1);
+      announcements = simp length-map at (announcements .0 .1 .0 .1);
+      records = simp length-map at (records .0 .1 .0 .1);
+      tasks = simp length-map at (tasks .0 .1 .0 .1);
+      counts = simp length-map at (counts .0 .1 .0 .1);
+      copies = simp length-map at (copies .0 .1 .0 .1);
+      dictionaries = simp length-map at (dictionaries .0 .1 .0 .1);
+    }
+
+module _ {A : Type 0} (l : List A) (n : ℕ) (full : length l ≡ n) (m : ℕ) where
+  -- what is found at a place: past the room the opening value
+  pub found : (d e x : A) → x ≡ cond (ltb m n) (getD l (m % n) d) e → x ≡ getD l m e
+  found d e x p = p ∙ go (ltb m n) refl
+    where
+      go : (b : Bool) → ltb m n ≡ b → cond b (getD l (m % n) d) e ≡ getD l m e
+      go true q = let h = ltb-true m n q in rw (mod-eq-of-lt h) (inside l m d e (rw full h))
+      go false q = sym (List·getD-eq-default l e {n = m} (rw full (ltb-false m n q)))
+
+  -- past the room nothing is stored
+  pub not-stored : (a : A) → n ≤ m → l ≡ set l m a
+  not-stored a h = sym (set-out l m a (rw full h))

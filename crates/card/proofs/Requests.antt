@@ -1,0 +1,159 @@
+-- The requests by the tests that judge them
+use Prim.Native.Nat.{ℕ, _%_, _<_}
+use mathlib.Core.Bool.{Bool, true, false, cond, not, _&&_}
+use mathlib.Core.Path.{_≡_, refl, sym, _∙_}
+use native.Mathlib.Nat.{mod-eq-of-lt}
+use native.Mathlib.Omega.{arith}
+use lib.Dec.{ltb}
+use lib.ListN.{length, getD}
+use borrow.Author.Tests.{ltb-true, not-false}
+use Rattle.construction.specs.declared.Words.{Words}
+use Rattle.construction.specs.declared.Holder.{Holder}
+use Rattle.construction.specs.declared.Holder.the-variants.{Nobody, Process}
+use Rattle.construction.specs.declared.Announcement.{Announcement}
+use Rattle.construction.specs.declared.Task.{Task}
+use Rattle.construction.specs.declared.Card.{Card}
+use Rattle.construction.specs.declared.Answer.{Answer}
+use Rattle.construction.specs.declared.Answered.{Answered}
+use Rattle.construction.specs.declared.Refusal.{Refusal}
+use Rattle.construction.specs.declared.Refusal.the-variants.{NoProcess, NoProgram, Busy, NotBusy, NoPlace, LimitReached}
+use Rattle.construction.specs.Cells.{openAnnouncement}
+use Rattle.construction.specs.Parts.{idleTask, announcementAt, recordAt, localAt, withLocal}
+use Rattle.construction.specs.Machine.{holderOf, advance}
+use Rattle.construction.specs.Requests.{isProcess, isProgram, isIdle, refused, invoked, exiting, answerOf, isVariable, isPending, valueOf, call, requestExit, step, read}
+use Rattle.card.specs.Judging.{judged, callJudged, exitJudged, stepJudged, isTaken}
+use Rattle.card.specs.Reading.{pending, shown}
+use Rattle.card.proofs.Arrays.{found}
+
+-- a step that was accepted
+abbrev pub steppedAt : Card → ℕ → Answered
+steppedAt c i = record { card = advance c i; answer = answerOf (localAt (advance c i) i) }
+
+-- a number that passed the test of its room
+second : (a b : Bool) → a && b ≡ true → b ≡ true
+second true b e = e
+second false b e = cc
+
+pub in-room : (a b n : ℕ) → ltb a b && ltb a n ≡ true → a < n
+in-room a b n e = ltb-true a n (second (ltb a b) (ltb a n) e)
+
+none-right : (a : Bool) → a && false ≡ false
+none-right true = refl
+none-right false = refl
+
+-- an answer is taken or it refuses
+apart : (x : Answer) (r : Refusal) → x ≡ Answer.Refused r → isTaken x ≡ true → ⊥
+apart x r e h = let z : _≡_ {A = Bool} false true = rw e at h in let w : _≡_ {A = ℕ} 0 1 = cc in omega arith
+
+taken-not : (x : Answer) → x ≡ Answer.Taken → isTaken x ≡ false → ⊥
+taken-not x e h = let z : _≡_ {A = Bool} true false = rw e at h in let w : _≡_ {A = ℕ} 0 1 = cc in omega arith
+
+-- a request by its three tests: it is refused, ..
+module _ (c : Card) (r s t : Refusal) where
+  abbrev by : Bool → Bool → Bool → Answered → Answered
+  by a b d y = cond (not a) (refused c r) (cond (not b) (refused c s) (cond (not d) (refused c t) y))
+
+  refuses :
+      (a b d : Bool) (x : Answer) (y : Answered) → x ≡ judged a r b s d t → isTaken x ≡ false →
+      record { card = c; answer = x } ≡ by a b d y
+  refuses false b d x y e h = rw e
+  refuses true false d x y e h = rw e
+  refuses true true false x y e h = rw e
+  refuses true true true x y e h = absurd (taken-not x e h)
+
+  -- .. or taken, and then every test was passed
+  record Passed (a b d : Bool) (x : Answer) : Type 0 where
+    first : a ≡ true
+    next : b ≡ true
+    last : d ≡ true
+    taken : x ≡ Answer.Taken
+
+  passes : (a b d : Bool) (x : Answer) → x ≡ judged a r b s d t → isTaken x ≡ true → Passed a b d x
+  passes true true true x e h = record { first = refl; next = refl; last = refl; taken = e }
+  passes false b d x e h = absurd (apart x r e h)
+  passes true false d x e h = absurd (apart x s e h)
+  passes true true false x e h = absurd (apart x t e h)
+
+module _ (c : Card) (i : ℕ) where
+  -- the task that is judged stands at place i mod 8: where that is another, process i is not there
+  abbrev judgedTask : Task
+  judgedTask = getD (c .tasks) (i % 8) idleTask
+
+  same-task : {A : Type 0} (none : A) (f : Task → A) → cond (not (isProcess c i)) none (f judgedTask) ≡ cond (not (isProcess c i)) none (f (localAt c i .task))
+  same-task none f = go (ltb i 8) refl
+    where
+      go : (b : Bool) → ltb i 8 ≡ b → cond (not (isProcess c i)) none (f judgedTask) ≡ cond (not (isProcess c i)) none (f (localAt c i .task))
+      go true q = rw (mod-eq-of-lt (ltb-true i 8 q))
+      go false q = rw (q, none-right (ltb i (c .processes)))
+
+  module _ (k : ℕ) (x : Answer) (told : x ≡ callJudged i (c .processes) k (c .programs) (judgedTask .place)) where
+    call-told : x ≡ callJudged i (c .processes) k (c .programs) (localAt c i .task .place)
+    call-told = told ∙ same-task (Answer.Refused NoProcess) (λ (t : Task). cond (not (isProgram c k)) (Answer.Refused NoProgram) (cond (not (isIdle (t .place))) (Answer.Refused Busy) Answer.Taken))
+
+    pub call-refused : (inputs : Words) → isTaken x ≡ false → record { card = c; answer = x } ≡ call c i k inputs
+    unfolding call
+    call-refused inputs h = refuses c NoProcess NoProgram Busy (isProcess c i) (isProgram c k) (isIdle (localAt c i .task .place)) x _ call-told h
+
+    pub call-taken :
+        (inputs : Words) → isTaken x ≡ true → (d : Card) → (i < 8 → d ≡ withLocal c i (invoked (localAt c i) k inputs)) →
+        record { card = d; answer = x } ≡ call c i k inputs
+    unfolding call
+    call-taken inputs h d e =
+        let p = passes c NoProcess NoProgram Busy (isProcess c i) (isProgram c k) (isIdle (localAt c i .task .place)) x call-told h in
+        rw (p .first, p .next, p .last, p .taken, e (in-room i (c .processes) 8 (p .first)))
+
+    pub small-program : isTaken x ≡ true → k < 8
+    small-program h =
+        let p = passes c NoProcess NoProgram Busy (isProcess c i) (isProgram c k) (isIdle (localAt c i .task .place)) x call-told h in
+        in-room k (c .programs) 8 (p .next)
+
+  module _ (x : Answer) (told : x ≡ exitJudged i (c .processes) (judgedTask .place)) where
+    exit-told : x ≡ exitJudged i (c .processes) (localAt c i .task .place)
+    exit-told = told ∙ same-task (Answer.Refused NoProcess) (λ (t : Task). cond (not (not (isIdle (t .place)))) (Answer.Refused NotBusy) Answer.Taken)
+
+    pub exit-refused : isTaken x ≡ false → record { card = c; answer = x } ≡ requestExit c i
+    unfolding requestExit
+    exit-refused h = refuses c NoProcess NotBusy NotBusy (isProcess c i) (not (isIdle (localAt c i .task .place))) true x _ exit-told h
+
+    pub exit-taken :
+        isTaken x ≡ true → (d : Card) → (i < 8 → d ≡ withLocal c i (exiting (localAt c i))) →
+        record { card = d; answer = x } ≡ requestExit c i
+    unfolding requestExit
+    exit-taken h d e =
+        let p = passes c NoProcess NotBusy NotBusy (isProcess c i) (not (isIdle (localAt c i .task .place))) true x exit-told h in
+        rw (p .first, p .next, p .taken, e (in-room i (c .processes) 8 (p .first)))
+
+  module _ (x : Answer) (told : x ≡ stepJudged i (c .processes) (judgedTask .place) (c .steps) (c .limit)) where
+    step-told : x ≡ stepJudged i (c .processes) (localAt c i .task .place) (c .steps) (c .limit)
+    step-told = told ∙ same-task (Answer.Refused NoProcess) (λ (t : Task). cond (not (not (isIdle (t .place)))) (Answer.Refused NotBusy) (cond (not (ltb (c .steps) (c .limit))) (Answer.Refused LimitReached) Answer.Taken))
+
+    pub step-refused : isTaken x ≡ false → record { card = c; answer = x } ≡ step c i
+    unfolding step
+    step-refused h = refuses c NoProcess NotBusy LimitReached (isProcess c i) (not (isIdle (localAt c i .task .place))) (ltb (c .steps) (c .limit)) x _ step-told h
+
+    pub step-taken : isTaken x ≡ true → (y : Answered) → y ≡ steppedAt c (i % 8) → y ≡ step c i
+    unfolding step
+    step-taken h y e =
+        let p = passes c NoProcess NotBusy LimitReached (isProcess c i) (not (isIdle (localAt c i .task .place))) (ltb (c .steps) (c .limit)) x step-told h in
+        e ∙ rw (p .first, p .next, p .last, mod-eq-of-lt (in-room i (c .processes) 8 (p .first)))
+
+-- a read by the pieces that it looks at
+holder-pends : (c : Card) (h : Holder) → pending h (announcementAt c (holderOf h)) ≡ isPending c h
+holder-pends c Nobody = refl
+holder-pends c (Process m) = refl
+
+module _ (c : Card) (v : ℕ) (b : Bool) (told : b ≡ isVariable c v) where
+  pub read-refused : not b ≡ true → record { card = c; answer = Answer.Refused NoPlace } ≡ read c v
+  unfolding read
+  read-refused h = rw (← told, h)
+
+  pub variable-room : not b ≡ false → v < 64
+  variable-room h = in-room v (c .variables) 64 (sym told ∙ not-false b h)
+
+  pub read-shown :
+      not b ≡ false → length (c .announcements) ≡ 8 → (m : ℕ) → m ≡ holderOf (c .gate .holder) →
+      (a : Announcement) → a ≡ cond (ltb m 8) (getD (c .announcements) (m % 8) openAnnouncement) openAnnouncement →
+      (x : ℕ) → x ≡ shown (c .gate) a (recordAt c v) → record { card = c; answer = Answer.Value x } ≡ read c v
+  unfolding read valueOf
+  read-shown h full m em a ea x ex =
+      rw (← told, h, ex, found (c .announcements) 8 full m openAnnouncement openAnnouncement a ea, em, holder-pends c (c .gate .holder))

@@ -39,29 +39,33 @@ fn in_range(low: u64, high: u64, x: u64) -> bool
     both(low <= x, x <= high)
 }
 
-// The table of codes, from code 0, which is none, to code 12.
-const FORMATS: [Format; 13] = [
-    Unknown,
-    Known(Register, Register, Unused),
-    Known(Register, Word, Unused),
-    Known(Register, Variable, Unused),
-    Known(Variable, Register, Unused),
-    Known(Register, Register, Unused),
-    Known(Register, Register, Unused),
-    Known(Register, Register, Unused),
-    Known(Register, Register, Unused),
-    Known(Register, Register, Skip),
-    Known(Register, Register, Skip),
-    Known(Register, Register, Unused),
-    Known(Unused, Unused, Unused),
-];
-
-// The format of a code.
+// The format of a code, from the table of codes 0, which is none, to 12.
 fn format_of(code: u64) -> Format
     ensures { λ r. ⌜ r ≡ rowOf code .format ⌝ }
 {
+    let registers = Known(Register, Register, Unused);
+    let constant = Known(Register, Word, Unused);
+    let load = Known(Register, Variable, Unused);
+    let store = Known(Variable, Register, Unused);
+    let skip = Known(Register, Register, Skip);
+    let stop = Known(Unused, Unused, Unused);
+    let formats = [
+        Unknown,
+        registers,
+        constant,
+        load,
+        store,
+        registers,
+        registers,
+        registers,
+        registers,
+        skip,
+        skip,
+        registers,
+        stop,
+    ];
     if code < 13 {
-        FORMATS[code as usize]
+        formats[code as usize]
     } else {
         Unknown
     }

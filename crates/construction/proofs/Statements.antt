@@ -6,5 +6,6 @@ pub mod ExitRequests
 pub mod TextKept
 pub mod Linearizability
 pub mod Limits
+pub mod Sums
 pub mod Examples
 pub mod LinearizabilityExample

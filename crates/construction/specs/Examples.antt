@@ -208,15 +208,15 @@ cardSums =
 abbrev pub two : ℕ → ℕ → Words
 two x y = record { w0 = x; w1 = y; w2 = 0; w3 = 0 }
 
--- '4,294,967,295 plus 1 gives 0; 0 minus 1 gives 4,294,967,295'
-abbrev pub wrapped : Row
-wrapped =
+-- '4,294,967,295 plus 1' gives 4,294,967,295; '0 minus 1' gives 0 (document 02, order 2)
+abbrev pub stopped : Row
+stopped =
     record {
       text = cardSums;
       entries = call 0 (two 4294967295 1) ++ steps 0 12;
-      answers = taken ++ (runs 11 ++ done (two 0 4294967295) 12);
+      answers = taken ++ (runs 11 ++ done (two 4294967295 0) 12);
       gate = record { holder = Nobody; seq = 2 };
-      announcements = record { program = 0; flag = Done; seq = 1; words = two 0 4294967295 } ∷ [];
+      announcements = record { program = 0; flag = Done; seq = 1; words = two 4294967295 0 } ∷ [];
       variable = 0;
       cell = openRecord 7;
     }
@@ -344,7 +344,7 @@ lateSwap =
 
 abbrev pub rows : List Row
 rows =
-    listing ∷ afterNine ∷ afterTen ∷ sameInput ∷ exitRequested ∷ twoProcesses ∷ limited ∷ wrapped ∷ indirect ∷ indirectPast ∷ skipPast ∷ turnOfOther ∷ equalSeq ∷ earlyExit ∷ lateMark ∷ lateSwap ∷ []
+    listing ∷ afterNine ∷ afterTen ∷ sameInput ∷ exitRequested ∷ twoProcesses ∷ limited ∷ stopped ∷ indirect ∷ indirectPast ∷ skipPast ∷ turnOfOther ∷ equalSeq ∷ earlyExit ∷ lateMark ∷ lateSwap ∷ []
 
 -- 'Turned back', column 'small example'. Rows 2 to 4: a text, and the number and line that it is refused with
 pub record RefusedText : Type 0 where

@@ -1,5 +1,5 @@
 -- The twelve instructions (document 01, 'The card text'): what one does, decoding and encoding.
-use Prim.Native.Nat.{ℕ, suc, _+_, _-_, _%_, min}
+use Prim.Native.Nat.{ℕ, suc, _+_, _-_, min}
 use mathlib.Core.Bool.{Bool, cond, _&&_}
 use mathlib.Core.List.{List, [], _∷_}
 use lib.Dec.{eqb, leb, ltb}
@@ -34,12 +34,12 @@ withWord f k x =
     (record { w0 = f .w0; w1 = f .w1; w2 = x; w3 = f .w3 })
     (record { w0 = f .w0; w1 = f .w1; w2 = f .w2; w3 = x })))
 
--- codes 7 and 8: 'plus (minus), modulo 4,294,967,296'
+-- codes 7 and 8: plus and minus 'shall hold at 4,294,967,295 and at 0' (document 02, order 2); minus on natural numbers stops at 0
 unfoldable pub sum : ℕ → ℕ → ℕ
-sum x y = (x + y) % 4294967296
+sum x y = min 4294967295 (x + y)
 
 unfoldable pub difference : ℕ → ℕ → ℕ
-difference x y = (x + 4294967296 - y) % 4294967296
+difference x y = x - y
 
 -- a variable is touched only if it is there: 'a number of n or more touches nothing; code 5 then gives 0'
 unfoldable pub load : ℕ → ℕ → ℕ → Effect

@@ -11,7 +11,7 @@ use Rattle.construction.specs.declared.Effect.{Effect}
 use Rattle.construction.specs.declared.Instruction.{Instruction}
 use Rattle.construction.specs.declared.Line.{Line}
 use Rattle.construction.specs.declared.Program.{Program}
-use Rattle.construction.specs.Instructions.{withWord, difference, load, store, forward, noLine, fetch}
+use Rattle.construction.specs.Instructions.{withWord, load, store, forward, noLine, fetch}
 use Rattle.programs.specs.Fetching.{instructionAt}
 
 module _ (f : Words) (x : ℕ) where
@@ -43,10 +43,6 @@ module _ (f : Words) (x : ℕ) where
       d ≡ cond (ltb 2 k) x (f .w3) → _≡_ {A = Words} (record { w0 = a; w1 = b; w2 = c; w3 = d }) (withWord f k x)
   unfolding placed
   with-word k a b c d p q r s = rw (p, q, r, s) (placed-is k)
-
-pub difference-is : (r x y : ℕ) → r < 4294967296 → y < 4294967296 → (r + y) % 2 ^ 32 ≡ x → r ≡ difference x y
-unfolding difference
-difference-is r x y p q e = omega arith
 
 module _ (n a v : ℕ) where
   pub load-there : v < n → Effect.Load a v ≡ load n a v

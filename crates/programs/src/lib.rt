@@ -41,18 +41,19 @@ pub fn with_word(words: Words, place: u8, value: u32) -> Words
     }
 }
 
-// Code 7.
+// Code 7: a sum past the end of a word is that end.
 pub fn sum(x: u32, y: u32) -> u32
     ensures { λ r. ⌜ r ≡ sum x y ⌝ }
 {
-    std::num::wrapping_add_u32(x, y)
+    let room = 4_294_967_295 - x;
+    if y < room { x + y } else { 4_294_967_295 }
 }
 
-// Code 8.
+// Code 8: a difference below 0 is 0.
 pub fn difference(x: u32, y: u32) -> u32
     ensures { λ r. ⌜ r ≡ difference x y ⌝ }
 {
-    std::num::wrapping_sub_u32(x, y)
+    if y < x { x - y } else { 0 }
 }
 
 // A load of a variable, which touches nothing where the variable is not below n.

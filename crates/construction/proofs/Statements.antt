@@ -7,5 +7,6 @@ pub mod TextKept
 pub mod Linearizability
 pub mod Limits
 pub mod Sums
+pub mod Counters
 pub mod Examples
 pub mod LinearizabilityExample

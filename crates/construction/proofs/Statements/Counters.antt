@@ -1,0 +1,111 @@
+-- The place of a process within its program never passes 32 (document 02, order 5): a skip past the end stands at the end of the room.
+use Prim.Native.Nat.{ℕ, zero, suc, _+_, _≤_, _<_}
+use mathlib.Core.Path.{_≡_}
+use mathlib.Core.List.{List, [], _∷_}
+use native.Mathlib.Omega.{arith}
+use lib.Dec.{ltb}
+use lib.ListN.{getD, set}
+use Rattle.construction.specs.declared.Words.{Words}
+use Rattle.construction.specs.declared.Program.{Program}
+use Rattle.construction.specs.declared.Dictionary.{Dictionary}
+use Rattle.construction.specs.declared.Simulation.{Simulation}
+use Rattle.construction.specs.declared.Simulated.{Simulated}
+use Rattle.construction.specs.declared.Announcement.{Announcement}
+use Rattle.construction.specs.declared.Record.{Record}
+use Rattle.construction.specs.declared.Task.{Task}
+use Rattle.construction.specs.declared.Began.{Began}
+use Rattle.construction.specs.declared.Helped.{Helped}
+use Rattle.construction.specs.declared.Access.{Access}
+use Rattle.construction.specs.declared.Card.{Card}
+use Rattle.construction.specs.declared.Answered.{Answered}
+use Rattle.construction.specs.Instructions.{nextEffect, forward, withRegister, withOutput, skipped, started}
+use Rattle.construction.specs.Dictionary.{empty, has, insert, itemOf}
+use Rattle.construction.specs.Helping.{simulate, simulateFrom}
+use Rattle.construction.specs.Parts.{localAt}
+use Rattle.construction.specs.Machine.{helps, beginHelp, note, accessIn, perform, advance}
+use Rattle.construction.specs.Opening.{fresh, opened}
+use Rattle.construction.specs.History.{Entry, Observation, observe, observeAll, opening, run}
+use Rattle.construction.proofs.Basics.{on-test, set-keeps, getD-replicate-same}
+use Rattle.construction.proofs.Simulating.Sequential.{by-effect}
+use Rattle.construction.proofs.Observing.Outcomes.{Outcome, outcome}
+
+-- a skip goes on at the instruction after those skipped, and past the room at its end
+pub skip-within : (k c : ℕ) → suc (k + c) ≤ 32 → forward k c ≡ suc (k + c)
+unfolding forward
+skip-within k c h = omega arith
+
+pub skip-past : (k c : ℕ) → 32 ≤ suc (k + c) → forward k c ≡ 32
+unfolding forward
+skip-past k c h = omega arith
+
+forward-room : (k c : ℕ) → forward k c ≤ 32
+unfolding forward
+forward-room k c = omega arith
+
+-- a simulation, from whatever state within the room
+abbrev Within : Simulated → Type 0
+Within x = x .simulation .counter ≤ 32
+
+module _ (n : ℕ) (program : Program) (inputs : Words) where
+  simulation-within :
+      (fuel : ℕ) (s : Simulation) (d : Dictionary) → s .counter ≤ 32 → Within (simulateFrom n program inputs fuel s d)
+  unfolding simulateFrom withRegister withOutput skipped
+  simulation-within zero s d h = h
+  simulation-within (suc fuel) s d h =
+      let room : (c : ℕ) → forward (s .counter) c ≤ 32 = forward-room (s .counter) in
+      by-effect Within (nextEffect n program inputs s) (λ _. h) (λ a x _. simulation-within fuel _ d (room 0))
+      (λ a v _. on-test Within (has d v) (λ _. simulation-within fuel _ d (room 0)) (λ _. h))
+      (λ v x _. on-test Within (has d v) (λ _. simulation-within fuel _ _ (room 0)) (λ _. h))
+      (λ a x _. simulation-within fuel _ d (room 0)) (λ c _. simulation-within fuel _ d (room c))
+
+-- what helping begins with and goes on with
+begin-within :
+    (n : ℕ) (program : Program) (cell : Announcement) (number : ℕ) (t : Task) (s : Simulation) → s .counter ≤ 32 →
+    beginHelp n program cell number t s .simulation .counter ≤ 32
+unfolding beginHelp simulate
+begin-within n program cell number t s h =
+    on-test (λ (x : Began). x .simulation .counter ≤ 32) (helps cell number)
+    (λ _. simulation-within n program (cell .words) 32 started empty (omega arith)) (λ _. h)
+
+note-within :
+    (n : ℕ) (program : Program) (inputs : Words) (cell : Record) (number : ℕ) (t : Task) (s : Simulation) (d : Dictionary) →
+    s .counter ≤ 32 → note n program inputs cell number t s d .simulation .counter ≤ 32
+unfolding note simulate
+note-within n program inputs cell number t s d h =
+    on-test (λ (x : Helped). x .simulation .counter ≤ 32) (ltb number (cell .seq)) (λ _. h)
+    (λ _. simulation-within n program inputs 32 s (insert d (itemOf number (t .target) cell)) h)
+
+-- every process of a card
+abbrev AllWithin : Card → Type 0
+AllWithin c = (i : ℕ) → localAt c i .simulation .counter ≤ 32
+
+put-within : (c : Card) (i j : ℕ) (s : Simulation) → AllWithin c → s .counter ≤ 32 → getD (set (c .simulations) j s) i started .counter ≤ 32
+put-within c i j s h q = set-keeps (λ (x : Simulation). x .counter ≤ 32) (c .simulations) j i s started (λ _. q) (h i)
+
+step-within : (a : Access) (c : Card) (j : ℕ) → AllWithin c → AllWithin (perform a c j .card)
+unfolding perform
+step-within Access.None c j h i = put-within c i j _ h (h j)
+step-within (Access.Gate a) c j h i = put-within c i j _ h (h j)
+step-within (Access.Announcement a) c j h i = put-within c i j _ h (h j)
+step-within Access.Help c j h i = put-within c i j _ h (begin-within _ _ _ _ _ _ (h j))
+step-within Access.Note c j h i = put-within c i j _ h (note-within _ _ _ _ _ _ _ _ (h j))
+step-within Access.Write c j h i = put-within c i j _ h (h j)
+
+entry-within : (c : Card) {e : Entry} {r : Answered} → Outcome c e r → AllWithin c → AllWithin (r .card)
+unfolding advance
+entry-within c (Outcome.turned-back e why) h = h
+entry-within c (Outcome.called j k inputs p b) h = λ i. put-within c i j _ h (h j)
+entry-within c (Outcome.asked j p) h = λ i. put-within c i j _ h (h j)
+entry-within c (Outcome.stepped j p b l) h = step-within (accessIn (localAt c j)) c j h
+entry-within c (Outcome.shown v x) h = h
+
+all-within : (o : Card) (m : Observation) (es : List Entry) → AllWithin (m .card) → AllWithin (observeAll o m es .card)
+unfolding observe observeAll
+all-within o m [] h = h
+all-within o m (e ∷ es) h = all-within o (observe o m e) es (entry-within (m .card) (outcome (m .card) e) h)
+
+-- over every text and every list of entries
+pub counters : (t : List ℕ) (es : List Entry) (i : ℕ) → localAt (run (opened t .card) es .card) i .simulation .counter ≤ 32
+unfolding opened fresh
+counters t es =
+    all-within (opened t .card) (opening (opened t .card)) es (λ i. rw (getD-replicate-same 8 i started) (omega arith))

@@ -26,10 +26,11 @@ pub(crate) fn numbers_of(dictionary: Dictionary) -> Numbers
 {
     let mut keys = [0u8; 32];
     let mut values = [0u32; 32];
-    let mut k: usize = 0;
+    let mut k: u8 = 0;
     while k < 32 {
-        keys[k] = dictionary.items[k].variable;
-        values[k] = dictionary.items[k].value;
+        let at = k as usize;
+        keys[at] = dictionary.items[at].variable;
+        values[at] = dictionary.items[at].value;
         k = k + 1;
     }
     Numbers { keys, values }

@@ -137,9 +137,10 @@ pub fn note(
     let paused = simulate(n, program, inputs, simulation, &keys, end, &mut values);
     let pause = paused.pause;
     let state = paused.simulation;
-    let mut k: usize = 0;
+    let mut k: u8 = 0;
     while k < 32 {
-        d.items[k].value = values[k];
+        let at = k as usize;
+        d.items[at].value = values[at];
         k = k + 1;
     }
     let next = next_write(number, d, 0);

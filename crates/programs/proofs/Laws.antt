@@ -11,7 +11,7 @@ use Rattle.construction.specs.declared.Effect.{Effect}
 use Rattle.construction.specs.declared.Instruction.{Instruction}
 use Rattle.construction.specs.declared.Line.{Line}
 use Rattle.construction.specs.declared.Program.{Program}
-use Rattle.construction.specs.Instructions.{withWord, load, store, forward, noLine, fetch}
+use Rattle.construction.specs.Instructions.{withWord, load, store, noLine, fetch}
 use Rattle.programs.specs.Fetching.{instructionAt}
 
 module _ (f : Words) (x : ℕ) where
@@ -61,15 +61,6 @@ module _ (n v x : ℕ) where
   pub store-none : n ≤ v → Effect.Skip 0 ≡ store n v x
   unfolding store
   store-none p = rw (le-ltb _ _ p)
-
-module _ (k c next : ℕ) (e : next ≡ k + c + 1) where
-  pub forward-in : next < 32 → next ≡ forward k c
-  unfolding forward
-  forward-in p = omega arith
-
-  pub forward-end : 32 ≤ next → 32 ≡ forward k c
-  unfolding forward
-  forward-end p = omega arith
 
 module _ (size k : ℕ) (line : Line) where
   pub at-there : k < size → k < 32 → line .instruction ≡ instructionAt size k line

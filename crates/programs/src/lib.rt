@@ -135,8 +135,12 @@ pub fn effect_of(n: u8, inputs: Words, r: Words, instruction: Instruction) -> Ef
 pub fn forward(counter: u8, count: u8) -> u8
     ensures { λ r. ⌜ r ≡ forward counter count ⌝ }
 {
-    let next = counter as u16 + count as u16 + 1;
-    if next < 32 { next as u8 } else { 32 }
+    if counter < 31 {
+        if count < 31 - counter {
+            return counter + count + 1;
+        }
+    }
+    32
 }
 
 // The state after a register took a value.

@@ -60,5 +60,6 @@ numbers-of-spec =
     (λ c. omega arith)
     (λ c. omega arith)
     (λ c. omega arith)
+    (λ c. omega arith)
     loop-again
     returns)

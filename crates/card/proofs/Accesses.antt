@@ -8,7 +8,7 @@ use lib.Dec.{ltb}
 use native.Mathlib.Nat.{mod-eq-of-lt}
 use lib.ListN.{length, getD, set}
 use lib.Seq.{set-getD, getD-set-same}
-use Rattle.card.proofs.Arrays.{inside}
+use Rattle.opening.proofs.Laws.{inside}
 use Rattle.construction.specs.declared.Gate.{Gate}
 use Rattle.construction.specs.declared.Announcement.{Announcement}
 use Rattle.construction.specs.declared.Record.{Record}

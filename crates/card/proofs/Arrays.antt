@@ -1,7 +1,7 @@
 -- The arrays of a card that code holds are full; and what stands at a place that may lie past the room of an array.
-use Prim.Native.Nat.{ℕ, zero, suc, _%_, _<_, _≤_}
+use Prim.Native.Nat.{ℕ, _%_, _<_, _≤_}
 use mathlib.Core.Bool.{Bool, true, false, cond}
-use mathlib.Core.List.{List, [], _∷_}
+use mathlib.Core.List.{List}
 use mathlib.Core.Path.{_≡_, refl, sym, _∙_}
 use native.Mathlib.Nat.{mod-eq-of-lt}
 use native.Mathlib.Omega.{arith}
@@ -12,14 +12,9 @@ use borrow.Author.Tests.{ltb-true, ltb-false}
 use mir.Val.{Val}
 use denote.Laws.{Is}
 use denote.Struct.Declared.{row}
+use Rattle.opening.proofs.Laws.{inside}
 use Rattle.construction.proofs.Card.{the-type}
 use Rattle.construction.specs.declared.Card.{Card}
-
--- a place of an array, whatever stands past its end
-pub inside : {A : Type 0} (l : List A) (i : ℕ) (d e : A) → i < length l → getD l i d ≡ getD l i e
-inside [] i d e p = absurd (omega arith)
-inside (x ∷ l) zero d e p = refl
-inside (x ∷ l) (suc i) d e p = inside l i d e (omega arith)
 
 pub record Rooms (c : Card) : Type 0 where
   pub code : length (c .code) ≡ 8

@@ -1,6 +1,6 @@
 // Helping (lines P16 to P18 and H1 to H36 of the paper): what a process goes on with that helps the operation whose turn it is. A program is
 // simulated on the numbers of a dictionary, and only `note` takes a dictionary, updates it and gives it back.
-// It rests on the crates construction (types and definitions), cells, parts and programs.
+// It rests on the crates construction (types and definitions), cells, opening and programs.
 pub mod dictionary; // dictionary.rt: the items of a dictionary, its numbers, and which item is to be written next
 mod simulation; // simulation.rt: a program that runs on lent keys and values
 

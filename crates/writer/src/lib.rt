@@ -1,5 +1,5 @@
 // The writer of a card text (document 01, "Turned back"): the card as it was opened, after any steps, put into a lent buffer.
-// It rests on the crates grammar, parts and construction.
+// It rests on the crates grammar, opening and construction.
 use construction::Card;
 use construction::Encoded;
 use construction::Instruction;
@@ -10,11 +10,10 @@ use construction::Written;
 use grammar::writing::put_field;
 use grammar::writing::put_four;
 use grammar::writing::put_word;
-use parts::program_at;
 ghost use mathlib.Core.Path.{_≡_};
 ghost use lib.ListN.{getD};
 ghost use Rattle.grammar.specs.Writing.{Put};
-ghost use Rattle.construction.specs.Instructions.{noLine, encoded as encodedAs, encode as encodedOf};
+ghost use Rattle.construction.specs.Instructions.{noLine, noProgram, encoded as encodedAs, encode as encodedOf};
 ghost use Rattle.construction.specs.Lines.{varText, insText};
 ghost use Rattle.construction.specs.Writing.{varsText, linesText, programText, programsText, textOf};
 ghost use Rattle.writer.specs.Written.{Writes};
@@ -114,6 +113,17 @@ fn put_lines(buffer: &mut [u8], at: usize, count: u8, lines: [Line; 32]) -> usiz
         k = k + 1;
     }
     i
+}
+
+// Program k, one of no lines past the end.
+fn program_at(code: [Program; 8], k: u8) -> Program
+    ensures { λ r. ⌜ r ≡ getD code k noProgram ⌝ }
+{
+    let at = k as usize;
+    if at < 8 {
+        return code[at];
+    }
+    opening::no_program()
 }
 
 fn put_program(buffer: &mut [u8], at: usize, x: Program) -> usize

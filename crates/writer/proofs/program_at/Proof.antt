@@ -1,10 +1,10 @@
 use lib.ListN.{List·getD-eq-default}
 use mathlib.Core.Path.{sym, _∙_}
-use Rattle.parts.proofs.Laws as laws
+use Rattle.opening.proofs.Laws as laws
 use native.Mathlib.Omega.{arith}
 use borrow.Author.Needs.{needs}
-use Rattle.parts.proofs.program_at.Statement.{statement}
-use Rattle.parts.proofs.program_at.Tie as tie
+use Rattle.writer.proofs.program_at.Statement.{statement}
+use Rattle.writer.proofs.program_at.Tie as tie
 
 returns : tie.Need-returns
 returns c = laws.inside (c .before .before .args .t1) (c .before .before .args .k) _ _ (search needs)

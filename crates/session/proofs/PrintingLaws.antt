@@ -48,6 +48,6 @@ module _ {b : List ℕ} {i j k : ℕ} {y₁ y₂ z : List ℕ} where
   put-calls-refusal h p q r = put-parts (refusedWith 1) 5 29 longest (omega arith) (put-short 5 p (omega arith)) q r (omega arith)
 
 -- a malformed command is answered as its fields say
-pub malformed-refused : (c : Card) (next : ℕ) → answerFields (execute c (Command.Malformed next) .answer) ≡ commandFields (Command.Malformed next)
+pub malformed-refused : (c : Card) → answerFields (execute c Command.Malformed .answer) ≡ commandFields Command.Malformed
 unfolding execute answerFields numberOf commandFields
-malformed-refused c next = refl
+malformed-refused c = refl

@@ -15,4 +15,6 @@ pub mod Weight
 pub mod Limits
 pub mod History
 pub mod Linearizability
+pub mod Log
+pub mod Numbers
 pub mod Examples

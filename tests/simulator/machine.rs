@@ -188,6 +188,8 @@ pub struct Announcement {
     pub program: usize,
     pub seq: u64,
     pub flag: Flag,
+    /// The gate number under which it was done; 0 while active or exit, and at opening (document 02, order 4).
+    pub number: u64,
     pub words: [u32; 4],
 }
 
@@ -208,7 +210,7 @@ pub struct Cells {
 
 /// 'Shared cells': each cell at opening.
 fn opening_cells(card: &Card) -> Cells {
-    let announcement = Announcement { program: 0, seq: 0, flag: Flag::Done, words: [0; 4] };
+    let announcement = Announcement { program: 0, seq: 0, flag: Flag::Done, number: 0, words: [0; 4] };
     let record = |&value: &u32| Record { val: [value, 0], toggle: 0, seq: 0 };
     Cells {
         gate: Gate { holder: None, seq: 1 },
@@ -361,7 +363,7 @@ struct Operation {
 #[derive(Clone, Copy, Debug, PartialEq, Eq)]
 pub enum Answer {
     Run,
-    Done { outputs: [u32; 4], own_steps: u64 },
+    Done { number: u64, outputs: [u32; 4], own_steps: u64 },
     Exited { own_steps: u64 },
 }
 
@@ -427,8 +429,13 @@ impl Operation {
     /// P1, P2.
     fn p1(&mut self, cells: &Cells) -> (Place, &'static str) {
         self.gate = cells.gate;
-        self.announcement =
-            Announcement { program: self.program, seq: self.gate.seq, flag: Flag::Active, words: self.inputs };
+        self.announcement = Announcement {
+            program: self.program,
+            seq: self.gate.seq,
+            flag: Flag::Active,
+            number: 0,
+            words: self.inputs,
+        };
         (Place::At(Label::P3), "read")
     }
 
@@ -439,7 +446,7 @@ impl Operation {
     }
 
     fn p6(&mut self, cells: &mut Cells) -> (Place, &'static str) {
-        let wanted = Announcement { flag: Flag::Exit, words: self.inputs, ..self.announcement };
+        let wanted = Announcement { flag: Flag::Exit, number: 0, words: self.inputs, ..self.announcement };
         let outcome = swap(&mut cells.announcements[self.process], self.announcement, wanted);
         (Place::At(Label::P7), outcome)
     }
@@ -549,7 +556,8 @@ impl Operation {
     /// P19 and P20.
     fn mark_done(&mut self, flag: Flag, next: Label, cells: &mut Cells) -> (Place, &'static str) {
         let expected = Announcement { flag, ..self.announcement };
-        let done = Announcement { flag: Flag::Done, words: self.helping.outputs, ..self.announcement };
+        let number = self.gate.seq;
+        let done = Announcement { flag: Flag::Done, number, words: self.helping.outputs, ..self.announcement };
         (Place::At(next), swap(&mut cells.announcements[self.holder()], expected, done))
     }
 
@@ -581,7 +589,9 @@ impl Operation {
     fn answer(&self) -> Answer {
         let own_steps = self.own_steps;
         match self.place {
-            Place::ReturnDone => Answer::Done { outputs: self.announcement.words, own_steps },
+            Place::ReturnDone => {
+                Answer::Done { number: self.announcement.number, outputs: self.announcement.words, own_steps }
+            }
             Place::ReturnExited => Answer::Exited { own_steps },
             _ => Answer::Run,
         }

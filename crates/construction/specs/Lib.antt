@@ -15,5 +15,7 @@ pub mod Weight
 pub mod Limits
 pub mod History
 pub mod Linearizability
+pub mod Log
+pub mod Numbers
 pub mod Waits
 pub mod Examples

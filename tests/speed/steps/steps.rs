@@ -456,6 +456,7 @@ fn main() {
         vec![Instruction::Input(0, 0), Instruction::Load(1, 0), Instruction::Store(0, 0), Instruction::Output(0, 1)];
     let mut card = Card::open(black_box(8), black_box(&[7]), black_box(vec![program]), 1_000_000_000_000_000_000);
     for process in 0..8 {
+        card.step(process); // refused
         card.call(process, 0, [process as u32, 0, 0, 0]);
     }
     let mut random: u64 = 88_172_645_463_325_252;

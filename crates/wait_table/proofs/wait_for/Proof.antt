@@ -1,8 +1,8 @@
 use native.Mathlib.Omega.{arith}
-use Rattle.waits.proofs.Texts as laws
+use Rattle.wait_table.proofs.Texts as laws
 use borrow.Author.Needs.{needs}
-use Rattle.waits.proofs.wait_for.Statement.{statement}
-use Rattle.waits.proofs.wait_for.Tie as tie
+use Rattle.wait_table.proofs.wait_for.Statement.{statement}
+use Rattle.wait_table.proofs.wait_for.Tie as tie
 
 returns : tie.Need-returns
 returns c = laws.no-process _ _ (c .if1 .taken)

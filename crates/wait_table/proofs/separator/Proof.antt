@@ -1,6 +1,6 @@
 use borrow.Author.Tests.{lt-ltb, le-ltb}
-use Rattle.waits.proofs.separator.Statement.{statement}
-use Rattle.waits.proofs.separator.Tie as tie
+use Rattle.wait_table.proofs.separator.Statement.{statement}
+use Rattle.wait_table.proofs.separator.Tie as tie
 
 returns : tie.Need-returns
 returns c = rw (lt-ltb (c .before .args .weight) 32 (c .if1 .taken))

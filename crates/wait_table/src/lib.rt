@@ -10,7 +10,7 @@ ghost use Rattle.grammar.specs.Writing.{Put};
 ghost use Rattle.construction.specs.Parts.{contentsOf};
 ghost use Rattle.construction.specs.Weight.{cardWeight};
 ghost use Rattle.construction.specs.Waits.{longestWait};
-ghost use Rattle.waits.specs.Table.{waitFor, separator as separatorOf, rowText, tableText};
+ghost use Rattle.wait_table.specs.Table.{waitFor, separator as separatorOf, rowText, tableText};
 
 // The longest wait, in own steps of the operation and without an exit request, or that the table has none.
 pub enum Wait {

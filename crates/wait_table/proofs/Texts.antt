@@ -7,8 +7,8 @@ use lib.ListN.{length}
 use Rattle.grammar.specs.Writing.{decimals, decimal, fieldText}
 use Rattle.construction.specs.Waits.{longestWait}
 use Rattle.construction.proofs.Text.Writing.{Series}
-use Rattle.waits.specs.declared.Wait.{Wait}
-use Rattle.waits.specs.Table.{waitFor, separator, rowText, rowsText, tableText}
+use Rattle.wait_table.specs.declared.Wait.{Wait}
+use Rattle.wait_table.specs.Table.{waitFor, separator, rowText, rowsText, tableText}
 
 module _ (p w : ℕ) where
   pub no-process : p ≡ 0 → Wait.Outside ≡ waitFor p w

@@ -1,8 +1,8 @@
-use Rattle.waits.specs.Table.{waitFor}
+use Rattle.wait_table.specs.Table.{waitFor}
 use mathlib.Core.Path.{ap, _∙_}
 use borrow.Author.Needs.{needs}
-use Rattle.waits.proofs.wait_of.Statement.{statement}
-use Rattle.waits.proofs.wait_of.Tie as tie
+use Rattle.wait_table.proofs.wait_of.Statement.{statement}
+use Rattle.wait_table.proofs.wait_of.Tie as tie
 
 returns : tie.Need-returns
 returns c = (c .wait-for .ensures) ∙ ap (waitFor (c .before .before .before .args .card .processes)) (c .before .heaviest .ensures)

@@ -8,7 +8,7 @@ use lib.Dec.{eqb}
 use lib.ListN.{length, getD}
 use borrow.Author.Tests.{eqb-true}
 use Rattle.construction.specs.Waits.{longestWait}
-use Rattle.waits.proofs.Tables.{every, at}
+use Rattle.wait_table.proofs.Tables.{every, at}
 
 -- the number at place k is that for p = k / 33 + 1 and w = k % 33
 unfoldable pub right : ℕ → ℕ → Bool

@@ -5,10 +5,10 @@ use native.Mathlib.Omega.{arith}
 use borrow.Author.Needs.{needs}
 use Rattle.grammar.proofs.Puts as puts
 use Rattle.construction.proofs.Text.Writing as series
-use Rattle.waits.specs.Table.{rowText}
-use Rattle.waits.proofs.Texts as laws
-use Rattle.waits.proofs.put_row.Statement.{statement}
-use Rattle.waits.proofs.put_row.Tie as tie
+use Rattle.wait_table.specs.Table.{rowText}
+use Rattle.wait_table.proofs.Texts as laws
+use Rattle.wait_table.proofs.put_row.Statement.{statement}
+use Rattle.wait_table.proofs.put_row.Tie as tie
 
 abbrev Inv-loop : tie.InvT-loop
 Inv-loop buffer₀ at row i₀ weight₀ buffer i weight =

@@ -4,9 +4,9 @@ use mathlib.Core.List.{List, [], _∷_}
 use mathlib.Core.Path.{refl}
 use native.Mathlib.Omega.{arith}
 use borrow.Author.Needs.{needs}
-use Rattle.waits.proofs.Formula as formula
-use Rattle.waits.proofs.entry.Statement.{statement}
-use Rattle.waits.proofs.entry.Tie as tie
+use Rattle.wait_table.proofs.Formula as formula
+use Rattle.wait_table.proofs.entry.Statement.{statement}
+use Rattle.wait_table.proofs.entry.Tie as tie
 
 -- the table that is read
 numbers : List ℕ

@@ -7,7 +7,7 @@ use lib.Dec.{ltb}
 use Rattle.grammar.specs.Writing.{fieldText}
 use Rattle.construction.specs.Answers.{Fields, fields}
 use Rattle.construction.specs.Waits.{longestWait}
-use Rattle.waits.specs.declared.Wait.{Wait}
+use Rattle.wait_table.specs.declared.Wait.{Wait}
 
 -- the table has a number for p and w
 abbrev pub inTable : ℕ → ℕ → Bool

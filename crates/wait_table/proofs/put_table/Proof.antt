@@ -5,10 +5,10 @@ use native.Mathlib.Numerals.{add-one}
 use borrow.Author.Needs.{needs}
 use Rattle.grammar.proofs.Puts as puts
 use Rattle.construction.proofs.Text.Writing as series
-use Rattle.waits.specs.Table.{rowText, rowsText, tableText}
-use Rattle.waits.proofs.Texts as laws
-use Rattle.waits.proofs.put_table.Statement.{statement}
-use Rattle.waits.proofs.put_table.Tie as tie
+use Rattle.wait_table.specs.Table.{rowText, rowsText, tableText}
+use Rattle.wait_table.proofs.Texts as laws
+use Rattle.wait_table.proofs.put_table.Statement.{statement}
+use Rattle.wait_table.proofs.put_table.Tie as tie
 
 abbrev Inv-loop : tie.InvT-loop
 Inv-loop buffer₀ at i₀ row₀ buffer i row =

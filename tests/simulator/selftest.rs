@@ -124,8 +124,14 @@ fn program_pieces(checks: &mut Checks) {
         let printed = format!("call,0,taken\n{}step,0,done,{outputs},{own_steps}\n", runs(0, own_steps - 1));
         checks.session(name, &card, &commands, &printed);
     };
-    alone("4,294,967,295 plus 1", &[0], &["2,0,4294967295,0", "2,1,1,0", "7,0,1,0", "11,0,0,0"], "0,0,0,0", 12);
-    alone("0 minus 1", &[0], &["2,1,1,0", "8,0,1,0", "11,0,0,0"], "4294967295,0,0,0", 12);
+    alone(
+        "4,294,967,295 plus 1",
+        &[0],
+        &["2,0,4294967295,0", "2,1,1,0", "7,0,1,0", "11,0,0,0"],
+        "4294967295,0,0,0",
+        12,
+    );
+    alone("0 minus 1", &[0], &["2,1,1,0", "8,0,1,0", "11,0,0,0"], "0,0,0,0", 12);
     let many: Vec<u32> = (0..64).map(|variable| 100 + variable).collect();
     alone("code 5 with 63 of 64", &many, &["2,0,63,0", "5,1,0,0", "11,0,1,0"], "163,0,0,0", 13);
     alone("code 5 with 64 of 64", &many, &["2,0,64,0", "2,1,5,0", "5,1,0,0", "11,0,1,0"], "0,0,0,0", 12);

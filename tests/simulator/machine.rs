@@ -70,6 +70,19 @@ pub struct Card {
     pub programs: Vec<Vec<Instruction>>,
 }
 
+impl Card {
+    /// Document 02, order 3, 'w': the largest number of instructions of codes 3 to 6 in any program.
+    pub fn weight(&self) -> u64 {
+        let touching = |program: &Vec<Instruction>| program.iter().filter(|ins| (3..=6).contains(&ins.code)).count();
+        self.programs.iter().map(touching).max().unwrap_or(0) as u64
+    }
+
+    /// Document 02, order 3: the own steps within which an operation returns if no exit request was taken.
+    pub fn longest_wait(&self) -> u64 {
+        4 + (self.processes as u64 + 1) * (10 + 2 * self.weight())
+    }
+}
+
 /// 'Turned back': a refused text gives its number and its line.
 #[derive(Clone, Copy, Debug, PartialEq, Eq)]
 pub struct Refusal {
@@ -367,12 +380,25 @@ pub enum Answer {
     Exited { own_steps: u64 },
 }
 
-/// An accepted step: its answer, its access, and how that came out.
+/// An accepted step: its answer, its access, how that came out, the own steps of the operation and whether an exit request was taken for it.
 #[derive(Clone, Copy, Debug, PartialEq, Eq)]
 pub struct Stepped {
     pub answer: Answer,
     pub label: Label,
     pub outcome: &'static str,
+    pub own_steps: u64,
+    pub exit_request: bool,
+}
+
+impl Stepped {
+    /// Document 02, order 3: an operation returns within its longest wait, 2 steps more if an exit request was taken.
+    pub fn in_time(&self, longest_wait: u64) -> bool {
+        let allowed = longest_wait + if self.exit_request { 2 } else { 0 };
+        match self.answer {
+            Answer::Run => self.own_steps < allowed,
+            _ => self.own_steps <= allowed,
+        }
+    }
 }
 
 impl Operation {
@@ -665,11 +691,11 @@ impl Machine {
         operation.own_steps += 1;
         let label = operation.next_access();
         let outcome = operation.access(label, &mut self.cells, &self.card);
-        let answer = operation.answer();
+        let (answer, own_steps, exit_request) = (operation.answer(), operation.own_steps, operation.exit_request);
         if answer != Answer::Run {
             self.operations[process] = None;
         }
-        Ok(Stepped { answer, label, outcome })
+        Ok(Stepped { answer, label, outcome, own_steps, exit_request })
     }
 
     /// Read ('Look'): row 9. The old value stays in sight until the holder's operation is finished.

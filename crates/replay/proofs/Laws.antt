@@ -19,7 +19,7 @@ pub not-run : (a : Answer) → OneOf (0 ∷ 2 ∷ 3 ∷ 4 ∷ 5 ∷ []) (tagOf t
 unfolding answerFields hasWord
 not-run Answer.Taken h = refl
 not-run Answer.Run h = absurd (miss (0 ∷ 2 ∷ 3 ∷ 4 ∷ 5 ∷ []) 1 tt h)
-not-run (Answer.Done o steps) h = refl
+not-run (Answer.Done number o steps) h = refl
 not-run (Answer.Exited steps) h = refl
 not-run (Answer.Value x) h = refl
 not-run (Answer.Refused r) h = refl

@@ -40,6 +40,7 @@ fn is_run(answer: Answer) -> bool
         Answer::Taken => false,
         Answer::Run => true,
         Answer::Done {
+            number: _,
             outputs: _,
             steps: _,
         } => false,

@@ -2,3 +2,4 @@
 pub mod Tables
 pub mod Formula
 pub mod Texts
+pub mod Statements

@@ -25,11 +25,14 @@ module _ (p w : ℕ) where
       unfolding waitFor
       too-heavy h = rw (lt-ltb 0 p some, lt-ltb p 9 (omega arith), le-ltb w 33 (omega arith))
 
-      pub there : {n : ℕ} → w ≤ 32 → n ≡ longestWait (p - 1 + 1) w → Wait.Steps n ≡ waitFor p w
+      pub there : w ≤ 32 → Wait.Steps (longestWait p w) ≡ waitFor p w
       unfolding waitFor
-      there h e =
+      there h = rw (lt-ltb 0 p some, lt-ltb p 9 (omega arith), lt-ltb w 33 (omega arith))
+
+      pub read-there : {n : ℕ} → w ≤ 32 → n ≡ longestWait (p - 1 + 1) w → Wait.Steps n ≡ waitFor p w
+      read-there h e =
           let z : p - 1 + 1 ≡ p = omega arith in
-          rw (lt-ltb 0 p some, lt-ltb p 9 (omega arith), lt-ltb w 33 (omega arith)) (ap Wait.Steps (e ∙ ap (λ (k : ℕ). longestWait k w) z))
+          ap Wait.Steps (e ∙ ap (λ (k : ℕ). longestWait k w) z) ∙ there h
 
 -- the numbers of a line, and the lines
 pub row-series : (p : ℕ) → Series (λ m w. rowText p m w) (λ w. fieldText (separator w) (longestWait p w))

@@ -17,7 +17,7 @@ unfoldable pub waitFor : ℕ → ℕ → Wait
 waitFor p w = cond (inTable p w) (Wait.Steps (longestWait p w)) Wait.Outside
 
 -- the number of an answer, and none outside the table
-abbrev pub waitFields : Wait → Fields
+unfoldable pub waitFields : Wait → Fields
 waitFields (Wait.Steps n) = fields "" (n ∷ [])
 waitFields Wait.Outside = fields "" []
 

@@ -14,7 +14,7 @@ returns-3 : tie.Need-returns-3
 returns-3 c = laws.too-heavy _ _ (omega arith) (c .before .if2 .left) (c .if3 .taken)
 
 returns-4 : tie.Need-returns-4
-returns-4 c = laws.there _ _ (omega arith) (c .before .before .if2 .left) (c .before .if3 .left) (c .entry .ensures)
+returns-4 c = laws.read-there _ _ (omega arith) (c .before .before .if2 .left) (c .before .if3 .left) (c .entry .ensures)
 
 pub wait-for-spec : {M : Type 1} → statement M
 wait-for-spec = tie.close (tie.spec returns returns-2 returns-3 (λ c. search needs) (λ c κs. search needs) returns-4)

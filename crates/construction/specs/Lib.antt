@@ -17,4 +17,5 @@ pub mod History
 pub mod Linearizability
 pub mod Log
 pub mod Numbers
+pub mod Faults
 pub mod Examples

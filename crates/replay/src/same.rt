@@ -129,7 +129,8 @@ fn same_operation(a: Operation, b: Operation) -> bool {
 fn same_simulation(a: Simulation, b: Simulation) -> bool {
     a.counter == b.counter
         && same_words(a.registers, b.registers)
-        && same_words(a.outputs, b.outputs)
+        && same_words(a.yields.outputs, b.yields.outputs)
+        && a.yields.fault == b.yields.fault
 }
 
 fn row_at(card: Card, i: usize) -> Row

@@ -17,5 +17,6 @@ pub mod History
 pub mod Linearizability
 pub mod Log
 pub mod Numbers
+pub mod Faults
 pub mod Waits
 pub mod Examples

@@ -2,6 +2,7 @@ pub mod Cells
 pub mod Instructions
 pub mod Sequential
 pub mod Dictionary
+pub mod Marks
 pub mod Helping
 pub mod Parts
 pub mod Machine

@@ -50,6 +50,7 @@ asked-again c i = let d = asked c i in λ k. record {
   copies = set-getD (d .copies) i openAnnouncement k;
   simulations = set-getD (d .simulations) i started k;
   dictionaries = set-getD (d .dictionaries) i empty k;
+  masks = set-getD (d .masks) i 0 k;
 }
 
 -- a second exit request has the answer of the first and alters nothing
@@ -122,6 +123,7 @@ withExit c i b =
       announcement = l .announcement;
       simulation = l .simulation;
       dictionary = l .dictionary;
+      mask = l .mask;
     })
 
 pub exit-over :
@@ -155,4 +157,5 @@ exit-over c i k inputs b p q f =
       copies = set-getD (d .copies) i openAnnouncement n;
       simulations = set-getD (d .simulations) i started n;
       dictionaries = set-getD (d .dictionaries) i empty n;
+      masks = set-getD (d .masks) i 0 n;
     }

@@ -8,5 +8,6 @@ pub mod Linearizability
 pub mod Limits
 pub mod Sums
 pub mod Counters
+pub mod NotedSets
 pub mod Examples
 pub mod LinearizabilityExample

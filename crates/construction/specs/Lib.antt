@@ -9,6 +9,7 @@ pub mod Machine
 pub mod Answers
 pub mod Requests
 pub mod OneAccess
+pub mod Tracing
 pub mod Lines
 pub mod Opening
 pub mod Writing

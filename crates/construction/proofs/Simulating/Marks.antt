@@ -1,17 +1,31 @@
 -- A word as a set of variables (specs/Marks): one bit more is that bit and no other, and one more to count.
-use Prim.Native.Nat.{ℕ, zero, suc, _+_, _*_, _/_, _%_, _^_, _≤_, _<_, max}
+use Prim.Native.Nat.{ℕ, zero, suc, _+_, _*_, _/_, _%_, _^_, _<_, max}
 use mathlib.Core.Path.{_≡_, refl, sym, ap, _∙_}
-use mathlib.Core.Logic.{_≢_}
+use mathlib.Core.Bool.{true, false}
+use mathlib.Core.Logic.{_≢_, ⊎-elim}
+use mathlib.Core.List.{List, [], _∷_, _++_}
 use native.Mathlib.Omega.{arith}
-use native.Mathlib.Nat.{mul-comm, mod-lt, add-comm}
+use native.Mathlib.Nat.{mod-lt}
+use native.Mathlib.Decide.{ℕ-discrete}
 use lib.Arith.{digits-div, digits-mod}
-use lib.Bits.{bitOr, or-step, or-zero-r, or-lt, shifted-half, shifted-even}
-use lib.Pow.{shr-shr, pow-lt}
+use lib.Bits.{bitOr, or-step, or-zero-r, shifted-half, shifted-even}
 use lib.Count.{ones, ones-step}
-use borrow.Author.Tests.{lt-ltb, ltb-true}
-use lib.Dec.{ltb}
-use Rattle.construction.proofs.Basics.{on-test}
-use Rattle.construction.specs.Marks.{withBit, bit}
+use lib.ListN.{length}
+use lib.Pow.{shr-shr}
+use borrow.Author.Tests.{lt-ltb, eqb-true}
+use Rattle.construction.specs.declared.Words.{Words}
+use Rattle.construction.specs.declared.Program.{Program}
+use Rattle.construction.specs.declared.Item.{Item}
+use Rattle.construction.specs.declared.Dictionary.{Dictionary}
+use Rattle.construction.specs.declared.Simulation.{Simulation}
+use Rattle.construction.specs.declared.Simulated.{Simulated}
+use Rattle.construction.specs.Instructions.{nextEffect, skipped}
+use Rattle.construction.specs.Dictionary.{noted, find, has, assign, insert}
+use Rattle.construction.specs.Helping.{simulate, simulateFrom}
+use Rattle.construction.specs.Marks.{withBit, bit, Marks}
+use Rattle.construction.proofs.Basics.{on-test, true-or-false, true-false, eqb-refl}
+use Rattle.construction.proofs.Simulating.Sequential.{by-effect}
+use Rattle.construction.proofs.Simulating.Dictionaries.{hasIn, has-put, has-snoc, has-more, has-position, noted-assign, noted-insert, insert-length}
 
 two : 0 < 2
 two = omega arith
@@ -78,13 +92,97 @@ mark-count (suc v) x h =
     ∙ (rw (or-odd x (2 ^ suc v), or-half x (2 ^ suc v), power-half v, power-even v, mark-count v (x / 2) (sym (bit-suc x v) ∙ h))
     (omega (arith, ones-step x)))
 
--- a word stays within its 64 bits
-pub mark-small : (v x : ℕ) → x < 2 ^ 64 → withBit x v < 2 ^ 64
-unfolding withBit
-mark-small v x h =
-    on-test (λ (y : ℕ). y < 2 ^ 64) (ltb v 64) (λ e. or-lt 64 x (2 ^ v) h (pow-lt (ltb-true v 64 e))) (λ _. h)
-
 -- the empty set
 pub no-bits : (v : ℕ) → bit 0 v ≡ 0
 no-bits zero = refl
 no-bits (suc v) = bit-suc 0 v ∙ no-bits v
+
+-- the set of the variables that a dictionary notes, by its list of items
+module _ (word : ℕ) (d : Dictionary) (M : Marks word d) where
+  in-set : (u : ℕ) → hasIn (noted d) u ≡ true → bit word u ≡ 1
+  in-set u h = M .noted u (has-position (noted d) u ∙ h)
+
+  not-in-set : (u : ℕ) → hasIn (noted d) u ≡ false → bit word u ≡ 0
+  not-in-set u h = M .absent u (has-position (noted d) u ∙ h)
+
+  -- lines H24 and H25: one variable more, which was not noted
+  pub marks-insert :
+      (e : Item) → e .variable < 64 → hasIn (noted d) (e .variable) ≡ false → d .length < 32 → length (d .items) ≡ 32 →
+      Marks (withBit word (e .variable)) (insert d e)
+  unfolding withBit
+  marks-insert e small new spare room =
+      rw (lt-ltb (e .variable) 64 small)
+      (record {
+        noted = λ u h. by-place u (λ z. rw z (mark-here v word)) (λ ne. mark-other v u word ne ∙ old u ne (sym (has-position _ u) ∙ h));
+        absent = λ u h.
+            let z : hasIn (noted (insert d e)) u ≡ false = sym (has-position _ u) ∙ h in
+            by-place u (λ (q : u ≡ v). absurd (true-false _ (rw q (here)) z))
+            (λ ne. mark-other v u word ne ∙ not-in-set u (⊎-elim (λ (t : hasIn (noted d) u ≡ true). absurd (true-false _ (later u t) z)) (λ f. f) (true-or-false (hasIn (noted d) u))));
+        count = mark-count v word (not-in-set v new) ∙ (ap suc (M .count) ∙ sym (insert-length d e spare));
+      })
+    where
+      v : ℕ
+      v = e .variable
+
+      list : noted (insert d e) ≡ noted d ++ (e ∷ [])
+      list = noted-insert d e spare room
+
+      here : hasIn (noted (insert d e)) v ≡ true
+      here = rw list (has-snoc (noted d) e v new ∙ eqb-refl v)
+
+      later : (u : ℕ) → hasIn (noted d) u ≡ true → hasIn (noted (insert d e)) u ≡ true
+      later u h = rw list (has-more (noted d) e u h)
+
+      -- what is noted now and is not v was noted before
+      old : (u : ℕ) → u ≢ v → hasIn (noted (insert d e)) u ≡ true → bit word u ≡ 1
+      old u ne h =
+          in-set u
+          (⊎-elim (λ t. t)
+          (λ (f : hasIn (noted d) u ≡ false). absurd (ne (sym (eqb-true v u (sym (has-snoc (noted d) e u f) ∙ (rw list at h))))))
+          (true-or-false (hasIn (noted d) u)))
+
+      by-place : {A : Type 0} (u : ℕ) → (u ≡ v → A) → (u ≢ v → A) → A
+      by-place {A = A} u f g = go (ℕ-discrete u v)
+        where
+          go : Dec (u ≡ v) → A
+          go (yes q) = f q
+          go (no q) = g q
+
+-- a simulation alters values, and neither the variables noted nor how many there are
+abbrev SameKeys : Dictionary → Dictionary → Type 0
+SameKeys d b = ((u : ℕ) → has b u ≡ has d u) × (b .length ≡ d .length)
+
+assign-keys : (d : Dictionary) (v x : ℕ) → has d v ≡ true → SameKeys d (assign d (find d v) x)
+unfolding assign
+assign-keys d v x h = (
+  λ u. has-position _ u ∙ (ap (λ (b : List Item). hasIn b u) (noted-assign d v x h) ∙ (has-put (noted d) v x u ∙ sym (has-position (noted d) u))),
+  refl,
+)
+
+module _ (n : ℕ) (program : Program) (inputs : Words) where
+  simulation-keys : (fuel : ℕ) (s : Simulation) (d : Dictionary) → SameKeys d (simulateFrom n program inputs fuel s d .dictionary)
+  unfolding simulateFrom
+  simulation-keys zero s d = (λ _. refl, refl)
+  simulation-keys (suc fuel) s d =
+      by-effect (λ (x : Simulated). SameKeys d (x .dictionary)) (nextEffect n program inputs s) (λ _. same) (λ a x _. simulation-keys fuel _ d)
+      (λ a v _. on-test (λ (x : Simulated). SameKeys d (x .dictionary)) (has d v) (λ _. simulation-keys fuel _ d) (λ _. same))
+      (λ v x _. on-test (λ (y : Simulated). SameKeys d (y .dictionary)) (has d v)
+      (λ h.
+      let z = assign-keys d v x h in
+      let y = simulation-keys fuel (skipped s 0) (assign d (find d v) x) in
+      (λ u. y .0 u ∙ z .0 u, y .1 ∙ z .1)) (λ _. same))
+      (λ a x _. simulation-keys fuel _ d) (λ c _. simulation-keys fuel _ d)
+    where
+      same : SameKeys d d
+      same = (λ _. refl, refl)
+
+  pub marks-simulated :
+      (word : ℕ) (s : Simulation) (d : Dictionary) → Marks word d → Marks word (simulate n program inputs s d .dictionary)
+  unfolding simulate
+  marks-simulated word s d M =
+      let z = simulation-keys 32 s d in
+      record {
+        noted = λ v h. M .noted v (sym (z .0 v) ∙ h);
+        absent = λ v h. M .absent v (sym (z .0 v) ∙ h);
+        count = M .count ∙ sym (z .1);
+      }

@@ -96,7 +96,7 @@ unfolding advance
 entry-within c (Outcome.turned-back e why) h = h
 entry-within c (Outcome.called j k inputs p b) h = λ i. put-within c i j _ h (h j)
 entry-within c (Outcome.asked j p) h = λ i. put-within c i j _ h (h j)
-entry-within c (Outcome.stepped j p b l) h = step-within (accessIn (localAt c j)) c j h
+entry-within c (Outcome.stepped j x p b l) h = step-within (accessIn (localAt c j)) c j h
 entry-within c (Outcome.shown v x) h = h
 
 all-within : (o : Card) (m : Observation) (es : List Entry) → AllWithin (m .card) → AllWithin (observeAll o m es .card)

@@ -105,7 +105,7 @@ exit-lasts c i e b h = by-outcome (outcome c e)
     by-outcome (Outcome.called j k inputs p f) =
         lasts j false (λ (z : i ≡ j). absurd (true-false _ b (subst (λ (n : ℕ). isBusy c n ≡ false) (sym z) f)))
     by-outcome (Outcome.asked j p) = lasts j true (λ _. refl)
-    by-outcome (Outcome.stepped j p f l) =
+    by-outcome (Outcome.stepped j x p f l) =
         ap (λ (l : List Bool). getD l i false) (step-exits (accessIn (localAt c j)) c j) ∙ h
     by-outcome (Outcome.shown v x) = h
 

@@ -9,5 +9,6 @@ pub mod Limits
 pub mod Sums
 pub mod Counters
 pub mod NotedSets
+pub mod Paths
 pub mod Examples
 pub mod LinearizabilityExample

@@ -16,5 +16,6 @@ pub mod Writing
 pub mod Weight
 pub mod Limits
 pub mod History
+pub mod Paths
 pub mod Linearizability
 pub mod Examples

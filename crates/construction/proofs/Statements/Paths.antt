@@ -58,6 +58,7 @@ use Rattle.construction.proofs.Invariant.Cards.{CardInvariant, inv-step
 use Rattle.construction.proofs.Observing.Outcomes.{Outcome, outcome as outcome-of}
 use Rattle.construction.proofs.Observing.Consistency.{Consistent, entry-kept}
 use Rattle.construction.proofs.Statements.Linearizability.{opened-consistent}
+use Rattle.construction.proofs.Statements.Tracing.{answers}
 
 -- how an operation returns whose process last read an announcement with this flag
 abbrev settled : Flag → Course
@@ -344,16 +345,6 @@ course-settled : (a : Announcement) (f : Flag) (steps : ℕ) → courseOf (retur
 course-settled a Done steps = refl
 course-settled a Active steps = refl
 course-settled a Exit steps = refl
-
-returned-answers : (a : Announcement) (f : Flag) (steps : ℕ) → isRefused (returned a f steps) ≡ false
-returned-answers a Done steps = refl
-returned-answers a Active steps = refl
-returned-answers a Exit steps = refl
-
-answers : (l : Local) → isRefused (answerOf l) ≡ false
-answers l =
-    on-test (λ (a : Answer). isRefused a ≡ false) (isIdle (l .task .place))
-    (λ _. returned-answers (l .announcement) (l .announcement .flag) (l .steps)) (λ _. refl)
 
 -- where the operation of process i stands, given the accesses that it made: it has none, is called, or is led on by its newest access
 data Ready (i : ℕ) (l : Local) : List Made → Type 0 where

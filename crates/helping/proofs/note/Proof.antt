@@ -11,10 +11,10 @@ use Rattle.helping.proofs.note.Statement.{statement}
 use Rattle.helping.proofs.note.Tie as tie
 
 abbrev Inv-loop : tie.InvT-loop
-Inv-loop n number d₀ values end pause simulation k₀ d k = (d ≡ withValues d₀ (take k values)) × (length values ≡ 32) × (k ≤ 32)
+Inv-loop n number mask₀ mask d₀ values end pause simulation k₀ d k = (d ≡ withValues d₀ (take k values)) × (length values ≡ 32) × (k ≤ 32)
 
 abbrev μ-loop : tie.MeasureT-loop
-μ-loop n number d₀ values end pause simulation k₀ d k = 32 - k
+μ-loop n number mask₀ mask d₀ values end pause simulation k₀ d k = 32 - k
 
 -- the dictionary that the item was inserted into, and the numbers that stand in it
 room : (c : tie.After-insert Inv-loop μ-loop) → length (c .insert .result .items) ≡ 32
@@ -30,7 +30,7 @@ numbered c =
     record { keyed = numbers .ensures .0; valued = numbers .ensures .1; count = c .noted .ensures ∙ rooms.count (after .insert .result) _ (after .insert .ok) }
 
 returns : tie.Need-returns Inv-loop μ-loop
-returns c = lines.passed-by _ _ _ _ _ _ _ _ (c .if1 .taken)
+returns c = lines.passed-by _ _ _ _ _ _ _ _ _ (c .if1 .taken)
 
 simulate-requires : tie.Need-simulate-requires Inv-loop μ-loop
 simulate-requires c κs = (omega arith, laws.enough (numbered (c .before .before)))
@@ -55,9 +55,9 @@ returns-2 c =
     let told = ran .before .before .before in
     let inserted = told .before .before .before .before in
     let read = inserted .before in
-    lines.noted-on _ _ _ _ _ _ _ _ (read .before .if1 .left) _ (read .item-of .ensures) _ (inserted .insert .ensures) (numbered told) _ _
+    lines.noted-on _ _ _ _ _ _ _ _ _ (read .before .before .if1 .left) _ (read .item-of .ensures) _ (inserted .insert .ensures) (numbered told) _ _
     (ran .simulate .ensures .left _ (numbered told)) _ (loop .k) (loop .inv .0) (omega arith) _ (c .before .next-write .ensures) _
-    (c .after-pause .ensures)
+    (c .after-pause .ensures) _ (read .before .with-bit .ensures)
 
 pub note-spec : {M : Type 1} → statement M
 note-spec =
@@ -66,6 +66,7 @@ note-spec =
     Inv-loop
     μ-loop
     returns
+    (λ c κs. search needs)
     (λ c κs. search needs)
     (λ c κs. search needs)
     (λ c κs. search needs)

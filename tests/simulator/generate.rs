@@ -516,18 +516,20 @@ fn damaged_card(random: &mut Random) -> Case {
     Case { card: Some(text), calls: Some(calls) }
 }
 
-/// A card with one instruction whose code or one operand stands at or past an edge: row 4, or just not.
+/// A card with one instruction whose code or operands stand at or past an edge: 4, 12 or 13, or just not.
 fn odd_instruction(random: &mut Random) -> Case {
     let mut card = make_card(random, CONTENDED, false);
     let calls = make_calls(random, &card, 40);
     let variables = card.starting.len();
     let mut odd = if random.chance(12) { make(12, 0, 0, 0) } else { any_instruction(random, variables) };
     let edge = random.pick(&[0, 1, 3, 4, variables - 1, variables, 31, 32, WORD_END as usize - 1, WORD_END as usize]);
-    match random.below(7) {
-        0 => odd.code = random.pick(&[0, 13, 255, 257, WORD_END + 1]),
-        1 | 2 => odd.a = edge,
-        3 | 4 => odd.b = edge,
-        _ => odd.c = edge,
+    for _ in 0..random.pick(&[1, 1, 1, 2, 3]) {
+        match random.below(7) {
+            0 => odd.code = random.pick(&[0, 13, 255, 257, WORD_END + 1]),
+            1 | 2 => odd.a = edge,
+            3 | 4 => odd.b = edge,
+            _ => odd.c = edge,
+        }
     }
     let program = random.below(card.programs.len());
     let place = random.below(card.programs[program].len());

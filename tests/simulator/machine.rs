@@ -1,6 +1,8 @@
 //! The card of document 01: its text, its shared cells and its steps.
 //! Written from document 01 and the paper's numbered lines alone, so that it can judge the bench program.
 
+use std::ops::Range;
+
 /// 'The card text': at most this many bytes.
 pub const TEXT_LIMIT: usize = 16_384;
 /// 'The card and its edges': the greatest step limit.
@@ -111,27 +113,36 @@ impl Reader<'_> {
 
     fn instruction(&mut self, variables: u64) -> Result<Instruction, Refusal> {
         let numbers = self.take("ins", 4)?;
-        judge_instruction(&numbers, variables).ok_or(self.refuse(4))
+        judge_instruction(&numbers, variables).map_err(|number| self.refuse(number))
     }
 }
 
-/// The instruction table: each code's operands; unused ones are 0.
-fn judge_instruction(numbers: &[u64], variables: u64) -> Option<Instruction> {
-    let (code, a, b, c) = (numbers[0], numbers[1], numbers[2], numbers[3]);
-    let (a_end, b_end, c_range) = match code {
-        1 | 5 | 6 | 7 | 8 | 11 => (4, 4, 0..=0),
-        2 => (4, WORD_END, 0..=0),
-        3 => (4, variables, 0..=0),
-        4 => (variables, 4, 0..=0),
-        9 | 10 => (4, 4, 1..=31),
-        12 => (1, 1, 0..=0),
-        _ => return None,
+/// The instruction table: the range of each operand of a code, none where it is unused. Order 8: number 4 is an unknown code, 12 an operand out
+/// of range, 13 an unused operand that isn't 0, tested in that sequence.
+fn judge_instruction(numbers: &[u64], variables: u64) -> Result<Instruction, u8> {
+    let register = Some(0..4);
+    let variable = Some(0..variables);
+    let ranges: [Option<Range<u64>>; 3] = match numbers[0] {
+        1 | 5 | 6 | 7 | 8 | 11 => [register.clone(), register, None],
+        2 => [register, Some(0..WORD_END), None],
+        3 => [register, variable, None],
+        4 => [variable, register, None],
+        9 | 10 => [register.clone(), register, Some(1..32)],
+        12 => [None, None, None],
+        _ => return Err(4),
     };
-    let good = a < a_end && b < b_end && c_range.contains(&c);
-    good.then_some(Instruction { code, a: a as usize, b: b as usize, c: c as usize })
+    let operands = || ranges.iter().zip(&numbers[1..]);
+    if operands().any(|(range, x)| range.as_ref().is_some_and(|range| !range.contains(x))) {
+        return Err(12);
+    }
+    if operands().any(|(range, x)| range.is_none() && *x != 0) {
+        return Err(13);
+    }
+    let (a, b, c) = (numbers[1] as usize, numbers[2] as usize, numbers[3] as usize);
+    Ok(Instruction { code: numbers[0], a, b, c })
 }
 
-/// 'The card text' and rows 1 to 4 of 'Turned back': judged by 1, then line by line.
+/// 'The card text', rows 1 to 4 of 'Turned back', and order 8's 12 and 13: judged by 1, then line by line.
 pub fn open(text: &[u8]) -> Result<Card, Refusal> {
     if text.len() > TEXT_LIMIT {
         return Err(Refusal { number: 1, line: 0 });

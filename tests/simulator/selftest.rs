@@ -159,9 +159,13 @@ fn card_refusals(checks: &mut Checks) {
     refused("card,1,1,1,100\nvar,7\nsheet,0\n", 3, 3);
     refused("card,1,1,1,100\nvar,7\nsheet,1\nins,13,0,0,0\n", 4, 4);
     refused("card,1,1,1,100\nvar,7\nsheet,1\nins,13,0,0\n", 2, 4);
-    refused("card,1,1,1,100\nvar,7\nsheet,1\nins,9,0,0,0\n", 4, 4);
-    refused("card,1,1,1,100\nvar,7\nsheet,1\nins,12,0,0,1\n", 4, 4);
-    refused("card,1,1,1,100\nvar,7\nsheet,1\nins,3,0,1,0\n", 4, 4);
+    refused("card,1,1,1,100\nvar,7\nsheet,1\nins,9,0,0,0\n", 12, 4);
+    refused("card,1,1,1,100\nvar,7\nsheet,1\nins,12,0,0,1\n", 13, 4);
+    refused("card,1,1,1,100\nvar,7\nsheet,1\nins,3,0,1,0\n", 12, 4);
+    refused("card,1,1,1,100\nvar,7\nsheet,1\nins,1,4,0,7\n", 12, 4);
+    refused("card,1,1,1,100\nvar,7\nsheet,1\nins,1,0,0,99999999999999999999\n", 13, 4);
+    refused("card,1,1,1,100\nvar,7\nsheet,1\nins,0,9,9,9\n", 4, 4);
+    refused("card,1,1,1,100\nvar,7\nsheet,2\nins,1,0,0,7\nins,0,9,9,9\n", 13, 4);
     refused("card,1,1,1,100\nvar,7\nsheet,1\nins,18446744073709551617,0,0,0\n", 4, 4);
     refused("card,1,1,1,100\nvar,7\nsheet,1\nins,12,0,0,0", 2, 4);
     refused(&format!("{k}\n"), 2, 8);

@@ -21,19 +21,17 @@ def fields(line, word, count):
     return [int(p) for p in parts[1:]]
 
 
-def instruction_fits(n, code, a, b, c):
-    small = a < 4 and b < 4
-    if code in (1, 5, 6, 7, 8, 11):
-        return small and c == 0
-    if code == 2:
-        return a < 4 and b < WORD and c == 0
-    if code == 3:
-        return a < 4 and b < n and c == 0
-    if code == 4:
-        return a < n and b < 4 and c == 0
-    if code in (9, 10):
-        return small and 1 <= c <= 31
-    return code == 12 and a == b == c == 0
+def judge_instruction(n, code, *operands):
+    """0 where an instruction is good, else 4, 12 or 13 (document 02, order 8)."""
+    register, unused = range(4), None
+    kinds = {2: (register, range(WORD), unused), 3: (register, range(n), unused), 4: (range(n), register, unused), 12: (unused,) * 3}
+    kinds.update({code: (register, register, unused) for code in (1, 5, 6, 7, 8, 11)})
+    kinds.update({code: (register, register, range(1, 32)) for code in (9, 10)})
+    if code not in kinds:
+        return 4
+    if any(kind is not unused and x not in kind for kind, x in zip(kinds[code], operands)):
+        return 12
+    return 13 if any(kind is unused and x for kind, x in zip(kinds[code], operands)) else 0
 
 
 def judge(text):
@@ -47,7 +45,8 @@ def judge(text):
     class Refused(Exception):
         pass
 
-    def take(word, count, fits, refusal):
+    def take(word, count, refusal):
+        """The numbers of the next line, judged by a function of them that gives 0 or a refusal."""
         nonlocal number
         number += 1
         if number > len(lines):
@@ -55,18 +54,22 @@ def judge(text):
         values = fields(lines[number - 1], word, count)
         if values is None:
             raise Refused(2)
-        if not fits(*values):
-            raise Refused(refusal)
+        if refusal(*values):
+            raise Refused(refusal(*values))
         return values
 
+    def unless(fits):
+        """Refusal 3 of numbers that are out of range."""
+        return lambda *values: 0 if fits(*values) else 3
+
     try:
-        card = take(b"card", 4, lambda p, n, s, l: 1 <= p <= 8 and 1 <= n <= 64 and 1 <= s <= 8 and 1 <= l <= LIMIT, 3)
+        card = take(b"card", 4, unless(lambda p, n, s, l: 1 <= p <= 8 and 1 <= n <= 64 and 1 <= s <= 8 and 1 <= l <= LIMIT))
         n = card[1]
         for _ in range(n):
-            take(b"var", 1, lambda v: v < WORD, 3)
+            take(b"var", 1, unless(lambda v: v < WORD))
         for _ in range(card[2]):
-            for _ in range(take(b"sheet", 1, lambda m: 1 <= m <= 32, 3)[0]):
-                take(b"ins", 4, lambda k, a, b, c: instruction_fits(n, k, a, b, c), 4)
+            for _ in range(take(b"sheet", 1, unless(lambda m: 1 <= m <= 32))[0]):
+                take(b"ins", 4, lambda *numbers: judge_instruction(n, *numbers))
         number += 1
         if number <= len(lines) or rest:
             raise Refused(2)
@@ -142,20 +145,25 @@ def cases():
     three = card(2, 3, 2, 9, ["1", "2", "3"], [["12,0,0,0"], ["12,0,0,0"]])
     for line, new in ((1, b"card,9,3,2,9"), (2, b"var,4294967296"), (3, b"var,4294967296"), (4, b"var,4294967296"), (5, b"sheet,33"), (7, b"sheet,0")):
         yield edited(three, line, new)
-    # refusal 4: every code with an operand out of range or not 0 where unused, and codes that are none
+    # refusals 4, 12 and 13: every code with an operand out of range or not 0 where unused, and codes that are none
     bad = [b"0,0,0,0", b"13,0,0,0", b"4294967297,0,0,0", b"1,4,0,0", b"1,0,4,0", b"1,0,0,1", b"2,4,0,0", b"2,0,4294967296,0", b"2,0,0,1", b"3,4,0,0", b"3,0,1,0", b"3,0,0,1", b"4,1,0,0", b"4,0,4,0", b"4,0,0,1"]
     for code in (5, 6, 7, 8, 11):
         bad += [b"%d,4,0,0" % code, b"%d,0,4,0" % code, b"%d,0,0,1" % code]
     for code in (9, 10):
         bad += [b"%d,4,0,1" % code, b"%d,0,4,1" % code, b"%d,0,0,0" % code, b"%d,0,0,32" % code]
     bad += [b"12,1,0,0", b"12,0,1,0", b"12,0,0,1", b"1,256,0,0", b"3,0,256,0", b"9,0,0,257"]
+    # the sequence of the three, and operands of any length
+    bad += [b"0,9,9,9", b"1,4,0,7", b"1,0,0,7", b"2,4,0,1", b"4,0,0," + long, b"1," + long + b",0,7", b"12," + long + b",0,0", long + b",4,4,4", b"9," + long + b",0,1", b"9,0,0," + long]
     for operands in bad:
         yield edited(k, 6, b"ins," + operands)
     for line in (4, count):
-        yield edited(k, line, b"ins,13,0,0,0")
+        for operands in (b"13,0,0,0", b"1,4,0,7", b"1,0,0,7"):
+            yield edited(k, line, b"ins," + operands)
     # a lower refusal does not wait for a later line, and a later line is not judged before an earlier one
     yield edited(edited(k, 2, b"var,4294967296"), 3, b"sheet,x")
     yield edited(edited(k, 2, b"var,x"), 1, b"card,9,1,1,100")
+    yield edited(edited(k, 4, b"ins,1,0,0,7"), 5, b"ins,13,0,0,0")
+    yield edited(edited(k, 4, b"ins,1,4,0,0"), 5, b"ins,13,0,0,0")
 
 
 def expected(number, text):

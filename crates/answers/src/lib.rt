@@ -25,7 +25,7 @@ pub fn number_of(refusal: Refusal) -> u64
         Refusal::TooLong => 1,
         Refusal::Malformed => 2,
         Refusal::OutOfRange => 3,
-        Refusal::BadInstruction => 4,
+        Refusal::UnknownCode => 4,
         Refusal::NoProcess => 5,
         Refusal::NoProgram => 6,
         Refusal::Busy => 7,
@@ -33,6 +33,8 @@ pub fn number_of(refusal: Refusal) -> u64
         Refusal::NoPlace => 9,
         Refusal::LimitReached => 10,
         Refusal::ShortBuffer => 11,
+        Refusal::OperandOutOfRange => 12,
+        Refusal::UnusedOperand => 13,
     }
 }
 

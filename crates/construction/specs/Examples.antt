@@ -447,7 +447,7 @@ refusedTold =
 abbrev pub tracedRows : List TracedRow
 tracedRows = listingTold ∷ sameInputTold ∷ exitRequestedTold ∷ refusedTold ∷ []
 
--- 'Turned back', column 'small example'. Rows 2 to 4: a text, and the number and line that it is refused with
+-- 'Turned back', column 'small example'. Rows 2 to 4, 12 and 13 (document 02, order 8): a text, and the number and line that it is refused with
 pub record RefusedText : Type 0 where
   pub text : List ℕ
   pub number : ℕ
@@ -462,6 +462,10 @@ refusedTexts =
     record { text = bytes "card,1,1,1,5\nvar,07\nsheet,1\nins,12,0,0,0\n"; number = 2; line = 2 }
     ∷ record { text = bytes "card,9,1,1,5\nvar,7\nsheet,1\nins,12,0,0,0\n"; number = 3; line = 1 }
     ∷ record { text = bytes "card,1,1,1,5\nvar,7\nsheet,1\nins,13,0,0,0\n"; number = 4; line = 4 }
+    ∷ record { text = bytes "card,1,1,1,5\nvar,7\nsheet,1\nins,0,9,9,9\n"; number = 4; line = 4 }
+    ∷ record { text = bytes "card,1,1,1,5\nvar,7\nsheet,2\nins,3,0,1,0\nins,13,0,0,0\n"; number = 12; line = 4 }
+    ∷ record { text = bytes "card,1,1,1,5\nvar,7\nsheet,1\nins,1,4,0,7\n"; number = 12; line = 4 }
+    ∷ record { text = bytes "card,1,1,1,5\nvar,7\nsheet,1\nins,12,0,0,1\n"; number = 13; line = 4 }
     ∷ []
 
 -- 'each line yields either its fields or a refusal number': a line, and what it yields
@@ -483,6 +487,10 @@ yieldedLines =
     ∷ record { line = sheetLineFields (sheetLine (bytes "sheet,33\n") 0); expected = refusedWith 3 }
     ∷ record { line = insLineFields (insLine 1 (bytes "ins,9,3,2,31\n") 0); expected = fields "ins" (9 ∷ 3 ∷ 2 ∷ 31 ∷ []) }
     ∷ record { line = insLineFields (insLine 1 (bytes "ins,13,0,0,0\n") 0); expected = refusedWith 4 }
+    ∷ record { line = insLineFields (insLine 1 (bytes "ins,0,9,9,9\n") 0); expected = refusedWith 4 }
+    ∷ record { line = insLineFields (insLine 1 (bytes "ins,1,4,0,7\n") 0); expected = refusedWith 12 }
+    ∷ record { line = insLineFields (insLine 1 (bytes "ins,9,0,0,0\n") 0); expected = refusedWith 12 }
+    ∷ record { line = insLineFields (insLine 1 (bytes "ins,1,0,0,7\n") 0); expected = refusedWith 13 }
     ∷ []
 
 -- rows 5 to 10: a request that is refused after a list of entries

@@ -1,6 +1,6 @@
 -- The twelve instructions (document 01, 'The card text'): what one does, decoding and encoding.
 use Prim.Native.Nat.{ℕ, suc, _+_, _-_, min}
-use mathlib.Core.Bool.{Bool, cond, _&&_}
+use mathlib.Core.Bool.{Bool, true, cond, not, _&&_}
 use mathlib.Core.List.{List, [], _∷_}
 use lib.Dec.{eqb, leb, ltb}
 use lib.ListN.{getD, replicate}
@@ -16,7 +16,7 @@ use Rattle.construction.specs.declared.Format.{Format}
 use Rattle.construction.specs.declared.Format.the-variants.{Unknown, Known}
 use Rattle.construction.specs.declared.Decoded.{Decoded}
 use Rattle.construction.specs.declared.Encoded.{Encoded}
-use Rattle.construction.specs.declared.Refusal.the-variants.{BadInstruction}
+use Rattle.construction.specs.declared.Refusal.the-variants.{UnknownCode, OperandOutOfRange, UnusedOperand}
 use Rattle.construction.specs.Cells.{zeros}
 
 -- word k of four
@@ -147,22 +147,34 @@ rowOf code = getD codes code noRow
 abbrev pub instructionOf : Encoded → Instruction
 instructionOf x = rowOf (x .code) .instruction (x .a) (x .b) (x .c)
 
--- 'Registers, inputs and outputs are numbered 0 to 3, variables 0 to n - 1', a constant is a word, a skip 1 to 31; 'unused ones are 0'
-abbrev pub fits : ℕ → OperandKind → ℕ → Bool
-fits n Unused x = eqb x 0
-fits n Register x = ltb x 4
-fits n Word x = ltb x 4294967296
-fits n Variable x = ltb x n
-fits n Skip x = inRange 1 31 x
+-- 'Registers, inputs and outputs are numbered 0 to 3, variables 0 to n - 1', a constant is a word, a skip 1 to 31; an unused operand has no range
+abbrev pub ranged : ℕ → OperandKind → ℕ → Bool
+ranged n Unused x = true
+ranged n Register x = ltb x 4
+ranged n Word x = ltb x 4294967296
+ranged n Variable x = ltb x n
+ranged n Skip x = inRange 1 31 x
+
+-- 'unused ones are 0'
+abbrev pub unusedZero : OperandKind → ℕ → Bool
+unusedZero Unused x = eqb x 0
+unusedZero Register x = true
+unusedZero Word x = true
+unusedZero Variable x = true
+unusedZero Skip x = true
 
 -- whether each operand passes a test against its kind
 abbrev pub eachOperand : (OperandKind → ℕ → Bool) → OperandKind → OperandKind → OperandKind → Encoded → Bool
 eachOperand test a b c x = test a (x .a) && (test b (x .b) && test c (x .c))
 
--- `code,a,b,c` on a card of n variables to an instruction, or refusal 4
+-- `code,a,b,c` on a card of n variables to an instruction, or a refusal (document 02, order 8): 'Number 4 stays for an unknown code, 12 is an
+-- operand out of range, and 13 an unused operand that isn't 0, tested in that sequence'
 abbrev pub decodeAs : Format → ℕ → Encoded → Decoded
-decodeAs Unknown n x = Decoded.Refused BadInstruction
-decodeAs (Known a b c) n x = cond (eachOperand (fits n) a b c x) (Decoded.Valid (instructionOf x)) (Decoded.Refused BadInstruction)
+decodeAs Unknown n x = Decoded.Refused UnknownCode
+decodeAs (Known a b c) n x =
+    cond (not (eachOperand (ranged n) a b c x)) (Decoded.Refused OperandOutOfRange)
+    (cond (not (eachOperand unusedZero a b c x)) (Decoded.Refused UnusedOperand)
+    (Decoded.Valid (instructionOf x)))
 
 unfoldable pub decode : ℕ → Encoded → Decoded
 decode n x = decodeAs (rowOf (x .code) .format) n x

@@ -300,12 +300,12 @@ pub struct Card {
     pub masks: [u64; 8],
 }
 
-// Why something is refused: rows 1 to 11 of document 01's table.
+// Why something is refused: rows 1 to 11 of document 01's table, 12 and 13 of document 02, order 8.
 pub enum Refusal {
     TooLong,
     Malformed,
     OutOfRange,
-    BadInstruction,
+    UnknownCode,
     NoProcess,
     NoProgram,
     Busy,
@@ -313,6 +313,8 @@ pub enum Refusal {
     NoPlace,
     LimitReached,
     ShortBuffer,
+    OperandOutOfRange,
+    UnusedOperand,
 }
 
 // The answer to a call, an exit request, a step or a read.

@@ -24,7 +24,7 @@ use grammar::reading::four_at;
 use grammar::reading::has_word;
 ghost use mathlib.Core.Path.{_≡_};
 ghost use mathlib.Core.Bool.{_&&_};
-ghost use Rattle.construction.specs.Instructions.{inRange, fits, eachOperand, rowOf, instructionOf, encoded, decode as decoded};
+ghost use Rattle.construction.specs.Instructions.{inRange, ranged, unusedZero, eachOperand, rowOf, instructionOf, encoded, decode as decoded};
 ghost use Rattle.construction.specs.Lines.{cardFits, cardLine, varLine, sheetLine, insOf, insLine};
 
 fn both(a: bool, b: bool) -> bool
@@ -132,12 +132,12 @@ fn instruction_of(code: u64, a: u8, b: u8, c: u8) -> Instruction
     }
 }
 
-// Whether an operand fits its kind, on a card of so many variables.
-fn operand_fits(variables: u8, kind: OperandKind, x: u64) -> bool
-    ensures { λ r. ⌜ r ≡ fits variables kind x ⌝ }
+// Whether an operand is within the range of its kind, on a card of so many variables. An unused one has no range.
+fn operand_in_range(variables: u8, kind: OperandKind, x: u64) -> bool
+    ensures { λ r. ⌜ r ≡ ranged variables kind x ⌝ }
 {
     match kind {
-        Unused => x == 0,
+        Unused => true,
         Register => x < 4,
         Word => x < 4_294_967_296,
         Variable => x < variables as u64,
@@ -145,42 +145,76 @@ fn operand_fits(variables: u8, kind: OperandKind, x: u64) -> bool
     }
 }
 
-// Whether the operands fit their kinds a, b and c.
-fn operands_fit(variables: u8, a: OperandKind, b: OperandKind, c: OperandKind, x: Encoded) -> bool
-    ensures { λ r. ⌜ r ≡ eachOperand (fits variables) a b c x ⌝ }
+// Whether an operand is 0 where it is unused.
+fn operand_zero_if_unused(kind: OperandKind, x: u64) -> bool
+    ensures { λ r. ⌜ r ≡ unusedZero kind x ⌝ }
+{
+    match kind {
+        Unused => x == 0,
+        Register => true,
+        Word => true,
+        Variable => true,
+        Skip => true,
+    }
+}
+
+// Whether the operands are within the ranges of their kinds a, b and c.
+fn operands_in_range(
+    variables: u8,
+    a: OperandKind,
+    b: OperandKind,
+    c: OperandKind,
+    x: Encoded,
+) -> bool
+    ensures { λ r. ⌜ r ≡ eachOperand (ranged variables) a b c x ⌝ }
 {
     both(
-        operand_fits(variables, a, x.a),
+        operand_in_range(variables, a, x.a),
         both(
-            operand_fits(variables, b, x.b),
-            operand_fits(variables, c, x.c),
+            operand_in_range(variables, b, x.b),
+            operand_in_range(variables, c, x.c),
         ),
     )
 }
 
-// The instruction of a code and its operands, on a card of so many variables. An operand that fits is told whole by its low byte, a constant by
-// its low word.
+// Whether the operands of unused kinds are 0.
+fn operands_zero_if_unused(a: OperandKind, b: OperandKind, c: OperandKind, x: Encoded) -> bool
+    ensures { λ r. ⌜ r ≡ eachOperand unusedZero a b c x ⌝ }
+{
+    both(
+        operand_zero_if_unused(a, x.a),
+        both(
+            operand_zero_if_unused(b, x.b),
+            operand_zero_if_unused(c, x.c),
+        ),
+    )
+}
+
+// The instruction of a code and its operands, on a card of so many variables: refusals 4, 12 and 13. An operand that is not refused is told
+// whole by its low byte, a constant by its low word.
 pub fn decode(variables: u8, x: Encoded) -> Decoded
     ensures { λ r. ⌜ r ≡ decoded variables x ⌝ }
 {
     let Known(kind_a, kind_b, kind_c) = format_of(x.code) else {
-        return Decoded::Refused(Refusal::BadInstruction);
+        return Decoded::Refused(Refusal::UnknownCode);
     };
-    if operands_fit(variables, kind_a, kind_b, kind_c, x) {
-        let a = (x.a % 256) as u8;
-        let b = (x.b % 256) as u8;
-        let c = (x.c % 256) as u8;
-        let constant = (x.b % 4_294_967_296) as u32;
-        if x.code == 2 {
-            return Decoded::Valid(Instruction::Constant {
-                register: a,
-                constant,
-            });
-        }
-        Decoded::Valid(instruction_of(x.code, a, b, c))
-    } else {
-        Decoded::Refused(Refusal::BadInstruction)
+    if !operands_in_range(variables, kind_a, kind_b, kind_c, x) {
+        return Decoded::Refused(Refusal::OperandOutOfRange);
     }
+    if !operands_zero_if_unused(kind_a, kind_b, kind_c, x) {
+        return Decoded::Refused(Refusal::UnusedOperand);
+    }
+    let a = (x.a % 256) as u8;
+    let b = (x.b % 256) as u8;
+    let c = (x.c % 256) as u8;
+    let constant = (x.b % 4_294_967_296) as u32;
+    if x.code == 2 {
+        return Decoded::Valid(Instruction::Constant {
+            register: a,
+            constant,
+        });
+    }
+    Decoded::Valid(instruction_of(x.code, a, b, c))
 }
 
 fn card_fits(processes: u64, variables: u64, programs: u64, limit: u64) -> bool

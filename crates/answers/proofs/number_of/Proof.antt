@@ -47,10 +47,20 @@ returns-11 : tie.Need-returns-11
 unfolding numberOf
 returns-11 c = rw ((c .enum-told11 .given .1))
 
+returns-12 : tie.Need-returns-12
+unfolding numberOf
+returns-12 c = rw ((c .enum-told12 .given .1))
+
+returns-13 : tie.Need-returns-13
+unfolding numberOf
+returns-13 c = rw ((c .enum-told13 .given .1))
+
 pub number-of-spec : {M : Type 1} → statement M
 number-of-spec =
     tie.close
     (tie.spec
+    (λ c. search needs)
+    (λ c. search needs)
     (λ c. search needs)
     (λ c. search needs)
     (λ c. search needs)
@@ -72,4 +82,6 @@ number-of-spec =
     returns-8
     returns-9
     returns-10
-    returns-11)
+    returns-11
+    returns-12
+    returns-13)

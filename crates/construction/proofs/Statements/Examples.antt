@@ -29,11 +29,11 @@ rows-told = (refl, (refl, (refl, (refl, tt))))
 
 pub texts-refused : AllTextsRefused refusedTexts
 unfolding opened readCard cardLine judgeCard four field number digits hasWord varsFrom varLine judgeVar programsFrom readProgram sheetLine judgeSheet insFrom insLine judgeIns decode fresh verdictFields numberOf
-texts-refused = (refl, (refl, (refl, tt)))
+texts-refused = (refl, (refl, (refl, (refl, (refl, (refl, (refl, tt)))))))
 
 pub lines-yield : AllYielded yieldedLines
 unfolding cardLine judgeCard four field number digits hasWord varLine judgeVar sheetLine judgeSheet insLine judgeIns decode encode cardLineFields varLineFields sheetLineFields decodedFields insLineFields numberOf
-lines-yield = (refl, (refl, (refl, (refl, (refl, (refl, (refl, (refl, tt))))))))
+lines-yield = (refl, (refl, (refl, (refl, (refl, (refl, (refl, (refl, (refl, (refl, (refl, (refl, tt))))))))))))
 
 pub entries-refused : AllEntriesRefused refusedEntries
 unfolding opened readCard cardLine judgeCard four field number digits hasWord varsFrom varLine judgeVar programsFrom readProgram sheetLine judgeSheet insFrom insLine judgeIns decode fresh call requestExit step read valueOf advance perform accessOf accessGate accessAnnouncement firstChoice beginHelp note writing simulate simulateFrom effectOf fetch word withWord forward withRegister skipped position assign valueUnder insert sameWords sameGate sameAnnouncement sameRecord swapGate swapAnnouncement swapRecord trace answerFields numberOf

@@ -1,12 +1,12 @@
 -- Decoding and encoding by the table of codes (document 01, 'The card text'): what is known of each row, and of each operand that fits its kind.
-use mathlib.Core.Bool.{Bool, true, false, cond}
+use mathlib.Core.Bool.{Bool, true, false, cond, not}
 use mathlib.Core.Path.{_≡_, refl, sym, _∙_, ap, subst}
 use mathlib.Core.List.{List, [], _∷_}
 use Prim.Native.Nat.{ℕ, zero, suc, _%_, _<_, _≤_}
 use lib.Dec.{eqb, ltb}
 use lib.ListN.{length, getD, List·getD-eq-default}
 use native.Mathlib.Omega.{arith}
-use borrow.Author.Tests.{eqb-true, ltb-true, eq-eqb, ne-eqb}
+use borrow.Author.Tests.{eqb-true, ltb-true, eq-eqb, ne-eqb, not-false}
 use Rattle.grammar.proofs.RoundTrip.{Small}
 use Rattle.construction.specs.declared.Instruction.{Instruction}
 use Rattle.construction.specs.declared.OperandKind.{OperandKind}
@@ -15,8 +15,8 @@ use Rattle.construction.specs.declared.Format.{Format}
 use Rattle.construction.specs.declared.Format.the-variants.{Unknown, Known}
 use Rattle.construction.specs.declared.Encoded.{Encoded}
 use Rattle.construction.specs.declared.Decoded.{Decoded}
-use Rattle.construction.specs.declared.Refusal.the-variants.{BadInstruction}
-use Rattle.construction.specs.Instructions.{CodeRow, noRow, codes, rowOf, instructionOf, fits, eachOperand, decode, decodeAs, encoded, encode}
+use Rattle.construction.specs.declared.Refusal.the-variants.{UnknownCode, OperandOutOfRange, UnusedOperand}
+use Rattle.construction.specs.Instructions.{CodeRow, noRow, codes, rowOf, instructionOf, ranged, unusedZero, eachOperand, decode, decodeAs, encoded, encode}
 use Rattle.construction.proofs.Basics.{on-test, and-true, clash}
 use Rattle.construction.proofs.Text.Lines.{range-true}
 
@@ -46,13 +46,14 @@ kept Skip x = x % 256
 abbrev keptOf : OperandKind → OperandKind → OperandKind → Encoded → Encoded
 keptOf a b c x = encoded (x .code) (kept a (x .a)) (kept b (x .b)) (kept c (x .c))
 
--- an operand that fits its kind is kept whole, and is a word
-fits-kept : (n : ℕ) (kind : OperandKind) (x : ℕ) → n ≤ 256 → fits n kind x ≡ true → (kept kind x ≡ x) × (x < 4294967296)
-fits-kept n Unused x h e = omega (arith, eqb-true x 0 e)
-fits-kept n Register x h e = omega (arith, ltb-true x 4 e)
-fits-kept n Word x h e = omega (arith, ltb-true x 4294967296 e)
-fits-kept n Variable x h e = omega (arith, ltb-true x n e)
-fits-kept n Skip x h e = omega (arith, range-true 1 31 x e)
+-- an operand within the range of its kind, and 0 where it is unused, is kept whole, and is a word
+operand-kept :
+    (n : ℕ) (kind : OperandKind) (x : ℕ) → n ≤ 256 → ranged n kind x ≡ true → unusedZero kind x ≡ true → (kept kind x ≡ x) × (x < 4294967296)
+operand-kept n Unused x h e z = omega (arith, eqb-true x 0 z)
+operand-kept n Register x h e z = omega (arith, ltb-true x 4 e)
+operand-kept n Word x h e z = omega (arith, ltb-true x 4294967296 e)
+operand-kept n Variable x h e z = omega (arith, ltb-true x n e)
+operand-kept n Skip x h e z = omega (arith, range-true 1 31 x e)
 
 -- ---- the instruction of the low bytes of operands; only a constant, of code 2, is longer
 abbrev fromBytes : Encoded → Instruction
@@ -80,18 +81,21 @@ pub record Decodes (x : Encoded) (y : Instruction) : Type 0 where
   pub back : encode y ≡ x
   pub small : Small (x .code) (x .a) (x .b) (x .c)
 
--- ---- a code that has a format, with operands that fit it
+-- ---- a code that has a format, with operands within their ranges, and 0 where they are unused
 module _
     (n : ℕ) (x : Encoded) (h : n ≤ 256) {a b c : OperandKind}
-    (e : rowOf (x .code) .format ≡ Known a b c) (t : eachOperand (fits n) a b c x ≡ true) where
+    (e : rowOf (x .code) .format ≡ Known a b c)
+    (t : eachOperand (ranged n) a b c x ≡ true) (z : eachOperand unusedZero a b c x ≡ true) where
   abbrev Kept : OperandKind → ℕ → Type 0
   Kept kind y = (kept kind y ≡ y) × (y < 4294967296)
 
   operands : Kept a (x .a) × Kept b (x .b) × Kept c (x .c)
   operands =
-      let t₁ = and-true (fits n a (x .a)) _ t in
-      let t₂ = and-true (fits n b (x .b)) _ (t₁ .1) in
-      (fits-kept n a (x .a) h (t₁ .0), fits-kept n b (x .b) h (t₂ .0), fits-kept n c (x .c) h (t₂ .1))
+      let t₁ = and-true (ranged n a (x .a)) _ t in
+      let t₂ = and-true (ranged n b (x .b)) _ (t₁ .1) in
+      let z₁ = and-true (unusedZero a (x .a)) _ z in
+      let z₂ = and-true (unusedZero b (x .b)) _ (z₁ .1) in
+      (operand-kept n a (x .a) h (t₁ .0) (z₁ .0), operand-kept n b (x .b) h (t₂ .0) (z₂ .0), operand-kept n c (x .c) h (t₂ .1) (z₂ .1))
 
   whole : keptOf a b c x ≡ x
   whole = λ i. record { code = x .code; a = operands .0 .0 i; b = operands .1 .0 i; c = operands .2 .0 i }
@@ -119,28 +123,36 @@ decoded-encodes n x h y = by (rowOf (x .code) .format) refl
     by : (f : Format) → rowOf (x .code) .format ≡ f → decodeAs f n x ≡ Decoded.Valid y → Decodes x y
     by Unknown e = λ d. clash (cc)
     by (Known a b c) e =
-        on-test (λ (d : Decoded). d ≡ Decoded.Valid y → Decodes x y) (eachOperand (fits n) a b c x)
-        (λ t d. subst (Decodes x) (cc) (decodes n x h e t)) (λ t d. clash (cc))
+        on-test (λ (d : Decoded). d ≡ Decoded.Valid y → Decodes x y) (not (eachOperand (ranged n) a b c x))
+        (λ t d. clash (cc))
+        (λ t. on-test (λ (d : Decoded). d ≡ Decoded.Valid y → Decodes x y) (not (eachOperand unusedZero a b c x))
+        (λ z d. clash (cc))
+        (λ z d. subst (Decodes x) (cc) (decodes n x h e (not-false _ t) (not-false _ z))))
 
--- ---- what a decoder finds, by the format that it looked up and the test that it made
+-- ---- what a decoder finds, by the format that it looked up and the tests that it made
 module _ (n : ℕ) (x : Encoded) {f : Format} (e : f ≡ rowOf (x .code) .format) where
-  pub decode-unknown : f ≡ Unknown → Decoded.Refused BadInstruction ≡ decode n x
+  pub decode-unknown : f ≡ Unknown → Decoded.Refused UnknownCode ≡ decode n x
   unfolding decode
   decode-unknown p = rw (← e, p)
 
-  module _ {ka kb kc : OperandKind} (p : f ≡ Known ka kb kc) {t : Bool} (q : t ≡ eachOperand (fits n) ka kb kc x) where
-    pub decode-unfit : t ≡ false → Decoded.Refused BadInstruction ≡ decode n x
+  module _ {ka kb kc : OperandKind} (p : f ≡ Known ka kb kc) {t : Bool} (q : t ≡ eachOperand (ranged n) ka kb kc x) where
+    pub decode-range : t ≡ false → Decoded.Refused OperandOutOfRange ≡ decode n x
     unfolding decode
-    decode-unfit z = rw (← e, p, ← q, z)
+    decode-range z = rw (← e, p, ← q, z)
 
-    module _ (h : n ≤ 256) (z : t ≡ true) where
-      decode-valid : {y : Instruction} → y ≡ fromBytes x → Decoded.Valid y ≡ decode n x
+    module _ (z : t ≡ true) {u : Bool} (r : u ≡ eachOperand unusedZero ka kb kc x) where
+      pub decode-unused : u ≡ false → Decoded.Refused UnusedOperand ≡ decode n x
       unfolding decode
-      decode-valid s = rw (← e, p, ← q, z, s ∙ built n x h (sym e ∙ p) (sym q ∙ z))
+      decode-unused y = rw (← e, p, ← q, z, ← r, y)
 
-      pub decode-constant : x .code ≡ 2 → Decoded.Valid (Instruction.Constant (x .a % 256) (x .b % 4294967296)) ≡ decode n x
-      decode-constant k = decode-valid (rw (eq-eqb (x .code) 2 k))
+      module _ (h : n ≤ 256) (y : u ≡ true) where
+        decode-valid : {k : Instruction} → k ≡ fromBytes x → Decoded.Valid k ≡ decode n x
+        unfolding decode
+        decode-valid s = rw (← e, p, ← q, z, ← r, y, s ∙ built n x h (sym e ∙ p) (sym q ∙ z) (sym r ∙ y))
 
-      pub decode-bytes :
-          {y : Instruction} → (x .code ≡ 2 → ⊥) → y ≡ instructionOf (encoded (x .code) (x .a % 256) (x .b % 256) (x .c % 256)) → Decoded.Valid y ≡ decode n x
-      decode-bytes k s = decode-valid (s ∙ rw (ne-eqb (x .code) 2 k))
+        pub decode-constant : x .code ≡ 2 → Decoded.Valid (Instruction.Constant (x .a % 256) (x .b % 4294967296)) ≡ decode n x
+        decode-constant k = decode-valid (rw (eq-eqb (x .code) 2 k))
+
+        pub decode-bytes :
+            {k : Instruction} → (x .code ≡ 2 → ⊥) → k ≡ instructionOf (encoded (x .code) (x .a % 256) (x .b % 256) (x .c % 256)) → Decoded.Valid k ≡ decode n x
+        decode-bytes ne s = decode-valid (s ∙ rw (ne-eqb (x .code) 2 ne))

@@ -1,9 +1,9 @@
 use borrow.Author.Needs.{needs}
-use Rattle.lines.proofs.operand_fits.Statement.{statement}
-use Rattle.lines.proofs.operand_fits.Tie as tie
+use Rattle.lines.proofs.operand_in_range.Statement.{statement}
+use Rattle.lines.proofs.operand_in_range.Tie as tie
 
-pub operand-fits-spec : {M : Type 1} → statement M
-operand-fits-spec =
+pub operand-in-range-spec : {M : Type 1} → statement M
+operand-in-range-spec =
     tie.close
     (tie.spec
     (λ c. search needs)

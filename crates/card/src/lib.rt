@@ -152,6 +152,7 @@ pub fn step(card: Card, process: u32) -> Answered
             let answer = answer_of(place, cell, steps);
             if began.helps {
                 c.dictionaries[i] = opening::empty();
+                c.masks[i] = 0;
             }
             answer
         }
@@ -174,6 +175,7 @@ pub fn step(card: Card, process: u32) -> Answered
                 task,
                 simulation,
                 dictionary,
+                c.masks[i],
             );
             let state = helped.simulation;
             let noted = helped.dictionary;
@@ -181,6 +183,7 @@ pub fn step(card: Card, process: u32) -> Answered
             let place = task.place;
             c.simulations[i] = state;
             c.dictionaries[i] = noted;
+            c.masks[i] = helped.mask;
             c.tasks[i] = task;
             answer_of(place, last, steps)
         }

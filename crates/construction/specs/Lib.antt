@@ -10,6 +10,7 @@ pub mod Answers
 pub mod Requests
 pub mod OneAccess
 pub mod Tracing
+pub mod Reports
 pub mod Lines
 pub mod Opening
 pub mod Writing

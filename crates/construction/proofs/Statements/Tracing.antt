@@ -1,6 +1,7 @@
 -- A step that is traced is a step: the same card, the same answer, the same refusals (document 02, order 1); refused, it has no report.
 use Prim.Native.Nat.{ℕ, _<_}
 use mathlib.Core.Path.{_≡_, refl, ap, _∙_}
+use Rattle.grammar.specs.Writing.{decimal, decimals}
 use mathlib.Core.Bool.{true, false, cond}
 use Rattle.construction.specs.declared.Announcement.{Announcement}
 use Rattle.construction.specs.declared.Flag.{Flag}
@@ -13,6 +14,7 @@ use Rattle.construction.specs.Parts.{Local, localAt}
 use Rattle.construction.specs.Machine.{advance}
 use Rattle.construction.specs.Requests.{isProcess, isBusy, isIdle, returned, answerOf, step}
 use Rattle.construction.specs.Tracing.{reportOf, noReport, isRefused, trace, untold}
+use Rattle.construction.specs.Reports.{letterOf, lineNumber, AllSpelt, labels}
 use Rattle.construction.proofs.Basics.{on-test, cond-true, cond-false}
 use Rattle.construction.proofs.Statements.Refusals.{step-accepted}
 
@@ -44,3 +46,8 @@ trace-accepted c i p b l =
     (step-accepted c i p b l)
     ∙ ap (λ (x : Report). record { card = advance c i; answer = answerOf (localAt (advance c i) i); report = x })
     (cond-false (isRefused (answerOf (localAt (advance c i) i))) _ _ (answers (localAt (advance c i) i)))
+
+-- the eighteen labels are printed as the paper writes them
+pub labels-spelt : AllSpelt labels
+unfolding letterOf lineNumber decimal decimals
+labels-spelt = (refl, (refl, (refl, (refl, (refl, (refl, (refl, (refl, (refl, (refl, (refl, (refl, (refl, (refl, (refl, (refl, (refl, (refl, tt))))))))))))))))))

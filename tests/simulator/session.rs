@@ -85,10 +85,10 @@ fn answer(machine: &mut Machine, command: Command, coverage: &mut Coverage) -> S
             ("wish", process, machine.request_exit(process).map(|()| coverage.answered("requested", "taken")))
         }
         Command::Step { process } => {
-            ("step", process, machine.step(process).map(|stepped| step_fields(&stepped, coverage)))
+            ("step", process, machine.step(process).map(|stepped| step_fields(machine, &stepped, coverage)))
         }
         Command::Trace { process } => {
-            ("trace", process, machine.step(process).map(|stepped| trace_fields(&stepped, coverage)))
+            ("trace", process, machine.step(process).map(|stepped| trace_fields(machine, &stepped, coverage)))
         }
         Command::Read { variable } => {
             let value = machine.read(variable);
@@ -105,19 +105,19 @@ fn answer(machine: &mut Machine, command: Command, coverage: &mut Coverage) -> S
 }
 
 /// The answer's fields of an accepted step.
-fn step_fields(stepped: &Stepped, coverage: &mut Coverage) -> String {
-    coverage.stepped(stepped);
+fn step_fields(machine: &Machine, stepped: &Stepped, coverage: &mut Coverage) -> String {
+    coverage.stepped(stepped, machine.card.longest_wait());
     match stepped.answer {
         Answer::Run => coverage.answered("run", "run"),
-        Answer::Done { outputs: [o0, o1, o2, o3], own_steps } => {
-            coverage.answered("done", format!("done,{o0},{o1},{o2},{o3},{own_steps}"))
+        Answer::Done { number, outputs: [o0, o1, o2, o3], own_steps } => {
+            coverage.answered("done", format!("done,{number},{o0},{o1},{o2},{o3},{own_steps}"))
         }
         Answer::Exited { own_steps } => coverage.answered("exited", format!("exited,{own_steps}")),
     }
 }
 
 /// Order 1: the label, the cell, the swap, the gate number, the set of noted variables and their number, then the answer's fields.
-fn trace_fields(stepped: &Stepped, coverage: &mut Coverage) -> String {
+fn trace_fields(machine: &Machine, stepped: &Stepped, coverage: &mut Coverage) -> String {
     let Stepped { label, number, noted, count, .. } = *stepped;
     let cell = match stepped.cell {
         Cell::Gate => "G".to_string(),
@@ -129,6 +129,6 @@ fn trace_fields(stepped: &Stepped, coverage: &mut Coverage) -> String {
         "lost" => '0',
         _ => '-',
     };
-    let answer = step_fields(stepped, coverage);
+    let answer = step_fields(machine, stepped, coverage);
     coverage.answered("traced", format!("{label:?},{cell},{swap},{number},{noted},{count},{answer}"))
 }

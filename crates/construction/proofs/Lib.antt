@@ -9,5 +9,7 @@ pub mod Simulating
 pub mod Invariant
 -- Entries by cases, and that the history an observer keeps agrees with the invariant after every entry.
 pub mod Observing
+-- Wait freedom, apart from safety: what an operation has cost at each place, that its turn comes, and that every entry keeps both.
+pub mod Waiting
 -- The theorems that docs/STATEMENTS.md names.
 pub mod Statements

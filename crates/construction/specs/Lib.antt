@@ -19,4 +19,7 @@ pub mod Limits
 pub mod History
 pub mod Paths
 pub mod Linearizability
+pub mod Log
+pub mod Numbers
+pub mod Waits
 pub mod Examples

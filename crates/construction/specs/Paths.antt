@@ -123,7 +123,7 @@ pub data Course : Type 0 where
 abbrev pub courseOf : Answer → Course
 courseOf Answer.Taken = Course.other
 courseOf Answer.Run = Course.runs
-courseOf (Answer.Done o steps) = Course.done
+courseOf (Answer.Done number o steps) = Course.done
 courseOf (Answer.Exited steps) = Course.exited
 courseOf (Answer.Value x) = Course.other
 courseOf (Answer.Refused r) = Course.other
@@ -205,7 +205,7 @@ pub record Follows (i : ℕ) (ms : List Made) : Type 0 where
 abbrev pub isTaken : Answer → Bool
 isTaken Answer.Taken = true
 isTaken Answer.Run = false
-isTaken (Answer.Done o steps) = false
+isTaken (Answer.Done number o steps) = false
 isTaken (Answer.Exited steps) = false
 isTaken (Answer.Value x) = false
 isTaken (Answer.Refused r) = false

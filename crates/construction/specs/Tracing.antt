@@ -94,7 +94,7 @@ noReport = record { label = Label.None; cell = Cell.None; swap = Swap.None; numb
 abbrev pub isRefused : Answer → Bool
 isRefused Answer.Taken = false
 isRefused Answer.Run = false
-isRefused (Answer.Done o steps) = false
+isRefused (Answer.Done number o steps) = false
 isRefused (Answer.Exited steps) = false
 isRefused (Answer.Value x) = false
 isRefused (Answer.Refused r) = true

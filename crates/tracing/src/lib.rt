@@ -220,6 +220,7 @@ pub fn is_refused(answer: Answer) -> bool
         Answer::Taken => false,
         Answer::Run => false,
         Answer::Done {
+            number: _,
             outputs: _,
             steps: _,
         } => false,

@@ -9,6 +9,7 @@ use native.Mathlib.Nat.{mod-lt}
 use lib.ListN.{getD, set}
 use lib.Seq.{getD-set-same, set-getD}
 use borrow.Author.Tests.{lt-ltb}
+use Rattle.construction.specs.declared.Gate.{Gate}
 use Rattle.construction.specs.declared.Announcement.{Announcement}
 use Rattle.construction.specs.declared.Operation.{Operation}
 use Rattle.construction.specs.declared.Card.{Card}
@@ -20,7 +21,7 @@ use Rattle.construction.specs.declared.Place.the-variants.{Idle, P3, P5,
 use Rattle.construction.specs.declared.AnnouncementAccess.{AnnouncementAccess}
 use Rattle.construction.specs.Cells.{openAnnouncement, sameAnnouncement, swapAnnouncement}
 use Rattle.construction.specs.Parts.{announcementAt, recordAt, withAnnouncement, localAt, Local, contentsOf, withLocal}
-use Rattle.construction.specs.Machine.{goTo, byFlag, holderOf, firstChoice, announced, flagged, withdrawn, finished, accessAnnouncement, perform, after}
+use Rattle.construction.specs.Machine.{goTo, byFlag, holderOf, firstChoice, whose, announced, flagged, withdrawn, finished, accessAnnouncement, perform, after}
 use Rattle.construction.proofs.Basics.{on-test, announcement-path, sameAnnouncement-true, sameAnnouncement-false, active-not-done, active-not-exit, exit-not-done, else-done}
 use Rattle.construction.proofs.Invariant.World.{endingIn, World, announcementIn, roundIn, wordAt, operationOf, announcing, leaving, ending, Move}
 use Rattle.construction.proofs.Invariant.World.Move.{announce, leave, end}
@@ -31,9 +32,9 @@ use Rattle.construction.specs.declared.Contents.{Contents}
 use Rattle.construction.specs.declared.Access.{Access}
 
 -- line C1 names a process
-first-inside : (s p i : ℕ) → i < p → firstChoice s p < p
+first-inside : (p i : ℕ) (g : Gate) → i < p → whose AnnouncementAccess.ReadFirst p i g < p
 unfolding firstChoice
-first-inside s p i lt = rw (lt-ltb 0 p (omega arith)) (mod-lt s (omega arith))
+first-inside p i g lt = rw (lt-ltb 0 p (omega arith)) (mod-lt _ (omega arith))
 
 module _ {c : Card} {w : World} {i : ℕ} (B : Before c w i) where
   abbrev W : World
@@ -58,7 +59,7 @@ module _ {c : Card} {w : World} {i : ℕ} (B : Before c w i) where
       set-is i (announced (localAt c i .operation) (localAt c i .gate)) (B .inside) in
       record {
         after = announcing W i a;
-        move = announce a (B .inside) (q .0) refl (q .1) (q .2) (q .3);
+        move = announce a (B .inside) (q .0) refl (q .1) (q .2) (q .3) refl;
         gate-is = refl;
         announcements-is = refl;
         records-is = refl;
@@ -154,9 +155,8 @@ module _ {c : Card} {w : World} {i : ℕ} (B : Before c w i) where
   pub at-C2 : L C2 → Acted c W i (perform (Access.Announcement AnnouncementAccess.ReadFirst) c i .card)
   unfolding perform accessAnnouncement
   at-C2 q =
-      let m : ℕ = firstChoice (localAt c i .gate .seq) (c .processes) in
-      reads m _
-      (read-C2 m (first-inside (localAt c i .gate .seq) (c .processes) i (B .inside)) (announcementAt c m .flag) refl q)
+      let m : ℕ = whose AnnouncementAccess.ReadFirst (c .processes) i (localAt c i .gate) in
+      reads m _ (read-C2 m (first-inside (c .processes) i (localAt c i .gate) (B .inside)) (announcementAt c m .flag) refl q)
 
   -- process i at a place, and the card after a swap of announcement m
   abbrev at : Place → Local
@@ -188,7 +188,7 @@ module _ {c : Card} {w : World} {i : ℕ} (B : Before c w i) where
             announcements-is =
                 ap {B = List Announcement} (set (c .announcements) i)
                 (announcement-path (ap (λ (r : Announcement). r .program) (sym z)) refl
-                (ap (λ (r : Announcement). r .seq) (sym z)) (sym zw));
+                (ap (λ (r : Announcement). r .seq) (sym z)) (sym (B .good .unnumbered i (active-not-done fa))) (sym zw));
             records-is = refl;
             calls-is = refl;
             local = _;
@@ -215,7 +215,7 @@ module _ {c : Card} {w : World} {i : ℕ} (B : Before c w i) where
         announcementAt c helped ≡ flagged (localAt c i .announcement) f →
         (Move F i W (ending F W helped) → Change i (viewOf W i) (viewOf (ending F W helped) i) →
         Loc F (ending F W helped) i (at l)) →
-        Acted c W i (swapped helped (finished (localAt c i .announcement) (localAt c i .simulation .outputs)) l)
+        Acted c W i (swapped helped (finished (localAt c i .announcement) (localAt c i .gate) (localAt c i .simulation .outputs)) l)
     ends z loc =
         let nd : announcementAt c helped .flag ≢ Done = λ d. nf (sym (ap (λ (r : Announcement). r .flag) z) ∙ d) in
         let zq : announcementAt c helped .seq ≡ localAt c i .announcement .seq = ap (λ (r : Announcement). r .seq) z in
@@ -234,7 +234,7 @@ module _ {c : Card} {w : World} {i : ℕ} (B : Before c w i) where
           gate-is = refl;
           announcements-is =
               ap {B = List Announcement} (set (c .announcements) helped)
-              (announcement-path (sym (ap (λ (r : Announcement). r .program) z)) refl (sym zq) outs);
+              (announcement-path (sym (ap (λ (r : Announcement). r .program) z)) refl (sym zq) (sym zs) outs);
           records-is = refl;
           calls-is = refl;
           local = _;
@@ -250,7 +250,7 @@ module _ {c : Card} {w : World} {i : ℕ} (B : Before c w i) where
         c .gate .holder ≡ Process helped → c .gate .seq ≡ localAt c i .gate .seq → announcementAt c helped .flag ≢ f
     missed e h z a =
         let y = plan .working .alike h z (λ d. nf (sym a ∙ d)) in
-        sameAnnouncement-false _ _ e (announcement-path (y .program) a (y .seq) (y .words))
+        sameAnnouncement-false _ _ e (announcement-path (y .program) a (y .seq) (y .number) (y .words))
 
   -- afterwards the flag of m is done
   is-done : (m : ℕ) → m < c .processes → announcementIn (ending F W m) m .flag ≡ Done

@@ -20,14 +20,14 @@ const OUTCOMES: [(Label, &[&str]); 18] = [
 
 /// Every refusal the bench program can print, by what was refused (document 01, 'Turned back').
 #[rustfmt::skip]
-const REFUSALS: [(&str, u8); 17] = [
+const REFUSALS: [(&str, u8); 20] = [
     ("card", 1), ("card", 2), ("card", 3), ("card", 4), ("card", 12), ("card", 13), ("calls", 1), ("line", 2),
     ("call", 5), ("call", 6), ("call", 7), ("wish", 5), ("wish", 8),
-    ("step", 5), ("step", 8), ("step", 10), ("look", 9),
+    ("step", 5), ("step", 8), ("step", 10), ("trace", 5), ("trace", 8), ("trace", 10), ("look", 9),
 ];
 
 /// Every answer to a taken command.
-const ANSWERS: [&str; 7] = ["called", "requested", "run", "done", "fault", "exited", "value"];
+const ANSWERS: [&str; 8] = ["called", "requested", "run", "done", "fault", "exited", "traced", "value"];
 
 #[derive(Default)]
 pub struct Coverage {

@@ -230,7 +230,13 @@ impl<'a> Play<'a> {
         if self.machine.step(process as u32) == Err(10) {
             self.refused_by_limit += 1;
         }
-        self.write(format!("step,{process}"));
+        let verb = self.stepping();
+        self.write(format!("{verb},{process}"));
+    }
+
+    /// A step is traced as often as not.
+    fn stepping(&mut self) -> &'static str {
+        self.random.pick(&["step", "trace"])
     }
 
     fn read(&mut self) {
@@ -268,7 +274,7 @@ impl<'a> Play<'a> {
             0 => format!("call,{far_process},{far_program},1,2,3,4"),
             1 => format!("call,{process},{far_program},1,2,3,4"),
             2 => format!("wish,{far_process}"),
-            3 | 4 => format!("step,{far_process}"),
+            3 | 4 => format!("{},{far_process}", self.stepping()),
             5 | 6 => format!("look,{far_variable}"),
             _ => return self.misplaced(process),
         };
@@ -280,7 +286,7 @@ impl<'a> Play<'a> {
         if self.machine.under_way(process) {
             return self.call(process);
         }
-        let verb = self.random.pick(&["step", "wish"]);
+        let verb = self.random.pick(&["step", "trace", "wish"]);
         self.write(format!("{verb},{process}"));
     }
 
@@ -342,11 +348,13 @@ impl<'a> Play<'a> {
     /// Past the limit rows 5 and 8 still come before 10, and calls and exit requests are still taken.
     fn after_limit(&mut self) {
         for process in 0..=self.processes() {
-            self.write(format!("step,{process}"));
+            let verb = self.stepping();
+            self.write(format!("{verb},{process}"));
             self.write(format!("wish,{process}"));
             if self.random.chance(50) {
                 self.write(format!("call,{process},0,1,2,3,4"));
-                self.write(format!("step,{process}"));
+                let verb = self.stepping();
+                self.write(format!("{verb},{process}"));
             }
         }
     }
@@ -417,9 +425,9 @@ const ODD_ENDS: [&str; 10] = ["\n", "x", "0", "\r\n", "var,1\n", "ins,12,0,0,0\n
 
 /// A wrong verb, a wrong count of fields.
 #[rustfmt::skip]
-const ODD_LINES: [&str; 12] = [
+const ODD_LINES: [&str; 16] = [
     "\n", "stop,0\n", "Step,0\n", "steps,0\n", "step\n", "step,\n", "step,0,0\n", "call,0,0,1,2,3\n", "call,0,0,1,2,3,4,5\n",
-    ",step,0\n", "look 0\n", "card,1,1,1,1\n",
+    ",step,0\n", "look 0\n", "card,1,1,1,1\n", "trace\n", "trace,0,0\n", "traces,0\n", "tracE,0\n",
 ];
 
 fn split_lines(text: &[u8]) -> Vec<Vec<u8>> {

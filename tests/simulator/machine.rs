@@ -394,6 +394,8 @@ struct Operation {
     announcement: Announcement,
     nominee: usize,
     helping: Helping,
+    /// Order 1: the gate number last read in this operation, 0 if none yet.
+    number: u64,
 }
 
 /// What an accepted step answers.
@@ -404,12 +406,25 @@ pub enum Answer {
     Exited { own_steps: u64 },
 }
 
-/// An accepted step: its answer, its access, how that came out, the own steps of the operation and whether an exit request was taken for it.
+/// A shared cell: the gate, the announcement of a process, the record of a variable.
+#[derive(Clone, Copy, Debug, PartialEq, Eq)]
+pub enum Cell {
+    Gate,
+    Announcement(usize),
+    Record(usize),
+}
+
+/// An accepted step: its answer, its access, how that came out, the own steps of the operation and whether an exit request was taken for it; and
+/// what order 1 tells besides: the cell touched, the gate number last read in the operation, and the set of noted variables with how many there are.
 #[derive(Clone, Copy, Debug, PartialEq, Eq)]
 pub struct Stepped {
     pub answer: Answer,
     pub label: Label,
     pub outcome: &'static str,
+    pub cell: Cell,
+    pub number: u64,
+    pub noted: u64,
+    pub count: usize,
     pub own_steps: u64,
     pub exit_request: bool,
 }
@@ -438,7 +453,37 @@ impl Operation {
             announcement: cells.announcements[process],
             nominee: process,
             helping: Helping::default(),
+            number: 0,
         }
+    }
+
+    /// Order 1: the cell that an access touches.
+    fn cell(&self, label: Label) -> Cell {
+        match label {
+            Label::P1 | Label::P10 | Label::P13 | Label::P14 | Label::P21 | Label::F1 | Label::F3 => Cell::Gate,
+            Label::P3 | Label::P6 | Label::P7 | Label::C4 | Label::P22 => Cell::Announcement(self.process),
+            Label::C2 => Cell::Announcement(self.nominee),
+            Label::P16 | Label::P19 | Label::P20 => Cell::Announcement(self.holder()),
+            Label::H21 => Cell::Record(self.helping.touching),
+            Label::H36 => Cell::Record(self.helping.dictionary[self.helping.considered].variable),
+        }
+    }
+
+    /// Order 1: the variables noted so far, as a set and by their number; none except from H21 to P20.
+    fn noted(&self, label: Label) -> (u64, usize) {
+        match label {
+            Label::H21 | Label::H36 | Label::P19 | Label::P20 => {
+                let book = &self.helping.dictionary;
+                (book.iter().fold(0, |set, noted| set | 1 << noted.variable), book.len())
+            }
+            _ => (0, 0),
+        }
+    }
+
+    /// Reads the gate with its number.
+    fn read_gate(&mut self, cells: &Cells) {
+        self.gate = cells.gate;
+        self.number = cells.gate.seq;
     }
 
     /// 'One step': the access that the next step makes.
@@ -478,7 +523,7 @@ impl Operation {
 
     /// P1, P2.
     fn p1(&mut self, cells: &Cells) -> (Place, &'static str) {
-        self.gate = cells.gate;
+        self.read_gate(cells);
         self.announcement = Announcement {
             program: self.program,
             seq: self.gate.seq,
@@ -514,7 +559,7 @@ impl Operation {
 
     /// P10, P11, C1, P15.
     fn p10(&mut self, cells: &Cells) -> (Place, &'static str) {
-        self.gate = cells.gate;
+        self.read_gate(cells);
         match self.gate.holder {
             None => {
                 self.nominee = (self.gate.seq % cells.announcements.len() as u64) as usize;
@@ -550,7 +595,7 @@ impl Operation {
 
     /// P14, P15.
     fn p14(&mut self, cells: &Cells) -> (Place, &'static str) {
-        self.gate = cells.gate;
+        self.read_gate(cells);
         match self.gate.holder {
             None => (Place::At(Label::P22), "free"),
             Some(_) => (Place::At(Label::P16), "held"),
@@ -631,7 +676,7 @@ impl Operation {
 
     /// F1, F2; without F3 the operation returns here.
     fn f1(&mut self, cells: &Cells) -> (Place, &'static str) {
-        self.gate = cells.gate;
+        self.read_gate(cells);
         if self.gate.holder == Some(self.process) {
             (Place::At(Label::F3), "own")
         } else {
@@ -718,12 +763,14 @@ impl Machine {
         self.steps += 1;
         operation.own_steps += 1;
         let label = operation.next_access();
+        let cell = operation.cell(label);
         let outcome = operation.access(label, &mut self.cells, &self.card);
         let (answer, own_steps, exit_request) = (operation.answer(), operation.own_steps, operation.exit_request);
+        let (number, (noted, count)) = (operation.number, operation.noted(label));
         if answer != Answer::Run {
             self.operations[process] = None;
         }
-        Ok(Stepped { answer, label, outcome, own_steps, exit_request })
+        Ok(Stepped { answer, label, outcome, own_steps, exit_request, cell, number, noted, count })
     }
 
     /// Read ('Look'): row 9. The old value stays in sight until the holder's operation is finished.

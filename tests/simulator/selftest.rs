@@ -37,6 +37,7 @@ pub fn selftest() -> bool {
     let mut checks = Checks::default();
     card_k(&mut checks);
     card_k_cells(&mut checks);
+    traced(&mut checks);
     two_processes(&mut checks);
     program_pieces(&mut checks);
     card_refusals(&mut checks);
@@ -84,6 +85,39 @@ fn card_k(checks: &mut Checks) {
     checks.session("K with limit 13", &card_of(1, 13, 7, EXCHANGE), &limited, &printed);
 }
 
+/// Order 1: card K traced, and with an exit request ('by C4, C6 and P20'); a traced step is refused as a step is.
+fn traced(checks: &mut Checks) {
+    let k = card_of(1, 100, 7, EXCHANGE);
+    let lines = |fields: &[&str]| fields.iter().map(|line| format!("trace,0,{line}\n")).collect::<String>();
+    let to_p13 = ["P1,G,-,1,0,0,run", "P3,A0,-,1,0,0,run", "P10,G,-,1,0,0,run", "C2,A0,-,1,0,0,run"];
+    let to_h36 =
+        ["P13,G,1,1,0,0,run", "P14,G,-,1,0,0,run", "P16,A0,-,1,0,0,run", "H21,R0,-,1,1,1,run", "H36,R0,1,1,1,1,run"];
+    let end = ["P21,G,1,1,0,0,run", "P22,A0,-,1,0,0,run"];
+    let commands = format!("trace,0\ncall,0,0,9,0,0,0\n{}trace,1\n", "trace,0\n".repeat(14));
+    let won = ["P19,A0,1,1,1,1,run", "P20,A0,0,1,1,1,run"];
+    let printed = format!(
+        "trace,0,refused,8\ncall,0,taken\n{}{}{}{}trace,0,F1,G,-,2,0,0,done,1,7,0,0,0,14\ntrace,1,refused,5\n",
+        lines(&to_p13),
+        lines(&to_h36),
+        lines(&won),
+        lines(&end)
+    );
+    checks.session("K traced", &k, &commands, &printed);
+    let commands = format!("call,0,0,9,0,0,0\nwish,0\n{}", "trace,0\n".repeat(17));
+    let wish = ["P6,A0,1,1,0,0,run", "P7,A0,-,1,0,0,run"];
+    let lost = ["P19,A0,0,1,1,1,run", "P20,A0,1,1,1,1,run"];
+    let printed = format!(
+        "call,0,taken\nwish,0,taken\n{}{}{}trace,0,C4,A0,-,1,0,0,run\n{}{}{}trace,0,F1,G,-,2,0,0,done,1,7,0,0,0,17\n",
+        lines(&to_p13[..2]),
+        lines(&wish),
+        lines(&to_p13[2..]),
+        lines(&to_h36),
+        lines(&lost),
+        lines(&end)
+    );
+    checks.session("K traced with an exit request", &k, &commands, &printed);
+}
+
 /// The pieces about K's record.
 fn card_k_cells(checks: &mut Checks) {
     let after = |input: u32, count: usize| {
@@ -125,7 +159,13 @@ fn program_pieces(checks: &mut Checks) {
         let printed = format!("call,0,taken\n{}step,0,{answer},{own_steps}\n", runs(0, own_steps - 1));
         checks.session(name, &card, &commands, &printed);
     };
-    alone("4,294,967,295 plus 1", &[0], &["2,0,4294967295,0", "2,1,1,0", "7,0,1,0", "11,0,0,0"], "4294967295,0,0,0", 12);
+    alone(
+        "4,294,967,295 plus 1",
+        &[0],
+        &["2,0,4294967295,0", "2,1,1,0", "7,0,1,0", "11,0,0,0"],
+        "4294967295,0,0,0",
+        12,
+    );
     alone("0 minus 1", &[0], &["2,1,1,0", "8,0,1,0", "11,0,0,0"], "0,0,0,0", 12);
     let many: Vec<u32> = (0..64).map(|variable| 100 + variable).collect();
     alone("code 5 with 63 of 64", &many, &["2,0,63,0", "5,1,0,0", "11,0,1,0"], "163,0,0,0", 13);
@@ -362,7 +402,7 @@ fn enter(machine: &mut Machine, line: &Line, latest: &mut [(usize, [u32; 4])]) -
             None
         }
         Command::RequestExit { process } => machine.request_exit(process).ok().and(None),
-        Command::Step { process } => match machine.step(process).ok()?.answer {
+        Command::Step { process } | Command::Trace { process } => match machine.step(process).ok()?.answer {
             Answer::Done { number, outputs, fault, .. } => Some((process as usize, (number, outputs, fault))),
             _ => None,
         },

@@ -1,7 +1,7 @@
 //! What the bench program prints (document 01, 'The bench program').
 
 use crate::coverage::Coverage;
-use crate::machine::{fields, lines, open, Answer, Line, Machine, WORD_END};
+use crate::machine::{fields, lines, open, Answer, Cell, Line, Machine, Stepped, WORD_END};
 
 /// At most this many bytes of commands.
 pub const CALLS_LIMIT: usize = 65_536;
@@ -12,6 +12,7 @@ pub enum Command {
     Call { process: u32, program: u32, inputs: [u32; 4] },
     RequestExit { process: u32 },
     Step { process: u32 },
+    Trace { process: u32 },
     Read { variable: u32 },
 }
 
@@ -68,6 +69,9 @@ pub fn parse(line: &Line) -> Option<Command> {
     if let Some(w) = words("step", 1) {
         return Some(Command::Step { process: w[0] });
     }
+    if let Some(w) = words("trace", 1) {
+        return Some(Command::Trace { process: w[0] });
+    }
     words("look", 1).map(|w| Command::Read { variable: w[0] })
 }
 
@@ -80,7 +84,12 @@ fn answer(machine: &mut Machine, command: Command, coverage: &mut Coverage) -> S
         Command::RequestExit { process } => {
             ("wish", process, machine.request_exit(process).map(|()| coverage.answered("requested", "taken")))
         }
-        Command::Step { process } => ("step", process, step(machine, process, coverage)),
+        Command::Step { process } => {
+            ("step", process, machine.step(process).map(|stepped| step_fields(machine, &stepped, coverage)))
+        }
+        Command::Trace { process } => {
+            ("trace", process, machine.step(process).map(|stepped| trace_fields(machine, &stepped, coverage)))
+        }
         Command::Read { variable } => {
             let value = machine.read(variable);
             ("look", variable, value.map(|value| coverage.answered("value", value)))
@@ -95,15 +104,32 @@ fn answer(machine: &mut Machine, command: Command, coverage: &mut Coverage) -> S
     }
 }
 
-fn step(machine: &mut Machine, process: u32, coverage: &mut Coverage) -> Result<String, u8> {
-    let stepped = machine.step(process)?;
-    coverage.stepped(&stepped, machine.card.longest_wait());
-    Ok(match stepped.answer {
+/// The answer's fields of an accepted step.
+fn step_fields(machine: &Machine, stepped: &Stepped, coverage: &mut Coverage) -> String {
+    coverage.stepped(stepped, machine.card.longest_wait());
+    match stepped.answer {
         Answer::Run => coverage.answered("run", "run"),
         Answer::Done { number, outputs: [o0, o1, o2, o3], fault, own_steps } => {
             let word = if fault { "fault" } else { "done" };
             coverage.answered(word, format!("{word},{number},{o0},{o1},{o2},{o3},{own_steps}"))
         }
         Answer::Exited { own_steps } => coverage.answered("exited", format!("exited,{own_steps}")),
-    })
+    }
+}
+
+/// Order 1: the label, the cell, the swap, the gate number, the set of noted variables and their number, then the answer's fields.
+fn trace_fields(machine: &Machine, stepped: &Stepped, coverage: &mut Coverage) -> String {
+    let Stepped { label, number, noted, count, .. } = *stepped;
+    let cell = match stepped.cell {
+        Cell::Gate => "G".to_string(),
+        Cell::Announcement(process) => format!("A{process}"),
+        Cell::Record(variable) => format!("R{variable}"),
+    };
+    let swap = match stepped.outcome {
+        "won" => '1',
+        "lost" => '0',
+        _ => '-',
+    };
+    let answer = step_fields(machine, stepped, coverage);
+    coverage.answered("traced", format!("{label:?},{cell},{swap},{number},{noted},{count},{answer}"))
 }

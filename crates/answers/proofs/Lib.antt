@@ -1,2 +1,3 @@
 -- Laws of the texts that the functions put
 pub mod Texts
+pub mod ReportTexts

@@ -1,6 +1,8 @@
 // Answers by their fields, as document 01 gives them (construction, specs/Answers): the number of a refusal, and the fields of an answer put
 // into a buffer as the crate grammar does, each after a comma: bytes that do not fit fall away, and the place told is past the text all the
 // same. It rests on the crates grammar (words and decimals) and construction, which declares the types and defines the fields.
+pub mod reports; // reports.rt: what is printed of a report
+
 use construction::Answer;
 use construction::Refusal;
 use construction::RowSwap;

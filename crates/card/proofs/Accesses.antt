@@ -43,8 +43,8 @@ use Rattle.card.proofs.Requests.{steppedAt}
 
 -- a card with other arrays of what the processes keep
 abbrev withArrays :
-    Card → List Task → List Operation → List Bool → List ℕ → List Gate → List Announcement → List Simulation → List Dictionary → Card
-withArrays c tasks operations exits counts gates copies simulations dictionaries =
+    Card → List Task → List Operation → List Bool → List ℕ → List Gate → List Announcement → List Simulation → List Dictionary → List ℕ → Card
+withArrays c tasks operations exits counts gates copies simulations dictionaries masks =
     record {
       processes = c .processes;
       variables = c .variables;
@@ -64,6 +64,7 @@ withArrays c tasks operations exits counts gates copies simulations dictionaries
       copies = copies;
       simulations = simulations;
       dictionaries = dictionaries;
+      masks = masks;
     }
 
 -- a call and an exit request leave the rest of a process as it was
@@ -71,7 +72,7 @@ module _ (c : Card) (i : ℕ) where
   pub called :
       (k : ℕ) (inputs : Words) → i < 8 →
       withArrays c (set (c .tasks) (i % 8) (record { place = P1; target = 0 })) (set (c .operations) (i % 8) (record { program = k; inputs = inputs }))
-      (set (c .exits) (i % 8) false) (set (c .counts) (i % 8) 0) (c .gates) (c .copies) (c .simulations) (c .dictionaries)
+      (set (c .exits) (i % 8) false) (set (c .counts) (i % 8) 0) (c .gates) (c .copies) (c .simulations) (c .dictionaries) (c .masks)
       ≡ withLocal c i (invoked (localAt c i) k inputs)
   called k inputs p =
       rw (
@@ -80,11 +81,12 @@ module _ (c : Card) (i : ℕ) where
         set-getD (c .copies) i openAnnouncement,
         set-getD (c .simulations) i started,
         set-getD (c .dictionaries) i empty,
+        set-getD (c .masks) i 0,
       )
 
   pub asked :
       i < 8 →
-      withArrays c (c .tasks) (c .operations) (set (c .exits) (i % 8) true) (c .counts) (c .gates) (c .copies) (c .simulations) (c .dictionaries)
+      withArrays c (c .tasks) (c .operations) (set (c .exits) (i % 8) true) (c .counts) (c .gates) (c .copies) (c .simulations) (c .dictionaries) (c .masks)
       ≡ withLocal c i (exiting (localAt c i))
   asked p =
       rw (
@@ -96,6 +98,7 @@ module _ (c : Card) (i : ℕ) where
         set-getD (c .copies) i openAnnouncement,
         set-getD (c .simulations) i started,
         set-getD (c .dictionaries) i empty,
+        set-getD (c .masks) i 0,
       )
 
 -- a step of process i that is accepted: n is the count of steps after it, m that of the process's own, and a is its access
@@ -112,12 +115,12 @@ module _ {c : Card} {i n m : ℕ} {a : Access} (h : Accepted c i n m a) where
 
   -- the cells and the process after an access, and the answer
   stepped :
-      (g : Gate) (announcements : List Announcement) (records : List Record) (task : Task) (gate : Gate) (b : Announcement) (s : Simulation) (d : Dictionary) →
-      perform (accessIn l) c i .card ≡ withLocal (withCells c g announcements records) i (after l task gate b s d) →
+      (g : Gate) (announcements : List Announcement) (records : List Record) (task : Task) (gate : Gate) (b : Announcement) (s : Simulation) (d : Dictionary) (mask : ℕ) →
+      perform (accessIn l) c i .card ≡ withLocal (withCells c g announcements records) i (after l task gate b s d mask) →
       (t : Answer) → t ≡ stepAnswer (task .place) b m →
-      record { card = withSteps (withLocal (withCells c g announcements records) i (after l task gate b s d)) n; answer = t } ≡ steppedAt c i
+      record { card = withSteps (withLocal (withCells c g announcements records) i (after l task gate b s d mask)) n; answer = t } ≡ steppedAt c i
   unfolding advance
-  stepped g announcements records task gate b s d performed t answered =
+  stepped g announcements records task gate b s d mask performed t answered =
       rw (
         performed,
         ← h .own,
@@ -134,17 +137,17 @@ module _ {c : Card} {i n m : ℕ} {a : Access} (h : Accepted c i n m a) where
 
   module _ (t : Answer) where
     -- what code leaves: other cells, both counts, and the arrays that the access alters
-    abbrev left : Card → List Task → List Gate → List Announcement → List Simulation → List Dictionary → Type 0
-    left d tasks gates copies simulations dictionaries =
+    abbrev left : Card → List Task → List Gate → List Announcement → List Simulation → List Dictionary → List ℕ → Type 0
+    left d tasks gates copies simulations dictionaries masks =
         record {
-          card = withSteps (withArrays d tasks (c .operations) (c .exits) (set (c .counts) i m) gates copies simulations dictionaries) n;
+          card = withSteps (withArrays d tasks (c .operations) (c .exits) (set (c .counts) i m) gates copies simulations dictionaries masks) n;
           answer = t;
         }
         ≡ steppedAt c i
 
     pub at-none :
         a ≡ Access.None → t ≡ stepAnswer (localAt c i .task .place) (localAt c i .announcement) m →
-        left c (c .tasks) (c .gates) (c .copies) (c .simulations) (c .dictionaries)
+        left c (c .tasks) (c .gates) (c .copies) (c .simulations) (c .dictionaries) (c .masks)
     unfolding perform
     at-none e told =
         rw (
@@ -156,14 +159,15 @@ module _ {c : Card} {i n m : ℕ} {a : Access} (h : Accepted c i n m a) where
           set-getD (c .copies) i openAnnouncement,
           set-getD (c .simulations) i started,
           set-getD (c .dictionaries) i empty,
+          set-getD (c .masks) i 0,
         ) at
-        (stepped (c .gate) (c .announcements) (c .records) (localAt c i .task) (localAt c i .gate) (localAt c i .announcement) (localAt c i .simulation) (localAt c i .dictionary)
+        (stepped (c .gate) (c .announcements) (c .records) (localAt c i .task) (localAt c i .gate) (localAt c i .announcement) (localAt c i .simulation) (localAt c i .dictionary) (localAt c i .mask)
         (rw (← h .chosen, e)) t told)
 
     pub at-gate :
         (b : GateAccess) → a ≡ Access.Gate b → (r : GateAccessed) → r ≡ accessGate b i (c .gate) (localAt c i .gate) (localAt c i .task) →
         t ≡ stepAnswer (r .task .place) (localAt c i .announcement) m →
-        left (withGate c (r .cell)) (set (c .tasks) i (r .task)) (set (c .gates) i (r .read)) (c .copies) (c .simulations) (c .dictionaries)
+        left (withGate c (r .cell)) (set (c .tasks) i (r .task)) (set (c .gates) i (r .read)) (c .copies) (c .simulations) (c .dictionaries) (c .masks)
     unfolding perform
     at-gate b e r er told =
         rw (
@@ -173,8 +177,9 @@ module _ {c : Card} {i n m : ℕ} {a : Access} (h : Accepted c i n m a) where
           set-getD (c .copies) i openAnnouncement,
           set-getD (c .simulations) i started,
           set-getD (c .dictionaries) i empty,
+          set-getD (c .masks) i 0,
         ) at
-        (stepped (r .cell) (c .announcements) (c .records) (r .task) (r .read) (localAt c i .announcement) (localAt c i .simulation) (localAt c i .dictionary)
+        (stepped (r .cell) (c .announcements) (c .records) (r .task) (r .read) (localAt c i .announcement) (localAt c i .simulation) (localAt c i .dictionary) (localAt c i .mask)
         (rw (← h .chosen, e, ← er)) t told)
 
     pub at-announcement :
@@ -182,7 +187,7 @@ module _ {c : Card} {i n m : ℕ} {a : Access} (h : Accepted c i n m a) where
         (cell : Announcement) → cell ≡ cond (ltb k 8) (getD (c .announcements) (k % 8) openAnnouncement) openAnnouncement →
         (r : AnnouncementAccessed) → r ≡ accessAnnouncement b k cell (localAt c i .operation) (localAt c i .gate) (localAt c i .announcement) (localAt c i .simulation .yields) (localAt c i .task) →
         t ≡ stepAnswer (r .task .place) (r .read) m → (row : List Announcement) → row ≡ set (c .announcements) k (r .cell) →
-        left (withCells c (c .gate) row (c .records)) (set (c .tasks) i (r .task)) (c .gates) (set (c .copies) i (r .read)) (c .simulations) (c .dictionaries)
+        left (withCells c (c .gate) row (c .records)) (set (c .tasks) i (r .task)) (c .gates) (set (c .copies) i (r .read)) (c .simulations) (c .dictionaries) (c .masks)
     unfolding perform
     at-announcement b e k ek cell ec r er told row stored =
         rw (
@@ -193,8 +198,9 @@ module _ {c : Card} {i n m : ℕ} {a : Access} (h : Accepted c i n m a) where
           set-getD (c .gates) i noGate,
           set-getD (c .simulations) i started,
           set-getD (c .dictionaries) i empty,
+          set-getD (c .masks) i 0,
         ) at
-        (stepped (c .gate) (set (c .announcements) k (r .cell)) (c .records) (r .task) (localAt c i .gate) (r .read) (localAt c i .simulation) (localAt c i .dictionary)
+        (stepped (c .gate) (set (c .announcements) k (r .cell)) (c .records) (r .task) (localAt c i .gate) (r .read) (localAt c i .simulation) (localAt c i .dictionary) (localAt c i .mask)
         (rw (← h .chosen, e, ← ek, ← found (c .announcements) 8 (h .rooms .announcements) k openAnnouncement openAnnouncement cell ec, ← er)) t told)
 
     pub at-help :
@@ -203,28 +209,30 @@ module _ {c : Card} {i n m : ℕ} {a : Access} (h : Accepted c i n m a) where
         (program : Program) → program ≡ cond (ltb (cell .program) 8) (getD (c .code) (cell .program % 8) (record { length = 0; lines = [] })) noProgram →
         (r : Began) → r ≡ beginHelp (c .variables) program cell (localAt c i .gate .seq) (localAt c i .task) (localAt c i .simulation) →
         t ≡ stepAnswer (r .task .place) cell m → (ds : List Dictionary) → ds ≡ set (c .dictionaries) i (cond (r .helps) empty (localAt c i .dictionary)) →
-        left c (set (c .tasks) i (r .task)) (c .gates) (set (c .copies) i cell) (set (c .simulations) i (r .simulation)) ds
+        (masks : List ℕ) → masks ≡ set (c .masks) i (cond (r .helps) 0 (localAt c i .mask)) →
+        left c (set (c .tasks) i (r .task)) (c .gates) (set (c .copies) i cell) (set (c .simulations) i (r .simulation)) ds masks
     unfolding perform
-    at-help e k ek cell ec program ep r er told ds stored =
+    at-help e k ek cell ec program ep r er told ds stored masks marked =
         let announced = found (c .announcements) 8 (h .rooms .announcements) k openAnnouncement openAnnouncement cell ec in
         let helped = found (c .code) 8 (h .rooms .code) (cell .program) (record { length = 0; lines = [] }) noProgram program ep in
         rw (
           ← stored,
+          ← marked,
           ← h .own,
           set-getD (c .operations) i noOperation,
           set-getD (c .exits) i false,
           set-getD (c .gates) i noGate,
         ) at
-        (stepped (c .gate) (c .announcements) (c .records) (r .task) (localAt c i .gate) cell (r .simulation) (cond (r .helps) empty (localAt c i .dictionary))
+        (stepped (c .gate) (c .announcements) (c .records) (r .task) (localAt c i .gate) cell (r .simulation) (cond (r .helps) empty (localAt c i .dictionary)) (cond (r .helps) 0 (localAt c i .mask))
         (rw (← h .chosen, e, ← ek, ← announced, ← helped, ← er, announced, set-getD (c .announcements) k openAnnouncement)) t told)
 
     pub at-note :
         a ≡ Access.Note →
         (cell : Record) → cell ≡ cond (ltb (localAt c i .task .target) 64) (getD (c .records) (localAt c i .task .target % 64) (openRecord 0)) (openRecord 0) →
         (program : Program) → program ≡ cond (ltb (localAt c i .announcement .program) 8) (getD (c .code) (localAt c i .announcement .program % 8) (record { length = 0; lines = [] })) noProgram →
-        (r : Helped) → r ≡ note (c .variables) program (localAt c i .announcement .words) cell (localAt c i .gate .seq) (localAt c i .task) (localAt c i .simulation) (getD (c .dictionaries) i (record { length = 0; items = [] })) →
+        (r : Helped) → r ≡ note (c .variables) program (localAt c i .announcement .words) cell (localAt c i .gate .seq) (localAt c i .task) (localAt c i .simulation) (getD (c .dictionaries) i (record { length = 0; items = [] })) (localAt c i .mask) →
         t ≡ stepAnswer (r .task .place) (localAt c i .announcement) m →
-        left c (set (c .tasks) i (r .task)) (c .gates) (c .copies) (set (c .simulations) i (r .simulation)) (set (c .dictionaries) i (r .dictionary))
+        left c (set (c .tasks) i (r .task)) (c .gates) (c .copies) (set (c .simulations) i (r .simulation)) (set (c .dictionaries) i (r .dictionary)) (set (c .masks) i (r .mask))
     unfolding perform
     at-note e cell ec program ep r er told =
         let v = localAt c i .task .target in
@@ -238,7 +246,7 @@ module _ {c : Card} {i n m : ℕ} {a : Access} (h : Accepted c i n m a) where
           set-getD (c .gates) i noGate,
           set-getD (c .copies) i openAnnouncement,
         ) at
-        (stepped (c .gate) (c .announcements) (c .records) (r .task) (localAt c i .gate) (localAt c i .announcement) (r .simulation) (r .dictionary)
+        (stepped (c .gate) (c .announcements) (c .records) (r .task) (localAt c i .gate) (localAt c i .announcement) (r .simulation) (r .dictionary) (r .mask)
         (rw (← h .chosen, e, ← read, ← helped, ← noted, read, set-getD (c .records) v (openRecord 0))) t told)
 
     pub at-write :
@@ -247,7 +255,7 @@ module _ {c : Card} {i n m : ℕ} {a : Access} (h : Accepted c i n m a) where
         (cell : Record) → cell ≡ cond (ltb (w .item .variable) 64) (getD (c .records) (w .item .variable % 64) (openRecord 0)) (openRecord 0) →
         (r : SwappedRecord) → r ≡ write cell (w .item) (localAt c i .gate .seq) →
         t ≡ stepAnswer (w .task .place) (localAt c i .announcement) m → (row : List Record) → row ≡ set (c .records) (w .item .variable) (r .cell) →
-        left (withCells c (c .gate) (c .announcements) row) (set (c .tasks) i (w .task)) (c .gates) (c .copies) (c .simulations) (c .dictionaries)
+        left (withCells c (c .gate) (c .announcements) row) (set (c .tasks) i (w .task)) (c .gates) (c .copies) (c .simulations) (c .dictionaries) (c .masks)
     unfolding perform
     at-write e w ew cell ec r er told row stored =
         let read = found (c .records) 64 (h .rooms .records) (w .item .variable) (openRecord 0) (openRecord 0) cell ec in
@@ -261,6 +269,7 @@ module _ {c : Card} {i n m : ℕ} {a : Access} (h : Accepted c i n m a) where
           set-getD (c .copies) i openAnnouncement,
           set-getD (c .simulations) i started,
           set-getD (c .dictionaries) i empty,
+          set-getD (c .masks) i 0,
         ) at
-        (stepped (c .gate) (c .announcements) (set (c .records) (w .item .variable) (r .cell)) (w .task) (localAt c i .gate) (localAt c i .announcement) (localAt c i .simulation) (localAt c i .dictionary)
+        (stepped (c .gate) (c .announcements) (set (c .records) (w .item .variable) (r .cell)) (w .task) (localAt c i .gate) (localAt c i .announcement) (localAt c i .simulation) (localAt c i .dictionary) (localAt c i .mask)
         (rw (← h .chosen, e, writtenVariable, ← written, ← read, ← er)) t told)

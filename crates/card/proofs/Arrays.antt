@@ -24,6 +24,8 @@ pub record Rooms (c : Card) : Type 0 where
   pub counts : length (c .counts) ≡ 8
   pub copies : length (c .copies) ≡ 8
   pub dictionaries : length (c .dictionaries) ≡ 8
+  pub gates : length (c .gates) ≡ 8
+  pub masks : length (c .masks) ≡ 8
 
 pub rooms : (c : Card) (vs : List Val) → Is (row the-type) c vs → Rooms c
 rooms c vs p =
@@ -35,6 +37,8 @@ rooms c vs p =
     let counts = tasks .1 .1 .1 in
     let copies = counts .1 .1 in
     let dictionaries = copies .1 .1 in
+    let gates = counts .1 in
+    let masks = dictionaries .1 in
     record {
       code = simp length-map at (code .0 .1 .0 .1);
       announcements = simp length-map at (announcements .0 .1 .0 .1);
@@ -43,6 +47,8 @@ rooms c vs p =
       counts = simp length-map at (counts .0 .1 .0 .1);
       copies = simp length-map at (copies .0 .1 .0 .1);
       dictionaries = simp length-map at (dictionaries .0 .1 .0 .1);
+      gates = simp length-map at (gates .0 .1 .0 .1);
+      masks = simp length-map at (masks .0 .1 .0 .1);
     }
 
 module _ {A : Type 0} (l : List A) (n : ℕ) (full : length l ≡ n) (m : ℕ) where

@@ -2,3 +2,4 @@
 pub mod Arrays
 pub mod Requests
 pub mod Accesses
+pub mod Tracing

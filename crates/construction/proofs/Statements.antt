@@ -2,6 +2,7 @@
 pub mod OneAccess
 pub mod AnswerFields
 pub mod Refusals
+pub mod Tracing
 pub mod ExitRequests
 pub mod TextKept
 pub mod Linearizability
@@ -12,5 +13,7 @@ pub mod Faults
 pub mod Waits
 pub mod Sums
 pub mod Counters
+pub mod NotedSets
+pub mod Paths
 pub mod Examples
 pub mod LinearizabilityExample

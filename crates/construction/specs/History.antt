@@ -16,19 +16,28 @@ use Rattle.construction.specs.Cells.{zeros, isDone}
 use Rattle.construction.specs.Sequential.{Ending, sequential}
 use Rattle.construction.specs.Parts.{contentsOf, programOf}
 use Rattle.construction.specs.Requests.{call, requestExit, step, read}
+use Rattle.construction.specs.Tracing.{trace, untold}
 
--- 'Its entries are call, wish, step and look with any numbers, taken or refused'
+-- 'Its entries are call, wish, step and look with any numbers, taken or refused, and every call altering the card that an order adds': a step
+-- that is traced (document 02, order 1)
 pub data Entry : Type 0 where
   Call : (process program : ℕ) → Words → Entry
   Exit : (process : ℕ) → Entry
   Step : (process : ℕ) → Entry
+  Trace : (process : ℕ) → Entry
   Read : (variable : ℕ) → Entry
 
 abbrev pub act : Card → Entry → Answered
 act c (Entry.Call i k inputs) = call c i k inputs
 act c (Entry.Exit i) = requestExit c i
 act c (Entry.Step i) = step c i
+act c (Entry.Trace i) = untold (trace c i)
 act c (Entry.Read v) = read c v
+
+-- an entry that steps process i
+pub data Steps : Entry → ℕ → Type 0 where
+  by-step : {i : ℕ} → Steps (Entry.Step i) i
+  by-trace : {i : ℕ} → Steps (Entry.Trace i) i
 
 -- 'An operation is a taken call.' Operations are numbered from 0 in the order of their calls.
 pub record Invocation : Type 0 where
@@ -141,6 +150,7 @@ abbrev pub withEntry : History → Entry → Event → History
 withEntry s (Entry.Call i k inputs) e = withInvocation s (record { process = i; program = k; inputs = inputs }) e
 withEntry s (Entry.Exit i) e = s
 withEntry s (Entry.Step i) e = withResponse s i e
+withEntry s (Entry.Trace i) e = withResponse s i e
 withEntry s (Entry.Read v) e = s
 
 -- the card and the notes

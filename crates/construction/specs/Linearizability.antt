@@ -12,7 +12,7 @@ use Rattle.construction.specs.declared.Card.{Card}
 use Rattle.construction.specs.declared.Answer.{Answer}
 use Rattle.construction.specs.Cells.{noYield}
 use Rattle.construction.specs.Requests.{read}
-use Rattle.construction.specs.History.{Entry, act, Finish, Return, Response, History, hasCalled, latest, finishing, Observation, run}
+use Rattle.construction.specs.History.{Entry, act, Steps, Finish, Return, Response, History, hasCalled, latest, finishing, Observation, run}
 
 -- how often an operation stands in the order
 unfoldable pub times : ℕ → List Finish → ℕ
@@ -67,13 +67,13 @@ pub record UnderWay (s : History) (i : ℕ) : Type 0 where
   pub called : hasCalled (s .operations) i ≡ true
   pub unreturned : hasReturned (latest (s .operations) i) (s .returns) ≡ false
 
--- an entry finishes nothing, or is a step and finishes one operation that is under way
+-- an entry finishes nothing, or steps a process and finishes one operation that is under way
 pub record FinishesOne (m : Observation) (e : Entry) : Type 0 where
   pub process : ℕ
   pub only : finishing (m .card) (act (m .card) e .card) ≡ process ∷ []
   pub underWay : UnderWay (m .history) process
   pub stepper : ℕ
-  pub byStep : e ≡ Entry.Step stepper
+  pub byStep : Steps e stepper
 
 abbrev pub FinishesAtMostOne : Observation → Entry → Type 0
 FinishesAtMostOne m e = (finishing (m .card) (act (m .card) e .card) ≡ []) ⊎ FinishesOne m e

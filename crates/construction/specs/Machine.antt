@@ -39,6 +39,7 @@ use Rattle.construction.specs.declared.Contents.{Contents}
 use Rattle.construction.specs.Cells.{isDone, sameHolder, swapGate, swapAnnouncement, swapRecord, released, rewritten}
 use Rattle.construction.specs.Instructions.{started}
 use Rattle.construction.specs.Dictionary.{noItem, empty, noted, itemOf, insert, nextWrite}
+use Rattle.construction.specs.Marks.{withBit}
 use Rattle.construction.specs.Helping.{simulate}
 use Rattle.construction.specs.Parts.{Local, localAt, contentsOf, announcementAt, recordAt, programOf, withGate, withAnnouncement, withRecord, withSteps, withLocal}
 
@@ -192,12 +193,13 @@ afterPause number d Faulted = record { place = P19; target = 0 }
 afterPause number d (Lacks v) = record { place = H21; target = v }
 
 -- a helper goes on as its simulation stands
-abbrev pub helped : ℕ → Simulated → Helped
-helped number x =
+abbrev pub helped : ℕ → Simulated → ℕ → Helped
+helped number x mask =
     record {
       task = afterPause number (x .dictionary) (x .pause);
       simulation = x .simulation;
       dictionary = x .dictionary;
+      mask = mask;
     }
 
 -- line P17: 'not done and seq not above the gate's'
@@ -207,18 +209,18 @@ helps a number = not (isDone (a .flag)) && leb (a .seq) number
 -- lines P16 to P18, H1: the announcement of the gate's holder is read, and its program begins on the empty dictionary
 unfoldable pub beginHelp : ℕ → Program → Announcement → ℕ → Task → Simulation → Began
 beginHelp n program cell number task s =
-    let x = helped number (simulate n program (cell .words) started empty) in
+    let x = helped number (simulate n program (cell .words) started empty) 0 in
     cond (helps cell number)
     (record { helps = true; task = x .task; simulation = x .simulation })
     (record { helps = false; task = goTo task P21; simulation = s })
 
 -- lines H21 to H25: the record of the task's variable is read and noted, and the program with the inputs goes on;
--- 'with greater seq the helper goes to P19 with the outputs so far'
-unfoldable pub note : ℕ → Program → Words → Record → ℕ → Task → Simulation → Dictionary → Helped
-note n program inputs cell number task s d =
+-- 'with greater seq the helper goes to P19 with the outputs so far', and notes nothing (document 02, order 1)
+unfoldable pub note : ℕ → Program → Words → Record → ℕ → Task → Simulation → Dictionary → ℕ → Helped
+note n program inputs cell number task s d mask =
     cond (ltb number (cell .seq))
-    (record { task = goTo task P19; simulation = s; dictionary = d })
-    (helped number (simulate n program inputs s (insert d (itemOf number (task .target) cell))))
+    (record { task = goTo task P19; simulation = s; dictionary = d; mask = mask })
+    (helped number (simulate n program inputs s (insert d (itemOf number (task .target) cell))) (withBit mask (task .target)))
 
 -- line H36, 'in book order, won or lost': the item that is written, and the next write ..
 unfoldable pub writing : ℕ → Task → Dictionary → Writing
@@ -251,10 +253,10 @@ cellOf Access.Help t i l = Cell.Announcement (holderOf (l .gate .holder))
 cellOf Access.Note t i l = Cell.Record (l .task .target)
 cellOf Access.Write t i l = Cell.Record (writtenVariable l)
 
--- a process after an access: it goes on with its task, the gate and the announcement last read, its simulation and its dictionary, and
--- the step is counted as its own, in 64 bits
-abbrev pub after : Local → Task → Gate → Announcement → Simulation → Dictionary → Local
-after l task gate announcement simulation dictionary =
+-- a process after an access: it goes on with its task, the gate and the announcement last read, its simulation, its dictionary and the set of
+-- the variables noted there, and the step is counted as its own, in 64 bits
+abbrev pub after : Local → Task → Gate → Announcement → Simulation → Dictionary → ℕ → Local
+after l task gate announcement simulation dictionary mask =
     record {
       task = task;
       operation = l .operation;
@@ -264,6 +266,7 @@ after l task gate announcement simulation dictionary =
       announcement = announcement;
       simulation = simulation;
       dictionary = dictionary;
+      mask = mask;
     }
 
 -- the cell and the process after an access of the gate, of an announcement, of a record; and the swap
@@ -275,27 +278,27 @@ pub record Accessed (A : Type 0) : Type 0 where
 abbrev pub stepGate : GateAccess → ℕ → Gate → Local → Accessed Gate
 stepGate a i cell l =
     let x = accessGate a i cell (l .gate) (l .task) in
-    record { cell = x .cell; local = after l (x .task) (x .read) (l .announcement) (l .simulation) (l .dictionary); swap = x .swap }
+    record { cell = x .cell; local = after l (x .task) (x .read) (l .announcement) (l .simulation) (l .dictionary) (l .mask); swap = x .swap }
 
 abbrev pub stepAnnouncement : AnnouncementAccess → ℕ → Announcement → Local → Accessed Announcement
 stepAnnouncement a m cell l =
     let x = accessAnnouncement a m cell (l .operation) (l .gate) (l .announcement) (l .simulation .yields) (l .task) in
-    record { cell = x .cell; local = after l (x .task) (l .gate) (x .read) (l .simulation) (l .dictionary); swap = x .swap }
+    record { cell = x .cell; local = after l (x .task) (l .gate) (x .read) (l .simulation) (l .dictionary) (l .mask); swap = x .swap }
 
 abbrev pub stepHelp : Contents → Announcement → Local → Accessed Announcement
 stepHelp t cell l =
     let x = beginHelp (t .variables) (programOf t (cell .program) (l .gate .seq)) cell (l .gate .seq) (l .task) (l .simulation) in
     record {
       cell = cell;
-      local = after l (x .task) (l .gate) cell (x .simulation) (cond (x .helps) empty (l .dictionary));
+      local = after l (x .task) (l .gate) cell (x .simulation) (cond (x .helps) empty (l .dictionary)) (cond (x .helps) 0 (l .mask));
       swap = Swap.None;
     }
 
 abbrev pub stepNote : Contents → Record → Local → Accessed Record
 stepNote t cell l =
     let a = l .announcement in
-    let x = note (t .variables) (programOf t (a .program) (l .gate .seq)) (a .words) cell (l .gate .seq) (l .task) (l .simulation) (l .dictionary) in
-    record { cell = cell; local = after l (x .task) (l .gate) a (x .simulation) (x .dictionary); swap = Swap.None }
+    let x = note (t .variables) (programOf t (a .program) (l .gate .seq)) (a .words) cell (l .gate .seq) (l .task) (l .simulation) (l .dictionary) (l .mask) in
+    record { cell = cell; local = after l (x .task) (l .gate) a (x .simulation) (x .dictionary) (x .mask); swap = Swap.None }
 
 abbrev pub stepWrite : Record → Local → Accessed Record
 stepWrite cell l =
@@ -303,7 +306,7 @@ stepWrite cell l =
     let swapped = write cell (x .item) (l .gate .seq) in
     record {
       cell = swapped .cell;
-      local = after l (x .task) (l .gate) (l .announcement) (l .simulation) (l .dictionary);
+      local = after l (x .task) (l .gate) (l .announcement) (l .simulation) (l .dictionary) (l .mask);
       swap = outcome (swapped .won);
     }
 
@@ -324,7 +327,7 @@ putRecord c i v x = record { card = withLocal (withRecord c v (x .cell)) i (x .l
 unfoldable pub perform : Access → Card → ℕ → Performed
 perform Access.None c i =
     let l = localAt c i in
-    record { card = withLocal c i (after l (l .task) (l .gate) (l .announcement) (l .simulation) (l .dictionary)); swap = Swap.None }
+    record { card = withLocal c i (after l (l .task) (l .gate) (l .announcement) (l .simulation) (l .dictionary) (l .mask)); swap = Swap.None }
 perform (Access.Gate a) c i = putGate c i (stepGate a i (c .gate) (localAt c i))
 perform (Access.Announcement a) c i =
     let m = whose a (c .processes) i (localAt c i .gate) in

@@ -41,6 +41,7 @@ SameLocal i c d =
     × Same (c .copies) (d .copies) i openAnnouncement
     × Same (c .simulations) (d .simulations) i started
     × Same (c .dictionaries) (d .dictionaries) i empty
+    × Same (c .masks) (d .masks) i 0
 
 -- .. were opened with the same text
 abbrev pub SameText : Card → Card → Type 0

@@ -57,6 +57,7 @@ fresh x =
       copies = replicate 8 openAnnouncement;
       simulations = replicate 8 started;
       dictionaries = replicate 8 empty;
+      masks = replicate 8 0;
     }
 
 -- 'A refused text gives its line, counted from 1 (0 for refusal 1)'

@@ -48,7 +48,7 @@ abbrev pub recordAt : Card → ℕ → Record
 recordAt c v = getD (c .records) v (openRecord 0)
 
 -- the own state of a process: its place, what its call asked for, its exit request, its own steps, the gate and the announcement that it
--- last read (g and a of the paper), the program that it simulates and its dictionary
+-- last read (g and a of the paper), the program that it simulates, its dictionary and the set of the variables noted there
 pub record Local : Type 0 where
   pub task : Task
   pub operation : Operation
@@ -58,6 +58,7 @@ pub record Local : Type 0 where
   pub announcement : Announcement
   pub simulation : Simulation
   pub dictionary : Dictionary
+  pub mask : ℕ
 
 abbrev pub localAt : Card → ℕ → Local
 localAt c i =
@@ -70,6 +71,7 @@ localAt c i =
       announcement = getD (c .copies) i openAnnouncement;
       simulation = getD (c .simulations) i started;
       dictionary = getD (c .dictionaries) i empty;
+      mask = getD (c .masks) i 0;
     }
 
 -- the program that an operation with this gate number runs: the same under every number, as no request changes a program (docs/DECISIONS, 12)
@@ -98,6 +100,7 @@ withCells c gate announcements records =
       copies = c .copies;
       simulations = c .simulations;
       dictionaries = c .dictionaries;
+      masks = c .masks;
     }
 
 abbrev pub withGate : Card → Gate → Card
@@ -131,6 +134,7 @@ withLocal c i l =
       copies = set (c .copies) i (l .announcement);
       simulations = set (c .simulations) i (l .simulation);
       dictionaries = set (c .dictionaries) i (l .dictionary);
+      masks = set (c .masks) i (l .mask);
     }
 
 -- .. and with another count of accepted steps
@@ -155,4 +159,5 @@ withSteps c k =
       copies = c .copies;
       simulations = c .simulations;
       dictionaries = c .dictionaries;
+      masks = c .masks;
     }

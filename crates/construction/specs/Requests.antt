@@ -62,6 +62,7 @@ invoked l k inputs =
       announcement = l .announcement;
       simulation = l .simulation;
       dictionary = l .dictionary;
+      mask = l .mask;
     }
 
 -- a process is asked to exit
@@ -76,6 +77,7 @@ exiting l =
       announcement = l .announcement;
       simulation = l .simulation;
       dictionary = l .dictionary;
+      mask = l .mask;
     }
 
 -- call: refusals 5, 6, 7

@@ -263,6 +263,7 @@ pub struct Helped {
     pub task: Task,
     pub simulation: Simulation,
     pub dictionary: Dictionary,
+    pub mask: u64,
 }
 
 // What a helper writes (H36), and its task afterwards.
@@ -305,6 +306,8 @@ pub struct Card {
     // the sheet that it runs in helping, with registers and what it yields; its book of noted records
     pub simulations: [Simulation; 8],
     pub dictionaries: [Dictionary; 8],
+    // the variables that stand in its book, one bit each
+    pub masks: [u64; 8],
 }
 
 // Why something is refused: rows 1 to 11 of document 01's table, 12 and 13 of document 02, order 8.
@@ -344,6 +347,47 @@ pub enum Answer {
 pub struct Answered {
     pub card: Card,
     pub answer: Answer,
+}
+
+// The line of the paper that an access is of: the eighteen accesses of document 01, 'One step'; none where no access is made.
+pub enum Label {
+    None,
+    P1,
+    P3,
+    P6,
+    P7,
+    P10,
+    C2,
+    C4,
+    P13,
+    P14,
+    P16,
+    H21,
+    H36,
+    P19,
+    P20,
+    P21,
+    P22,
+    F1,
+    F3,
+}
+
+// What is told of a step (document 02, order 1): the label of the access made, the cell touched, the swap, the gate number last read in that
+// operation, the variables that its helping has noted so far, bit v for variable v, and how many these are.
+pub struct Report {
+    pub label: Label,
+    pub cell: Cell,
+    pub swap: Swap,
+    pub number: u64,
+    pub noted: u64,
+    pub count: u32,
+}
+
+// The card after a step that is traced, with its answer and its report.
+pub struct Traced {
+    pub card: Card,
+    pub answer: Answer,
+    pub report: Report,
 }
 
 // A gate after a swap, and whether the swap won.

@@ -1,10 +1,13 @@
 -- The dictionary and the simulation by the tests that decide them, over plain values
-use Prim.Native.Nat.{ℕ, zero, suc, _+_, _%_, _<_, _≤_}
+use Prim.Native.Nat.{ℕ, zero, suc, _+_, _*_, _%_, _^_, _<_, _≤_}
 use mathlib.Core.Bool.{true, false, not}
 use mathlib.Core.List.{List, [], _∷_, map}
 use mathlib.Core.Path.{_≡_, refl, sym, _∙_, ap}
 use native.Mathlib.Omega.{arith}
 use native.Mathlib.Numerals.{add-one}
+use native.Mathlib.Nat.{one-mul}
+use lib.Bits.{bitOr}
+use lib.Pow.{shl-exact}
 use lib.Dec.{eqb, ltb}
 use lib.ListN.{length, getD, set, take, drop, length-take, length-set, length-map, drop-of-length-le}
 use lib.Seq.{drop-cons, getD-take, map-set-same, length-take-le, take-set-lt}
@@ -23,6 +26,7 @@ use Rattle.programs.specs.Fetching.{instructionAt}
 use Rattle.programs.proofs.Laws.{fetched}
 use Rattle.construction.specs.Dictionary.{noItem, noted, position, find, valueAt, withValue, assign, valueUnder, insert, altered, unaltered, nextWrite}
 use Rattle.helping.specs.Numbers.{keys, values, placeOf, revalued, withValues, Numbered}
+use Rattle.construction.specs.Marks.{withBit}
 use Rattle.construction.specs.Helping.{ended, faults, lacks, simulateFrom, simulate}
 
 -- a value assigned, and an item inserted
@@ -312,3 +316,12 @@ module _ (n : ℕ) (program : Program) (inputs : Words) (s : Simulation) (d : Di
   pub simulate-end : (fuel : ℕ) (total : Simulated) → total ≡ simulateFrom n program inputs fuel s d → fuel ≤ 0 → ended s d ≡ total
   unfolding simulateFrom
   simulate-end fuel total p h = sym (p ∙ (let z : fuel ≡ 0 = omega arith in rw z))
+
+-- a variable put into the set of the variables noted
+pub bit-more : (mask v : ℕ) → v < 64 → bitOr mask ((1 * 2 ^ v) % 2 ^ 64) ≡ withBit mask v
+unfolding withBit
+bit-more mask v p = rw (lt-ltb v 64 p, shl-exact {a = 1} 1 v 64 (omega arith) (omega arith), one-mul (2 ^ v))
+
+pub bit-past : (mask v : ℕ) → 64 ≤ v → mask ≡ withBit mask v
+unfolding withBit
+bit-past mask v p = rw (le-ltb v 64 p)

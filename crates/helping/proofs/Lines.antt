@@ -23,6 +23,7 @@ use Rattle.construction.specs.declared.Pause.the-variants.{Ended, Faulted, Lack
 use Rattle.construction.specs.declared.Place.the-variants.{P19, P21}
 use Rattle.construction.specs.Instructions.{started}
 use Rattle.construction.specs.Dictionary.{noItem, empty, noted, itemOf, insert, nextWrite, unaltered}
+use Rattle.construction.specs.Marks.{withBit}
 use Rattle.construction.specs.Helping.{simulate}
 use Rattle.construction.specs.Machine.{goTo, writeFrom, afterPause, helps, beginHelp, note, writing}
 use Rattle.helping.specs.declared.simulation.Paused.{Paused}
@@ -58,10 +59,10 @@ goes-on number d Ended next end e f = rw (e, f)
 goes-on number d Faulted next end e f = refl
 goes-on number d (Lacks v) next end e f = refl
 
-module _ (n : ℕ) (program : Program) (inputs : Words) (cell : Record) (number : ℕ) (task : Task) (s : Simulation) (d : Dictionary) where
+module _ (n : ℕ) (program : Program) (inputs : Words) (cell : Record) (number : ℕ) (task : Task) (s : Simulation) (d : Dictionary) (mask : ℕ) where
   pub passed-by :
       number < cell .seq →
-      _≡_ {A = Helped} (record { task = goTo task P19; simulation = s; dictionary = d }) (note n program inputs cell number task s d)
+      _≡_ {A = Helped} (record { task = goTo task P19; simulation = s; dictionary = d; mask = mask }) (note n program inputs cell number task s d mask)
   unfolding note
   passed-by p = rw (lt-ltb _ _ p)
 
@@ -71,10 +72,11 @@ module _ (n : ℕ) (program : Program) (inputs : Words) (cell : Record) (number 
       (after : List ℕ) (r : Paused) → simulate n program inputs s d₀ ≡ standing r (withValues d₀ (take end after)) →
       (d₁ : Dictionary) → d₁ ≡ withValues d₀ (take end after) →
       (next : ℕ) → next ≡ nextWrite number d₁ 0 → (t : Task) → t ≡ pauseTask (r .pause) next end →
-      _≡_ {A = Helped} (record { task = t; simulation = r .simulation; dictionary = d₁ }) (note n program inputs cell number task s d)
+      (more : ℕ) → more ≡ withBit mask (task .target) →
+      _≡_ {A = Helped} (record { task = t; simulation = r .simulation; dictionary = d₁; mask = more }) (note n program inputs cell number task s d mask)
   unfolding note
-  noted-on p e ee d₀ ed {end = end} h after r er d₁ e₁ next en t et =
-      rw (le-ltb _ _ p, ← ee, ← ed, er, ← e₁, et, goes-on number d₁ (r .pause) next end en (rw e₁ (laws.keyed h (take end after) .0)))
+  noted-on p e ee d₀ ed {end = end} h after r er d₁ e₁ next en t et more em =
+      rw (le-ltb _ _ p, ← ee, ← ed, er, ← e₁, et, em, goes-on number d₁ (r .pause) next end en (rw e₁ (laws.keyed h (take end after) .0)))
 
 module _ (number : ℕ) (task : Task) (d : Dictionary) (full : length (d .items) ≡ 32) where
   pub written :

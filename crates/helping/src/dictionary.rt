@@ -6,6 +6,7 @@ ghost use mathlib.Core.Path.{_≡_};
 ghost use Prim.Native.Nat.{min, _≤_};
 ghost use lib.ListN.{take};
 ghost use Rattle.helping.specs.Numbers.{keys, values};
+ghost use Rattle.construction.specs.Marks.{withBit};
 ghost use Rattle.construction.specs.Dictionary.{valueUnder, itemOf, insert, altered, nextWrite};
 
 // The variables and the values of items.
@@ -72,6 +73,16 @@ pub fn insert(dictionary: Dictionary, item: Item) -> Dictionary
         d.length = length + 1;
     }
     d
+}
+
+// Document 02, order 1: one variable more in a set that is a word, bit v for variable v. A word has no bit for a variable past 63.
+pub fn with_bit(mask: u64, variable: u8) -> u64
+    ensures { λ r. ⌜ r ≡ withBit mask variable ⌝ }
+{
+    if variable < 64 {
+        return mask | (1u64 << variable);
+    }
+    mask
 }
 
 // Line H32: whether an item is to be written.

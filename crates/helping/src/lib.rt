@@ -9,6 +9,7 @@ use crate::dictionary::item_of;
 use crate::dictionary::next_write;
 use crate::dictionary::noted;
 use crate::dictionary::numbers_of;
+use crate::dictionary::with_bit;
 use crate::simulation::simulate;
 use construction::Announcement;
 use construction::Began;
@@ -110,7 +111,8 @@ pub fn begin_help(
     }
 }
 
-// Lines H21 to H25: a record that was read is noted, and the program goes on. Its values are taken out of the dictionary and put back.
+// Lines H21 to H25: a record that was read is noted in the dictionary and in the set of the variables noted, and the program goes on. Its values
+// are taken out of the dictionary and put back.
 pub fn note(
     n: u8,
     program: Program,
@@ -120,8 +122,9 @@ pub fn note(
     task: Task,
     simulation: Simulation,
     dictionary: Dictionary,
+    mask: u64,
 ) -> Helped
-    ensures { λ r. ⌜ r ≡ note n program inputs cell number task simulation dictionary ⌝ }
+    ensures { λ r. ⌜ r ≡ note n program inputs cell number task simulation dictionary mask ⌝ }
 {
     if number < cell.seq {
         return Helped {
@@ -131,8 +134,10 @@ pub fn note(
             },
             simulation,
             dictionary,
+            mask,
         };
     }
+    let mask = with_bit(mask, task.target);
     let mut d = insert(dictionary, item_of(number, task.target, cell));
     let end = noted(d.length);
     let numbers = numbers_of(d, end);
@@ -152,6 +157,7 @@ pub fn note(
         task: after_pause(pause, next, end),
         simulation: state,
         dictionary: d,
+        mask,
     }
 }
 

@@ -11,7 +11,7 @@ ghost use mathlib.Core.Path.{_≡_};
 ghost use Rattle.construction.specs.Machine.{outcome};
 
 // Whether a swap won, as the result of an access.
-fn outcome(won: bool) -> Swap
+pub fn outcome(won: bool) -> Swap
     ensures { λ r. ⌜ r ≡ outcome won ⌝ }
 {
     if won { Swap::Won } else { Swap::Lost }

@@ -167,5 +167,6 @@ pub fn fresh(contents: Contents) -> Card
         copies: [announcement; 8],
         simulations: [started(); 8],
         dictionaries: [empty(); 8],
+        masks: [0; 8],
     }
 }

@@ -25,7 +25,7 @@ inputsOf input = record { w0 = input; w1 = 0; w2 = 0; w3 = 0 }
 abbrev pub isRun : Answer → Bool
 isRun Taken = false
 isRun Run = true
-isRun (Done number outputs steps) = false
+isRun (Done number yields steps) = false
 isRun (Exited steps) = false
 isRun (Value value) = false
 isRun (Refused refusal) = false

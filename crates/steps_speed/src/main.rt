@@ -41,7 +41,7 @@ fn is_run(answer: Answer) -> bool
         Answer::Run => true,
         Answer::Done {
             number: _,
-            outputs: _,
+            yields: _,
             steps: _,
         } => false,
         Answer::Exited { steps: _ } => false,

@@ -52,13 +52,13 @@ returns-5 : tie.Need-returns-5
 returns-5 c = let at = c .before .before .before .before .before .before .before .before .before .before .before .before .before .before .before in step-is at _ (accesses.at-announcement (accepted at) _ _ (c .before .before .before .before .before .before .before .before .before .before .before .before .before .access2 .given .1) _ (c .before .before .before .before .before .before .before .before .before .before .before .whose .ensures) _ (c .before .before .before .before .before .before .announcement-at .ensures) _ (c .before .before .before .before .before .access-announcement .ensures) (c .before .answer-of3 .ensures) _ (arrays.not-stored _ _ (accepted at .rooms .announcements) _ _ (c .if2 .left)))
 
 returns-6 : tie.Need-returns-6
-returns-6 c = let at = c .before .before .before .before .before .before .before .before .before .before .before .before .before .before in step-is at _ (accesses.at-help (accepted at) _ (c .before .before .before .before .before .before .before .before .before .before .before .before .enum-told2 .given .1) _ (c .before .before .before .before .before .before .before .before .before .before .before .holder-of .ensures) _ (c .before .before .before .before .before .before .before .before .before .announcement-at2 .ensures) _ (c .before .before .before .before .before .before .program-at .ensures) _ (c .before .before .before .before .before .begin-help .ensures) (c .before .before .answer-of4 .ensures) _ (rw (c .before .if3 .taken, c .empty .ensures)))
+returns-6 c = let at = c .before .before .before .before .before .before .before .before .before .before .before .before .before .before in step-is at _ (accesses.at-help (accepted at) _ (c .before .before .before .before .before .before .before .before .before .before .before .before .enum-told2 .given .1) _ (c .before .before .before .before .before .before .before .before .before .before .before .holder-of .ensures) _ (c .before .before .before .before .before .before .before .before .before .announcement-at2 .ensures) _ (c .before .before .before .before .before .before .program-at .ensures) _ (c .before .before .before .before .before .begin-help .ensures) (c .before .before .answer-of4 .ensures) _ (rw (c .before .if3 .taken, c .empty .ensures)) _ (rw (c .before .if3 .taken)))
 
 returns-7 : tie.Need-returns-7
-returns-7 c = let at = c .before .before .before .before .before .before .before .before .before .before .before .before .before in step-is at _ (accesses.at-help (accepted at) _ (c .before .before .before .before .before .before .before .before .before .before .before .enum-told2 .given .1) _ (c .before .before .before .before .before .before .before .before .before .before .holder-of .ensures) _ (c .before .before .before .before .before .before .before .before .announcement-at2 .ensures) _ (c .before .before .before .before .before .program-at .ensures) _ (c .before .before .before .before .begin-help .ensures) (c .before .answer-of4 .ensures) _ (rw (c .if3 .left) (sym (set-getD _ _ _))))
+returns-7 c = let at = c .before .before .before .before .before .before .before .before .before .before .before .before .before in step-is at _ (accesses.at-help (accepted at) _ (c .before .before .before .before .before .before .before .before .before .before .before .enum-told2 .given .1) _ (c .before .before .before .before .before .before .before .before .before .before .holder-of .ensures) _ (c .before .before .before .before .before .before .before .before .announcement-at2 .ensures) _ (c .before .before .before .before .before .program-at .ensures) _ (c .before .before .before .before .begin-help .ensures) (c .before .answer-of4 .ensures) _ (rw (c .if3 .left) (sym (set-getD _ _ _))) _ (rw (c .if3 .left) (sym (set-getD _ _ _))))
 
 returns-8 : tie.Need-returns-8
-returns-8 c = let at = c .before .before .before .before .before .before .before .before .before .before .before .before .before .before in step-is at _ (accesses.at-note (accepted at) _ (c .before .before .before .before .before .before .before .before .before .before .before .before .enum-told3 .given .1) _ (c .before .before .before .before .before .before .record-at .ensures) _ (c .before .before .before .before .before .program-at2 .ensures) _ (c .before .before .before .before .note .ensures) (c .answer-of5 .ensures))
+returns-8 c = let at = c .before .before .before .before .before .before .before .before .before .before .before .before .before .before .before in step-is at _ (accesses.at-note (accepted at) _ (c .before .before .before .before .before .before .before .before .before .before .before .before .before .enum-told3 .given .1) _ (c .before .before .before .before .before .before .before .record-at .ensures) _ (c .before .before .before .before .before .before .program-at2 .ensures) _ (c .before .before .before .before .note .ensures) (c .answer-of5 .ensures))
 
 returns-9 : tie.Need-returns-9
 returns-9 c = let at = c .before .before .before .before .before .before .before .before .before .before .before .before in step-is at _ (accesses.at-write (accepted at) _ (c .before .before .before .before .before .before .before .before .before .before .enum-told4 .given .1) _ (c .before .before .before .before .before .before .before .before .writing .ensures) _ (c .before .before .before .before .record-at2 .ensures) _ (c .before .before .before .write .ensures) (c .before .answer-of6 .ensures) _ (rw (mod-eq-of-lt (c .if4 .taken))))
@@ -150,9 +150,15 @@ step-spec =
     (λ c. search needs)
     (λ c. search needs)
     (λ c. search needs)
+    (λ c. search needs)
+    (λ c. search needs)
     (λ c κs. search needs)
     (λ c κs. search needs)
+    (λ c. search needs)
+    (λ c. search needs)
     (λ c κs. search needs)
+    (λ c. search needs)
+    (λ c. search needs)
     (λ c. search needs)
     (λ c. search needs)
     (λ c. search needs)

@@ -49,16 +49,16 @@ pub record Before (c : Card) (w : World) (i : ℕ) : Type 0 where
 
 -- process i goes on with another task: no cell read; the gate read; an announcement read; and its simulation gone on
 abbrev pub atTask : Local → Task → Local
-atTask l x = after l x (l .gate) (l .announcement) (l .simulation) (l .dictionary)
+atTask l x = after l x (l .gate) (l .announcement) (l .simulation) (l .dictionary) (l .mask)
 
 abbrev pub atGate : Local → Gate → Task → Local
-atGate l g x = after l x g (l .announcement) (l .simulation) (l .dictionary)
+atGate l g x = after l x g (l .announcement) (l .simulation) (l .dictionary) (l .mask)
 
 abbrev pub atAnnouncement : Local → Announcement → Task → Local
-atAnnouncement l a x = after l x (l .gate) a (l .simulation) (l .dictionary)
+atAnnouncement l a x = after l x (l .gate) a (l .simulation) (l .dictionary) (l .mask)
 
-abbrev pub atSimulation : Local → Announcement → Task → Simulation → Dictionary → Local
-atSimulation l a x s d = after l x (l .gate) a s d
+abbrev pub atSimulation : Local → Announcement → Task → Simulation → Dictionary → ℕ → Local
+atSimulation l a x s d m = after l x (l .gate) a s d m
 
 -- the card v comes from c by a move of process i, which then knows what its place asks for
 pub record Acted (c : Card) (w : World) (i : ℕ) (v : Card) : Type 0 where
@@ -81,10 +81,10 @@ module _ {c : Card} {w : World} {i : ℕ} (B : Before c w i) where
   -- no shared cell is changed
   pub keeps :
       {g : Gate} {l : List Announcement} {r : List Record} → g ≡ c .gate → l ≡ c .announcements → r ≡ c .records →
-      (x : Task) (h : Gate) (a : Announcement) (s : Simulation) (d : Dictionary) → WellFormed d →
-      Loc (contentsOf c) (worldOf c w) i (after (localAt c i) x h a s d) →
-      Acted c (worldOf c w) i (withLocal (withCells c g l r) i (after (localAt c i) x h a s d))
-  keeps g l r x h a s d y q =
+      (x : Task) (h : Gate) (a : Announcement) (s : Simulation) (d : Dictionary) (m : ℕ) → WellFormed d →
+      Loc (contentsOf c) (worldOf c w) i (after (localAt c i) x h a s d m) →
+      Acted c (worldOf c w) i (withLocal (withCells c g l r) i (after (localAt c i) x h a s d m))
+  keeps g l r x h a s d m y q =
       record {
         after = worldOf c w;
         move = stay;
@@ -104,4 +104,4 @@ module _ {c : Card} {w : World} {i : ℕ} (B : Before c w i) where
       (x : Task) → Loc (contentsOf c) (worldOf c w) i (atTask (localAt c i) x) →
       {g : Gate} {l : List Announcement} {r : List Record} → g ≡ c .gate → l ≡ c .announcements → r ≡ c .records →
       Acted c (worldOf c w) i (withLocal (withCells c g l r) i (atTask (localAt c i) x))
-  goes-on x q g l r = keeps g l r x _ _ _ _ (B .tidy) q
+  goes-on x q g l r = keeps g l r x _ _ _ _ _ (B .tidy) q

@@ -90,7 +90,7 @@ module _ {c : Card} {w : World} {i : ℕ} (B : Before c w i) where
   reads :
       (m : ℕ) (l : Place) → Loc F W i (read m l) →
       Acted c W i (withLocal (withAnnouncement c m (announcementAt c m)) i (read m l))
-  reads m l q = keeps B refl (set-getD (c .announcements) m openAnnouncement) refl _ _ _ _ _ (B .tidy) q
+  reads m l q = keeps B refl (set-getD (c .announcements) m openAnnouncement) refl _ _ _ _ _ _ (B .tidy) q
 
   -- lines P7, C4 and P22: by the flag that is read
   at-own :

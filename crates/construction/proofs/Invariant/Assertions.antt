@@ -136,7 +136,7 @@ LocAt F1 F w j t = Returning (viewOf w j) (t .announcement)
 LocAt F3 F w j t =
     Returning (viewOf w j) (t .announcement) × (t .gate .holder ≡ Process j) × Last (viewOf w j) j (t .gate .seq)
 
--- it does not depend on the exit request and on the count of own steps
+-- it does not depend on the exit request, on the count of own steps and on the set of the variables noted
 abbrev pub known : Local → Local
 known t =
     record {
@@ -148,6 +148,7 @@ known t =
       announcement = t .announcement;
       simulation = t .simulation;
       dictionary = t .dictionary;
+      mask = 0;
     }
 
 abbrev pub Loc : Contents → World → ℕ → Local → Type 0

@@ -272,6 +272,7 @@ module _ (x : Contents) (few : x .processes ≤ 8) (narrow : x .variables ≤ 64
       copies = refl;
       simulations = refl;
       dictionaries = refl;
+      masks = refl;
     };
     locs = λ j h. subst (λ (l : Place). LocAt l (contentsOf (fresh x)) (firstWorld x) j (known (localAt (fresh x) j)))
         (sym (ap (λ (t : Task). t .place) (getD-replicate-same 8 j idleTask))) (

@@ -60,7 +60,7 @@ module _ {c : Card} {w : World} {i : ℕ} (B : Before c w i) where
 
   -- the gate is read
   reads : (l : Place) → Loc F W i (read l) → Acted c W i (withLocal c i (read l))
-  reads l q = keeps B refl refl refl _ _ _ _ _ (B .tidy) q
+  reads l q = keeps B refl refl refl _ _ _ _ _ _ (B .tidy) q
 
   limit-now : Limit (viewOf W i) i (c .gate .seq)
   limit-now = record { low = λ _. B .good .bound-below i; high = λ _ _. omega arith }

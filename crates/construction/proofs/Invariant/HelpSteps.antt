@@ -24,6 +24,7 @@ use Rattle.construction.specs.Cells.{openAnnouncement, isDone, previous,
 use Rattle.construction.specs.Instructions.{started}
 use Rattle.construction.specs.Dictionary.{empty, valueUnder, itemOf, insert}
 use Rattle.construction.specs.Sequential.{sequential}
+use Rattle.construction.specs.Marks.{withBit}
 use Rattle.construction.specs.Helping.{simulate}
 use Rattle.construction.specs.Parts.{announcementAt, recordAt, programOf, localAt, contentsOf, withLocal, Local, withAnnouncement, withRecord}
 use Rattle.construction.specs.Machine.{goTo, holderOf, helps, afterPause, perform, helped, beginHelp, note, after}
@@ -78,7 +79,7 @@ module _ {c : Card} {w : World} {i : ℕ} (B : Before c w i) where
     x = simulate (c .variables) (programFor F s a) (a .words) l d
 
     abbrev resumed : Local
-    resumed = atSimulation (localAt c i) a (afterPause s (x .dictionary) (x .pause)) (x .simulation) (x .dictionary)
+    resumed = atSimulation (localAt c i) a (afterPause s (x .dictionary) (x .pause)) (x .simulation) (x .dictionary) 0
 
     resumes : WellFormed (x .dictionary) × Loc F W i resumed
     resumes =
@@ -93,7 +94,7 @@ module _ {c : Card} {w : World} {i : ℕ} (B : Before c w i) where
   -- what P16 comes to for the announcement of m, by the test of line P17
   abbrev begun : ℕ → Helped
   begun m =
-      helped s (simulate (c .variables) (programFor F s (announcementAt c m)) (announcementAt c m .words) started empty)
+      helped s (simulate (c .variables) (programFor F s (announcementAt c m)) (announcementAt c m .words) started empty) 0
 
   abbrev beginAs : Bool → ℕ → Began
   beginAs e m =
@@ -104,7 +105,7 @@ module _ {c : Card} {w : World} {i : ℕ} (B : Before c w i) where
   helping m b =
       withLocal (withAnnouncement c m (announcementAt c m)) i
       (after (localAt c i) (b .task) (localAt c i .gate) (announcementAt c m) (b .simulation)
-      (cond (b .helps) empty (localAt c i .dictionary)))
+      (cond (b .helps) empty (localAt c i .dictionary)) (cond (b .helps) 0 (localAt c i .mask)))
 
   -- line P17: an operation that is not done and not too new is the one that the gate is held for
   module _ (m : ℕ) (n : holderOf (localAt c i .gate .holder) ≡ m) (nd : announcementAt c m .flag ≢ Done)
@@ -146,8 +147,8 @@ module _ {c : Card} {w : World} {i : ℕ} (B : Before c w i) where
         (B .good .size-round s many) (run-is F s (roundIn W s) a called)) in
         let z = simulate-empty (c .variables) (programFor F s a) (a .words) in
         rw t
-        (keeps B refl (set-getD (c .announcements) m openAnnouncement) refl _ _ _ _ _ (subst WellFormed z (r .0))
-        (subst (λ (d : Dictionary). Loc F W i (atSimulation (localAt c i) a (begun m .task) (begun m .simulation) d)) z (r .1)))
+        (keeps B refl (set-getD (c .announcements) m openAnnouncement) refl _ _ _ _ _ _ (subst WellFormed z (r .0))
+        (subst (λ (d : Dictionary). Loc F W i (atSimulation (localAt c i) a (begun m .task) (begun m .simulation) d 0)) z (r .1)))
 
   at-P16-for : (m : ℕ) → holderOf (localAt c i .gate .holder) ≡ m → L P16 → Acted c W i (helping m (beginAs (helps (announcementAt c m) s) m))
   at-P16-for m n q = ⊎-elim
@@ -156,7 +157,7 @@ module _ {c : Card} {w : World} {i : ℕ} (B : Before c w i) where
       begins m n (isDone-false _ (not-true _ (h .0))) (leb-true _ _ (h .1)) q _ e)
       (λ e.
       rw e
-      (keeps B refl (set-getD (c .announcements) m openAnnouncement) refl _ _ _ _ _ (B .tidy)
+      (keeps B refl (set-getD (c .announcements) m openAnnouncement) refl _ _ _ _ _ _ (B .tidy)
       (q, record { over = λ _ z. rw n (over z e) }))) (true-or-false (helps (announcementAt c m) s))
     where
       over : c .gate .seq ≡ s → helps (announcementAt c m) s ≡ false → announcementAt c m .flag ≡ Done
@@ -174,7 +175,7 @@ module _ {c : Card} {w : World} {i : ℕ} (B : Before c w i) where
   at-H21 q =
       on-test
       (λ (x : Helped).
-      Acted c W i (withLocal (withRecord c v (recordAt c v)) i (atSimulation (localAt c i) (localAt c i .announcement) (x .task) (x .simulation) (x .dictionary))))
+      Acted c W i (withLocal (withRecord c v (recordAt c v)) i (atSimulation (localAt c i) (localAt c i .announcement) (x .task) (x .simulation) (x .dictionary) (x .mask))))
       (ltb s (recordAt c v .seq)) past noting-on
     where
       v : ℕ
@@ -207,7 +208,7 @@ module _ {c : Card} {w : World} {i : ℕ} (B : Before c w i) where
           (localAt c i .simulation) (insert (localAt c i .dictionary) (itemOf s v (recordAt c v))) in
           Acted c W i
           (withLocal (withRecord c v (recordAt c v)) i
-          (atSimulation (localAt c i) (localAt c i .announcement) (afterPause s (x .dictionary) (x .pause)) (x .simulation) (x .dictionary)))
+          (atSimulation (localAt c i) (localAt c i .announcement) (afterPause s (x .dictionary) (x .pause)) (x .simulation) (x .dictionary) (withBit (localAt c i .mask) v)))
       noting-on e =
           let le : recordAt c v .seq ≤ s = ltb-false s (recordAt c v .seq) e in
           let r =
@@ -216,4 +217,4 @@ module _ {c : Card} {w : World} {i : ℕ} (B : Before c w i) where
           (noting (c .variables) (programFor F s (localAt c i .announcement)) (localAt c i .announcement .words) (roundIn W s .words) (endingIn F W s)
           (ItemNoted F W s) v (localAt c i .simulation) (localAt c i .dictionary) (itemOf s v (recordAt c v)) refl (base le)
           (record { inside = q .2 .inside; base = base le; kept = inl refl }) (q .2)) in
-          keeps B refl refl kept _ _ _ _ _ (r .0) (r .1)
+          keeps B refl refl kept _ _ _ _ _ _ (r .0) (r .1)

@@ -13,7 +13,7 @@ use Rattle.construction.specs.Dictionary.{empty}
 use Rattle.construction.specs.Parts.{idleTask, noOperation, noGate, Local, localAt, withLocal}
 
 -- the arrays of local state have 8 places
-pub record Eight (t o e n g a s d : ℕ) : Type 0 where
+pub record Eight (t o e n g a s d m : ℕ) : Type 0 where
   pub tasks : t ≡ 8
   pub operations : o ≡ 8
   pub exits : e ≡ 8
@@ -22,11 +22,12 @@ pub record Eight (t o e n g a s d : ℕ) : Type 0 where
   pub copies : a ≡ 8
   pub simulations : s ≡ 8
   pub dictionaries : d ≡ 8
+  pub masks : m ≡ 8
 
 abbrev pub Sizes : Card → Type 0
 Sizes c =
     Eight (length (c .tasks)) (length (c .operations)) (length (c .exits)) (length (c .counts)) (length (c .gates))
-    (length (c .copies)) (length (c .simulations)) (length (c .dictionaries))
+    (length (c .copies)) (length (c .simulations)) (length (c .dictionaries)) (length (c .masks))
 
 pub sizes-put : (c : Card) (i : ℕ) (l : Local) → Sizes c → Sizes (withLocal c i l)
 sizes-put c i l Z = simp length-set Z
@@ -41,6 +42,7 @@ local-same c i l Z lt = λ k. record {
   announcement = getD-set-same (c .copies) i (l .announcement) openAnnouncement (omega (arith, Z .copies)) k;
   simulation = getD-set-same (c .simulations) i (l .simulation) started (omega (arith, Z .simulations)) k;
   dictionary = getD-set-same (c .dictionaries) i (l .dictionary) empty (omega (arith, Z .dictionaries)) k;
+  mask = getD-set-same (c .masks) i (l .mask) 0 (omega (arith, Z .masks)) k;
 }
 
 pub local-other : (c : Card) (i j : ℕ) (l : Local) → j ≢ i → localAt (withLocal c i l) j ≡ localAt c j
@@ -53,4 +55,5 @@ local-other c i j l ne = λ k. record {
   announcement = getD-set-other (c .copies) i j (l .announcement) openAnnouncement ne k;
   simulation = getD-set-other (c .simulations) i j (l .simulation) started ne k;
   dictionary = getD-set-other (c .dictionaries) i j (l .dictionary) empty ne k;
+  mask = getD-set-other (c .masks) i j (l .mask) 0 ne k;
 }

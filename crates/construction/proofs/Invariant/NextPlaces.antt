@@ -37,6 +37,7 @@ use Rattle.construction.specs.declared.Simulated.{Simulated}
 use Rattle.construction.specs.declared.Record.{Record}
 use Rattle.construction.specs.declared.Program.{Program}
 use Rattle.construction.specs.declared.Simulation.{Simulation}
+use Rattle.construction.specs.Marks.{withBit}
 use Rattle.construction.specs.Helping.{simulate}
 use Rattle.construction.specs.Instructions.{started}
 
@@ -100,8 +101,8 @@ module _ (Q : Place → Type 0) where
       by-flag (cell .flag) C4 P13 C4 (q .0) (q .1) (q .0)
   announcement-leads (AnnouncementAccess.Finish flag next) q m cell o g r outputs t = q
 
-  helped-leads : (number : ℕ) (x : Simulated) → Q H21 → Q H36 → Q P19 → Q (helped number x .task .place)
-  helped-leads number x a b e = by-pause number (x .dictionary) (x .pause) a b e
+  helped-leads : (number : ℕ) (x : Simulated) (mask : ℕ) → Q H21 → Q H36 → Q P19 → Q (helped number x mask .task .place)
+  helped-leads number x mask a b e = by-pause number (x .dictionary) (x .pause) a b e
 
   help-leads :
       Q P21 × Q H21 × Q H36 × Q P19 → (n : ℕ) (program : Program) (cell : Announcement) (number : ℕ) (t : Task) (s : Simulation) →
@@ -109,15 +110,15 @@ module _ (Q : Place → Type 0) where
   unfolding beginHelp
   help-leads q n program cell number t s =
       on-test (λ (x : Began). Q (x .task .place)) (helps cell number)
-      (λ _. helped-leads number (simulate n program (cell .words) started empty) (q .1) (q .2) (q .3)) (λ _. q .0)
+      (λ _. helped-leads number (simulate n program (cell .words) started empty) 0 (q .1) (q .2) (q .3)) (λ _. q .0)
 
   note-leads :
       Q P19 × Q H21 × Q H36 → (n : ℕ) (program : Program) (inputs : Words) (cell : Record) (number : ℕ) (t : Task) (s : Simulation)
-      (d : Dictionary) → Q (note n program inputs cell number t s d .task .place)
+      (d : Dictionary) (mask : ℕ) → Q (note n program inputs cell number t s d mask .task .place)
   unfolding note
-  note-leads q n program inputs cell number t s d =
+  note-leads q n program inputs cell number t s d mask =
       on-test (λ (x : Helped). Q (x .task .place)) (ltb number (cell .seq)) (λ _. q .0)
-      (λ _. helped-leads number (simulate n program inputs s (insert d (itemOf number (t .target) cell))) (q .1) (q .2) (q .0))
+      (λ _. helped-leads number (simulate n program inputs s (insert d (itemOf number (t .target) cell))) (withBit mask (t .target)) (q .1) (q .2) (q .0))
 
   write-leads : Q H36 × Q P19 → (number : ℕ) (t : Task) (d : Dictionary) → Q (writing number t d .task .place)
   unfolding writing
@@ -134,7 +135,7 @@ module _ (Q : Place → Type 0) where
     leads (Access.Gate a) q = placed _ (gate-leads a q _ _ _ _)
     leads (Access.Announcement a) q = placed _ (announcement-leads a q _ _ _ _ _ _ _)
     leads Access.Help q = placed _ (help-leads q _ _ _ _ _ _)
-    leads Access.Note q = placed _ (note-leads q _ _ _ _ _ _ _ _)
+    leads Access.Note q = placed _ (note-leads q _ _ _ _ _ _ _ _ _)
     leads Access.Write q = placed _ (write-leads q _ _ _)
 
 -- an announced operation stays announced until it returns

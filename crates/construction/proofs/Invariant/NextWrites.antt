@@ -70,9 +70,9 @@ module _ (F : Contents) (w : World) (i : ℕ) (t : Local) (a : Announcement) (he
   pub write-loc :
       (l : Simulation) (d : Dictionary) → FinishedAt F w s a l d → (k : ℕ) →
       ((q : ℕ) → q < k → NoWriteDue w s (getD (noted d) q noItem)) →
-      Loc F w i (atSimulation t a (writeFrom s d k) l d)
+      Loc F w i (atSimulation t a (writeFrom s d k) l d 0)
   write-loc l d fin k fine =
-      on-test (λ (x : Task). Loc F w i (atSimulation t a x l d)) (ltb (nextWrite s d k) (length (noted d)))
+      on-test (λ (x : Task). Loc F w i (atSimulation t a x l d 0)) (ltb (nextWrite s d k) (length (noted d)))
       (λ e. (
         helper,
         plan,
@@ -100,7 +100,7 @@ module _ (F : Contents) (w : World) (i : ℕ) (t : Local) (a : Announcement) (he
       (p : Pause) (l : Simulation) (d : Dictionary) →
       PausedAt (F .variables) (programFor F s a) (a .words) (roundIn w s .words) (endingIn F w s)
       (ItemNoted F w s) p l d →
-      Loc F w i (atSimulation t a (afterPause s d p) l d)
+      Loc F w i (atSimulation t a (afterPause s d p) l d 0)
   pause-loc Ended l d q = write-loc l d q 0 (λ k h. absurd (omega arith))
   pause-loc Faulted l d q = (
     helper,

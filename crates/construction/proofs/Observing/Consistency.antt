@@ -25,7 +25,7 @@ use Rattle.construction.specs.Cells.{isDone, openAnnouncement}
 use Rattle.construction.specs.Parts.{idleTask, contentsOf, localAt, withLocal, Local}
 use Rattle.construction.specs.Machine.{advance, accessOf}
 use Rattle.construction.specs.Requests.{isVariable, isIdle, isBusy, refused, answerOf, read, invoked, exiting}
-use Rattle.construction.specs.History.{Entry, act, Invocation, History, turned, finishing, withFinishes, Return, Event, eventOf, withResponse, withEntry, Observation, observe}
+use Rattle.construction.specs.History.{Entry, act, Steps, Invocation, History, turned, finishing, withFinishes, Return, Event, eventOf, withResponse, withEntry, Observation, observe}
 use Rattle.construction.proofs.Basics.{true-or-false, true-false, cond-false}
 use Rattle.construction.proofs.Observing.Histories.{turned-same}
 use Rattle.construction.proofs.Statements.OneAccess.{one-access}
@@ -92,6 +92,7 @@ module _ (o : Card) (m : Observation) (O : Consistent o m) where
       noted-refused (Entry.Call i k inputs) = refl
       noted-refused (Entry.Exit i) = refl
       noted-refused (Entry.Step i) = refl
+      noted-refused (Entry.Trace i) = refl
       noted-refused (Entry.Read v) = refl
 
   -- a read and an exit request
@@ -273,15 +274,16 @@ module _ (o : Card) (m : Observation) (O : Consistent o m) where
         by-answer : {a : Answer} → answerOf (localAt d i) ≡ a → Ended (eventOf a) → Ended (eventOf (answerOf (localAt d i)))
         by-answer z f = subst (λ (x : Answer). Ended (eventOf x)) (sym z) f
 
-    step-kept : Consistent o (after o m (Entry.Step i) (record { card = d; answer = answerOf (localAt d i) }))
-    step-kept = record { world = S .after; inv = S .inv; tracks = answered; text = text-moved }
+    step-kept : {e : Entry} → Steps e i → Consistent o (after o m e (record { card = d; answer = answerOf (localAt d i) }))
+    step-kept Steps.by-step = record { world = S .after; inv = S .inv; tracks = answered; text = text-moved }
+    step-kept Steps.by-trace = record { world = S .after; inv = S .inv; tracks = answered; text = text-moved }
 
   -- every entry
   outcome-kept : {e : Entry} {r : Answered} → Outcome c e r → Consistent o (after o m e r)
   outcome-kept (Outcome.turned-back e why) = refused-kept e why
   outcome-kept (Outcome.called i k inputs p b) = call-kept i k inputs p b
   outcome-kept (Outcome.asked i p) = exit-kept i p
-  outcome-kept (Outcome.stepped i p b l) = step-kept i p b l
+  outcome-kept (Outcome.stepped i x p b l) = step-kept i p b l x
   outcome-kept (Outcome.shown v x) = read-kept v x
 
   pub entry-kept : (e : Entry) → Consistent o (observe o m e)
@@ -292,23 +294,23 @@ module _ (o : Card) (m : Observation) (O : Consistent o m) where
   abbrev AtMostOne : Entry → Answered → Type 0
   AtMostOne e r = (finishing c (r .card) ≡ []) ⊎ (act c e ≡ r → FinishesOne m e)
 
-  step-finishes : (i : ℕ) → i < c .processes → isBusy c i ≡ true → c .steps < c .limit →
-      AtMostOne (Entry.Step i) (record { card = advance c i; answer = answerOf (localAt (advance c i) i) })
-  step-finishes i p b l =
+  step-finishes : {e : Entry} (i : ℕ) → Steps e i → i < c .processes → isBusy c i ≡ true → c .steps < c .limit →
+      AtMostOne e (record { card = advance c i; answer = answerOf (localAt (advance c i) i) })
+  step-finishes i x p b l =
       ⊎-elim (λ C. inl (finishing-is i p b l ∙ C .none))
       (λ E. inr (λ is. record {
         process = E .process;
         only = ap (λ (r : Answered). finishing c (r .card)) is ∙ ends-one i p b l E;
         underWay = under-way (ends-own i p b l E);
         stepper = i;
-        byStep = refl;
+        byStep = x;
       })) (kind i p b l)
 
   outcome-finishes : {e : Entry} {r : Answered} → Outcome c e r → AtMostOne e r
   outcome-finishes (Outcome.turned-back e why) = inl (turned-same 0 (c .announcements))
   outcome-finishes (Outcome.called i k inputs p b) = inl (turned-same 0 (c .announcements))
   outcome-finishes (Outcome.asked i p) = inl (turned-same 0 (c .announcements))
-  outcome-finishes (Outcome.stepped i p b l) = step-finishes i p b l
+  outcome-finishes (Outcome.stepped i x p b l) = step-finishes i x p b l
   outcome-finishes (Outcome.shown v x) = inl (turned-same 0 (c .announcements))
 
   pub finishes-one : (e : Entry) → FinishesAtMostOne m e

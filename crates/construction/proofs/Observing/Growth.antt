@@ -3,7 +3,7 @@ use Prim.Native.Nat.{ℕ}
 use mathlib.Core.Path.{_≡_, refl, sym, subst}
 use mathlib.Core.List.{List, [], _∷_, _++_}
 use Rattle.construction.specs.declared.Card.{Card}
-use Rattle.construction.specs.History.{Entry, act, Response, Event, eventOf, History, finishing, withFinish, withFinishes, withEntry, Observation, observe, observeAll}
+use Rattle.construction.specs.History.{Entry, act, Response, Event, eventOf, History, finishing, withFinish, withFinishes, withResponse, withEntry, Observation, observe, observeAll}
 use Rattle.construction.proofs.Observing.Histories.{Extends, extends-trans}
 
 finished-order : (o : Card) (gate : ℕ) (is : List ℕ) (s : History) → Extends (s .order) (withFinishes o gate is s .order)
@@ -16,14 +16,19 @@ unfolding withFinishes
 finished-returns o gate [] s = refl
 finished-returns o gate (i ∷ is) s = finished-returns o gate is (withFinish o gate i s)
 
+response-grows :
+    (s : History) (i : ℕ) (v : Event) → (withResponse s i v .order ≡ s .order) × Extends (s .returns) (withResponse s i v .returns)
+response-grows s i Event.taken = (refl, Extends.same)
+response-grows s i (Event.returned r) = (refl, Extends.more Extends.same)
+response-grows s i Event.none = (refl, Extends.same)
+
 noted-grows : (s : History) (e : Entry) (v : Event) → (withEntry s e v .order ≡ s .order) × Extends (s .returns) (withEntry s e v .returns)
 noted-grows s (Entry.Call i k inputs) Event.taken = (refl, Extends.same)
 noted-grows s (Entry.Call i k inputs) (Event.returned r) = (refl, Extends.same)
 noted-grows s (Entry.Call i k inputs) Event.none = (refl, Extends.same)
 noted-grows s (Entry.Exit i) v = (refl, Extends.same)
-noted-grows s (Entry.Step i) Event.taken = (refl, Extends.same)
-noted-grows s (Entry.Step i) (Event.returned r) = (refl, Extends.more Extends.same)
-noted-grows s (Entry.Step i) Event.none = (refl, Extends.same)
+noted-grows s (Entry.Step i) v = response-grows s i v
+noted-grows s (Entry.Trace i) v = response-grows s i v
 noted-grows s (Entry.Read x) v = (refl, Extends.same)
 
 pub record Grown (s t : History) : Type 0 where

@@ -9,7 +9,8 @@ use Rattle.construction.specs.declared.Answered.{Answered}
 use Rattle.construction.specs.declared.Refusal.{Refusal}
 use Rattle.construction.specs.Machine.{advance}
 use Rattle.construction.specs.Requests.{isBusy, refused, answerOf, valueOf, invoked, exiting}
-use Rattle.construction.specs.History.{Entry, act}
+use Rattle.construction.specs.Tracing.{trace}
+use Rattle.construction.specs.History.{Entry, act, Steps}
 use Rattle.construction.proofs.Observing.Entries.{on-call, on-exit, on-step, on-read}
 use Rattle.construction.specs.Parts.{withLocal, localAt}
 
@@ -20,11 +21,12 @@ pub data Outcome (c : Card) : Entry → Answered → Type 0 where
       Outcome c (Entry.Call i k inputs) (record { card = withLocal c i (invoked (localAt c i) k inputs); answer = Answer.Taken })
   asked : (i : ℕ) → i < c .processes → Outcome c (Entry.Exit i) (record { card = withLocal c i (exiting (localAt c i)); answer = Answer.Taken })
   stepped :
-      (i : ℕ) → i < c .processes → isBusy c i ≡ true → c .steps < c .limit →
-      Outcome c (Entry.Step i) (record { card = advance c i; answer = answerOf (localAt (advance c i) i) })
+      {e : Entry} (i : ℕ) → Steps e i → i < c .processes → isBusy c i ≡ true → c .steps < c .limit →
+      Outcome c e (record { card = advance c i; answer = answerOf (localAt (advance c i) i) })
   shown : (v x : ℕ) → Outcome c (Entry.Read v) (record { card = c; answer = Answer.Value x })
 
 pub outcome : (c : Card) (e : Entry) → Outcome c e (act c e)
+unfolding trace
 outcome c (Entry.Call i k inputs) =
     let e = Entry.Call i k inputs in
     on-call (Outcome c e) c (Outcome.turned-back e) i k inputs (λ lt _. Outcome.called i k inputs lt)
@@ -33,7 +35,10 @@ outcome c (Entry.Exit i) =
     on-exit (Outcome c e) c (Outcome.turned-back e) i (λ lt _. Outcome.asked i lt)
 outcome c (Entry.Step i) =
     let e = Entry.Step i in
-    on-step (Outcome c e) c (Outcome.turned-back e) i (Outcome.stepped i)
+    on-step (Outcome c e) c (Outcome.turned-back e) i (Outcome.stepped i Steps.by-step)
+outcome c (Entry.Trace i) =
+    let e = Entry.Trace i in
+    on-step (Outcome c e) c (Outcome.turned-back e) i (Outcome.stepped i Steps.by-trace)
 outcome c (Entry.Read v) =
     let e = Entry.Read v in
     on-read (Outcome c e) c (Outcome.turned-back e) v (λ _. Outcome.shown v (valueOf c v))

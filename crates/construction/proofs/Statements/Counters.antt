@@ -68,10 +68,10 @@ begin-within n program cell number t s h =
     (λ _. simulation-within n program (cell .words) 32 started empty (omega arith)) (λ _. h)
 
 note-within :
-    (n : ℕ) (program : Program) (inputs : Words) (cell : Record) (number : ℕ) (t : Task) (s : Simulation) (d : Dictionary) →
-    s .counter ≤ 32 → note n program inputs cell number t s d .simulation .counter ≤ 32
+    (n : ℕ) (program : Program) (inputs : Words) (cell : Record) (number : ℕ) (t : Task) (s : Simulation) (d : Dictionary) (mask : ℕ) →
+    s .counter ≤ 32 → note n program inputs cell number t s d mask .simulation .counter ≤ 32
 unfolding note simulate
-note-within n program inputs cell number t s d h =
+note-within n program inputs cell number t s d mask h =
     on-test (λ (x : Helped). x .simulation .counter ≤ 32) (ltb number (cell .seq)) (λ _. h)
     (λ _. simulation-within n program inputs 32 s (insert d (itemOf number (t .target) cell)) h)
 
@@ -88,7 +88,7 @@ step-within Access.None c j h i = put-within c i j _ h (h j)
 step-within (Access.Gate a) c j h i = put-within c i j _ h (h j)
 step-within (Access.Announcement a) c j h i = put-within c i j _ h (h j)
 step-within Access.Help c j h i = put-within c i j _ h (begin-within _ _ _ _ _ _ (h j))
-step-within Access.Note c j h i = put-within c i j _ h (note-within _ _ _ _ _ _ _ _ (h j))
+step-within Access.Note c j h i = put-within c i j _ h (note-within _ _ _ _ _ _ _ _ _ (h j))
 step-within Access.Write c j h i = put-within c i j _ h (h j)
 
 entry-within : (c : Card) {e : Entry} {r : Answered} → Outcome c e r → AllWithin c → AllWithin (r .card)
@@ -96,7 +96,7 @@ unfolding advance
 entry-within c (Outcome.turned-back e why) h = h
 entry-within c (Outcome.called j k inputs p b) h = λ i. put-within c i j _ h (h j)
 entry-within c (Outcome.asked j p) h = λ i. put-within c i j _ h (h j)
-entry-within c (Outcome.stepped j p b l) h = step-within (accessIn (localAt c j)) c j h
+entry-within c (Outcome.stepped j x p b l) h = step-within (accessIn (localAt c j)) c j h
 entry-within c (Outcome.shown v x) h = h
 
 all-within : (o : Card) (m : Observation) (es : List Entry) → AllWithin (m .card) → AllWithin (observeAll o m es .card)

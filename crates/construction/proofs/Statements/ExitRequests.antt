@@ -50,6 +50,7 @@ asked-again c i = let d = asked c i in λ k. record {
   copies = set-getD (d .copies) i openAnnouncement k;
   simulations = set-getD (d .simulations) i started k;
   dictionaries = set-getD (d .dictionaries) i empty k;
+  masks = set-getD (d .masks) i 0 k;
 }
 
 -- a second exit request has the answer of the first and alters nothing
@@ -104,7 +105,7 @@ exit-lasts c i e b h = by-outcome (outcome c e)
     by-outcome (Outcome.called j k inputs p f) =
         lasts j false (λ (z : i ≡ j). absurd (true-false _ b (subst (λ (n : ℕ). isBusy c n ≡ false) (sym z) f)))
     by-outcome (Outcome.asked j p) = lasts j true (λ _. refl)
-    by-outcome (Outcome.stepped j p f l) =
+    by-outcome (Outcome.stepped j x p f l) =
         ap (λ (l : List Bool). getD l i false) (step-exits (accessIn (localAt c j)) c j) ∙ h
     by-outcome (Outcome.shown v x) = h
 
@@ -122,6 +123,7 @@ withExit c i b =
       announcement = l .announcement;
       simulation = l .simulation;
       dictionary = l .dictionary;
+      mask = l .mask;
     })
 
 pub exit-over :
@@ -155,4 +157,5 @@ exit-over c i k inputs b p q f =
       copies = set-getD (d .copies) i openAnnouncement n;
       simulations = set-getD (d .simulations) i started n;
       dictionaries = set-getD (d .dictionaries) i empty n;
+      masks = set-getD (d .masks) i 0 n;
     }

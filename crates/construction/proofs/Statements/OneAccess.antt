@@ -62,6 +62,7 @@ module _ (c d : Card) (i : ℕ) (T : SameText c d) (S : SameLocal i c d) where
     announcement = S .5 .elements k;
     simulation = S .6 .elements k;
     dictionary = S .7 .elements k;
+    mask = S .8 .elements k;
   }
 
   -- the same own state put back
@@ -75,6 +76,7 @@ module _ (c d : Card) (i : ℕ) (T : SameText c d) (S : SameLocal i c d) where
     stored (ap (λ (x : Local). x .announcement) e) (S .5),
     stored (ap (λ (x : Local). x .simulation) e) (S .6),
     stored (ap (λ (x : Local). x .dictionary) e) (S .7),
+    stored (ap (λ (x : Local). x .mask) e) (S .8),
   )
 
   access-alike :
@@ -82,7 +84,7 @@ module _ (c d : Card) (i : ℕ) (T : SameText c d) (S : SameLocal i c d) where
       Alike (cellOf a (contentsOf c) i (localAt c i)) (perform a c i) (perform a d i)
   unfolding perform
   access-alike Access.None n = (
-    put (ap (λ (l : Local). after l (l .task) (l .gate) (l .announcement) (l .simulation) (l .dictionary)) local-is),
+    put (ap (λ (l : Local). after l (l .task) (l .gate) (l .announcement) (l .simulation) (l .dictionary) (l .mask)) local-is),
     n,
     refl,
   )
@@ -152,6 +154,7 @@ module _ (c : Card) (i : ℕ) (l : Local) where
 -- another process, of whatever own state was put back
 other-kept : (c : Card) (i j : ℕ) (l : Local) → j ≢ i → SameLocal j c (withLocal c i l)
 other-kept c i j l n = (
+  elsewhere _ n same,
   elsewhere _ n same,
   elsewhere _ n same,
   elsewhere _ n same,

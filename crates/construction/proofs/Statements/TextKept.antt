@@ -18,7 +18,7 @@ outcome-kept : (c : Card) {e : Entry} {r : Answered} → Outcome c e r → conte
 outcome-kept c (Outcome.turned-back e why) = refl
 outcome-kept c (Outcome.called i k inputs p b) = refl
 outcome-kept c (Outcome.asked i p) = refl
-outcome-kept c (Outcome.stepped i p b l) = sym (one-access c i .text)
+outcome-kept c (Outcome.stepped i x p b l) = sym (one-access c i .text)
 outcome-kept c (Outcome.shown v x) = refl
 
 all-kept : (o : Card) (m : Observation) (es : List Entry) → contentsOf (observeAll o m es .card) ≡ contentsOf (m .card)

@@ -155,7 +155,7 @@ module _ (o : Card) (m : Observation) (O : Consistent o m) (W : AllWait (content
       go (Outcome.called j k inputs l f) =
           stays j 0 (λ z. absurd (true-false _ b (subst (λ (n : ℕ). isBusy c n ≡ false) (sym z) f)))
       go (Outcome.asked j l) = stays j (localAt c j .steps) (λ z. subst (λ (n : ℕ). localAt c i .steps ≤ localAt c n .steps) z (omega arith))
-      go (Outcome.stepped j l f h) =
+      go (Outcome.stepped j y l f h) =
           subst (λ (s : List ℕ). localAt c i .steps ≤ getD s i 0) (sym (step-counts (accessIn (localAt c j)) c j))
           (stays j ((localAt c j .steps + 1) % 18446744073709551616)
           (λ z. subst (λ (n : ℕ). localAt c i .steps ≤ (localAt c n .steps + 1) % 18446744073709551616) z

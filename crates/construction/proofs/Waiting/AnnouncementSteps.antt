@@ -92,10 +92,10 @@ module _ {c : Card} {w : World} {i : ℕ} (B : Before c w i) (small : localAt c 
       go Exit = a
 
   pub at-P7 : Now P7 → Went c i x (Access.Announcement (AnnouncementAccess.ReadOwn F1 P10 P10))
-  at-P7 q = at-own P10 (omega (arith, last-lap q (omega arith))) (one-more small q _ 1 (omega arith) (omega arith) _ _ _ _ _)
+  at-P7 q = at-own P10 (omega (arith, last-lap q (omega arith))) (one-more small q _ 1 (omega arith) (omega arith) _ _ _ _ _ _)
 
   pub at-C4 : Now C4 → Went c i x (Access.Announcement (AnnouncementAccess.ReadOwn F1 P13 P13))
-  at-C4 q = at-own P13 (omega (arith, last-lap q (omega arith))) (one-more small q _ 4 (omega arith) (omega arith) _ _ _ _ _)
+  at-C4 q = at-own P13 (omega (arith, last-lap q (omega arith))) (one-more small q _ 4 (omega arith) (omega arith) _ _ _ _ _ _)
 
   -- line P22: an operation that is still active begins one more iteration, before its turn is over
   pub at-P22 :
@@ -131,9 +131,9 @@ module _ {c : Card} {w : World} {i : ℕ} (B : Before c w i) (small : localAt c 
       m = whose AnnouncementAccess.ReadFirst p i (localAt c i .gate)
 
       go : (f : Flag) → At (byFlag f C4 P13 C4) (announcementAt c i) x (read m (byFlag f C4 P13 C4))
-      go Done = one-more small q _ 3 (omega arith) (omega arith) _ _ _ _ _
-      go Active = one-more small q _ 4 (omega arith) (omega arith) _ _ _ _ _
-      go Exit = one-more small q _ 3 (omega arith) (omega arith) _ _ _ _ _
+      go Done = one-more small q _ 3 (omega arith) (omega arith) _ _ _ _ _ _
+      go Active = one-more small q _ 4 (omega arith) (omega arith) _ _ _ _ _ _
+      go Exit = one-more small q _ 3 (omega arith) (omega arith) _ _ _ _ _ _
 
   -- process i at a place, and its course after a swap of the announcement of m
   abbrev at : Place → Local
@@ -179,7 +179,7 @@ module _ {c : Card} {w : World} {i : ℕ} (B : Before c w i) (small : localAt c 
       Went.went x refl refl refl (put-course B (c .gate) s (c .records) (at l) x (q (getD s i openAnnouncement)))
 
   pub at-P19 : Now P19 → Went c i x (Access.Announcement (AnnouncementAccess.Finish Active P20))
-  at-P19 q = at-finish Active P20 (λ _. one-more small q _ _ (omega arith) (omega arith) _ _ _ _ _)
+  at-P19 q = at-finish Active P20 (λ _. one-more small q _ _ (omega arith) (omega arith) _ _ _ _ _ _)
 
   pub at-P20 : Now P20 → Went c i x (Access.Announcement (AnnouncementAccess.Finish Exit P21))
-  at-P20 q = at-finish Exit P21 (λ _. one-more small q _ _ (omega arith) (omega arith) _ _ _ _ _)
+  at-P20 q = at-finish Exit P21 (λ _. one-more small q _ _ (omega arith) (omega arith) _ _ _ _ _ _)

@@ -28,7 +28,7 @@ module _ (o : Card) (m : Observation) (O : Consistent o m) (W : AllWait (content
   by-outcome (Outcome.turned-back e why) = here
   by-outcome (Outcome.called i k inputs lt b) = wait-call k inputs (O .inv) here lt b
   by-outcome (Outcome.asked i lt) = wait-exit (O .inv) here lt
-  by-outcome (Outcome.stepped i lt b h) = wait-step (O .inv) here lt b h
+  by-outcome (Outcome.stepped i x lt b h) = wait-step (O .inv) here lt b h
   by-outcome (Outcome.shown v x) = here
 
   entry-waits : (e : Entry) → AllWait (contentsOf o) (act c e .card)

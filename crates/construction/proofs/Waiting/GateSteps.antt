@@ -57,13 +57,13 @@ module _ {c : Card} {w : World} {i : ℕ} (B : Before c w i) (small : localAt c 
 
   pub at-P10 : Now P10 → Went c i x (Access.Gate (GateAccess.Read P16 C2))
   at-P10 q =
-      at-read P16 C2 (λ m _. one-more small q (c .gate .seq) 6 (omega arith) (omega arith) _ _ _ _ _)
-      (λ _. one-more small q (c .gate .seq) 2 (omega arith) (omega arith) _ _ _ _ _)
+      at-read P16 C2 (λ m _. one-more small q (c .gate .seq) 6 (omega arith) (omega arith) _ _ _ _ _ _)
+      (λ _. one-more small q (c .gate .seq) 2 (omega arith) (omega arith) _ _ _ _ _ _)
 
   pub at-P14 : Now P14 → Went c i x (Access.Gate (GateAccess.Read P16 P22))
   at-P14 q =
-      at-read P16 P22 (λ m _. one-more small (q .0) (c .gate .seq) 6 (omega arith) (omega arith) _ _ _ _ _)
-      (λ e. (one-more small (q .0) (c .gate .seq) _ (omega arith) (omega arith) _ _ _ _ _, q .1 e))
+      at-read P16 P22 (λ m _. one-more small (q .0) (c .gate .seq) 6 (omega arith) (omega arith) _ _ _ _ _ _)
+      (λ e. (one-more small (q .0) (c .gate .seq) _ (omega arith) (omega arith) _ _ _ _ _ _, q .1 e))
 
   pub at-F1 : Now F1 → Went c i x (Access.Gate GateAccess.ReadLast)
   unfolding perform accessGate
@@ -86,8 +86,8 @@ module _ {c : Card} {w : World} {i : ℕ} (B : Before c w i) (small : localAt c 
       Went.went x refl refl refl
       (on-test (λ g. CourseIn c i x (withLocal (withGate c g) i (at P14))) (sameGate (c .gate) (localAt c i .gate))
       (λ _. swapped (nominated (localAt c i .gate) (localAt c i .task .target)) P14
-      (one-more small q _ 5 (omega arith) (omega arith) _ _ _ _ _, λ h. absurd (nobody-process h refl)))
-      (λ e. swapped (c .gate) P14 (one-more small q _ 5 (k .3 .below) (omega arith) _ _ _ _ _, free e)))
+      (one-more small q _ 5 (omega arith) (omega arith) _ _ _ _ _ _, λ h. absurd (nobody-process h refl)))
+      (λ e. swapped (c .gate) P14 (one-more small q _ 5 (k .3 .below) (omega arith) _ _ _ _ _ _, free e)))
     where
       -- the swap was lost to another number
       free : sameGate (c .gate) (localAt c i .gate) ≡ false → c .gate .holder ≡ Nobody → Ahead (c .processes) (c .gate) x
@@ -102,9 +102,9 @@ module _ {c : Card} {w : World} {i : ℕ} (B : Before c w i) (small : localAt c 
       (on-test (λ g. CourseIn c i x (withLocal (withGate c g) i (at P22))) (sameGate (c .gate) (localAt c i .gate))
       (λ e. let z : c .gate .seq ≡ localAt c i .gate .seq = ap (λ (g : Gate). g .seq) (sameGate-true _ _ e) in
       swapped (released (localAt c i .gate)) P22
-      (one-more small q _ _ (omega (arith, B .small)) (omega arith) _ _ _ _ _, omega (arith, q .low, B .small)))
+      (one-more small q _ _ (omega (arith, B .small)) (omega arith) _ _ _ _ _ _, omega (arith, q .low, B .small)))
       (λ e. let z = released-since B (k .0) e in
-      swapped (c .gate) P22 (one-more small q _ _ (omega arith) (omega arith) _ _ _ _ _, omega (arith, q .low))))
+      swapped (c .gate) P22 (one-more small q _ _ (omega arith) (omega arith) _ _ _ _ _ _, omega (arith, q .low))))
 
   pub at-F3 : Now F3 → Went c i x (Access.Gate (GateAccess.Release Idle))
   unfolding perform accessGate swapGate

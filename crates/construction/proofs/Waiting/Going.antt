@@ -44,8 +44,8 @@ pub data Went (c : Card) (i : ℕ) (x : Tally) (a : Access) : Type 0 where
 -- one step more in the same iteration
 pub one-more :
     {p w n k : ℕ} {x : Tally} {t : Local} → t .steps ≤ 1000000000000000000 → Loop p w n k x t → (m l : ℕ) → n ≤ m → k < l →
-    (s : Task) (g : Gate) (a : Announcement) (z : Simulation) (d : Dictionary) → Loop p w m l x (after t s g a z d)
-one-more few q m l le lt s g a z d =
+    (s : Task) (g : Gate) (a : Announcement) (z : Simulation) (d : Dictionary) (mask : ℕ) → Loop p w m l x (after t s g a z d mask)
+one-more few q m l le lt s g a z d mask =
     record { few = q .few; low = omega (arith, q .low); wished = q .wished; cost = omega (arith, q .cost) }
 
 module _ {c : Card} {w : World} {i : ℕ} (B : Before c w i) where

@@ -25,6 +25,7 @@ use Rattle.construction.specs.declared.Place.the-variants.{P16, H21, H36
 use Rattle.construction.specs.Cells.{openAnnouncement}
 use Rattle.construction.specs.Instructions.{started}
 use Rattle.construction.specs.Dictionary.{empty, noted, nextWrite, itemOf, insert}
+use Rattle.construction.specs.Marks.{withBit}
 use Rattle.construction.specs.Helping.{simulate}
 use Rattle.construction.specs.Parts.{Local, localAt, contentsOf, announcementAt, recordAt, programOf, withAnnouncement, withRecord, withLocal}
 use Rattle.construction.specs.Machine.{goTo, holderOf, writeFrom, afterPause, helps, beginHelp, note, writing, after, perform}
@@ -57,25 +58,25 @@ module _ {c : Card} {w : World} {i : ℕ} (B : Before c w i) (small : localAt c 
   Now l = CourseAt l (c .processes) heavy (c .gate) (announcementAt c i) x (localAt c i)
 
   -- a helper that goes on with a task
-  abbrev on : Task → Announcement → Simulation → Dictionary → Local
-  on t a z d = after (localAt c i) t (localAt c i .gate) a z d
+  abbrev on : Task → Announcement → Simulation → Dictionary → ℕ → Local
+  on t a z d k = after (localAt c i) t (localAt c i .gate) a z d k
 
   -- the next write from item k on, with the dictionary e
   writes :
-      {n : ℕ} (d : Dictionary) (k : ℕ) (a : Announcement) (z : Simulation) (e : Dictionary) → Loop (c .processes) heavy s n x (localAt c i) →
-      n < 7 + e .length + k → n < 7 + 2 * heavy → At (writeFrom s d k .place) (on (writeFrom s d k) a z e)
+      {n : ℕ} (d : Dictionary) (k : ℕ) (a : Announcement) (z : Simulation) (e : Dictionary) (mask : ℕ) → Loop (c .processes) heavy s n x (localAt c i) →
+      n < 7 + e .length + k → n < 7 + 2 * heavy → At (writeFrom s d k .place) (on (writeFrom s d k) a z e mask)
   unfolding nextWrite
-  writes d k a z e q h l b =
-      on-test (λ (t : Task). CourseAt (t .place) (c .processes) heavy (c .gate) b x (on t a z e)) (ltb (nextWrite s d k) (length (noted d)))
-      (λ _. one-more small q s _ (omega arith) (omega arith) _ _ _ _ _) (λ _. one-more small q s _ (omega arith) (omega arith) _ _ _ _ _)
+  writes d k a z e mask q h l b =
+      on-test (λ (t : Task). CourseAt (t .place) (c .processes) heavy (c .gate) b x (on t a z e mask)) (ltb (nextWrite s d k) (length (noted d)))
+      (λ _. one-more small q s _ (omega arith) (omega arith) _ _ _ _ _ _) (λ _. one-more small q s _ (omega arith) (omega arith) _ _ _ _ _ _)
 
   -- a simulation that stands still
   resumes :
-      {n : ℕ} (d : Dictionary) (r : Pause) (a : Announcement) (z : Simulation) (e : Dictionary) → Loop (c .processes) heavy s n x (localAt c i) →
-      n < 7 + e .length → e .length ≤ heavy → At (afterPause s d r .place) (on (afterPause s d r) a z e)
-  resumes d Ended a z e q h l b = writes d 0 a z e q (omega arith) (omega arith) b
-  resumes d Faulted a z e q h l b = one-more small q s _ (omega arith) (omega arith) _ _ _ _ _
-  resumes d (Lacks v) a z e q h l b = one-more small q s _ (omega arith) h _ _ _ _ _
+      {n : ℕ} (d : Dictionary) (r : Pause) (a : Announcement) (z : Simulation) (e : Dictionary) (mask : ℕ) → Loop (c .processes) heavy s n x (localAt c i) →
+      n < 7 + e .length → e .length ≤ heavy → At (afterPause s d r .place) (on (afterPause s d r) a z e mask)
+  resumes d Ended a z e mask q h l b = writes d 0 a z e mask q (omega arith) (omega arith) b
+  resumes d Faulted a z e mask q h l b = one-more small q s _ (omega arith) (omega arith) _ _ _ _ _ _
+  resumes d (Lacks v) a z e mask q h l b = one-more small q s _ (omega arith) h _ _ _ _ _ _
 
   pub at-P16 : Now P16 → Went c i x Access.Help
   unfolding perform beginHelp
@@ -85,10 +86,10 @@ module _ {c : Card} {w : World} {i : ℕ} (B : Before c w i) (small : localAt c 
       let z : Simulated = simulate (c .variables) (programOf (contentsOf c) (a .program) s) (a .words) started empty in
       Went.went x refl refl refl
       (on-test (λ (b : Began). CourseIn c i x (helping b)) (helps (announcementAt c m) s)
-      (λ _. put-course B (c .gate) l (c .records) (on (afterPause s (z .dictionary) (z .pause)) a (z .simulation) empty) x
-      (resumes (z .dictionary) (z .pause) a (z .simulation) empty q (omega arith) (omega arith) (getD l i openAnnouncement)))
-      (λ _. put-course B (c .gate) l (c .records) (on (goTo (localAt c i .task) P21) a (localAt c i .simulation) (localAt c i .dictionary)) x
-      (one-more small q s _ (omega arith) (omega arith) _ _ _ _ _)))
+      (λ _. put-course B (c .gate) l (c .records) (on (afterPause s (z .dictionary) (z .pause)) a (z .simulation) empty 0) x
+      (resumes (z .dictionary) (z .pause) a (z .simulation) empty 0 q (omega arith) (omega arith) (getD l i openAnnouncement)))
+      (λ _. put-course B (c .gate) l (c .records) (on (goTo (localAt c i .task) P21) a (localAt c i .simulation) (localAt c i .dictionary) (localAt c i .mask)) x
+      (one-more small q s _ (omega arith) (omega arith) _ _ _ _ _ _)))
     where
       m : ℕ
       m = holderOf (localAt c i .gate .holder)
@@ -96,7 +97,7 @@ module _ {c : Card} {w : World} {i : ℕ} (B : Before c w i) (small : localAt c 
       helping : Began → Card
       helping b =
           withLocal (withAnnouncement c m (announcementAt c m)) i
-          (on (b .task) (announcementAt c m) (b .simulation) (cond (b .helps) empty (localAt c i .dictionary)))
+          (on (b .task) (announcementAt c m) (b .simulation) (cond (b .helps) empty (localAt c i .dictionary)) (cond (b .helps) 0 (localAt c i .mask)))
 
   pub at-H21 : L H21 → Now H21 → Went c i x Access.Note
   unfolding perform note
@@ -112,17 +113,17 @@ module _ {c : Card} {w : World} {i : ℕ} (B : Before c w i) (small : localAt c 
       let room : localAt c i .dictionary .length < heavy = le-trans (k .2 .fewer) (weight-card (contentsOf c) (a .program) s) in
       Went.went x refl refl refl
       (on-test (λ (b : Helped). CourseIn c i x (noting b)) (ltb s (recordAt c v .seq))
-      (λ _. put-course B (c .gate) (c .announcements) r (on (goTo (localAt c i .task) P19) a (localAt c i .simulation) (localAt c i .dictionary)) x
-      (one-more small q s _ (omega arith) (omega arith) _ _ _ _ _))
-      (λ _. put-course B (c .gate) (c .announcements) r (on (afterPause s (z .dictionary) (z .pause)) a (z .simulation) (z .dictionary)) x
-      (resumes (z .dictionary) (z .pause) a (z .simulation) (z .dictionary) q (omega (arith, longer)) (omega (arith, longer, room)) (announcementAt c i))))
+      (λ _. put-course B (c .gate) (c .announcements) r (on (goTo (localAt c i .task) P19) a (localAt c i .simulation) (localAt c i .dictionary) (localAt c i .mask)) x
+      (one-more small q s _ (omega arith) (omega arith) _ _ _ _ _ _))
+      (λ _. put-course B (c .gate) (c .announcements) r (on (afterPause s (z .dictionary) (z .pause)) a (z .simulation) (z .dictionary) (withBit (localAt c i .mask) v)) x
+      (resumes (z .dictionary) (z .pause) a (z .simulation) (z .dictionary) (withBit (localAt c i .mask) v) q (omega (arith, longer)) (omega (arith, longer, room)) (announcementAt c i))))
     where
       v : ℕ
       v = localAt c i .task .target
 
       noting : Helped → Card
       noting b =
-          withLocal (withRecord c v (recordAt c v)) i (on (b .task) (localAt c i .announcement) (b .simulation) (b .dictionary))
+          withLocal (withRecord c v (recordAt c v)) i (on (b .task) (localAt c i .announcement) (b .simulation) (b .dictionary) (b .mask))
 
   pub at-H36 : L H36 → Now H36 → Went c i x Access.Write
   unfolding perform writing
@@ -133,5 +134,5 @@ module _ {c : Card} {w : World} {i : ℕ} (B : Before c w i) (small : localAt c 
       let few : d .length ≤ heavy = le-trans (k .2 .room .few) (weight-card (contentsOf c) (a .program) s) in
       let inside : localAt c i .task .target < d .length = omega (arith, k .3 .inside, length-take (d .length) (d .items)) in
       Went.went x refl refl refl
-      (put-course B (c .gate) (c .announcements) r (on (writeFrom s d (suc (localAt c i .task .target))) a (localAt c i .simulation) d) x
-      (writes d (suc (localAt c i .task .target)) a (localAt c i .simulation) d q (omega arith) (omega arith) (announcementAt c i)))
+      (put-course B (c .gate) (c .announcements) r (on (writeFrom s d (suc (localAt c i .task .target))) a (localAt c i .simulation) d (localAt c i .mask)) x
+      (writes d (suc (localAt c i .task .target)) a (localAt c i .simulation) d (localAt c i .mask) q (omega arith) (omega arith) (announcementAt c i)))

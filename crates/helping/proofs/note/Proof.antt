@@ -11,10 +11,10 @@ use Rattle.helping.proofs.note.Statement.{statement}
 use Rattle.helping.proofs.note.Tie as tie
 
 abbrev Inv-loop : tie.InvT-loop
-Inv-loop n number d₀ end values pause state k₀ d k = (d ≡ withValues d₀ (take k values)) × (end ≤ length values) × (k ≤ end)
+Inv-loop n number mask₀ mask d₀ end values pause state k₀ d k = (d ≡ withValues d₀ (take k values)) × (end ≤ length values) × (k ≤ end)
 
 abbrev μ-loop : tie.MeasureT-loop
-μ-loop n number d₀ end values pause state k₀ d k = end - k
+μ-loop n number mask₀ mask d₀ end values pause state k₀ d k = end - k
 
 -- the dictionary that the item was inserted into, and the numbers that stand in it
 numbered :
@@ -29,7 +29,7 @@ numbered c =
     }
 
 returns : tie.Need-returns Inv-loop μ-loop
-returns c = lines.passed-by _ _ _ _ _ _ _ _ (c .if1 .taken)
+returns c = lines.passed-by _ _ _ _ _ _ _ _ _ (c .if1 .taken)
 
 simulate-requires : tie.Need-simulate-requires Inv-loop μ-loop
 simulate-requires c κs = (omega arith, laws.enough (numbered (c .before .before .before .before)))
@@ -54,9 +54,9 @@ returns-2 c =
     let inserted = numbers .before .before in
     let read = inserted .before in
     let all : loop .k ≡ numbers .before .noted .result = omega arith in
-    lines.noted-on _ _ _ _ _ _ _ _ (read .before .if1 .left) _ (read .item-of .ensures) _ (inserted .insert .ensures) (numbered numbers) _ _
+    lines.noted-on _ _ _ _ _ _ _ _ _ (read .before .before .if1 .left) _ (read .item-of .ensures) _ (inserted .insert .ensures) (numbered numbers) _ _
     (ran .simulate .ensures .left _ (numbered numbers)) _ (rw all at (loop .inv .0)) _ (c .before .next-write .ensures) _
-    (c .after-pause .ensures)
+    (c .after-pause .ensures) _ (read .before .with-bit .ensures)
 
 pub note-spec : {M : Type 1} → statement M
 note-spec =
@@ -65,6 +65,7 @@ note-spec =
     Inv-loop
     μ-loop
     returns
+    (λ c κs. search needs)
     (λ c κs. search needs)
     (λ c κs. search needs)
     (λ c κs. search needs)

@@ -1,0 +1,19 @@
+use native.Mathlib.Omega.{arith}
+use Rattle.answers.proofs.ReportTexts as laws
+use borrow.Author.Needs.{needs}
+use Rattle.answers.proofs.reports.put_label.Statement.{statement}
+use Rattle.answers.proofs.reports.put_label.Tie as tie
+
+returns : tie.Need-returns
+returns c = laws.put-label _ _ _ (c .before .before .before .before .before .before .before .before .letter-of .ensures) (c .before .before .before .line-number .ensures) (omega arith) (omega arith) (c .before .before .before .before .before .before .before .put-letter .ensures) (c .before .before .put-decimal .ensures)
+
+pub put-label-spec : {M : Type 1} → statement M
+put-label-spec =
+    tie.close
+    (tie.spec
+    (λ c κs. search needs)
+    (λ c κs. search needs)
+    (λ c κs. search needs)
+    (λ c κs. search needs)
+    (λ c. search needs)
+    returns)

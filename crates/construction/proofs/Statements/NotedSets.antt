@@ -1,0 +1,198 @@
+-- Over every list of entries the word of a process is the set of the variables that its dictionary notes (document 02, order 1), and a report tells it.
+use Prim.Native.Nat.{ℕ, _<_}
+use mathlib.Core.Path.{_≡_, refl, sym, subst, _∙_}
+use mathlib.Core.Bool.{Bool, true, false, cond, true≢false, false≢true}
+use mathlib.Core.Logic.{_≢_}
+use mathlib.Core.List.{List, [], _∷_}
+use native.Mathlib.Omega.{arith}
+use native.Mathlib.Decide.{ℕ-discrete}
+use lib.Count.{ones}
+use lib.Dec.{ltb}
+use lib.ListN.{length, getD, set}
+use lib.Seq.{getD-set-same, getD-set-other}
+use borrow.Author.Tests.{le-ltb}
+use Rattle.construction.specs.declared.Gate.{Gate}
+use Rattle.construction.specs.declared.Announcement.{Announcement}
+use Rattle.construction.specs.declared.Record.{Record}
+use Rattle.construction.specs.declared.Words.{Words}
+use Rattle.construction.specs.declared.Program.{Program}
+use Rattle.construction.specs.declared.Task.{Task}
+use Rattle.construction.specs.declared.Simulation.{Simulation}
+use Rattle.construction.specs.declared.Helped.{Helped}
+use Rattle.construction.specs.declared.Dictionary.{Dictionary}
+use Rattle.construction.specs.declared.Contents.{Contents}
+use Rattle.construction.specs.declared.Access.{Access}
+use Rattle.construction.specs.declared.Place.{Place}
+use Rattle.construction.specs.declared.Place.the-variants.{Idle, P1, P3, P5, P7, P10, C2, C4, P13, P14, P16, H21, H36, P19, P20, P21, P22, F1, F3}
+use Rattle.construction.specs.declared.Card.{Card}
+use Rattle.construction.specs.declared.Answered.{Answered}
+use Rattle.construction.specs.Dictionary.{empty, noted, find, has, insert, itemOf}
+use Rattle.construction.specs.Marks.{withBit, Marks}
+use Rattle.construction.specs.Parts.{Local, localAt, contentsOf, announcementAt, programOf}
+use Rattle.construction.specs.Machine.{accessOf, accessIn, holderOf, beginHelp, note, perform, advance}
+use Rattle.construction.specs.Requests.{isBusy}
+use Rattle.construction.specs.Tracing.{labelOf, isNoting, reportOf, TellsNoted}
+use Rattle.construction.specs.Opening.{fresh, opened}
+use Rattle.construction.specs.History.{Entry, Observation, observe, observeAll, opening, run}
+use Rattle.construction.proofs.Basics.{on-test, clash, cond-true, cond-false, getD-replicate-same}
+use Rattle.construction.proofs.Simulating.Dictionaries.{hasIn}
+use Rattle.construction.proofs.Simulating.Marks.{no-bits, marks-insert, marks-simulated}
+use Rattle.construction.proofs.Invariant.World.{World}
+use Rattle.construction.proofs.Invariant.Locals.{Sizes}
+use Rattle.construction.proofs.Invariant.Assertions.{LocAt, Loc, known}
+use Rattle.construction.proofs.Invariant.Cards.{CardInvariant}
+use Rattle.construction.proofs.Observing.Outcomes.{Outcome, outcome}
+use Rattle.construction.proofs.Observing.Consistency.{Consistent, entry-kept}
+use Rattle.construction.proofs.Statements.Linearizability.{opened-consistent}
+
+-- the own state of a process is marked
+abbrev Marked : Local → Type 0
+Marked l = Marks (l .mask) (l .dictionary)
+
+abbrev AllMarked : Card → Type 0
+AllMarked c = (i : ℕ) → Marked (localAt c i)
+
+-- line H1: nothing is noted
+marks-empty : Marks 0 empty
+unfolding ones
+marks-empty = record {
+  noted = λ v h. absurd (none v h);
+  absent = λ v h. no-bits v;
+  count = refl;
+}
+  where
+    none : (v : ℕ) → has empty v ≡ true → ⊥
+    none v h = let z : _≡_ {A = Bool} false true = sym (le-ltb (find empty v) 0 (omega arith)) ∙ h in clash (cc)
+
+-- what H21 knows of the variable that it reads
+pub record Fits (v : ℕ) (d : Dictionary) : Type 0 where
+  pub small : v < 64
+  pub new : hasIn (noted d) v ≡ false
+  pub spare : d .length < 32
+  pub room : length (d .items) ≡ 32
+
+-- lines H21 to H25: the variable is noted in both, or in neither
+note-marked :
+    (n : ℕ) (program : Program) (inputs : Words) (cell : Record) (number : ℕ) (t : Task) (s : Simulation) (d : Dictionary) (mask : ℕ) →
+    Fits (t .target) d → Marks mask d →
+    Marks (note n program inputs cell number t s d mask .mask) (note n program inputs cell number t s d mask .dictionary)
+unfolding note
+note-marked n program inputs cell number t s d mask q M =
+    on-test (λ (x : Helped). Marks (x .mask) (x .dictionary)) (ltb number (cell .seq)) (λ _. M)
+    (λ _. marks-simulated n program inputs _ s _ (marks-insert mask d M (itemOf number (t .target) cell) (q .small) (q .new) (q .spare) (q .room)))
+
+abbrev Noting : Access → Local → Type 0
+Noting Access.None l = Unit
+Noting (Access.Gate a) l = Unit
+Noting (Access.Announcement a) l = Unit
+Noting Access.Help l = Unit
+Noting Access.Note l = Fits (l .task .target) (l .dictionary)
+Noting Access.Write l = Unit
+
+module _ {c : Card} {w : World} (I : CardInvariant c w) (j : ℕ) where
+  noting-at : (l : Place) (exit : Bool) → LocAt l (contentsOf c) w j (known (localAt c j)) → Noting (accessOf l exit) (localAt c j)
+  unfolding accessOf
+  noting-at Idle exit q = tt
+  noting-at P1 exit q = tt
+  noting-at P3 exit q = tt
+  noting-at P5 true q = tt
+  noting-at P5 false q = tt
+  noting-at P7 exit q = tt
+  noting-at P10 exit q = tt
+  noting-at C2 exit q = tt
+  noting-at C4 exit q = tt
+  noting-at P13 exit q = tt
+  noting-at P14 exit q = tt
+  noting-at P16 exit q = tt
+  noting-at H21 exit q =
+      record {
+        small = omega (arith, q .2 .inside, I .good .fits .narrow);
+        new = q .2 .absent;
+        spare = q .2 .spare;
+        room = q .2 .core .room .array;
+      }
+  noting-at H36 exit q = tt
+  noting-at P19 exit q = tt
+  noting-at P20 exit q = tt
+  noting-at P21 exit q = tt
+  noting-at P22 exit q = tt
+  noting-at F1 exit q = tt
+  noting-at F3 exit q = tt
+
+-- a word and a dictionary put back for process j
+module _ (c : Card) (Z : Sizes c) (j : ℕ) (lt : j < 8) (H : AllMarked c) where
+  put-marked : (i word : ℕ) (d : Dictionary) → Marks word d → Marks (getD (set (c .masks) j word) i 0) (getD (set (c .dictionaries) j d) i empty)
+  put-marked i word d h = go (ℕ-discrete i j)
+    where
+      go : Dec (i ≡ j) → Marks (getD (set (c .masks) j word) i 0) (getD (set (c .dictionaries) j d) i empty)
+      go (yes e) =
+          rw e
+          (rw (getD-set-same (c .masks) j word 0 (omega (arith, Z .masks)), getD-set-same (c .dictionaries) j d empty (omega (arith, Z .dictionaries))) h)
+      go (no ne) = rw (getD-set-other (c .masks) j i word 0 ne, getD-set-other (c .dictionaries) j i d empty ne) (H i)
+
+  access-marked : (a : Access) → Noting a (localAt c j) → AllMarked (perform a c j .card)
+  unfolding perform
+  access-marked Access.None q i = put-marked i _ _ (H j)
+  access-marked (Access.Gate a) q i = put-marked i _ _ (H j)
+  access-marked (Access.Announcement a) q i = put-marked i _ _ (H j)
+  access-marked Access.Help q i =
+      let l = localAt c j in
+      let cell = announcementAt c (holderOf (l .gate .holder)) in
+      let program = programOf (contentsOf c) (cell .program) (l .gate .seq) in
+      put-marked i _ _ (begun (beginHelp (c .variables) program cell (l .gate .seq) (l .task) (l .simulation) .helps))
+    where
+      begun : (b : Bool) → Marks (cond b 0 (localAt c j .mask)) (cond b empty (localAt c j .dictionary))
+      begun true = marks-empty
+      begun false = H j
+  access-marked Access.Note q i = put-marked i _ _ (note-marked _ _ _ _ _ _ _ _ _ q (H j))
+  access-marked Access.Write q i = put-marked i _ _ (H j)
+
+-- an accepted step, and every entry
+step-marked : {c : Card} {w : World} → CardInvariant c w → (j : ℕ) → j < c .processes → AllMarked c → AllMarked (advance c j)
+unfolding advance
+step-marked {c} {w} I j lt H =
+    access-marked c (I .sizes) j (omega (arith, I .good .fits .few)) H (accessIn (localAt c j))
+    (noting-at I j (localAt c j .task .place) (localAt c j .exit) (I .locs j lt))
+
+entry-marked :
+    {c : Card} {w : World} → CardInvariant c w → {e : Entry} {r : Answered} → Outcome c e r → AllMarked c → AllMarked (r .card)
+entry-marked {c} I (Outcome.turned-back e why) H = H
+entry-marked {c} I (Outcome.called j k inputs p b) H = λ i. put-marked c (I .sizes) j (omega (arith, I .good .fits .few)) H i _ _ (H j)
+entry-marked {c} I (Outcome.asked j p) H = λ i. put-marked c (I .sizes) j (omega (arith, I .good .fits .few)) H i _ _ (H j)
+entry-marked {c} I (Outcome.stepped j x p b l) H = step-marked I j p H
+entry-marked {c} I (Outcome.shown v x) H = H
+
+all-marked : (o : Card) (m : Observation) (es : List Entry) → Consistent o m → AllMarked (m .card) → AllMarked (observeAll o m es .card)
+unfolding observe observeAll
+all-marked o m [] O H = H
+all-marked o m (e ∷ es) O H =
+    all-marked o (observe o m e) es (entry-kept o m O e) (entry-marked (O .inv) (outcome (m .card) e) H)
+
+-- over every text and every list of entries the word of each process is the set of the variables that its dictionary notes
+pub noted-sets :
+    (t : List ℕ) (es : List Entry) (i : ℕ) →
+    Marks (localAt (run (opened t .card) es .card) i .mask) (localAt (run (opened t .card) es .card) i .dictionary)
+unfolding opened fresh observeAll
+noted-sets t es =
+    all-marked (opened t .card) (opening (opened t .card)) es (opened-consistent t [])
+    (λ i. rw (getD-replicate-same 8 i empty, getD-replicate-same {A = ℕ} 8 i 0) marks-empty)
+
+-- .. and the report of every accepted step tells it
+abbrev Told : Bool → ℕ → Dictionary → Type 0
+Told b word d =
+    (b ≡ true → Marks (cond b word 0) d × (ones (cond b word 0) ≡ d .length)) × (b ≡ false → (cond b word 0 ≡ 0) × (ones (cond b word 0) ≡ 0))
+
+told : (b : Bool) (word : ℕ) (d : Dictionary) → Marks word d → Told b word d
+told true word d M = (λ _. (M, M .count), λ e. absurd (true≢false e))
+told false word d M = (λ e. absurd (false≢true e), λ _. (refl, marks-empty .count))
+
+pub tells-noted :
+    (t : List ℕ) (es : List Entry) (i : ℕ) → i < run (opened t .card) es .card .processes → TellsNoted (run (opened t .card) es .card) i
+unfolding reportOf
+tells-noted t es i lt =
+    let c = run (opened t .card) es .card in
+    let l = localAt c i in
+    let after = localAt (advance c i) i in
+    let x = told (isNoting (labelOf (l .task .place) (l .exit))) (after .mask) (after .dictionary)
+    (step-marked (opened-consistent t es .inv) i lt (noted-sets t es) i) in
+    record { noting = λ h. x .0 h .0; count = λ h. x .0 h .1; silent = x .1 }

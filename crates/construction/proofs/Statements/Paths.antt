@@ -1,0 +1,547 @@
+-- Over every list of entries the accesses of each operation, by `step` or by `trace`, are a path that the numbered lines allow (specs/Paths).
+use Prim.Native.Nat.{ℕ, suc, _≤_, _<_}
+use mathlib.Core.Path.{_≡_, refl, sym, subst, ap, _∙_}
+use mathlib.Core.Bool.{Bool, true, false, cond, not, _&&_, true≢false}
+use mathlib.Core.Logic.{_≢_, _⊎_, inl, inr, ⊎-elim}
+use mathlib.Core.List.{List, [], _∷_}
+use native.Mathlib.Omega.{arith}
+use native.Mathlib.Decide.{ℕ-discrete}
+use lib.Dec.{eqb, ltb, leb}
+use lib.ListN.{length}
+use borrow.Author.Tests.{le-ltb, ltb-true, ltb-false, leb-true, leb-false, not-true, not-false, eqb-true, eqb-false}
+use Rattle.construction.specs.declared.Gate.{Gate}
+use Rattle.construction.specs.declared.Announcement.{Announcement}
+use Rattle.construction.specs.declared.Record.{Record}
+use Rattle.construction.specs.declared.Task.{Task}
+use Rattle.construction.specs.declared.Words.{Words}
+use Rattle.construction.specs.declared.Program.{Program}
+use Rattle.construction.specs.declared.Simulation.{Simulation}
+use Rattle.construction.specs.declared.Simulated.{Simulated}
+use Rattle.construction.specs.declared.Dictionary.{Dictionary}
+use Rattle.construction.specs.declared.Began.{Began}
+use Rattle.construction.specs.declared.Helped.{Helped}
+use Rattle.construction.specs.declared.Pause.{Pause}
+use Rattle.construction.specs.declared.Pause.the-variants.{Ended, Faulted, Lacks}
+use Rattle.construction.specs.declared.Holder.{Holder}
+use Rattle.construction.specs.declared.Holder.the-variants.{Nobody, Process}
+use Rattle.construction.specs.declared.Flag.{Flag}
+use Rattle.construction.specs.declared.Flag.the-variants.{Done, Active, Exit}
+use Rattle.construction.specs.declared.Swap.{Swap}
+use Rattle.construction.specs.declared.Label.{Label}
+use Rattle.construction.specs.declared.Contents.{Contents}
+use Rattle.construction.specs.declared.Access.{Access}
+use Rattle.construction.specs.declared.Place.{Place}
+use Rattle.construction.specs.declared.Place.the-variants.{Idle, P1, P3, P5, P7, P10, C2, C4, P13, P14, P16, H21, H36, P19, P20, P21, P22, F1, F3}
+use Rattle.construction.specs.declared.Card.{Card}
+use Rattle.construction.specs.declared.Answer.{Answer}
+use Rattle.construction.specs.declared.Answered.{Answered}
+use Rattle.construction.specs.declared.Refusal.{Refusal}
+use Rattle.construction.specs.Cells.{isDone, sameHolder, swapGate, swapAnnouncement, swapRecord, released}
+use Rattle.construction.specs.Instructions.{started}
+use Rattle.construction.specs.Dictionary.{empty, noted, insert, itemOf, nextWrite}
+use Rattle.construction.specs.Marks.{withBit}
+use Rattle.construction.specs.Helping.{simulate}
+use Rattle.construction.specs.Parts.{idleTask, Local, localAt, contentsOf, announcementAt, recordAt, withCells, withLocal}
+use Rattle.construction.specs.Machine.{accessOf, accessGate, accessAnnouncement, byHolder, byFlag, holderOf, firstChoice, outcome, helps, helped, afterPause, writeFrom, beginHelp, note, writing, writtenVariable, whose, cellOf, after, stepGate, stepAnnouncement, stepHelp, stepNote, stepWrite, perform, advance, swapOf}
+use Rattle.construction.specs.Requests.{isIdle, isBusy, invoked, exiting, returned, answerOf}
+use Rattle.construction.specs.Tracing.{labelOf, reportOf, isRefused}
+use Rattle.construction.specs.Opening.{fresh, opened}
+use Rattle.construction.specs.History.{Entry, act, Steps, Observation, observe, observeAll, opening, run}
+use Rattle.construction.specs.Paths.{Found, foundIn, Made, made, Edge, Course, courseOf, End, Leads, Ends, Path, Whole, readsGate, numberIn, lastNumber, Numbered, Follows, noticed, accessesFrom, accesses}
+use Rattle.construction.proofs.Basics.{on-test, cond-true, cond-false, true-or-false, and-true, and-false, clash, nobody-process, active-not-done, exit-not-done, active-not-exit, isDone-true, isDone-false, sameHolder-true, sameHolder-refl, true-false, getD-replicate-same}
+use Rattle.construction.proofs.Simulating.Simulations.{simulate-empty}
+use Rattle.construction.proofs.Invariant.World.{World}
+use Rattle.construction.proofs.Invariant.Stages.{stage, is-idle}
+use Rattle.construction.proofs.Invariant.Locals.{Sizes, local-same, local-other}
+use Rattle.construction.proofs.Invariant.Assertions.{LocAt, known}
+use Rattle.construction.proofs.Invariant.Cards.{CardInvariant, inv-step}
+use Rattle.construction.proofs.Observing.Outcomes.{Outcome, outcome as outcome-of}
+use Rattle.construction.proofs.Observing.Consistency.{Consistent, entry-kept}
+use Rattle.construction.proofs.Statements.Linearizability.{opened-consistent}
+use Rattle.construction.proofs.Statements.Tracing.{answers}
+
+-- how an operation returns whose process last read an announcement with this flag
+abbrev settled : Flag → Course
+settled Done = Course.done
+settled Active = Course.done
+settled Exit = Course.exited
+
+-- an access with this label, swap and finding leads on to a place, whatever wish its process has there; or the operation returns
+module _ (i number : ℕ) (label : Label) (s : Swap) (f : Found) (last : Flag) where
+  abbrev Toward : Place → Type 0
+  Toward l = (wish : Bool) → Edge i number label s f wish (labelOf l wish)
+
+  abbrev Onto : Place → Type 0
+  Onto Idle = End i label s f (settled last)
+  Onto P1 = Toward P1
+  Onto P3 = Toward P3
+  Onto P5 = Toward P5
+  Onto P7 = Toward P7
+  Onto P10 = Toward P10
+  Onto C2 = Toward C2
+  Onto C4 = Toward C4
+  Onto P13 = Toward P13
+  Onto P14 = Toward P14
+  Onto P16 = Toward P16
+  Onto H21 = Toward H21
+  Onto H36 = Toward H36
+  Onto P19 = Toward P19
+  Onto P20 = Toward P20
+  Onto P21 = Toward P21
+  Onto P22 = Toward P22
+  Onto F1 = Toward F1
+  Onto F3 = Toward F3
+
+-- the test of line P17
+helps-true : (a : Announcement) (number : ℕ) → helps a number ≡ true → (a .flag ≢ Done) × (a .seq ≤ number)
+helps-true a number e =
+    let h = and-true (not (isDone (a .flag))) _ e in
+    (isDone-false _ (not-true _ (h .0)), leb-true _ _ (h .1))
+
+helps-false : (a : Announcement) (number : ℕ) → helps a number ≡ false → (a .flag ≡ Done) ⊎ (number < a .seq)
+helps-false a number e =
+    ⊎-elim (λ h. inl (isDone-true _ (not-false _ h))) (λ h. inr (leb-false _ _ (h .1))) (and-false (not (isDone (a .flag))) _ e)
+
+-- the choices that the lines make, with what was asked
+module _ (Q : Place → Type 0) where
+  on-holder : (h : Holder) (held free : Place) → (h ≢ Nobody → Q held) → (h ≡ Nobody → Q free) → Q (byHolder h held free)
+  on-holder Nobody held free a b = b refl
+  on-holder (Process m) held free a b = a (λ e. nobody-process e refl)
+
+  on-flag :
+      (f : Flag) (done active exit : Place) → (f ≡ Done → Q done) → (f ≡ Active → Q active) → (f ≡ Exit → Q exit) →
+      Q (byFlag f done active exit)
+  on-flag Done done active exit a b c = a refl
+  on-flag Active done active exit a b c = b refl
+  on-flag Exit done active exit a b c = c refl
+
+  on-write : (seq : ℕ) (d : Dictionary) (k : ℕ) → Q H36 → Q P19 → Q (writeFrom seq d k .place)
+  on-write seq d k a b = on-test (λ (x : Task). Q (x .place)) (ltb (nextWrite seq d k) (length (noted d))) (λ _. a) (λ _. b)
+
+  on-pause : (seq : ℕ) (d : Dictionary) (p : Pause) → Q H21 → Q H36 → Q P19 → Q (afterPause seq d p .place)
+  on-pause seq d Ended a b c = on-write seq d 0 b c
+  on-pause seq d Faulted a b c = c
+  on-pause seq d (Lacks v) a b c = a
+
+  -- a program that begins has noted nothing, so it has nothing to write
+  on-beginning : (seq : ℕ) (d : Dictionary) → d ≡ empty → (p : Pause) → Q H21 → Q P19 → Q (afterPause seq d p .place)
+  on-beginning seq d e Ended a b = rw (e, le-ltb (nextWrite seq empty 0) 0 (omega arith)) b
+  on-beginning seq d e Faulted a b = b
+  on-beginning seq d e (Lacks v) a b = a
+
+  on-help :
+      (n : ℕ) (program : Program) (a : Announcement) (number : ℕ) (t : Task) (s : Simulation) →
+      (a .flag ≢ Done → a .seq ≤ number → Q H21 × Q P19) → ((a .flag ≡ Done) ⊎ (number < a .seq) → Q P21) →
+      Q (beginHelp n program a number t s .task .place)
+  unfolding beginHelp
+  on-help n program a number t s f g =
+      let x = simulate n program (a .words) started empty in
+      on-test (λ (b : Began). Q (b .task .place)) (helps a number)
+      (λ e.
+      let h = helps-true a number e in
+      let y = f (h .0) (h .1) in
+      on-beginning number (x .dictionary) (simulate-empty n program (a .words)) (x .pause) (y .0) (y .1))
+      (λ e. g (helps-false a number e))
+
+  on-note :
+      (n : ℕ) (program : Program) (inputs : Words) (r : Record) (number : ℕ) (t : Task) (s : Simulation) (d : Dictionary) (mask : ℕ) →
+      (number < r .seq → Q P19) → (r .seq ≤ number → Q H21 × Q H36 × Q P19) → Q (note n program inputs r number t s d mask .task .place)
+  unfolding note
+  on-note n program inputs r number t s d mask f g =
+      let x = simulate n program inputs s (insert d (itemOf number (t .target) r)) in
+      on-test (λ (h : Helped). Q (h .task .place)) (ltb number (r .seq)) (λ e. f (ltb-true _ _ e))
+      (λ e. let y = g (ltb-false _ _ e) in on-pause number (x .dictionary) (x .pause) (y .0) (y .1) (y .2))
+
+swapped : (won : Bool) → outcome won ≢ Swap.None
+swapped true e = clash (cc)
+swapped false e = clash (cc)
+
+gate-swapped : (cell g new : Gate) → outcome (swapGate cell g new .won) ≢ Swap.None
+gate-swapped cell g new = swapped (swapGate cell g new .won)
+
+announcement-swapped : (cell a new : Announcement) → outcome (swapAnnouncement cell a new .won) ≢ Swap.None
+announcement-swapped cell a new = swapped (swapAnnouncement cell a new .won)
+
+record-swapped : (cell r new : Record) → outcome (swapRecord cell r new .won) ≢ Swap.None
+record-swapped cell r new = swapped (swapRecord cell r new .won)
+
+-- what a process knows of the announcement last read where it is about to return
+abbrev Returning : Place → Flag → Type 0
+Returning Idle f = Unit
+Returning P1 f = Unit
+Returning P3 f = Unit
+Returning P5 f = Unit
+Returning P7 f = Unit
+Returning P10 f = Unit
+Returning C2 f = Unit
+Returning C4 f = Unit
+Returning P13 f = Unit
+Returning P14 f = Unit
+Returning P16 f = Unit
+Returning H21 f = Unit
+Returning H36 f = Unit
+Returning P19 f = Unit
+Returning P20 f = Unit
+Returning P21 f = Unit
+Returning P22 f = Unit
+Returning F1 f = f ≡ Done
+Returning F3 f = f ≡ Done
+
+-- the access of process i at a place
+module _ (c : Card) (i : ℕ) (Z : Sizes c) (lt : i < 8) where
+  abbrev own : Local
+  own = localAt c i
+
+  abbrev found : Place → Bool → Found
+  found p exit = foundIn c (cellOf (accessOf p exit) (contentsOf c) i own)
+
+  abbrev Lands : Place → Bool → Local → Type 0
+  Lands p exit l =
+      Onto i (l .gate .seq) (labelOf p exit) (perform (accessOf p exit) c i .swap) (found p exit) (l .announcement .flag) (l .task .place)
+
+  -- the own state that an access leaves
+  abbrev leaves : Access → Local
+  leaves Access.None = after own (own .task) (own .gate) (own .announcement) (own .simulation) (own .dictionary) (own .mask)
+  leaves (Access.Gate a) = stepGate a i (c .gate) own .local
+  leaves (Access.Announcement a) =
+      let m = whose a (c .processes) i (own .gate) in
+      stepAnnouncement a m (announcementAt c m) own .local
+  leaves Access.Help = stepHelp (contentsOf c) (announcementAt c (holderOf (own .gate .holder))) own .local
+  leaves Access.Note = stepNote (contentsOf c) (recordAt c (own .task .target)) own .local
+  leaves Access.Write = stepWrite (recordAt c (writtenVariable own)) own .local
+
+  left-is : (a : Access) → localAt (perform a c i .card) i ≡ leaves a
+  unfolding perform
+  left-is Access.None = local-same c i _ Z lt
+  left-is (Access.Gate a) = local-same c i _ Z lt
+  left-is (Access.Announcement a) = local-same c i _ Z lt
+  left-is Access.Help = local-same c i _ Z lt
+  left-is Access.Note = local-same c i _ Z lt
+  left-is Access.Write = local-same c i _ Z lt
+
+  before : {p : Place} {n : ℕ} → p ≢ P1 → (p ≡ P1) ⊎ (n ≡ own .gate .seq) → own .gate .seq ≡ n
+  before ne h = ⊎-elim (λ e. absurd (ne e)) sym h
+
+  -- where a read of the gate leads to, and one of the announcement of process m
+  abbrev GateRead : Label → Place → Type 0
+  GateRead label = Onto i (c .gate .seq) label Swap.None (Found.gate (c .gate)) (own .announcement .flag)
+
+  abbrev AnnouncementRead : Label → ℕ → Place → Type 0
+  AnnouncementRead label m =
+      Onto i (own .gate .seq) label Swap.None (Found.announcement (announcementAt c m)) (announcementAt c m .flag)
+
+  lands : (p : Place) (exit : Bool) → isIdle p ≡ false → Returning p (own .announcement .flag) → Lands p exit (leaves (accessOf p exit))
+  unfolding accessOf labelOf perform accessGate accessAnnouncement writing
+  lands Idle exit n q = absurd (true≢false n)
+  lands P1 exit n q =
+      (on-holder (GateRead Label.P1) (c .gate .holder) P3 P3 (λ _ _. Edge.P1-P3) (λ _ _. Edge.P1-P3))
+  lands P3 exit n q = top
+    where
+      top : (wish : Bool) → Edge i (own .gate .seq) Label.P3 Swap.None (found P3 exit) wish (cond wish Label.P6 Label.P10)
+      top true = Edge.P3-P6
+      top false = Edge.P3-P10
+  lands P5 true n q = λ _. Edge.P6-P7 (announcement-swapped _ _ _)
+  lands P5 false n q =
+      (on-holder (GateRead Label.P10) (c .gate .holder) P16 C2 (λ e _. Edge.P10-P16 e) (λ e _. Edge.P10-C2 e))
+  lands P7 exit n q =
+      (on-flag (AnnouncementRead Label.P7 i) (announcementAt c i .flag) F1 P10 P10 (λ e _. Edge.P7-F1 e)
+      (λ e _. Edge.P7-P10 (active-not-done e)) (λ e _. Edge.P7-P10 (exit-not-done e)))
+  lands P10 exit n q =
+      (on-holder (GateRead Label.P10) (c .gate .holder) P16 C2 (λ e _. Edge.P10-P16 e) (λ e _. Edge.P10-C2 e))
+  lands C2 exit n q =
+      let m = firstChoice (own .gate .seq) (c .processes) in
+      (on-flag (AnnouncementRead Label.C2 m) (announcementAt c m .flag) C4 P13 C4 (λ e _. Edge.C2-C4 (λ z. active-not-done z e))
+      (λ e _. Edge.C2-P13 e) (λ e _. Edge.C2-C4 (λ z. active-not-exit z e)))
+  lands C4 exit n q =
+      (on-flag (AnnouncementRead Label.C4 i) (announcementAt c i .flag) F1 P13 P13 (λ e _. Edge.C4-F1 e)
+      (λ e _. Edge.C4-P13 (active-not-done e)) (λ e _. Edge.C4-P13 (exit-not-done e)))
+  lands P13 exit n q = λ _. Edge.P13-P14 (gate-swapped _ _ _)
+  lands P14 exit n q =
+      (on-holder (GateRead Label.P14) (c .gate .holder) P16 P22 (λ e _. Edge.P14-P16 e) (λ e _. Edge.P14-P22 e))
+  lands P16 exit n q =
+      let m = holderOf (own .gate .holder) in
+      (on-help (AnnouncementRead Label.P16 m) _ _ (announcementAt c m) (own .gate .seq) _ _
+      (λ e le. (λ _. Edge.P16-H21 e le, λ _. Edge.P16-P19 e le)) (λ e _. Edge.P16-P21 e))
+  lands H21 exit n q =
+      let r = recordAt c (own .task .target) in
+      (on-note (Onto i (own .gate .seq) Label.H21 Swap.None (Found.cell r) (own .announcement .flag)) _ _ _ r (own .gate .seq) _ _ _ _
+      (λ e _. Edge.H21-P19-late e) (λ le. (λ _. Edge.H21-H21 le, λ _. Edge.H21-H36 le, λ _. Edge.H21-P19 le)))
+  lands H36 exit n q =
+      (on-write (Onto i (own .gate .seq) Label.H36 _ (found H36 exit) (own .announcement .flag)) (own .gate .seq) (own .dictionary) (suc (own .task .target))
+      (λ _. Edge.H36-H36 (record-swapped _ _ _)) (λ _. Edge.H36-P19 (record-swapped _ _ _)))
+  lands P19 exit n q = λ _. Edge.P19-P20 (announcement-swapped _ _ _)
+  lands P20 exit n q = λ _. Edge.P20-P21 (announcement-swapped _ _ _)
+  lands P21 exit n q = λ _. Edge.P21-P22 (gate-swapped _ _ _)
+  lands P22 exit n q =
+      (on-flag (AnnouncementRead Label.P22 i) (announcementAt c i .flag) F1 P5 Idle (λ e _. Edge.P22-F1 e) top
+      (λ e. subst (λ (f : Flag). End i Label.P22 Swap.None (Found.announcement (announcementAt c i)) (settled f)) (sym e) (End.P22 e)))
+    where
+      top : announcementAt c i .flag ≡ Active → AnnouncementRead Label.P22 i P5
+      top e true = Edge.P22-P6 e
+      top e false = Edge.P22-P10 e
+  lands F1 exit n q =
+      (on-test (GateRead Label.F1) (sameHolder (c .gate .holder) (Process i)) (λ e _. Edge.F1-F3 (sameHolder-true _ _ e))
+      (λ e. subst (λ (f : Flag). End i Label.F1 Swap.None (Found.gate (c .gate)) (settled f)) (sym q) (End.F1 (not-held e))))
+    where
+      not-held : sameHolder (c .gate .holder) (Process i) ≡ false → c .gate .holder ≢ Process i
+      not-held e z = true-false _ (rw z (sameHolder-refl (Process i))) e
+  lands F3 exit n q =
+      subst (λ (f : Flag). End i Label.F3 (perform (accessOf F3 exit) c i .swap) (Found.gate (c .gate)) (settled f)) (sym q)
+      (End.F3 (gate-swapped (c .gate) (own .gate) (released (own .gate))))
+
+  -- the gate number last read: that of the gate where the access reads it, else the one read before
+  number-is :
+      (p : Place) (exit : Bool) (n : ℕ) → isIdle p ≡ false → (p ≡ P1) ⊎ (n ≡ own .gate .seq) →
+      leaves (accessOf p exit) .gate .seq ≡ cond (readsGate (labelOf p exit)) (numberIn (found p exit) n) n
+  unfolding accessOf labelOf accessGate readsGate
+  number-is Idle exit n b h = absurd (true≢false b)
+  number-is P1 exit n b h = refl
+  number-is P3 exit n b h = before (λ e. clash (cc)) h
+  number-is P5 true n b h = before (λ e. clash (cc)) h
+  number-is P5 false n b h = refl
+  number-is P7 exit n b h = before (λ e. clash (cc)) h
+  number-is P10 exit n b h = refl
+  number-is C2 exit n b h = before (λ e. clash (cc)) h
+  number-is C4 exit n b h = before (λ e. clash (cc)) h
+  number-is P13 exit n b h = before (λ e. clash (cc)) h
+  number-is P14 exit n b h = refl
+  number-is P16 exit n b h = before (λ e. clash (cc)) h
+  number-is H21 exit n b h = before (λ e. clash (cc)) h
+  number-is H36 exit n b h = before (λ e. clash (cc)) h
+  number-is P19 exit n b h = before (λ e. clash (cc)) h
+  number-is P20 exit n b h = before (λ e. clash (cc)) h
+  number-is P21 exit n b h = before (λ e. clash (cc)) h
+  number-is P22 exit n b h = before (λ e. clash (cc)) h
+  number-is F1 exit n b h = refl
+  number-is F3 exit n b h = before (λ e. clash (cc)) h
+
+-- the edges to a place that is not idle, and the end at one that is
+module _ (i number : ℕ) (label : Label) (s : Swap) (f : Found) (last : Flag) where
+  toward : (p : Place) → isIdle p ≡ false → Onto i number label s f last p → Toward i number label s f last p
+  unfolding accessOf
+  toward Idle n q = absurd (true≢false n)
+  toward P1 n q = q
+  toward P3 n q = q
+  toward P5 n q = q
+  toward P7 n q = q
+  toward P10 n q = q
+  toward C2 n q = q
+  toward C4 n q = q
+  toward P13 n q = q
+  toward P14 n q = q
+  toward P16 n q = q
+  toward H21 n q = q
+  toward H36 n q = q
+  toward P19 n q = q
+  toward P20 n q = q
+  toward P21 n q = q
+  toward P22 n q = q
+  toward F1 n q = q
+  toward F3 n q = q
+
+  at-end : (p : Place) → isIdle p ≡ true → Onto i number label s f last p → End i label s f (settled last)
+  at-end p e q = subst (Onto i number label s f last) (is-idle (stage p) e) q
+
+-- the answer of a step, by the place and the flag that it leaves
+course-settled : (a : Announcement) (f : Flag) (steps : ℕ) → courseOf (returned a f steps) ≡ settled f
+course-settled a Done steps = refl
+course-settled a Active steps = refl
+course-settled a Exit steps = refl
+
+-- where the operation of process i stands, given the accesses that it made: it has none, is called, or is led on by its newest access
+data Ready (i : ℕ) (l : Local) : List Made → Type 0 where
+  idle : {ms : List Made} → isIdle (l .task .place) ≡ true → Ready i l ms
+  called : l .task .place ≡ P1 → Ready i l []
+  going :
+      {m : Made} {ms : List Made} → m .answer ≡ Answer.Run →
+      Onto i (m .report .number) (m .report .label) (m .report .swap) (m .found) (l .announcement .flag) (l .task .place) →
+      lastNumber (m ∷ ms) ≡ l .gate .seq → Ready i l (m ∷ ms)
+
+abbrev Stands : ℕ → Local → List Made → Type 0
+Stands i l ms = Follows i ms × Ready i l ms
+
+-- one access more
+module _ (c : Card) (i : ℕ) (Z : Sizes c) (lt : i < 8) (busy : isIdle (localAt c i .task .place) ≡ false) (known : Returning (localAt c i .task .place) (localAt c i .announcement .flag))
+    (ms : List Made) where
+  abbrev place : Place
+  place = localAt c i .task .place
+
+  abbrev wish : Bool
+  wish = localAt c i .exit
+
+  abbrev next : Local
+  next = localAt (advance c i) i
+
+  next-is : next ≡ leaves c i Z lt (accessOf place wish)
+  unfolding advance
+  next-is = left-is c i Z lt (accessOf place wish)
+
+  landed : Lands c i Z lt place wish next
+  landed = subst (Lands c i Z lt place wish) (sym next-is) (lands c i Z lt place wish busy known)
+
+  -- the accesses before, and the new one
+  numbered : (place ≡ P1) ⊎ (lastNumber ms ≡ localAt c i .gate .seq) → made c i .report .number ≡ lastNumber (made c i ∷ ms)
+  unfolding made reportOf lastNumber
+  numbered h = ap (λ (l : Local). l .gate .seq) next-is ∙ number-is c i Z lt place wish (lastNumber ms) busy h
+
+  whole : Whole i (made c i ∷ ms)
+  unfolding made reportOf swapOf
+  whole =
+      ⊎-elim
+      (λ (e : isIdle (next .task .place) ≡ true).
+      inr (subst (End i (labelOf place wish) (swapOf c i) (found c i Z lt place wish)) (sym (course e)) (at-end i (next .gate .seq) _ _ _ (next .announcement .flag) (next .task .place) e landed)))
+      (λ e. inl (cond-false (isIdle (next .task .place)) _ _ e))
+      (true-or-false (isIdle (next .task .place)))
+    where
+      course : isIdle (next .task .place) ≡ true → courseOf (answerOf next) ≡ settled (next .announcement .flag)
+      course e =
+          ap courseOf (cond-true (isIdle (next .task .place)) _ _ e)
+          ∙ course-settled (next .announcement) (next .announcement .flag) (next .steps)
+
+  ready : (place ≡ P1) ⊎ (lastNumber ms ≡ localAt c i .gate .seq) → Ready i next (made c i ∷ ms)
+  unfolding made reportOf swapOf
+  ready h =
+      ⊎-elim (λ (e : isIdle (next .task .place) ≡ true). Ready.idle e)
+      (λ (e : isIdle (next .task .place) ≡ false).
+      Ready.going (cond-false (isIdle (next .task .place)) _ _ e) landed (sym (numbered h)))
+      (true-or-false (isIdle (next .task .place)))
+
+first-label : {p : Place} (exit : Bool) → p ≡ P1 → labelOf p exit ≡ Label.P1
+unfolding labelOf
+first-label exit e = ap (λ (p : Place). labelOf p exit) e
+
+-- the path with it
+module _ (c : Card) (i : ℕ) (Z : Sizes c) (lt : i < 8) (busy : isIdle (localAt c i .task .place) ≡ false) (known : Returning (localAt c i .task .place) (localAt c i .announcement .flag)) where
+  stands-on : {ms : List Made} → Stands i (localAt c i) ms → Stands i (localAt (advance c i) i) (made c i ∷ ms)
+  unfolding made reportOf
+  stands-on {ms} (F, Ready.idle e) = absurd (true-false _ e busy)
+  stands-on {ms} (F, Ready.called e) = (
+    record {
+      path = Path.first (first-label (localAt c i .exit) e);
+      whole = whole c i Z lt busy known [];
+      numbers = (numbered c i Z lt busy known [] (inl e), tt);
+    },
+    ready c i Z lt busy known [] (inl e),
+  )
+  stands-on {ms} (F, Ready.going r o n) = (
+    record {
+      path = Path.next r (toward i _ _ _ _ (localAt c i .announcement .flag) (localAt c i .task .place) busy o (localAt c i .exit)) (F .path);
+      whole = whole c i Z lt busy known ms;
+      numbers = (numbered c i Z lt busy known ms (inr n), F .numbers);
+    },
+    ready c i Z lt busy known ms (inr n),
+  )
+
+-- what a process knows at a place, of the announcement last read
+returning : (p : Place) (F : Contents) (w : World) (i : ℕ) (l : Local) → LocAt p F w i l → Returning p (l .announcement .flag)
+returning Idle F w i l q = tt
+returning P1 F w i l q = tt
+returning P3 F w i l q = tt
+returning P5 F w i l q = tt
+returning P7 F w i l q = tt
+returning P10 F w i l q = tt
+returning C2 F w i l q = tt
+returning C4 F w i l q = tt
+returning P13 F w i l q = tt
+returning P14 F w i l q = tt
+returning P16 F w i l q = tt
+returning H21 F w i l q = tt
+returning H36 F w i l q = tt
+returning P19 F w i l q = tt
+returning P20 F w i l q = tt
+returning P21 F w i l q = tt
+returning P22 F w i l q = tt
+returning F1 F w i l q = ap (λ (a : Announcement). a .flag) (sym (q .same)) ∙ q .done
+returning F3 F w i l q = ap (λ (a : Announcement). a .flag) (sym (q .0 .same)) ∙ q .0 .done
+
+-- an exit request leaves where an operation stands
+exit-ready : (i : ℕ) (l : Local) (ms : List Made) → Ready i l ms → Ready i (exiting l) ms
+exit-ready i l ms (Ready.idle e) = Ready.idle e
+exit-ready i l ms (Ready.called e) = Ready.called e
+exit-ready i l ms (Ready.going r o n) = Ready.going r o n
+
+-- a test of the process and of the answer
+both : {A : Type 0} (j i : ℕ) (b : Bool) (x y : A) (P : A → Type 0) → (j ≡ i → b ≡ true → P x) → ((j ≢ i) ⊎ (b ≡ false) → P y) → P (cond (eqb j i && b) x y)
+both j i b x y P f g =
+    on-test P (eqb j i && b)
+    (λ e. let h = and-true (eqb j i) b e in f (eqb-true j i (h .0)) (h .1))
+    (λ e. ⊎-elim (λ z. g (inl (eqb-false j i z))) (λ z. g (inr (z .1))) (and-false (eqb j i) b e))
+
+-- every entry
+module _ {c : Card} {w : World} (I : CardInvariant c w) (i : ℕ) (ms : List Made) (S : Stands i (localAt c i) ms) where
+  small : (j : ℕ) → j < c .processes → j < 8
+  small j p = omega (arith, I .good .fits .few)
+
+  -- the own state of another process put back
+  elsewhere : (j : ℕ) (l : Local) → j ≢ i → Stands i (localAt (withLocal c j l) i) ms
+  elsewhere j l ne = subst (λ (x : Local). Stands i x ms) (sym (local-other c j i l (λ e. ne (sym e)))) S
+
+  call-stands : (j k : ℕ) (inputs : Words) → j < c .processes →
+      Stands i (localAt (withLocal c j (invoked (localAt c j) k inputs)) i) (cond (eqb j i && true) [] ms)
+  call-stands j k inputs p =
+      both j i true [] ms (Stands i (localAt (withLocal c j (invoked (localAt c j) k inputs)) i))
+      (λ e _.
+      let here : localAt (withLocal c j (invoked (localAt c j) k inputs)) i ≡ invoked (localAt c j) k inputs =
+      subst (λ (n : ℕ). localAt (withLocal c j (invoked (localAt c j) k inputs)) n ≡ invoked (localAt c j) k inputs) e (local-same c j _ (I .sizes) (small j p)) in
+      (record { path = Path.none; whole = tt; numbers = tt }, Ready.called (ap (λ (l : Local). l .task .place) here)))
+      (⊎-elim (elsewhere j _) (λ e. absurd (true≢false e)))
+
+  exit-stands : (j : ℕ) → j < c .processes → Stands i (localAt (withLocal c j (exiting (localAt c j))) i) ms
+  exit-stands j p = go (ℕ-discrete j i)
+    where
+      go : Dec (j ≡ i) → Stands i (localAt (withLocal c j (exiting (localAt c j))) i) ms
+      go (yes e) =
+          subst (λ (n : ℕ). Stands i (localAt (withLocal c n (exiting (localAt c n))) i) ms) (sym e)
+          (subst (λ (x : Local). Stands i x ms) (sym (local-same c i _ (I .sizes) (small i (subst (λ (n : ℕ). n < c .processes) e p))))
+          (S .0, exit-ready i (localAt c i) ms (S .1)))
+      go (no ne) = elsewhere j _ ne
+
+  step-stands : (j : ℕ) → j < c .processes → isBusy c j ≡ true → c .steps < c .limit →
+      Stands i (localAt (advance c j) i) (cond (eqb j i && not (isRefused (answerOf (localAt (advance c j) j)))) (made c i ∷ ms) ms)
+  step-stands j p b l =
+      both j i _ (made c i ∷ ms) ms (Stands i (localAt (advance c j) i))
+      (λ e _. subst (λ (n : ℕ). Stands i (localAt (advance c n) i) (made c i ∷ ms)) (sym e) (mine e))
+      (λ h. ⊎-elim other (λ z. absurd (true-false _ (ap not (answers (localAt (advance c j) j))) z)) h)
+    where
+      mine : j ≡ i → Stands i (localAt (advance c i) i) (made c i ∷ ms)
+      mine e =
+          let q : i < c .processes = subst (λ (n : ℕ). n < c .processes) e p in
+          let d : isBusy c i ≡ true = subst (λ (n : ℕ). isBusy c n ≡ true) e b in
+          stands-on c i (I .sizes) (small i q) (not-true _ d)
+          (returning (localAt c i .task .place) (contentsOf c) w i (known (localAt c i)) (I .locs i q)) S
+
+      other : j ≢ i → Stands i (localAt (advance c j) i) ms
+      other ne = subst (λ (x : Local). Stands i x ms) (sym (inv-step c w j I p b l .elsewhere i (λ e. ne (sym e)))) S
+
+  refused-kept : (e : Entry) (why : Refusal) → Stands i (localAt c i) (noticed c i ms e (Answer.Refused why))
+  unfolding noticed
+  refused-kept (Entry.Call j k inputs) why = both j i false [] ms (Stands i (localAt c i)) (λ _ z. absurd (true≢false (sym z))) (λ _. S)
+  refused-kept (Entry.Exit j) why = S
+  refused-kept (Entry.Step j) why = both j i false (made c i ∷ ms) ms (Stands i (localAt c i)) (λ _ z. absurd (true≢false (sym z))) (λ _. S)
+  refused-kept (Entry.Trace j) why = both j i false (made c i ∷ ms) ms (Stands i (localAt c i)) (λ _ z. absurd (true≢false (sym z))) (λ _. S)
+  refused-kept (Entry.Read v) why = S
+
+  entry-stands : {e : Entry} {r : Answered} → Outcome c e r → Stands i (localAt (r .card) i) (noticed c i ms e (r .answer))
+  unfolding noticed
+  entry-stands (Outcome.turned-back e why) = refused-kept e why
+  entry-stands (Outcome.called j k inputs p b) = call-stands j k inputs p
+  entry-stands (Outcome.asked j p) = exit-stands j p
+  entry-stands (Outcome.stepped j Steps.by-step p b l) = step-stands j p b l
+  entry-stands (Outcome.stepped j Steps.by-trace p b l) = step-stands j p b l
+  entry-stands (Outcome.shown v x) = S
+
+all-stand :
+    (o : Card) (m : Observation) (i : ℕ) (ms : List Made) (es : List Entry) → Consistent o m → Stands i (localAt (m .card) i) ms →
+    Follows i (accessesFrom (m .card) i ms es)
+unfolding accessesFrom observe
+all-stand o m i ms [] O S = S .0
+all-stand o m i ms (e ∷ es) O S =
+    all-stand o (observe o m e) i (noticed (m .card) i ms e (act (m .card) e .answer)) es (entry-kept o m O e)
+    (entry-stands (O .inv) i ms S (outcome-of (m .card) e))
+
+-- over every text and every list of entries
+pub follows-lines : (t : List ℕ) (es : List Entry) (i : ℕ) → Follows i (accesses (opened t .card) es i)
+unfolding opened fresh observeAll accessOf
+follows-lines t es i =
+    all-stand (opened t .card) (opening (opened t .card)) i [] es (opened-consistent t [])
+    (record { path = Path.none; whole = tt; numbers = tt }, Ready.idle (ap (λ (x : Task). isIdle (x .place)) (getD-replicate-same 8 i idleTask)))

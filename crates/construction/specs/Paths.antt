@@ -1,0 +1,232 @@
+-- The paper's flow as a relation between labels (document 02, order 1: 'The labels of one operation, read in sequence, must be a path that the
+-- numbered lines allow'): what an access found, the edges from one access to the next with the lines that allow each, where a path ends, and the
+-- accesses of an operation by the run itself.
+use Prim.Native.Nat.{ℕ, _≤_, _<_}
+use mathlib.Core.Path.{_≡_}
+use mathlib.Core.Bool.{Bool, true, false, cond, not, _&&_}
+use mathlib.Core.Logic.{_≢_, _⊎_}
+use mathlib.Core.List.{List, [], _∷_}
+use lib.Dec.{eqb}
+use Rattle.construction.specs.declared.Gate.{Gate}
+use Rattle.construction.specs.declared.Announcement.{Announcement}
+use Rattle.construction.specs.declared.Record.{Record}
+use Rattle.construction.specs.declared.Card.{Card}
+use Rattle.construction.specs.declared.Cell.{Cell}
+use Rattle.construction.specs.declared.Swap.{Swap}
+use Rattle.construction.specs.declared.Label.{Label}
+use Rattle.construction.specs.declared.Report.{Report}
+use Rattle.construction.specs.declared.Answer.{Answer}
+use Rattle.construction.specs.declared.Holder.{Holder}
+use Rattle.construction.specs.declared.Holder.the-variants.{Nobody, Process}
+use Rattle.construction.specs.declared.Flag.the-variants.{Done, Active, Exit}
+use Rattle.construction.specs.Parts.{localAt, announcementAt, recordAt}
+use Rattle.construction.specs.Machine.{advance}
+use Rattle.construction.specs.Requests.{answerOf}
+use Rattle.construction.specs.OneAccess.{touched}
+use Rattle.construction.specs.Tracing.{reportOf, isRefused}
+use Rattle.construction.specs.History.{Entry, act}
+
+-- what stood in the cell that an access touched, before it
+pub data Found : Type 0 where
+  nothing : Found
+  gate : Gate → Found
+  announcement : Announcement → Found
+  cell : Record → Found
+
+abbrev pub foundIn : Card → Cell → Found
+foundIn c Cell.None = Found.nothing
+foundIn c Cell.Gate = Found.gate (c .gate)
+foundIn c (Cell.Announcement m) = Found.announcement (announcementAt c m)
+foundIn c (Cell.Record v) = Found.cell (recordAt c v)
+
+-- an access that was made: what `trace` tells of it, the wish of its process then, what it found, and the answer to its step
+pub record Made : Type 0 where
+  pub report : Report
+  pub wish : Bool
+  pub found : Found
+  pub answer : Answer
+
+unfoldable pub made : Card → ℕ → Made
+made c i =
+    record {
+      report = reportOf c i;
+      wish = localAt c i .exit;
+      found = foundIn c (touched c i);
+      answer = answerOf (localAt (advance c i) i);
+    }
+
+-- THE EDGES. After an access of process i, whose gate number last read is `number`, by its label, its swap and what it found: the label of the
+-- next access, by the wish that its process has then. No line asks whether a swap won, so an edge from a swap has it won or lost.
+pub data Edge (i number : ℕ) : Label → Swap → Found → Bool → Label → Type 0 where
+  -- P2, P3: the operation is announced under the number read
+  P1-P3 : {g : Gate} {wish : Bool} → Edge i number Label.P1 Swap.None (Found.gate g) wish Label.P3
+  -- P4, P5: what was announced is active, so the loop is entered; with a wish P6, without one P10
+  P3-P6 : {f : Found} → Edge i number Label.P3 Swap.None f true Label.P6
+  P3-P10 : {f : Found} → Edge i number Label.P3 Swap.None f false Label.P10
+  -- P7 follows P6
+  P6-P7 : {s : Swap} {f : Found} {wish : Bool} → s ≢ Swap.None → Edge i number Label.P6 s f wish Label.P7
+  -- P8: done, so P9 and F1; else P10, where the wish is not looked at again
+  P7-F1 : {a : Announcement} {wish : Bool} → a .flag ≡ Done → Edge i number Label.P7 Swap.None (Found.announcement a) wish Label.F1
+  P7-P10 : {a : Announcement} {wish : Bool} → a .flag ≢ Done → Edge i number Label.P7 Swap.None (Found.announcement a) wish Label.P10
+  -- P11: nobody holds the gate, so P12, C1 and C2; else P15 and P16
+  P10-C2 : {g : Gate} {wish : Bool} → g .holder ≡ Nobody → Edge i number Label.P10 Swap.None (Found.gate g) wish Label.C2
+  P10-P16 : {g : Gate} {wish : Bool} → g .holder ≢ Nobody → Edge i number Label.P10 Swap.None (Found.gate g) wish Label.P16
+  -- C3: active, so P13; else C4
+  C2-P13 : {a : Announcement} {wish : Bool} → a .flag ≡ Active → Edge i number Label.C2 Swap.None (Found.announcement a) wish Label.P13
+  C2-C4 : {a : Announcement} {wish : Bool} → a .flag ≢ Active → Edge i number Label.C2 Swap.None (Found.announcement a) wish Label.C4
+  -- C5: done, so F1; else C6 and P13
+  C4-F1 : {a : Announcement} {wish : Bool} → a .flag ≡ Done → Edge i number Label.C4 Swap.None (Found.announcement a) wish Label.F1
+  C4-P13 : {a : Announcement} {wish : Bool} → a .flag ≢ Done → Edge i number Label.C4 Swap.None (Found.announcement a) wish Label.P13
+  -- P14 follows P13
+  P13-P14 : {s : Swap} {f : Found} {wish : Bool} → s ≢ Swap.None → Edge i number Label.P13 s f wish Label.P14
+  -- P15: somebody holds the gate, so P16; else P22
+  P14-P16 : {g : Gate} {wish : Bool} → g .holder ≢ Nobody → Edge i number Label.P14 Swap.None (Found.gate g) wish Label.P16
+  P14-P22 : {g : Gate} {wish : Bool} → g .holder ≡ Nobody → Edge i number Label.P14 Swap.None (Found.gate g) wish Label.P22
+  -- P17: done or newer than the number, so P21; else P18 and Help (H1): its first access is H21 (H20), or it has none and P19 follows, as an
+  -- empty dictionary has nothing to write (H31)
+  P16-P21 :
+      {a : Announcement} {wish : Bool} → (a .flag ≡ Done) ⊎ (number < a .seq) →
+      Edge i number Label.P16 Swap.None (Found.announcement a) wish Label.P21
+  P16-H21 :
+      {a : Announcement} {wish : Bool} → a .flag ≢ Done → a .seq ≤ number →
+      Edge i number Label.P16 Swap.None (Found.announcement a) wish Label.H21
+  P16-P19 :
+      {a : Announcement} {wish : Bool} → a .flag ≢ Done → a .seq ≤ number →
+      Edge i number Label.P16 Swap.None (Found.announcement a) wish Label.P19
+  -- H22: newer than the number, so Help is left and P19 follows
+  H21-P19-late : {r : Record} {wish : Bool} → number < r .seq → Edge i number Label.H21 Swap.None (Found.cell r) wish Label.P19
+  -- H23 to H30: else the next first touch (H20), or the first write (H31, H32), or none and P19
+  H21-H21 : {r : Record} {wish : Bool} → r .seq ≤ number → Edge i number Label.H21 Swap.None (Found.cell r) wish Label.H21
+  H21-H36 : {r : Record} {wish : Bool} → r .seq ≤ number → Edge i number Label.H21 Swap.None (Found.cell r) wish Label.H36
+  H21-P19 : {r : Record} {wish : Bool} → r .seq ≤ number → Edge i number Label.H21 Swap.None (Found.cell r) wish Label.P19
+  -- H31, H32: the next write, or none and P19
+  H36-H36 : {s : Swap} {f : Found} {wish : Bool} → s ≢ Swap.None → Edge i number Label.H36 s f wish Label.H36
+  H36-P19 : {s : Swap} {f : Found} {wish : Bool} → s ≢ Swap.None → Edge i number Label.H36 s f wish Label.P19
+  -- P20 follows P19, and P21 P20, and P22 P21
+  P19-P20 : {s : Swap} {f : Found} {wish : Bool} → s ≢ Swap.None → Edge i number Label.P19 s f wish Label.P20
+  P20-P21 : {s : Swap} {f : Found} {wish : Bool} → s ≢ Swap.None → Edge i number Label.P20 s f wish Label.P21
+  P21-P22 : {s : Swap} {f : Found} {wish : Bool} → s ≢ Swap.None → Edge i number Label.P21 s f wish Label.P22
+  -- P4: active, so P5: with a wish P6, without one P10; done, so P23, P24 and F1
+  P22-P6 : {a : Announcement} → a .flag ≡ Active → Edge i number Label.P22 Swap.None (Found.announcement a) true Label.P6
+  P22-P10 : {a : Announcement} → a .flag ≡ Active → Edge i number Label.P22 Swap.None (Found.announcement a) false Label.P10
+  P22-F1 : {a : Announcement} {wish : Bool} → a .flag ≡ Done → Edge i number Label.P22 Swap.None (Found.announcement a) wish Label.F1
+  -- F2: the process itself holds the gate, so F3
+  F1-F3 : {g : Gate} {wish : Bool} → g .holder ≡ Process i → Edge i number Label.F1 Swap.None (Found.gate g) wish Label.F3
+
+-- how an operation returns: done, or exited; or it runs on
+pub data Course : Type 0 where
+  runs : Course
+  done : Course
+  exited : Course
+  other : Course
+
+abbrev pub courseOf : Answer → Course
+courseOf Answer.Taken = Course.other
+courseOf Answer.Run = Course.runs
+courseOf (Answer.Done number o steps) = Course.done
+courseOf (Answer.Exited steps) = Course.exited
+courseOf (Answer.Value x) = Course.other
+courseOf (Answer.Refused r) = Course.other
+
+-- THE ENDS: the access at which an operation of process i returns, and how.
+pub data End (i : ℕ) : Label → Swap → Found → Course → Type 0 where
+  -- P4, P23: the operation asked to exit and was not finished
+  P22 : {a : Announcement} → a .flag ≡ Exit → End i Label.P22 Swap.None (Found.announcement a) Course.exited
+  -- F2, F4: another holds the gate, or nobody
+  F1 : {g : Gate} → g .holder ≢ Process i → End i Label.F1 Swap.None (Found.gate g) Course.done
+  -- F4, won or lost
+  F3 : {s : Swap} {f : Found} → s ≢ Swap.None → End i Label.F3 s f Course.done
+
+-- the same of an access that was made
+abbrev pub Leads : ℕ → Made → Bool → Label → Type 0
+Leads i m wish next = Edge i (m .report .number) (m .report .label) (m .report .swap) (m .found) wish next
+
+abbrev pub Ends : ℕ → Made → Type 0
+Ends i m = End i (m .report .label) (m .report .swap) (m .found) (courseOf (m .answer))
+
+-- A path, newest access first: it begins with P1, and an edge leads from each access to the next; each but the newest was answered `run`.
+pub data Path (i : ℕ) : List Made → Type 0 where
+  none : Path i []
+  first : {m : Made} → m .report .label ≡ Label.P1 → Path i (m ∷ [])
+  next :
+      {k m : Made} {ms : List Made} → m .answer ≡ Answer.Run → Leads i m (k .wish) (k .report .label) → Path i (m ∷ ms) →
+      Path i (k ∷ m ∷ ms)
+
+-- 'complete if it returned': the newest was answered `run`, or the path ends there
+abbrev pub Whole : ℕ → List Made → Type 0
+Whole i [] = Unit
+Whole i (m ∷ ms) = (m .answer ≡ Answer.Run) ⊎ Ends i m
+
+-- the gate number last read by these accesses, 0 if none has read it: P1, P10, P14 and F1 read it, a swap only tells whether it won
+unfoldable pub readsGate : Label → Bool
+readsGate Label.None = false
+readsGate Label.P1 = true
+readsGate Label.P3 = false
+readsGate Label.P6 = false
+readsGate Label.P7 = false
+readsGate Label.P10 = true
+readsGate Label.C2 = false
+readsGate Label.C4 = false
+readsGate Label.P13 = false
+readsGate Label.P14 = true
+readsGate Label.P16 = false
+readsGate Label.H21 = false
+readsGate Label.H36 = false
+readsGate Label.P19 = false
+readsGate Label.P20 = false
+readsGate Label.P21 = false
+readsGate Label.P22 = false
+readsGate Label.F1 = true
+readsGate Label.F3 = false
+
+abbrev pub numberIn : Found → ℕ → ℕ
+numberIn Found.nothing n = n
+numberIn (Found.gate g) n = g .seq
+numberIn (Found.announcement a) n = n
+numberIn (Found.cell r) n = n
+
+unfoldable pub lastNumber : List Made → ℕ
+lastNumber [] = 0
+lastNumber (m ∷ ms) = cond (readsGate (m .report .label)) (numberIn (m .found) (lastNumber ms)) (lastNumber ms)
+
+-- 'the gate number it last read in that operation, this step included'
+abbrev pub Numbered : List Made → Type 0
+Numbered [] = Unit
+Numbered (m ∷ ms) = (m .report .number ≡ lastNumber (m ∷ ms)) × Numbered ms
+
+-- the accesses of an operation follow the lines
+pub record Follows (i : ℕ) (ms : List Made) : Type 0 where
+  pub path : Path i ms
+  pub whole : Whole i ms
+  pub numbers : Numbered ms
+
+-- THE ACCESSES OF AN OPERATION, by the run itself: those of the accepted steps of process i, asked by `step` or by `trace`, since its latest taken
+-- call, newest first.
+abbrev pub isTaken : Answer → Bool
+isTaken Answer.Taken = true
+isTaken Answer.Run = false
+isTaken (Answer.Done number o steps) = false
+isTaken (Answer.Exited steps) = false
+isTaken (Answer.Value x) = false
+isTaken (Answer.Refused r) = false
+
+abbrev pub calledAnew : ℕ → ℕ → Answer → List Made → List Made
+calledAnew i j a ms = cond (eqb j i && isTaken a) [] ms
+
+abbrev pub stepped : Card → ℕ → ℕ → Answer → List Made → List Made
+stepped c i j a ms = cond (eqb j i && not (isRefused a)) (made c i ∷ ms) ms
+
+-- what an entry and its answer add
+unfoldable pub noticed : Card → ℕ → List Made → Entry → Answer → List Made
+noticed c i ms (Entry.Call j k inputs) a = calledAnew i j a ms
+noticed c i ms (Entry.Exit j) a = ms
+noticed c i ms (Entry.Step j) a = stepped c i j a ms
+noticed c i ms (Entry.Trace j) a = stepped c i j a ms
+noticed c i ms (Entry.Read v) a = ms
+
+unfoldable pub accessesFrom : Card → ℕ → List Made → List Entry → List Made
+accessesFrom c i ms [] = ms
+accessesFrom c i ms (e ∷ es) = accessesFrom (act c e .card) i (noticed c i ms e (act c e .answer)) es
+
+abbrev pub accesses : Card → List Entry → ℕ → List Made
+accesses o es i = accessesFrom o i [] es

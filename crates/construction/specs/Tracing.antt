@@ -1,0 +1,117 @@
+-- The line behind each step (document 02, order 1): what is told of an accepted step, and the request `trace`.
+use Prim.Native.Nat.{ℕ}
+use mathlib.Core.Path.{_≡_}
+use mathlib.Core.Bool.{Bool, true, false, cond}
+use lib.Count.{ones}
+use Rattle.construction.specs.declared.Card.{Card}
+use Rattle.construction.specs.declared.Answer.{Answer}
+use Rattle.construction.specs.declared.Answered.{Answered}
+use Rattle.construction.specs.declared.Cell.{Cell}
+use Rattle.construction.specs.declared.Swap.{Swap}
+use Rattle.construction.specs.declared.Label.{Label}
+use Rattle.construction.specs.declared.Report.{Report}
+use Rattle.construction.specs.declared.Traced.{Traced}
+use Rattle.construction.specs.declared.Place.{Place}
+use Rattle.construction.specs.declared.Place.the-variants.{Idle, P1, P3, P5, P7, P10, C2, C4, P13, P14, P16, H21, H36, P19, P20, P21, P22, F1, F3}
+use Rattle.construction.specs.Marks.{Marks}
+use Rattle.construction.specs.Parts.{localAt}
+use Rattle.construction.specs.Machine.{advance, swapOf}
+use Rattle.construction.specs.OneAccess.{touched}
+use Rattle.construction.specs.Requests.{step}
+
+-- 'the label of the access made': that of a process's place, by its exit request at the top of the loop (line P5, which is no access)
+unfoldable pub labelOf : Place → Bool → Label
+labelOf Idle exit = Label.None
+labelOf P1 exit = Label.P1
+labelOf P3 exit = Label.P3
+labelOf P5 exit = cond exit Label.P6 Label.P10
+labelOf P7 exit = Label.P7
+labelOf P10 exit = Label.P10
+labelOf C2 exit = Label.C2
+labelOf C4 exit = Label.C4
+labelOf P13 exit = Label.P13
+labelOf P14 exit = Label.P14
+labelOf P16 exit = Label.P16
+labelOf H21 exit = Label.H21
+labelOf H36 exit = Label.H36
+labelOf P19 exit = Label.P19
+labelOf P20 exit = Label.P20
+labelOf P21 exit = Label.P21
+labelOf P22 exit = Label.P22
+labelOf F1 exit = Label.F1
+labelOf F3 exit = Label.F3
+
+-- 'from H21 to P20'
+unfoldable pub isNoting : Label → Bool
+isNoting Label.None = false
+isNoting Label.P1 = false
+isNoting Label.P3 = false
+isNoting Label.P6 = false
+isNoting Label.P7 = false
+isNoting Label.P10 = false
+isNoting Label.C2 = false
+isNoting Label.C4 = false
+isNoting Label.P13 = false
+isNoting Label.P14 = false
+isNoting Label.P16 = false
+isNoting Label.H21 = true
+isNoting Label.H36 = true
+isNoting Label.P19 = true
+isNoting Label.P20 = true
+isNoting Label.P21 = false
+isNoting Label.P22 = false
+isNoting Label.F1 = false
+isNoting Label.F3 = false
+
+-- the word that is told: the variables noted; 'both are 0 except from H21 to P20'
+abbrev pub notedAt : Label → ℕ → ℕ
+notedAt label mask = cond (isNoting label) mask 0
+
+-- what is told of an access: the word is that of its process after it, and the count is the count of ones of the word
+abbrev pub reportWith : Label → Cell → Swap → ℕ → ℕ → Report
+reportWith label cell swap number mask =
+    record {
+      label = label;
+      cell = cell;
+      swap = swap;
+      number = number;
+      noted = notedAt label mask;
+      count = ones (notedAt label mask);
+    }
+
+-- the access of an accepted step of process i. 'The gate number it last read in that operation, this step included, 0 if none yet': it is that
+-- of the gate last read, as P1, which reads the gate, is the first access of every operation (`numbers` in specs/Paths)
+unfoldable pub reportOf : Card → ℕ → Report
+reportOf c i =
+    let l = localAt c i in
+    let after = localAt (advance c i) i in
+    reportWith (labelOf (l .task .place) (l .exit)) (touched c i) (swapOf c i) (after .gate .seq) (after .mask)
+
+-- no access
+abbrev pub noReport : Report
+noReport = record { label = Label.None; cell = Cell.None; swap = Swap.None; number = 0; noted = 0; count = 0 }
+
+abbrev pub isRefused : Answer → Bool
+isRefused Answer.Taken = false
+isRefused Answer.Run = false
+isRefused (Answer.Done number o steps) = false
+isRefused (Answer.Exited steps) = false
+isRefused (Answer.Value x) = false
+isRefused (Answer.Refused r) = true
+
+-- `trace`: the card and the answer are those of `step`, with its refusals; an accepted step has its report, a refused one has none
+unfoldable pub trace : Card → ℕ → Traced
+trace c i =
+    let r = step c i in
+    record { card = r .card; answer = r .answer; report = cond (isRefused (r .answer)) noReport (reportOf c i) }
+
+-- without its report
+abbrev pub untold : Traced → Answered
+untold r = record { card = r .card; answer = r .answer }
+
+-- what the word and the count of a report say of the dictionary after the access: from H21 to P20 the word is the set of the variables noted
+-- there and the count is its length; elsewhere both are 0
+pub record TellsNoted (c : Card) (i : ℕ) : Type 0 where
+  pub noting : isNoting (reportOf c i .label) ≡ true → Marks (reportOf c i .noted) (localAt (advance c i) i .dictionary)
+  pub count : isNoting (reportOf c i .label) ≡ true → reportOf c i .count ≡ localAt (advance c i) i .dictionary .length
+  pub silent : isNoting (reportOf c i .label) ≡ false → (reportOf c i .noted ≡ 0) × (reportOf c i .count ≡ 0)

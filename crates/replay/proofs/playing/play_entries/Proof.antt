@@ -18,7 +18,7 @@ loop-holds : tie.Need-loop-holds Inv-loop μ-loop
 loop-holds c = (laws.first _ _, search needs, search needs)
 
 loop-again : tie.Need-loop-again Inv-loop μ-loop
-loop-again c = (laws.next-entry _ _ _ (c .before .before .before .loop .inv .0) (cc), search needs, search needs)
+loop-again c = (laws.next-entry _ _ _ (c .before .before .before .loop .inv .0) (rw (← c .before .entry-at .ensures) (c .play-entry .ensures)), search needs, search needs)
 
 returns : tie.Need-returns Inv-loop μ-loop
 returns c = laws.last _ _ _ _ (c .before .loop .inv .0) (omega arith)

@@ -1,8 +1,9 @@
+use Rattle.replay.specs.declared.Played.{Played}
 use borrow.Author.Needs.{needs}
 use Rattle.replay.proofs.Laws as laws
 use Rattle.replay.specs.Playing.{after}
 use native.Mathlib.Omega.{arith}
-use mathlib.Core.Path.{_≡_}
+use mathlib.Core.Path.{_≡_, ap}
 use Prim.Native.Nat.{_-_, _≤_}
 use Rattle.replay.proofs.playing.play_requests.Statement.{statement}
 use Rattle.replay.proofs.playing.play_requests.Tie as tie
@@ -17,7 +18,7 @@ loop-holds : tie.Need-loop-holds Inv-loop μ-loop
 loop-holds c = (laws.starts _ _, omega arith)
 
 loop-again : tie.Need-loop-again Inv-loop μ-loop
-loop-again c = (laws.goes-on _ _ _ (c .before .before .before .before .before .before .loop .inv .0) (cc), omega arith)
+loop-again c = (laws.goes-on _ _ _ (c .before .before .before .before .before .before .loop .inv .0) (ap (λ (x : Played). x .card) (c .before .before .before .before .play .ensures)), omega arith)
 
 returns : tie.Need-returns Inv-loop μ-loop
 returns c = laws.ends _ _ _ _ (c .before .before .loop .inv .0) (omega arith)

@@ -104,13 +104,13 @@ programAt c i = getD (c .code) i (record { length = 0; lines = [] })
 abbrev pub dictionaryAt : Card → ℕ → Dictionary
 dictionaryAt c i = getD (c .dictionaries) i (record { length = 0; items = [] })
 
--- what the call of process i asked for and how far it came
+-- what the call of process i asked for and how far it came, and the set of the variables that it noted
 unfoldable pub sameWork : Card → Card → ℕ → Bool
 sameWork a b i =
     sameTask (getD (a .tasks) i idleTask) (getD (b .tasks) i idleTask)
     && (sameOperation (getD (a .operations) i noOperation) (getD (b .operations) i noOperation)
     && (sameBool (getD (a .exits) i false) (getD (b .exits) i false)
-    && eqb (getD (a .counts) i 0) (getD (b .counts) i 0)))
+    && (eqb (getD (a .counts) i 0) (getD (b .counts) i 0) && eqb (getD (a .masks) i 0) (getD (b .masks) i 0))))
 
 -- what process i last read and what it simulates
 unfoldable pub sameCopies : Card → Card → ℕ → Bool

@@ -188,7 +188,10 @@ fn same_work(a: Card, b: Card, i: usize) -> bool
             same_operation(a.operations[i], b.operations[i]),
             both(
                 same_bool(a.exits[i], b.exits[i]),
-                same_number(a.counts[i], b.counts[i]),
+                both(
+                    same_number(a.counts[i], b.counts[i]),
+                    same_number(a.masks[i], b.masks[i]),
+                ),
             ),
         ),
     )

@@ -26,6 +26,7 @@ card-after o (p ∷ ms) m at line = go (λ n. card-after o ms n (p .next) (place
     go h (Command.Call i k x) = h (observe o m (Entry.Call i k x))
     go h (Command.Exit i) = h (observe o m (Entry.Exit i))
     go h (Command.Step i) = h (observe o m (Entry.Step i))
+    go h (Command.Trace i) = h (observe o m (Entry.Trace i))
     go h (Command.Read v) = h (observe o m (Entry.Read v))
     go h Command.Malformed = h m
 

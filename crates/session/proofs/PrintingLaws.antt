@@ -5,12 +5,14 @@ use Prim.Native.Nat.{ℕ, _+_, _<_, _≤_}
 use lib.ListN.{length}
 use native.Mathlib.Omega.{arith}
 use Rattle.grammar.specs.Writing.{largest, Put}
-use Rattle.grammar.proofs.Puts.{Room, rest-all, rest-step, rest-last}
+use Rattle.grammar.proofs.Puts.{Room, rest-all, rest-step, rest-last, put-both}
 use Rattle.construction.specs.declared.Card.{Card}
 use Rattle.construction.specs.declared.Answer.{Answer}
+use Rattle.construction.specs.declared.Report.{Report}
 use Rattle.construction.specs.declared.Verdict.{Verdict}
 use Rattle.construction.specs.declared.Refusal.the-variants.{TooLong}
 use Rattle.construction.specs.Answers.{bytes, Fields, numberOf, refusedWith, answerFields, verdictFields, fieldsText}
+use Rattle.construction.specs.Reports.{reportText}
 use Rattle.answers.proofs.Texts.{PutWithin, put-short}
 use Rattle.session.specs.declared.Command.{Command}
 use Rattle.session.specs.CommandFields.{commandFields}
@@ -29,10 +31,14 @@ module _ {b : List ℕ} {at i j k : ℕ} {y₁ y₂ z : List ℕ} where
       (rest-last (rest-step (rest-step (rest-all b at _ h) (p .0)) (q .0)) r, omega arith)
 
   pub put-line :
-      (line : ℕ) (m : Command) (a : Answer) → Room b at → PutWithin b at (headText line m) i y₁ 25 →
-      PutWithin y₁ i (fieldsText (answerFields a)) j y₂ 132 → Put y₂ j (10 ∷ []) k z → PutWithin b at (lineText line m a) k z longest
+      {n : ℕ} {y₀ : List ℕ} (line : ℕ) (m : Command) (t : Report) (a : Answer) → Room b at → PutWithin b at (headText line m) n y₀ 26 →
+      PutWithin y₀ n (reportText t) i y₁ 109 → PutWithin y₁ i (fieldsText (answerFields a)) j y₂ 132 → Put y₂ j (10 ∷ []) k z →
+      PutWithin b at (lineText line m t a) k z longest
   unfolding lineText
-  put-line line m a h p q r = put-parts (answerFields a) 25 132 longest h p q r (omega arith)
+  put-line line m t a h p u q r =
+      let l = p .1 in
+      let o = u .1 in
+      put-parts (answerFields a) 135 132 longest h (put-both h (p .0) (u .0), omega arith) q r (omega arith)
 
 -- refusals of the card and of the calls
 module _ {b : List ℕ} {i j k : ℕ} {y₁ y₂ z : List ℕ} where

@@ -14,7 +14,7 @@ use Rattle.grammar.specs.Writing.{placeAfter, largest, Put}
 use Rattle.grammar.proofs.Cases.{on-test}
 use Rattle.grammar.proofs.Fields.{field-within}
 use Rattle.grammar.proofs.Puts.{put-both, put-front, put-fits}
-use Rattle.construction.specs.declared.Answered.{Answered}
+use Rattle.construction.specs.declared.Traced.{Traced}
 use Rattle.construction.specs.declared.Card.{Card}
 use Rattle.construction.specs.declared.Opened.{Opened}
 use Rattle.construction.specs.declared.Refusal.{Refusal}
@@ -24,7 +24,7 @@ use Rattle.session.specs.declared.Command.{Command}
 use Rattle.session.specs.declared.Parsed.{Parsed}
 use Rattle.session.specs.declared.State.{State}
 use Rattle.session.specs.declared.Printed.{Printed}
-use Rattle.session.specs.Commands.{callWord, wishWord, stepWord, lookWord, lineEnd, malformed, limited, word, withWord, callAt, numbered, command, commandsFrom, commands}
+use Rattle.session.specs.Commands.{callWord, wishWord, stepWord, lookWord, traceWord, lineEnd, malformed, limited, word, withWord, callAt, numbered, command, commandsFrom, commands}
 use Rattle.session.specs.Printing.{lineText, longest, cardRefusal, callsRefusal}
 use Rattle.session.specs.Session.{execute, lineOf, afterLine, linesOf, linesText, gather, fitting, firstLine, printed, printedInto, Prints, overState, verdictBeginning, beginning, session, Starts}
 
@@ -58,7 +58,7 @@ unfolding command callAt
 command-past t at h =
     let P : Parsed → Type 0 = λ m. at < m .next in
     let l = line-past t at h in
-    let number : (make : ℕ → Command) → P (numbered t at make) = λ make. on-word P t l 10 (at + 5) (λ v i g. omega arith) in
+    let number : (make : ℕ → Command) → P (numbered t at 5 make) = λ make. on-word P t l 10 (at + 5) (λ v i g. omega arith) in
     on-test P (hasWord t at callWord)
     (λ _. on-word P t l 44 (at + 5)
     (λ _ i a. on-word P t l 44 i
@@ -68,7 +68,8 @@ command-past t at h =
     (λ _ o e. on-word P t l 10 o (λ _ q f. omega arith)))))))
     (λ _. on-test P (hasWord t at wishWord) (λ _. number Command.Exit)
     (λ _. on-test P (hasWord t at stepWord) (λ _. number Command.Step)
-    (λ _. on-test P (hasWord t at lookWord) (λ _. number Command.Read) (λ _. l))))
+    (λ _. on-test P (hasWord t at lookWord) (λ _. number Command.Read)
+    (λ _. on-test P (hasWord t at traceWord) (λ _. on-word P t l 10 (at + 6) (λ v i g. omega arith)) (λ _. l)))))
 
 -- ---- the commands of a text: enough fuel is enough
 module _ (t : List ℕ) where
@@ -155,8 +156,8 @@ module _ {t : List ℕ} {s₀ : State} {b₀ : List ℕ} {s : State} {n : ℕ} {
 
   -- a turn; m, a and z are what the code computes
   module _
-      (h : s .at < length t) {m : Parsed} {a : Answered} {e : ℕ} {z : List ℕ} (em : m ≡ command t (s .at)) (ea : a ≡ execute (s .card) (m .command))
-      (p : Put b n (lineText (s .line) (m .command) (a .answer)) e z × (e ≤ n + longest)) where
+      (h : s .at < length t) {m : Parsed} {a : Traced} {e : ℕ} {z : List ℕ} (em : m ≡ command t (s .at)) (ea : a ≡ execute (s .card) (m .command))
+      (p : Put b n (lineText (s .line) (m .command) (a .report) (a .answer)) e z × (e ≤ n + longest)) where
     more : commands t (s .at) ≡ m ∷ commands t (m .next)
     more = rw em (commands-more t (s .at) h)
 

@@ -1,5 +1,5 @@
 -- The commands of a calls text (document 01, 'The bench program'): `call,process,sheet,i0,i1,i2,i3`, `wish,process`, `step,process`,
--- `look,variable`, 'with fields and line ends as in the card text'.
+-- `look,variable`, 'with fields and line ends as in the card text'; `trace,process` (document 02, order 1).
 use Prim.Native.Nat.{ℕ, zero, suc, _+_}
 use mathlib.Core.Bool.{cond}
 use mathlib.Core.List.{List, [], _∷_}
@@ -23,6 +23,10 @@ stepWord = 115 ∷ 116 ∷ 101 ∷ 112 ∷ 44 ∷ []
 
 abbrev pub lookWord : List ℕ
 lookWord = 108 ∷ 111 ∷ 111 ∷ 107 ∷ 44 ∷ []
+
+-- `trace,`
+abbrev pub traceWord : List ℕ
+traceWord = 116 ∷ 114 ∷ 97 ∷ 99 ∷ 101 ∷ 44 ∷ []
 
 -- 'and the next line follows': the place past the next byte 10, or the end of the text
 unfoldable pub lineEnd : ℕ → List ℕ → ℕ
@@ -57,17 +61,18 @@ callAt t at =
     (λ i2 n. withWord (word t 10 n) m
     (λ i3 next. record { command = Command.Call process program (record { w0 = i0; w1 = i1; w2 = i2; w3 = i3 }); next = next }))))))
 
--- `wish`, `step`, `look`: one number, which byte 10 ends
-abbrev pub numbered : List ℕ → ℕ → (ℕ → Command) → Parsed
-numbered t at make = withWord (word t 10 (at + 5)) (malformed t at) (λ v next. record { command = make v; next = next })
+-- `wish`, `step`, `look`, `trace`: one number after a word of so many bytes, which byte 10 ends
+abbrev pub numbered : List ℕ → ℕ → ℕ → (ℕ → Command) → Parsed
+numbered t at size make = withWord (word t 10 (at + size)) (malformed t at) (λ v next. record { command = make v; next = next })
 
 -- the command at a place, and the place past its line
 unfoldable pub command : List ℕ → ℕ → Parsed
 command t at =
     cond (hasWord t at callWord) (callAt t at)
-    (cond (hasWord t at wishWord) (numbered t at Command.Exit)
-    (cond (hasWord t at stepWord) (numbered t at Command.Step)
-    (cond (hasWord t at lookWord) (numbered t at Command.Read) (malformed t at))))
+    (cond (hasWord t at wishWord) (numbered t at 5 Command.Exit)
+    (cond (hasWord t at stepWord) (numbered t at 5 Command.Step)
+    (cond (hasWord t at lookWord) (numbered t at 5 Command.Read)
+    (cond (hasWord t at traceWord) (numbered t at 6 Command.Trace) (malformed t at)))))
 
 -- the commands from a place on, one for each line; each has a byte at least, so the length of the text bounds how many there are
 unfoldable pub commandsFrom : ℕ → List ℕ → ℕ → List Parsed

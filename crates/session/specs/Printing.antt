@@ -4,8 +4,10 @@ use Prim.Native.Nat.{ℕ}
 use mathlib.Core.List.{List, [], _∷_, _++_}
 use lib.ListN.{take}
 use Rattle.construction.specs.declared.Answer.{Answer}
+use Rattle.construction.specs.declared.Report.{Report}
 use Rattle.construction.specs.declared.Verdict.{Verdict}
 use Rattle.construction.specs.Answers.{bytes, Fields, fields, refusedWith, answerFields, verdictFields, numbersText, fieldsText}
+use Rattle.construction.specs.Reports.{reportText}
 use Rattle.session.specs.declared.Command.{Command}
 use Rattle.session.specs.CommandFields.{commandFields}
 
@@ -18,6 +20,7 @@ unfoldable pub headText : ℕ → Command → List ℕ
 headText line (Command.Call i k x) = verbText (commandFields (Command.Call i k x))
 headText line (Command.Exit i) = verbText (commandFields (Command.Exit i))
 headText line (Command.Step i) = verbText (commandFields (Command.Step i))
+headText line (Command.Trace i) = verbText (commandFields (Command.Trace i))
 headText line (Command.Read v) = verbText (commandFields (Command.Read v))
 headText line Command.Malformed = verbText (fields "line" (line ∷ []))
 
@@ -25,13 +28,13 @@ headText line Command.Malformed = verbText (fields "line" (line ∷ []))
 abbrev pub lineWith : List ℕ → Fields → List ℕ
 lineWith start f = start ++ (fieldsText f ++ (10 ∷ []))
 
--- the line of a command and its answer
-unfoldable pub lineText : ℕ → Command → Answer → List ℕ
-lineText line m a = lineWith (headText line m) (answerFields a)
+-- the line of a command, what is told of it (document 02, order 1: nothing but of a traced step that is accepted) and its answer
+unfoldable pub lineText : ℕ → Command → Report → Answer → List ℕ
+lineText line m r a = lineWith (headText line m ++ reportText r) (answerFields a)
 
 -- no line is longer: a verb, `done` and seven numbers of at most 20 digits with their separators
 abbrev pub longest : ℕ
-longest = 158
+longest = 268
 
 -- 'A refused card .. prints only `card,refused,number,line`'
 abbrev pub cardRefusal : Verdict → List ℕ

@@ -9,9 +9,12 @@ use lib.Dec.{ltb, leb}
 use Rattle.grammar.specs.Writing.{placeAfter, Put}
 use Rattle.construction.specs.declared.Card.{Card}
 use Rattle.construction.specs.declared.Answered.{Answered}
+use Rattle.construction.specs.declared.Report.{Report}
+use Rattle.construction.specs.declared.Traced.{Traced}
 use Rattle.construction.specs.declared.Verdict.{Verdict}
 use Rattle.construction.specs.declared.Refusal.the-variants.{Malformed}
 use Rattle.construction.specs.Requests.{refused}
+use Rattle.construction.specs.Tracing.{noReport, trace}
 use Rattle.construction.specs.History.{Entry, act}
 use Rattle.construction.specs.Opening.{opened}
 use Rattle.session.specs.declared.Command.{Command}
@@ -26,6 +29,7 @@ abbrev pub entriesOf : Command → List Entry
 entriesOf (Command.Call i k x) = Entry.Call i k x ∷ []
 entriesOf (Command.Exit i) = Entry.Exit i ∷ []
 entriesOf (Command.Step i) = Entry.Step i ∷ []
+entriesOf (Command.Trace i) = Entry.Trace i ∷ []
 entriesOf (Command.Read v) = Entry.Read v ∷ []
 entriesOf Command.Malformed = []
 
@@ -34,12 +38,25 @@ abbrev pub executeEntries : Card → List Entry → Answered
 executeEntries c [] = refused c Malformed
 executeEntries c (e ∷ es) = act c e
 
-unfoldable pub execute : Card → Command → Answered
-execute c m = executeEntries c (entriesOf m)
+-- what is told besides: of a traced step its report
+abbrev pub toldOf : Card → Command → Report
+toldOf c (Command.Call i k x) = noReport
+toldOf c (Command.Exit i) = noReport
+toldOf c (Command.Step i) = noReport
+toldOf c (Command.Trace i) = trace c i .report
+toldOf c (Command.Read v) = noReport
+toldOf c Command.Malformed = noReport
+
+unfoldable pub execute : Card → Command → Traced
+execute c m =
+    let r = executeEntries c (entriesOf m) in
+    record { card = r .card; answer = r .answer; report = toldOf c m }
 
 -- 'It prints a line for each': the line of a command, and the session after it. N counts all lines from 1; line numbers have 64 bits.
 unfoldable pub lineOf : State → Parsed → List ℕ
-lineOf s m = lineText (s .line) (m .command) (execute (s .card) (m .command) .answer)
+lineOf s m =
+    let r = execute (s .card) (m .command) in
+    lineText (s .line) (m .command) (r .report) (r .answer)
 
 unfoldable pub afterLine : State → Parsed → State
 afterLine s m = record { card = execute (s .card) (m .command) .card; at = m .next; line = placeAfter (s .line) 1 }

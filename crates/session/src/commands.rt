@@ -112,5 +112,12 @@ pub(crate) fn command_at(calls: &[u8], at: usize) -> Parsed
         let command = Command::Read { variable: value };
         return Parsed { command, next };
     }
+    if has_word(calls, at, b"trace,") {
+        let Word::Value { value, next } = word_at(calls, b'\n', at + 6) else {
+            return malformed_at(calls, at);
+        };
+        let command = Command::Trace { process: value };
+        return Parsed { command, next };
+    }
     malformed_at(calls, at)
 }

@@ -1,6 +1,6 @@
 // A session of the bench program (document 01, "The bench program"): a card text and a calls text to the printed text, on slices.
-// It rests on the crates grammar (fields and decimals), reader (the card text), card (the four requests) and construction (types and
-// definitions). Every public function is total, and its contract gives its whole result and every byte of the buffer.
+// It rests on the crates grammar (fields and decimals), reader (the card text), card (the requests), tracing (what is told of a step) and
+// construction (types and definitions). Every public function is total, and its contract gives its whole result and every byte of the buffer.
 mod commands; // commands.rt: the command at a place of a calls text
 pub mod printing; // printing.rt: the printed lines
 pub mod running; // running.rt: the session, as many whole lines at a time as a buffer takes
@@ -25,6 +25,9 @@ pub enum Command {
         process: u32,
     },
     Step {
+        process: u32,
+    },
+    Trace {
         process: u32,
     },
     Read {

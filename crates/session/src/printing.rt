@@ -5,8 +5,10 @@ use answers::put_answer;
 use answers::put_number;
 use answers::put_refusal;
 use answers::put_verdict;
+use answers::reports::put_report;
 use construction::Answer;
 use construction::Refusal;
+use construction::Report;
 use construction::Verdict;
 use grammar::writing::put_byte;
 use grammar::writing::put_word;
@@ -17,7 +19,7 @@ ghost use Rattle.session.specs.Printing.{headText, lineText, longest, ca
 
 // The verb of a command and its first number; of a malformed one its line.
 fn put_head(buffer: &mut [u8], at: usize, line: u64, command: Command) -> usize
-    ensures { λ r. ⌜ Put (now (buffer .entry)) at (headText line command) r (now (buffer .exit)) × (r ≤ at + 25) ⌝ }
+    ensures { λ r. ⌜ Put (now (buffer .entry)) at (headText line command) r (now (buffer .exit)) × (r ≤ at + 26) ⌝ }
 {
     match command {
         Command::Call {
@@ -27,17 +29,26 @@ fn put_head(buffer: &mut [u8], at: usize, line: u64, command: Command) -> usize
         } => put_number(buffer, at, b"call,", process as u64),
         Command::Exit { process } => put_number(buffer, at, b"wish,", process as u64),
         Command::Step { process } => put_number(buffer, at, b"step,", process as u64),
+        Command::Trace { process } => put_number(buffer, at, b"trace,", process as u64),
         Command::Read { variable } => put_number(buffer, at, b"look,", variable as u64),
         Command::Malformed => put_number(buffer, at, b"line,", line),
     }
 }
 
-// The line of a command and its answer.
-pub fn put_line(buffer: &mut [u8], at: usize, line: u64, command: Command, answer: Answer) -> usize
-    ensures { λ r. ⌜ Put (now (buffer .entry)) at (lineText line command answer) r (now (buffer .exit)) × (r ≤ at + longest) ⌝ }
+// The line of a command, what is told of it and its answer.
+pub fn put_line(
+    buffer: &mut [u8],
+    at: usize,
+    line: u64,
+    command: Command,
+    report: Report,
+    answer: Answer,
+) -> usize
+    ensures { λ r. ⌜ Put (now (buffer .entry)) at (lineText line command report answer) r (now (buffer .exit)) × (r ≤ at + longest) ⌝ }
 {
     let next = put_head(buffer, at, line, command);
-    let end = put_answer(buffer, next, answer);
+    let told = put_report(buffer, next, report);
+    let end = put_answer(buffer, told, answer);
     put_byte(buffer, end, b'\n')
 }
 

@@ -10,9 +10,11 @@ use construction::Answer;
 use construction::Answered;
 use construction::Card;
 use construction::Refusal;
+use construction::Traced;
 use construction::Verdict;
 ghost use mathlib.Core.Path.{_≡_};
 ghost use Rattle.grammar.specs.Writing.{placeAfter};
+ghost use Rattle.construction.specs.Tracing.{noReport};
 ghost use Rattle.session.specs.Session.{execute as executed, Prints, Starts};
 
 // The most bytes of calls that are read.
@@ -20,8 +22,21 @@ const LIMIT: usize = 65_536;
 
 const LARGEST: u64 = 18_446_744_073_709_551_615;
 
-// The answer of the card to a command.
-pub(crate) fn execute(card: Card, command: Command) -> Answered
+// An answer of the card with nothing told.
+fn untraced(answered: Answered) -> Traced
+    ensures { λ r. ⌜ r ≡ record { card = answered .card; answer = answered .answer; report = noReport } ⌝ }
+{
+    let card = answered.card;
+    let answer = answered.answer;
+    Traced {
+        card,
+        answer,
+        report: tracing::no_report(),
+    }
+}
+
+// The answer of the card to a command, and what it tells of a traced step.
+pub(crate) fn execute(card: Card, command: Command) -> Traced
     ensures { λ r. ⌜ r ≡ executed card command ⌝ }
 {
     match command {
@@ -29,14 +44,15 @@ pub(crate) fn execute(card: Card, command: Command) -> Answered
             process,
             program,
             inputs,
-        } => card::call(card, process, program, inputs),
-        Command::Exit { process } => card::request_exit(card, process),
-        Command::Step { process } => card::step(card, process),
-        Command::Read { variable } => card::read(card, variable),
-        Command::Malformed => Answered {
+        } => untraced(card::call(card, process, program, inputs)),
+        Command::Exit { process } => untraced(card::request_exit(card, process)),
+        Command::Step { process } => untraced(card::step(card, process)),
+        Command::Trace { process } => card::trace(card, process),
+        Command::Read { variable } => untraced(card::read(card, variable)),
+        Command::Malformed => untraced(Answered {
             card,
             answer: Answer::Refused(Refusal::Malformed),
-        },
+        }),
     }
 }
 
@@ -56,13 +72,14 @@ pub fn put_lines(state: State, calls: &[u8], buffer: &mut [u8]) -> Printed
         let parsed = command_at(calls, state.at);
         let command = parsed.command;
         let card = state.card;
-        let answered = execute(card, command);
-        let answer = answered.answer;
-        let end = put_line(buffer, length, state.line, command, answer);
+        let executed = execute(card, command);
+        let answer = executed.answer;
+        let report = executed.report;
+        let end = put_line(buffer, length, state.line, command, report, answer);
         if buffer.len() < end {
             return Printed { state, length };
         }
-        let after = answered.card;
+        let after = executed.card;
         let line = next_line(state.line);
         state = State {
             card: after,

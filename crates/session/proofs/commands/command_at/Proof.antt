@@ -33,7 +33,15 @@ returns-7 c = rw (← (c .before .before .before .before .before .before .before
 
 returns-8 : tie.Need-returns-8
 unfolding command
-returns-8 c = rw (← (c .before .before .before .before .before .before .before .before .before .before .before .has-word .ensures), (c .before .before .before .before .before .before .before .before .before .before .if1 .left), ← (c .before .before .before .before .before .before .before .before .has-word2 .ensures), (c .before .before .before .before .before .before .before .if2 .left), ← (c .before .before .before .before .before .has-word3 .ensures), (c .before .before .before .before .if3 .left), ← (c .before .before .has-word4 .ensures), (c .before .if4 .left)) (c .malformed-at4 .ensures)
+returns-8 c = rw (← (c .before .before .before .before .before .before .before .before .before .before .before .before .before .before .before .before .before .has-word .ensures), (c .before .before .before .before .before .before .before .before .before .before .before .before .before .before .before .before .if1 .left), ← (c .before .before .before .before .before .before .before .before .before .before .before .before .before .before .has-word2 .ensures), (c .before .before .before .before .before .before .before .before .before .before .before .before .before .if2 .left), ← (c .before .before .before .before .before .before .before .before .before .before .before .has-word3 .ensures), (c .before .before .before .before .before .before .before .before .before .before .if3 .left), ← (c .before .before .before .before .before .before .before .before .has-word4 .ensures), (c .before .before .before .before .before .before .before .if4 .left), ← (c .before .before .before .before .before .has-word5 .ensures), (c .before .before .before .before .if5 .taken), ← (c .before .before .before .word-at4 .ensures), (c .before .enum-told4 .given .1)) (c .malformed-at4 .ensures)
+
+returns-9 : tie.Need-returns-9
+unfolding command
+returns-9 c = rw (← (c .before .before .before .before .before .before .before .before .before .before .before .before .before .before .before .before .before .has-word .ensures), (c .before .before .before .before .before .before .before .before .before .before .before .before .before .before .before .before .if1 .left), ← (c .before .before .before .before .before .before .before .before .before .before .before .before .before .before .has-word2 .ensures), (c .before .before .before .before .before .before .before .before .before .before .before .before .before .if2 .left), ← (c .before .before .before .before .before .before .before .before .before .before .before .has-word3 .ensures), (c .before .before .before .before .before .before .before .before .before .before .if3 .left), ← (c .before .before .before .before .before .before .before .before .has-word4 .ensures), (c .before .before .before .before .before .before .before .if4 .left), ← (c .before .before .before .before .before .has-word5 .ensures), (c .before .before .before .before .if5 .taken), ← (c .before .before .before .word-at4 .ensures), (c .before .value4 .given .1))
+
+returns-10 : tie.Need-returns-10
+unfolding command
+returns-10 c = rw (← (c .before .before .before .before .before .before .before .before .before .before .before .before .before .before .has-word .ensures), (c .before .before .before .before .before .before .before .before .before .before .before .before .before .if1 .left), ← (c .before .before .before .before .before .before .before .before .before .before .before .has-word2 .ensures), (c .before .before .before .before .before .before .before .before .before .before .if2 .left), ← (c .before .before .before .before .before .before .before .before .has-word3 .ensures), (c .before .before .before .before .before .before .before .if3 .left), ← (c .before .before .before .before .before .has-word4 .ensures), (c .before .before .before .before .if4 .left), ← (c .before .before .has-word5 .ensures), (c .before .if5 .left)) (c .malformed-at5 .ensures)
 
 pub command-at-spec : {M : Type 1} → statement M
 command-at-spec =
@@ -70,5 +78,14 @@ command-at-spec =
     (λ c κs. search needs)
     returns-6
     returns-7
+    (λ c. search needs)
     (λ c κs. search needs)
-    returns-8)
+    (λ c. search needs)
+    (λ c κs. search needs)
+    (λ c. search needs)
+    (λ c. search needs)
+    (λ c κs. search needs)
+    returns-8
+    returns-9
+    (λ c κs. search needs)
+    returns-10)

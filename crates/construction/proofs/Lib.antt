@@ -9,5 +9,7 @@ pub mod Simulating
 pub mod Invariant
 -- Entries by cases, and that the history an observer keeps agrees with the invariant after every entry.
 pub mod Observing
+-- Chains of free cells, and the hands of processes.
+pub mod Allocating
 -- The theorems that docs/STATEMENTS.md names.
 pub mod Statements

@@ -48,6 +48,10 @@ load n a v = cond (ltb v n) (Effect.Load a v) (Effect.Set a 0)
 unfoldable pub store : ℕ → ℕ → ℕ → Effect
 store n v x = cond (ltb v n) (Effect.Store v x) (Effect.Skip 0)
 
+-- a number that a cell can have (document 02, order 9): variable 0 is none
+abbrev pub isCell : ℕ → ℕ → Bool
+isCell n v = not (eqb v 0) && ltb v n
+
 -- the table of codes: what an instruction does on a card of n variables. The sequential run and the helper both go by it.
 unfoldable pub effectOf : ℕ → Words → Words → Instruction → Effect
 effectOf n inputs r Instruction.Stop = Effect.Stop

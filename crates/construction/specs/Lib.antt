@@ -15,4 +15,5 @@ pub mod Weight
 pub mod Limits
 pub mod History
 pub mod Linearizability
+pub mod Allocation
 pub mod Examples

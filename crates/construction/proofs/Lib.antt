@@ -11,5 +11,7 @@ pub mod Invariant
 pub mod Observing
 -- Chains of free cells, and the hands of processes.
 pub mod Allocating
+-- Wait freedom, apart from safety: what an operation has cost at each place, that its turn comes, and that every entry keeps both.
+pub mod Waiting
 -- The theorems that docs/STATEMENTS.md names.
 pub mod Statements

@@ -6,6 +6,7 @@ pub mod ExitRequests
 pub mod TextKept
 pub mod Linearizability
 pub mod Limits
+pub mod Waits
 pub mod Sums
 pub mod Counters
 pub mod Examples

@@ -16,4 +16,5 @@ pub mod Limits
 pub mod History
 pub mod Linearizability
 pub mod Allocation
+pub mod Waits
 pub mod Examples

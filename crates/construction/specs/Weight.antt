@@ -1,7 +1,9 @@
 -- The weight of a program: how many records its instructions can touch for the first time, reached or not (codes 3 to 6 count 1).
-use Prim.Native.Nat.{ℕ, zero, suc, _+_}
+use Prim.Native.Nat.{ℕ, zero, suc, _+_, max}
+use mathlib.Core.List.{List, [], _∷_}
 use Rattle.construction.specs.declared.Instruction.{Instruction}
 use Rattle.construction.specs.declared.Program.{Program}
+use Rattle.construction.specs.declared.Contents.{Contents}
 use Rattle.construction.specs.Instructions.{fetch}
 
 abbrev pub weightOf : Instruction → ℕ
@@ -25,3 +27,11 @@ weightBefore program (suc k) = weightBefore program k + weightOf (fetch program 
 
 abbrev pub weight : Program → ℕ
 weight program = weightBefore program 32
+
+-- the weight of a card (document 02, order 3: w): the largest over its programs; a place without a program weighs 0
+unfoldable pub heaviest : List Program → ℕ
+heaviest [] = 0
+heaviest (x ∷ l) = max (weight x) (heaviest l)
+
+abbrev pub cardWeight : Contents → ℕ
+cardWeight t = heaviest (t .code)

@@ -1,5 +1,7 @@
 // The twelve instructions of document 01 ('The card text') as code: operands, arithmetic, and what an instruction does to a
 // running program. It rests on the crate construction, which declares the types and defines each result.
+pub mod weights; // weights.rt: how many records programs can touch
+
 use construction::Effect;
 use construction::Instruction;
 use construction::Line;

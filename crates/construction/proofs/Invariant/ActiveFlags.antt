@@ -22,7 +22,7 @@ use Rattle.construction.specs.declared.Task.{Task}
 use Rattle.construction.specs.declared.Gate.{Gate}
 
 -- a flag that is active after was active before
-abbrev ActiveBefore : Card → ℕ → Card → Type 0
+abbrev pub ActiveBefore : Card → ℕ → Card → Type 0
 ActiveBefore c i d = announcementAt d i .flag ≡ Active → announcementAt c i .flag ≡ Active
 
 set-active :
@@ -48,7 +48,7 @@ cell-active AnnouncementAccess.ReadFirst e m cell o g r outputs t = λ h. h
 cell-active (AnnouncementAccess.Finish flag next) e m cell o g r outputs t = swap-active cell _ _ (λ z. active-not-done z refl)
 
 -- every access but that of P3
-access-active : (a : Access) (c : Card) (i : ℕ) → isAnnouncing a ≡ false → ActiveBefore c i (perform a c i .card)
+pub access-active : (a : Access) (c : Card) (i : ℕ) → isAnnouncing a ≡ false → ActiveBefore c i (perform a c i .card)
 unfolding perform
 access-active Access.None c i e = λ h. h
 access-active (Access.Gate a) c i e = λ h. h

@@ -9,6 +9,7 @@ use native.Mathlib.Nat.{mod-lt}
 use lib.ListN.{getD, set}
 use lib.Seq.{getD-set-same, set-getD}
 use borrow.Author.Tests.{lt-ltb}
+use Rattle.construction.specs.declared.Gate.{Gate}
 use Rattle.construction.specs.declared.Announcement.{Announcement}
 use Rattle.construction.specs.declared.Operation.{Operation}
 use Rattle.construction.specs.declared.Card.{Card}
@@ -20,7 +21,7 @@ use Rattle.construction.specs.declared.Place.the-variants.{Idle, P3, P5,
 use Rattle.construction.specs.declared.AnnouncementAccess.{AnnouncementAccess}
 use Rattle.construction.specs.Cells.{openAnnouncement, sameAnnouncement, swapAnnouncement}
 use Rattle.construction.specs.Parts.{announcementAt, recordAt, withAnnouncement, localAt, Local, contentsOf, withLocal}
-use Rattle.construction.specs.Machine.{goTo, byFlag, holderOf, firstChoice, announced, flagged, withdrawn, finished, accessAnnouncement, perform, after}
+use Rattle.construction.specs.Machine.{goTo, byFlag, holderOf, firstChoice, whose, announced, flagged, withdrawn, finished, accessAnnouncement, perform, after}
 use Rattle.construction.proofs.Basics.{on-test, announcement-path, sameAnnouncement-true, sameAnnouncement-false, active-not-done, active-not-exit, exit-not-done, else-done}
 use Rattle.construction.proofs.Invariant.World.{endingIn, World, announcementIn, roundIn, wordAt, operationOf, announcing, leaving, ending, Move}
 use Rattle.construction.proofs.Invariant.World.Move.{announce, leave, end}
@@ -31,9 +32,9 @@ use Rattle.construction.specs.declared.Contents.{Contents}
 use Rattle.construction.specs.declared.Access.{Access}
 
 -- line C1 names a process
-first-inside : (s p i : ℕ) → i < p → firstChoice s p < p
+first-inside : (p i : ℕ) (g : Gate) → i < p → whose AnnouncementAccess.ReadFirst p i g < p
 unfolding firstChoice
-first-inside s p i lt = rw (lt-ltb 0 p (omega arith)) (mod-lt s (omega arith))
+first-inside p i g lt = rw (lt-ltb 0 p (omega arith)) (mod-lt _ (omega arith))
 
 module _ {c : Card} {w : World} {i : ℕ} (B : Before c w i) where
   abbrev W : World
@@ -154,9 +155,8 @@ module _ {c : Card} {w : World} {i : ℕ} (B : Before c w i) where
   pub at-C2 : L C2 → Acted c W i (perform (Access.Announcement AnnouncementAccess.ReadFirst) c i .card)
   unfolding perform accessAnnouncement
   at-C2 q =
-      let m : ℕ = firstChoice (localAt c i .gate .seq) (c .processes) in
-      reads m _
-      (read-C2 m (first-inside (localAt c i .gate .seq) (c .processes) i (B .inside)) (announcementAt c m .flag) refl q)
+      let m : ℕ = whose AnnouncementAccess.ReadFirst (c .processes) i (localAt c i .gate) in
+      reads m _ (read-C2 m (first-inside (c .processes) i (localAt c i .gate) (B .inside)) (announcementAt c m .flag) refl q)
 
   -- process i at a place, and the card after a swap of announcement m
   abbrev at : Place → Local

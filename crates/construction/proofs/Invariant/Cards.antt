@@ -90,6 +90,17 @@ module _ {c : Card} {w : World} {i : ℕ} (I : CardInvariant c w) (lt : i < 8) {
     counts = at-process (λ n x. x .steps ≤ k) own (λ n ne. omega (arith, I .counts n));
   }
 
+-- what is known before an accepted step of process i
+pub before-step :
+    {c : Card} {w : World} {i : ℕ} → CardInvariant c w → i < c .processes → c .steps < c .limit → Before c w i
+before-step {i = i} I lt h = record {
+  good = good-is I;
+  sizes = I .sizes;
+  inside = lt;
+  small = omega (arith, I .numbered, I .capped);
+  tidy = I .tidy i;
+}
+
 -- what an accepted step of process i comes to
 pub record Stepped (c : Card) (w : World) (i : ℕ) : Type 0 where
   pub after : World
@@ -135,18 +146,9 @@ inv-step c w i I lt b h = record {
     few : i < 8
     few = omega (arith, I .good .fits .few)
 
-    B : Before c w i
-    B = record {
-      good = good-is I;
-      sizes = I .sizes;
-      inside = lt;
-      small = omega (arith, I .numbered, I .capped);
-      tidy = I .tidy i;
-    }
-
     A : Acted c (worldOf c w) i v
     A =
-        at-place B (localAt c i .task .place) (localAt c i .exit) (not-true _ b)
+        at-place (before-step I lt h) (localAt c i .task .place) (localAt c i .exit) (not-true _ b)
         (subst (λ (x : World). Loc (contentsOf c) x i (localAt c i)) (sym (I .cells)) (I .locs i lt))
 
     M : Move (contentsOf c) i w (A .after)

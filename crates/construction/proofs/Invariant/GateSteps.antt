@@ -180,10 +180,26 @@ module _ {c : Card} {w : World} {i : ℕ} (B : Before c w i) where
             loc = (mine-gated (q .0), record { past = λ _ h. absurd (nobody-process h refl) });
           }
 
+  -- a helper that does not find the gate as it read it comes after the release of that number
+  pub released-since :
+      Helper F W i (localAt c i .operation) (localAt c i .gate) → sameGate (c .gate) (localAt c i .gate) ≡ false →
+      localAt c i .gate .seq < c .gate .seq
+  released-since q e = go (decLt (leftIn W m) (localAt c i .gate .seq))
+    where
+      m : ℕ
+      m = holderOf (localAt c i .gate .holder)
+
+      go : Dec (leftIn W m < localAt c i .gate .seq) → localAt c i .gate .seq < c .gate .seq
+      go (yes l) =
+          let y = q .seen .still l in
+          absurd (sameGate-false _ _ e (gate-path (y .0 ∙ sym (q .named)) (y .1)))
+      go (no l) = omega (arith, B .good .left-below m)
+
   pub at-P21 : L P21 → Acted c W i (perform (Access.Gate (GateAccess.Release P22)) c i .card)
   unfolding perform accessGate swapGate
   at-P21 q =
-      on-test (λ g. Acted c W i (swapped g P22)) (sameGate (c .gate) (localAt c i .gate)) won (λ e. lost P22 (late (past e)))
+      on-test (λ g. Acted c W i (swapped g P22)) (sameGate (c .gate) (localAt c i .gate)) won
+      (λ e. lost P22 (late (released-since (q .0) e)))
     where
       m : ℕ
       m = holderOf (localAt c i .gate .holder)
@@ -195,15 +211,6 @@ module _ {c : Card} {w : World} {i : ℕ} (B : Before c w i) where
           let zs : c .gate .seq ≡ localAt c i .gate .seq = ap (λ (g : Gate). g .seq) z in
           frees m P22 (q .0 .inside) zh (q .1 .over zh zs) z
           (mine-gated (q .0 .mine), record { late = λ x. omega (arith, q .0 .limit .low x); free-of = λ _. nobody-process refl })
-
-      past : sameGate (c .gate) (localAt c i .gate) ≡ false → localAt c i .gate .seq < c .gate .seq
-      past e = go (decLt (leftIn W m) (localAt c i .gate .seq))
-        where
-          go : Dec (leftIn W m < localAt c i .gate .seq) → localAt c i .gate .seq < c .gate .seq
-          go (yes l) =
-              let y = q .0 .seen .still l in
-              absurd (sameGate-false _ _ e (gate-path (y .0 ∙ sym (q .0 .named)) (y .1)))
-          go (no l) = omega (arith, B .good .left-below m)
 
       late : localAt c i .gate .seq < c .gate .seq → Loc F W i (at P22)
       late l = (

@@ -54,7 +54,7 @@ module _ (Q : Place → Type 0) where
   AnnouncementLeads AnnouncementAccess.ReadFirst = Q C4 × Q P13
   AnnouncementLeads (AnnouncementAccess.Finish flag next) = Q next
 
-  abbrev Leads : Access → Type 0
+  abbrev pub Leads : Access → Type 0
   Leads Access.None = ⊥
   Leads (Access.Gate a) = GateLeads a
   Leads (Access.Announcement a) = AnnouncementLeads a
@@ -126,7 +126,7 @@ module _ (Q : Place → Type 0) where
     placed : (x : Task) → Q (x .place) → Q (getD (set (c .tasks) i x) i idleTask .place)
     placed x q = subst (λ (y : Task). Q (y .place)) (sym (getD-set-same (c .tasks) i x idleTask lt)) q
 
-    leads : (a : Access) → Leads a → Q (localAt (perform a c i .card) i .task .place)
+    pub leads : (a : Access) → Leads a → Q (localAt (perform a c i .card) i .task .place)
     unfolding perform
     leads Access.None q = absurd q
     leads (Access.Gate a) q = placed _ (gate-leads a q _ _ _ _)

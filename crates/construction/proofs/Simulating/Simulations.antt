@@ -288,3 +288,21 @@ simulate-empty n program inputs = go 32 started
         missing :
             (x y : Simulated) (v : ℕ) → y .dictionary ≡ empty → cond (has empty v) x y .dictionary ≡ empty
         missing x y v e = rw (le-ltb (find empty v) 0 (omega arith)) e
+
+-- a simulation notes nothing by itself
+pub simulate-length :
+    (n : ℕ) (program : Program) (inputs : Words) (s : Simulation) (d : Dictionary) →
+    simulate n program inputs s d .dictionary .length ≡ d .length
+unfolding simulate simulateFrom assign
+simulate-length n program inputs = go 32
+  where
+    Same : ℕ → Simulated → Type 0
+    Same k x = x .dictionary .length ≡ k
+
+    go : (fuel : ℕ) (s : Simulation) (d : Dictionary) → simulateFrom n program inputs fuel s d .dictionary .length ≡ d .length
+    go zero s d = refl
+    go (suc fuel) s d =
+        by-effect (Same (d .length)) (nextEffect n program inputs s) (λ _. refl) (λ _ _ _. go fuel _ d)
+        (λ a v _. on-test (Same (d .length)) (has d v) (λ _. go fuel _ d) (λ _. refl))
+        (λ v x _. on-test (Same (d .length)) (has d v) (λ _. go fuel _ (assign d (find d v) x)) (λ _. refl))
+        (λ _ _ _. go fuel _ d) (λ _ _. go fuel _ d)

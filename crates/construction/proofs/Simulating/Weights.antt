@@ -1,17 +1,21 @@
--- The weight of a program's instructions before a place, and that only instructions with a weight load or store, below n.
+-- The weight of a program's instructions before a place, that only instructions with a weight load or store, below n, and the weight of a card.
 use Prim.Native.Nat.{ℕ, zero, suc, _≤_, _<_}
-use mathlib.Core.Path.{_≡_}
+use mathlib.Core.Path.{_≡_, refl}
+use mathlib.Core.List.{List, [], _∷_}
 use native.Mathlib.Omega.{arith}
-use native.Mathlib.Nat.{eq-or-lt-of-le}
+use native.Mathlib.Nat.{eq-or-lt-of-le, le-of-eq, le-trans, le-max-left, le-max-right}
 use mathlib.Core.Logic.{⊎-elim}
 use lib.Dec.{ltb}
+use lib.ListN.{getD}
 use borrow.Author.Tests.{ltb-true}
 use Rattle.construction.specs.declared.Words.{Words}
 use Rattle.construction.specs.declared.Instruction.{Instruction}
 use Rattle.construction.specs.declared.Program.{Program}
 use Rattle.construction.specs.declared.Effect.{Effect}
-use Rattle.construction.specs.Instructions.{word, load, store, effectOf, fetch}
-use Rattle.construction.specs.Weight.{weightOf, weightBefore}
+use Rattle.construction.specs.declared.Contents.{Contents}
+use Rattle.construction.specs.Instructions.{word, load, store, effectOf, fetch, noProgram}
+use Rattle.construction.specs.Parts.{programOf}
+use Rattle.construction.specs.Weight.{weightOf, weightBefore, weight, heaviest, cardWeight}
 use Rattle.construction.proofs.Basics.{on-test}
 
 -- an instruction touches at most one variable
@@ -78,3 +82,17 @@ touches n inputs r (Instruction.Subtract a b) = tt
 touches n inputs r (Instruction.SkipEqual a b c) = tt
 touches n inputs r (Instruction.SkipLess a b c) = tt
 touches n inputs r (Instruction.Output a b) = tt
+
+-- no program of a card weighs more than the card
+weight-none : weight noProgram ≡ 0
+unfolding weightBefore fetch
+weight-none = refl
+
+heaviest-at : (l : List Program) (k : ℕ) → weight (getD l k noProgram) ≤ heaviest l
+unfolding heaviest
+heaviest-at [] k = le-of-eq weight-none
+heaviest-at (x ∷ l) zero = le-max-left (weight x) (heaviest l)
+heaviest-at (x ∷ l) (suc k) = le-trans (heaviest-at l k) (le-max-right (weight x) (heaviest l))
+
+pub weight-card : (t : Contents) (k number : ℕ) → weight (programOf t k number) ≤ cardWeight t
+weight-card t k number = heaviest-at (t .code) k

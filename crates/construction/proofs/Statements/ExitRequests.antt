@@ -81,7 +81,7 @@ exit-twice c i =
         ∙ (ap (λ (x : Card). record { card = x; answer = Answer.Taken }) (asked-again c i) ∙ sym e))
 
 -- a step leaves every exit request
-step-exits : (a : Access) (c : Card) (i : ℕ) → perform a c i .card .exits ≡ c .exits
+pub step-exits : (a : Access) (c : Card) (i : ℕ) → perform a c i .card .exits ≡ c .exits
 unfolding perform
 step-exits Access.None c i = set-getD (c .exits) i false
 step-exits (Access.Gate a) c i = set-getD (c .exits) i false

@@ -1,0 +1,45 @@
+-- Every list of entries keeps the invariant of waiting, from the opened card on.
+use Prim.Native.Nat.{ℕ}
+use mathlib.Core.Path.{sym, subst}
+use mathlib.Core.List.{List, [], _∷_}
+use Rattle.construction.specs.declared.Card.{Card}
+use Rattle.construction.specs.declared.Contents.{Contents}
+use Rattle.construction.specs.declared.Answered.{Answered}
+use Rattle.construction.specs.Parts.{contentsOf}
+use Rattle.construction.specs.Opening.{fresh, readCard, opened}
+use Rattle.construction.specs.History.{Entry, act, Observation, observe, observeAll, opening, run}
+use Rattle.construction.proofs.Observing.Outcomes.{Outcome, outcome}
+use Rattle.construction.proofs.Observing.Consistency.{Consistent, entry-kept}
+use Rattle.construction.proofs.Waiting.Cards.{AllWait, wait-step, wait-call, wait-exit, wait-fresh}
+use Rattle.construction.proofs.Statements.Linearizability.{opened-consistent}
+
+-- one entry, at a moment that has the invariant of safety
+module _ (o : Card) (m : Observation) (O : Consistent o m) (W : AllWait (contentsOf o) (m .card)) where
+  abbrev c : Card
+  c = m .card
+
+  abbrev F : Contents
+  F = contentsOf c
+
+  pub here : AllWait F c
+  here = subst (λ (x : Contents). AllWait x c) (sym (O .text)) W
+
+  by-outcome : {e : Entry} {r : Answered} → Outcome c e r → AllWait F (r .card)
+  by-outcome (Outcome.turned-back e why) = here
+  by-outcome (Outcome.called i k inputs lt b) = wait-call k inputs (O .inv) here lt b
+  by-outcome (Outcome.asked i lt) = wait-exit (O .inv) here lt
+  by-outcome (Outcome.stepped i lt b h) = wait-step (O .inv) here lt b h
+  by-outcome (Outcome.shown v x) = here
+
+  entry-waits : (e : Entry) → AllWait (contentsOf o) (act c e .card)
+  entry-waits e = subst (λ (x : Contents). AllWait x (act c e .card)) (O .text) (by-outcome (outcome c e))
+
+all-wait : (o : Card) (m : Observation) (es : List Entry) → Consistent o m → AllWait (contentsOf o) (m .card) → AllWait (contentsOf o) (observeAll o m es .card)
+unfolding observeAll observe
+all-wait o m [] O W = W
+all-wait o m (e ∷ es) O W = all-wait o (observe o m e) es (entry-kept o m O e) (entry-waits o m O W e)
+
+pub opened-waits : (t : List ℕ) (es : List Entry) → AllWait (contentsOf (opened t .card)) (run (opened t .card) es .card)
+unfolding opened fresh observeAll
+opened-waits t es =
+    all-wait (opened t .card) (opening (opened t .card)) es (opened-consistent t []) (wait-fresh (readCard t .contents))

@@ -1,0 +1,60 @@
+-- A step of process i: what is to be shown of its course after the access, and how a step within an iteration adds to it.
+use Prim.Native.Nat.{ℕ, _+_, _%_, _≤_, _<_}
+use mathlib.Core.Path.{_≡_, sym, subst}
+use mathlib.Core.Bool.{false}
+use mathlib.Core.Logic.{_≢_}
+use mathlib.Core.List.{List}
+use native.Mathlib.Omega.{arith}
+use lib.ListN.{getD}
+use Rattle.construction.specs.declared.Gate.{Gate}
+use Rattle.construction.specs.declared.Announcement.{Announcement}
+use Rattle.construction.specs.declared.Record.{Record}
+use Rattle.construction.specs.declared.Task.{Task}
+use Rattle.construction.specs.declared.Simulation.{Simulation}
+use Rattle.construction.specs.declared.Dictionary.{Dictionary}
+use Rattle.construction.specs.declared.Card.{Card}
+use Rattle.construction.specs.declared.Access.{Access}
+use Rattle.construction.specs.declared.Flag.the-variants.{Active}
+use Rattle.construction.specs.Cells.{openAnnouncement}
+use Rattle.construction.specs.Parts.{Local, localAt, contentsOf, announcementAt, withCells, withLocal}
+use Rattle.construction.specs.Machine.{after, firstChoice, perform}
+use Rattle.construction.specs.Weight.{cardWeight}
+use Rattle.construction.proofs.Invariant.World.{World}
+use Rattle.construction.proofs.Invariant.Locals.{local-same}
+use Rattle.construction.proofs.Invariant.Acting.{Before, place-fits}
+use Rattle.construction.proofs.Invariant.Stages.{isAnnouncing}
+use Rattle.construction.proofs.Waiting.Courses.{Tally, Loop, CourseAt}
+
+-- the course of process i on a card d
+abbrev pub CourseIn : Card → ℕ → Tally → Card → Type 0
+CourseIn c i y d =
+    CourseAt (localAt d i .task .place) (c .processes) (cardWeight (contentsOf c)) (d .gate) (announcementAt d i) y (localAt d i)
+
+-- what an access comes to for a process with the tally x: it announces its operation (P3), asks to exit (P6), or neither
+pub data Went (c : Card) (i : ℕ) (x : Tally) (a : Access) : Type 0 where
+  announced :
+      (y : Tally) → perform a c i .card .gate .seq < y .turn → firstChoice (y .turn) (c .processes) ≡ i → y .spent ≡ 0 →
+      CourseIn c i y (perform a c i .card) → Went c i x a
+  withdrew :
+      (y : Tally) → announcementAt (perform a c i .card) i .flag ≢ Active → CourseIn c i y (perform a c i .card) → Went c i x a
+  went :
+      (y : Tally) → isAnnouncing a ≡ false → y .turn ≡ x .turn → y .spent ≡ x .spent → CourseIn c i y (perform a c i .card) →
+      Went c i x a
+
+-- one step more in the same iteration
+pub one-more :
+    {p w n k : ℕ} {x : Tally} {t : Local} → t .steps ≤ 1000000000000000000 → Loop p w n k x t → (m l : ℕ) → n ≤ m → k < l →
+    (s : Task) (g : Gate) (a : Announcement) (z : Simulation) (d : Dictionary) → Loop p w m l x (after t s g a z d)
+one-more few q m l le lt s g a z d =
+    record { few = q .few; low = omega (arith, q .low); wished = q .wished; cost = omega (arith, q .cost) }
+
+module _ {c : Card} {w : World} {i : ℕ} (B : Before c w i) where
+  -- process i is put back with the own state t
+  pub put-course :
+      (g : Gate) (l : List Announcement) (r : List Record) (t : Local) (y : Tally) →
+      CourseAt (t .task .place) (c .processes) (cardWeight (contentsOf c)) g (getD l i openAnnouncement) y t →
+      CourseIn c i y (withLocal (withCells c g l r) i t)
+  put-course g l r t y q =
+      subst
+      (λ (s : Local). CourseAt (s .task .place) (c .processes) (cardWeight (contentsOf c)) g (getD l i openAnnouncement) y s)
+      (sym (local-same (withCells c g l r) i t (B .sizes) (place-fits B))) q

@@ -1,0 +1,137 @@
+-- The steps of a helper, on its own course: P16, H21 and H36 for each item, of which there are at most the weight of the card.
+use Prim.Native.Nat.{ℕ, suc, _+_, _*_, _≤_, _<_}
+use mathlib.Core.Path.{_≡_, refl, _∙_}
+use mathlib.Core.Bool.{cond}
+use mathlib.Core.List.{List}
+use native.Mathlib.Omega.{arith}
+use native.Mathlib.Nat.{le-trans}
+use lib.ListN.{length, getD, set, length-take}
+use lib.Dec.{ltb}
+use Rattle.construction.specs.declared.Announcement.{Announcement}
+use Rattle.construction.specs.declared.Record.{Record}
+use Rattle.construction.specs.declared.Program.{Program}
+use Rattle.construction.specs.declared.Task.{Task}
+use Rattle.construction.specs.declared.Simulation.{Simulation}
+use Rattle.construction.specs.declared.Simulated.{Simulated}
+use Rattle.construction.specs.declared.Dictionary.{Dictionary}
+use Rattle.construction.specs.declared.Began.{Began}
+use Rattle.construction.specs.declared.Helped.{Helped}
+use Rattle.construction.specs.declared.Pause.{Pause}
+use Rattle.construction.specs.declared.Pause.the-variants.{Ended, Lacks}
+use Rattle.construction.specs.declared.Card.{Card}
+use Rattle.construction.specs.declared.Contents.{Contents}
+use Rattle.construction.specs.declared.Access.{Access}
+use Rattle.construction.specs.declared.Place.{Place}
+use Rattle.construction.specs.declared.Place.the-variants.{P16, H21, H36, P19, P21}
+use Rattle.construction.specs.Cells.{openAnnouncement}
+use Rattle.construction.specs.Instructions.{started}
+use Rattle.construction.specs.Dictionary.{empty, noted, nextWrite, itemOf, insert}
+use Rattle.construction.specs.Helping.{simulate}
+use Rattle.construction.specs.Parts.{Local, localAt, contentsOf, announcementAt, recordAt, programOf, withAnnouncement, withRecord, withLocal}
+use Rattle.construction.specs.Machine.{goTo, holderOf, writeFrom, afterPause, helped, helps, beginHelp, note, writing, after, perform}
+use Rattle.construction.specs.Weight.{weight, cardWeight}
+use Rattle.construction.proofs.Basics.{on-test}
+use Rattle.construction.proofs.Simulating.Dictionaries.{insert-length}
+use Rattle.construction.proofs.Simulating.Weights.{weight-card}
+use Rattle.construction.proofs.Simulating.Simulations.{simulate-length}
+use Rattle.construction.proofs.Invariant.World.{World}
+use Rattle.construction.proofs.Invariant.Assertions.{LocAt}
+use Rattle.construction.proofs.Invariant.Acting.{worldOf, Before}
+use Rattle.construction.proofs.Waiting.Courses.{Tally, Loop, CourseAt}
+use Rattle.construction.proofs.Waiting.Going.{CourseIn, Went, one-more, put-course}
+
+module _ {c : Card} {w : World} {i : ℕ} (B : Before c w i) (small : localAt c i .steps ≤ 1000000000000000000) (x : Tally) where
+  abbrev L : Place → Type 0
+  L l = LocAt l (contentsOf c) (worldOf c w) i (localAt c i)
+
+  abbrev heavy : ℕ
+  heavy = cardWeight (contentsOf c)
+
+  abbrev s : ℕ
+  s = localAt c i .gate .seq
+
+  -- a helper's course does not depend on the shared cells
+  abbrev At : Place → Local → Type 0
+  At l t = (a : Announcement) → CourseAt l (c .processes) heavy (c .gate) a x t
+
+  abbrev Now : Place → Type 0
+  Now l = CourseAt l (c .processes) heavy (c .gate) (announcementAt c i) x (localAt c i)
+
+  -- a helper that goes on with a task
+  abbrev on : Task → Announcement → Simulation → Dictionary → Local
+  on t a z d = after (localAt c i) t (localAt c i .gate) a z d
+
+  -- the next write from item k on, with the dictionary e
+  writes :
+      {n : ℕ} (d : Dictionary) (k : ℕ) (a : Announcement) (z : Simulation) (e : Dictionary) → Loop (c .processes) heavy s n x (localAt c i) →
+      n < 7 + e .length + k → n < 7 + 2 * heavy → At (writeFrom s d k .place) (on (writeFrom s d k) a z e)
+  unfolding nextWrite
+  writes d k a z e q h l b =
+      on-test (λ (t : Task). CourseAt (t .place) (c .processes) heavy (c .gate) b x (on t a z e)) (ltb (nextWrite s d k) (length (noted d)))
+      (λ _. one-more small q s _ (omega arith) (omega arith) _ _ _ _ _) (λ _. one-more small q s _ (omega arith) (omega arith) _ _ _ _ _)
+
+  -- a simulation that stands still
+  resumes :
+      {n : ℕ} (d : Dictionary) (r : Pause) (a : Announcement) (z : Simulation) (e : Dictionary) → Loop (c .processes) heavy s n x (localAt c i) →
+      n < 7 + e .length → e .length ≤ heavy → At (afterPause s d r .place) (on (afterPause s d r) a z e)
+  resumes d Ended a z e q h l b = writes d 0 a z e q (omega arith) (omega arith) b
+  resumes d (Lacks v) a z e q h l b = one-more small q s _ (omega arith) h _ _ _ _ _
+
+  pub at-P16 : Now P16 → Went c i x Access.Help
+  unfolding perform beginHelp
+  at-P16 q =
+      let a : Announcement = announcementAt c m in
+      let l : List Announcement = set (c .announcements) m a in
+      let z : Simulated = simulate (c .variables) (programOf (contentsOf c) (a .program) s) (a .words) started empty in
+      Went.went x refl refl refl
+      (on-test (λ (b : Began). CourseIn c i x (helping b)) (helps (announcementAt c m) s)
+      (λ _. put-course B (c .gate) l (c .records) (on (afterPause s (z .dictionary) (z .pause)) a (z .simulation) empty) x
+      (resumes (z .dictionary) (z .pause) a (z .simulation) empty q (omega arith) (omega arith) (getD l i openAnnouncement)))
+      (λ _. put-course B (c .gate) l (c .records) (on (goTo (localAt c i .task) P21) a (localAt c i .simulation) (localAt c i .dictionary)) x
+      (one-more small q s _ (omega arith) (omega arith) _ _ _ _ _)))
+    where
+      m : ℕ
+      m = holderOf (localAt c i .gate .holder)
+
+      helping : Began → Card
+      helping b =
+          withLocal (withAnnouncement c m (announcementAt c m)) i
+          (on (b .task) (announcementAt c m) (b .simulation) (cond (b .helps) empty (localAt c i .dictionary)))
+
+  pub at-H21 : L H21 → Now H21 → Went c i x Access.Note
+  unfolding perform note
+  at-H21 k q =
+      let a : Announcement = localAt c i .announcement in
+      let program : Program = programOf (contentsOf c) (a .program) s in
+      let r : List Record = set (c .records) v (recordAt c v) in
+      let d : Dictionary = insert (localAt c i .dictionary) (itemOf s v (recordAt c v)) in
+      let z : Simulated = simulate (c .variables) program (a .words) (localAt c i .simulation) d in
+      let longer : z .dictionary .length ≡ suc (localAt c i .dictionary .length) =
+      simulate-length (c .variables) program (a .words) (localAt c i .simulation) d
+      ∙ insert-length (localAt c i .dictionary) (itemOf s v (recordAt c v)) (k .2 .spare) in
+      let room : localAt c i .dictionary .length < heavy = le-trans (k .2 .fewer) (weight-card (contentsOf c) (a .program) s) in
+      Went.went x refl refl refl
+      (on-test (λ (b : Helped). CourseIn c i x (noting b)) (ltb s (recordAt c v .seq))
+      (λ _. put-course B (c .gate) (c .announcements) r (on (goTo (localAt c i .task) P19) a (localAt c i .simulation) (localAt c i .dictionary)) x
+      (one-more small q s _ (omega arith) (omega arith) _ _ _ _ _))
+      (λ _. put-course B (c .gate) (c .announcements) r (on (afterPause s (z .dictionary) (z .pause)) a (z .simulation) (z .dictionary)) x
+      (resumes (z .dictionary) (z .pause) a (z .simulation) (z .dictionary) q (omega (arith, longer)) (omega (arith, longer, room)) (announcementAt c i))))
+    where
+      v : ℕ
+      v = localAt c i .task .target
+
+      noting : Helped → Card
+      noting b =
+          withLocal (withRecord c v (recordAt c v)) i (on (b .task) (localAt c i .announcement) (b .simulation) (b .dictionary))
+
+  pub at-H36 : L H36 → Now H36 → Went c i x Access.Write
+  unfolding perform writing
+  at-H36 k q =
+      let a : Announcement = localAt c i .announcement in
+      let d : Dictionary = localAt c i .dictionary in
+      let r : List Record = perform Access.Write c i .card .records in
+      let few : d .length ≤ heavy = le-trans (k .2 .room .few) (weight-card (contentsOf c) (a .program) s) in
+      let inside : localAt c i .task .target < d .length = omega (arith, k .3 .inside, length-take (d .length) (d .items)) in
+      Went.went x refl refl refl
+      (put-course B (c .gate) (c .announcements) r (on (writeFrom s d (suc (localAt c i .task .target))) a (localAt c i .simulation) d) x
+      (writes d (suc (localAt c i .task .target)) a (localAt c i .simulation) d q (omega arith) (omega arith) (announcementAt c i)))

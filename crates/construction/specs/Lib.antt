@@ -1,5 +1,6 @@
 pub mod Cells
 pub mod Instructions
+pub mod Effects
 pub mod Sequential
 pub mod Dictionary
 pub mod Helping

@@ -58,7 +58,7 @@ all-put P [] v x f q = tt
 all-put P (e ∷ b) v x f q =
     on-test (AllIn P) (eqb (e .variable) v) (λ _. (f e (q .0), q .1)) (λ _. (q .0, all-put P b v x f (q .1)))
 
-has-put : (b : List Item) (v x u : ℕ) → hasIn (putIn b v x) u ≡ hasIn b u
+pub has-put : (b : List Item) (v x u : ℕ) → hasIn (putIn b v x) u ≡ hasIn b u
 unfolding hasIn putIn
 has-put [] v x u = refl
 has-put (e ∷ b) v x u =
@@ -82,6 +82,14 @@ pub has-snoc : (b : List Item) (e : Item) (u : ℕ) → hasIn b u ≡ false → 
 unfolding hasIn
 has-snoc [] e u h = on-test (λ z. z ≡ eqb (e .variable) u) (eqb (e .variable) u) (λ t. sym t) (λ f. sym f)
 has-snoc (x ∷ b) e u h = let l = lacks-cons x b u h in rw (l .0) (has-snoc b e u (l .1))
+
+pub has-more : (b : List Item) (e : Item) (u : ℕ) → hasIn b u ≡ true → hasIn (b ++ (e ∷ [])) u ≡ true
+unfolding hasIn
+has-more [] e u h = absurd (false≢true h)
+has-more (x ∷ b) e u h =
+    ⊎-elim (λ (t : eqb (x .variable) u ≡ true). rw t)
+    (λ (f : eqb (x .variable) u ≡ false). rw f (has-more b e u (sym (cond-false _ true (hasIn b u) f) ∙ h)))
+    (true-or-false (eqb (x .variable) u))
 
 pub keyed-snoc : (b : List Item) (e : Item) → Keyed b → hasIn b (e .variable) ≡ false → Keyed (b ++ (e ∷ []))
 unfolding hasIn

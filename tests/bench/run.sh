@@ -103,7 +103,7 @@ awk 'BEGIN {
     for (i = 0; i < 560; i++) {
         print "call,0,taken"
         for (k = 0; k < 13; k++) print "step,0,run"
-        print "step,0,done," old ",0,0,0,14"
+        print "step,0,done," i + 1 "," old ",0,0,0,14"
         old = 10 + i % 90
     }
 }' >"$large/expected.txt"

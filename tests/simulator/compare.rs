@@ -115,12 +115,12 @@ fn expected(case: &Case, coverage: &mut Coverage) -> Vec<u8> {
     session::run(case.card.as_deref().unwrap_or(&[]), case.calls.as_deref().unwrap_or(&[]), coverage)
 }
 
-/// Prints the summary; true if everything that can occur was reached.
+/// Prints the summary; true if everything that can occur was reached and no operation waited too long.
 fn report(coverage: &Coverage) -> bool {
     println!("{}", coverage.summary());
     let never = coverage.never_reached();
     println!("never reached: {}", if never.is_empty() { "nothing".to_string() } else { never.join(", ") });
-    never.is_empty()
+    never.is_empty() && coverage.late == 0
 }
 
 // ---------------------------------------------------------------- making a case small

@@ -35,11 +35,14 @@ pub struct Coverage {
     steps: BTreeMap<(Label, &'static str), u64>,
     refusals: BTreeMap<(&'static str, u8), u64>,
     answers: BTreeMap<&'static str, u64>,
+    /// Steps past the longest wait of their operation (document 02, order 3).
+    pub late: u64,
 }
 
 impl Coverage {
-    pub fn stepped(&mut self, stepped: &Stepped) {
+    pub fn stepped(&mut self, stepped: &Stepped, longest_wait: u64) {
         *self.steps.entry((stepped.label, stepped.outcome)).or_default() += 1;
+        self.late += u64::from(!stepped.in_time(longest_wait));
     }
 
     pub fn refused(&mut self, what: &'static str, number: u8) {
@@ -79,6 +82,7 @@ impl Coverage {
             listed("refusals", numbers),
             listed("refusals by kind", kinds),
             listed("answers", answers),
+            format!("steps past the longest wait: {}", self.late),
         ]
         .join("\n")
     }

@@ -11,10 +11,10 @@ pub struct Case {
 }
 
 /// A small generator of random numbers (xorshift, 64 bits).
-struct Random(u64);
+pub struct Random(u64);
 
 impl Random {
-    fn new(seed: u64) -> Random {
+    pub fn new(seed: u64) -> Random {
         let mut random = Random(seed.wrapping_mul(0x9E37_79B9_7F4A_7C15) ^ 0x5851_F42D_4C95_7F2D | 1);
         for _ in 0..8 {
             random.next();
@@ -29,15 +29,15 @@ impl Random {
         self.0.wrapping_mul(0x2545_F491_4F6C_DD1D) >> 16
     }
 
-    fn below(&mut self, end: usize) -> usize {
+    pub fn below(&mut self, end: usize) -> usize {
         (self.next() % end as u64) as usize
     }
 
-    fn between(&mut self, least: usize, greatest: usize) -> usize {
+    pub fn between(&mut self, least: usize, greatest: usize) -> usize {
         least + self.below(greatest - least + 1)
     }
 
-    fn chance(&mut self, percent: usize) -> bool {
+    pub fn chance(&mut self, percent: usize) -> bool {
         self.below(100) < percent
     }
 

@@ -70,6 +70,19 @@ pub struct Card {
     pub programs: Vec<Vec<Instruction>>,
 }
 
+impl Card {
+    /// Document 02, order 3, 'w': the largest number of instructions of codes 3 to 6 in any program.
+    pub fn weight(&self) -> u64 {
+        let touching = |program: &Vec<Instruction>| program.iter().filter(|ins| (3..=6).contains(&ins.code)).count();
+        self.programs.iter().map(touching).max().unwrap_or(0) as u64
+    }
+
+    /// Document 02, order 3: the own steps within which an operation returns if no exit request was taken.
+    pub fn longest_wait(&self) -> u64 {
+        4 + (self.processes as u64 + 1) * (10 + 2 * self.weight())
+    }
+}
+
 /// 'Turned back': a refused text gives its number and its line.
 #[derive(Clone, Copy, Debug, PartialEq, Eq)]
 pub struct Refusal {
@@ -188,6 +201,8 @@ pub struct Announcement {
     pub program: usize,
     pub seq: u64,
     pub flag: Flag,
+    /// The gate number under which it was done; 0 while active or exit, and at opening (document 02, order 4).
+    pub number: u64,
     pub words: [u32; 4],
 }
 
@@ -208,7 +223,7 @@ pub struct Cells {
 
 /// 'Shared cells': each cell at opening.
 fn opening_cells(card: &Card) -> Cells {
-    let announcement = Announcement { program: 0, seq: 0, flag: Flag::Done, words: [0; 4] };
+    let announcement = Announcement { program: 0, seq: 0, flag: Flag::Done, number: 0, words: [0; 4] };
     let record = |&value: &u32| Record { val: [value, 0], toggle: 0, seq: 0 };
     Cells {
         gate: Gate { holder: None, seq: 1 },
@@ -361,16 +376,29 @@ struct Operation {
 #[derive(Clone, Copy, Debug, PartialEq, Eq)]
 pub enum Answer {
     Run,
-    Done { outputs: [u32; 4], own_steps: u64 },
+    Done { number: u64, outputs: [u32; 4], own_steps: u64 },
     Exited { own_steps: u64 },
 }
 
-/// An accepted step: its answer, its access, and how that came out.
+/// An accepted step: its answer, its access, how that came out, the own steps of the operation and whether an exit request was taken for it.
 #[derive(Clone, Copy, Debug, PartialEq, Eq)]
 pub struct Stepped {
     pub answer: Answer,
     pub label: Label,
     pub outcome: &'static str,
+    pub own_steps: u64,
+    pub exit_request: bool,
+}
+
+impl Stepped {
+    /// Document 02, order 3: an operation returns within its longest wait, 2 steps more if an exit request was taken.
+    pub fn in_time(&self, longest_wait: u64) -> bool {
+        let allowed = longest_wait + if self.exit_request { 2 } else { 0 };
+        match self.answer {
+            Answer::Run => self.own_steps < allowed,
+            _ => self.own_steps <= allowed,
+        }
+    }
 }
 
 impl Operation {
@@ -427,8 +455,13 @@ impl Operation {
     /// P1, P2.
     fn p1(&mut self, cells: &Cells) -> (Place, &'static str) {
         self.gate = cells.gate;
-        self.announcement =
-            Announcement { program: self.program, seq: self.gate.seq, flag: Flag::Active, words: self.inputs };
+        self.announcement = Announcement {
+            program: self.program,
+            seq: self.gate.seq,
+            flag: Flag::Active,
+            number: 0,
+            words: self.inputs,
+        };
         (Place::At(Label::P3), "read")
     }
 
@@ -439,7 +472,7 @@ impl Operation {
     }
 
     fn p6(&mut self, cells: &mut Cells) -> (Place, &'static str) {
-        let wanted = Announcement { flag: Flag::Exit, words: self.inputs, ..self.announcement };
+        let wanted = Announcement { flag: Flag::Exit, number: 0, words: self.inputs, ..self.announcement };
         let outcome = swap(&mut cells.announcements[self.process], self.announcement, wanted);
         (Place::At(Label::P7), outcome)
     }
@@ -549,7 +582,8 @@ impl Operation {
     /// P19 and P20.
     fn mark_done(&mut self, flag: Flag, next: Label, cells: &mut Cells) -> (Place, &'static str) {
         let expected = Announcement { flag, ..self.announcement };
-        let done = Announcement { flag: Flag::Done, words: self.helping.outputs, ..self.announcement };
+        let number = self.gate.seq;
+        let done = Announcement { flag: Flag::Done, number, words: self.helping.outputs, ..self.announcement };
         (Place::At(next), swap(&mut cells.announcements[self.holder()], expected, done))
     }
 
@@ -581,7 +615,9 @@ impl Operation {
     fn answer(&self) -> Answer {
         let own_steps = self.own_steps;
         match self.place {
-            Place::ReturnDone => Answer::Done { outputs: self.announcement.words, own_steps },
+            Place::ReturnDone => {
+                Answer::Done { number: self.announcement.number, outputs: self.announcement.words, own_steps }
+            }
             Place::ReturnExited => Answer::Exited { own_steps },
             _ => Answer::Run,
         }
@@ -655,11 +691,11 @@ impl Machine {
         operation.own_steps += 1;
         let label = operation.next_access();
         let outcome = operation.access(label, &mut self.cells, &self.card);
-        let answer = operation.answer();
+        let (answer, own_steps, exit_request) = (operation.answer(), operation.own_steps, operation.exit_request);
         if answer != Answer::Run {
             self.operations[process] = None;
         }
-        Ok(Stepped { answer, label, outcome })
+        Ok(Stepped { answer, label, outcome, own_steps, exit_request })
     }
 
     /// Read ('Look'): row 9. The old value stays in sight until the holder's operation is finished.

@@ -1,5 +1,6 @@
 //! An independent simulator of the card (document 01). It says what the bench program must print,
-//! and compares a bench program with that on generated cases. Standard library only.
+//! compares a bench program with that on generated cases, and looks for long waits (document 02, order 3).
+//! Standard library only.
 
 mod compare;
 mod coverage;
@@ -7,6 +8,7 @@ mod generate;
 mod machine;
 mod selftest;
 mod session;
+mod waits;
 
 use std::fs;
 use std::io::Write;
@@ -17,6 +19,7 @@ const USAGE: &str = "usage: simulator simulate DIR
        simulator compare PROGRAM FIRST_SEED COUNT
        simulator coverage FIRST_SEED COUNT
        simulator write SEED DIR
+       simulator waits
        simulator selftest";
 
 fn main() -> ExitCode {
@@ -38,6 +41,7 @@ fn perform(arguments: &[&str]) -> Result<bool, String> {
         ["compare", program, first, count] => compare::compare(program, seed(first)?, seed(count)?),
         ["coverage", first, count] => Ok(compare::cover(seed(first)?, seed(count)?)),
         ["write", number, folder] => compare::write_case(seed(number)?, folder).map(|()| true),
+        ["waits"] => Ok(waits::report()),
         ["selftest"] => Ok(selftest::selftest()),
         _ => Err(USAGE.to_string()),
     }

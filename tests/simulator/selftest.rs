@@ -2,7 +2,7 @@
 //! schedules that show the faults met in drafts, and the sequential run side by side.
 
 use crate::generate::{card_text, case, longest_card};
-use crate::machine::{lines, open, Answer, Flag, Instruction, Line, Machine, Record};
+use crate::machine::{lines, open, Announcement, Answer, Flag, Instruction, Line, Machine, Record};
 use crate::session::{expected, parse, Command};
 
 /// Card K's program: store the input, output the old value.
@@ -68,14 +68,14 @@ fn card_k(checks: &mut Checks) {
     let k = card_of(1, 100, 7, EXCHANGE);
     let listing = format!("look,0\ncall,0,0,9,0,0,0\n{}look,0\nstep,0\n", steps(0, 14));
     let printed =
-        format!("look,0,7\ncall,0,taken\n{}step,0,done,7,0,0,0,14\nlook,0,9\nstep,0,refused,8\n", runs(0, 13));
+        format!("look,0,7\ncall,0,taken\n{}step,0,done,1,7,0,0,0,14\nlook,0,9\nstep,0,refused,8\n", runs(0, 13));
     checks.session("K listing", &k, &listing, &printed);
     let same = format!("call,0,0,7,0,0,0\n{}look,0\n", steps(0, 13));
-    let printed = format!("call,0,taken\n{}step,0,done,7,0,0,0,13\nlook,0,7\n", runs(0, 12));
+    let printed = format!("call,0,taken\n{}step,0,done,1,7,0,0,0,13\nlook,0,7\n", runs(0, 12));
     checks.session("K with input 7", &k, &same, &printed);
     let exit = format!("call,0,0,9,0,0,0\nwish,0\nwish,0\n{}look,0\nwish,0\n", steps(0, 17));
     let printed = format!(
-        "call,0,taken\nwish,0,taken\nwish,0,taken\n{}step,0,done,7,0,0,0,17\nlook,0,9\nwish,0,refused,8\n",
+        "call,0,taken\nwish,0,taken\nwish,0,taken\n{}step,0,done,1,7,0,0,0,17\nlook,0,9\nwish,0,refused,8\n",
         runs(0, 16)
     );
     checks.session("K with an exit request", &k, &exit, &printed);
@@ -105,7 +105,7 @@ fn two_processes(checks: &mut Checks) {
     let calls = "call,0,0,5,0,0,0\ncall,1,0,9,0,0,0\n";
     let commands = format!("{calls}{}{}wish,0\n{}{}look,0\n", steps(0, 2), steps(1, 5), steps(0, 10), steps(1, 3));
     let printed = format!(
-        "call,0,taken\ncall,1,taken\n{}{}wish,0,taken\n{}step,0,exited,12\n{}step,1,done,7,0,0,0,8\nlook,0,9\n",
+        "call,0,taken\ncall,1,taken\n{}{}wish,0,taken\n{}step,0,exited,12\n{}step,1,done,1,7,0,0,0,8\nlook,0,9\n",
         runs(0, 2),
         runs(1, 5),
         runs(0, 9),
@@ -121,11 +121,11 @@ fn program_pieces(checks: &mut Checks) {
         let body: String = program.iter().map(|line| format!("ins,{line}\n")).collect();
         let card = format!("card,1,{},1,100\n{values}sheet,{}\n{body}", variables.len(), program.len());
         let commands = format!("call,0,0,11,12,13,14\n{}", steps(0, own_steps));
-        let printed = format!("call,0,taken\n{}step,0,done,{outputs},{own_steps}\n", runs(0, own_steps - 1));
+        let printed = format!("call,0,taken\n{}step,0,done,1,{outputs},{own_steps}\n", runs(0, own_steps - 1));
         checks.session(name, &card, &commands, &printed);
     };
-    alone("4,294,967,295 plus 1", &[0], &["2,0,4294967295,0", "2,1,1,0", "7,0,1,0", "11,0,0,0"], "0,0,0,0", 12);
-    alone("0 minus 1", &[0], &["2,1,1,0", "8,0,1,0", "11,0,0,0"], "4294967295,0,0,0", 12);
+    alone("4,294,967,295 plus 1", &[0], &["2,0,4294967295,0", "2,1,1,0", "7,0,1,0", "11,0,0,0"], "4294967295,0,0,0", 12);
+    alone("0 minus 1", &[0], &["2,1,1,0", "8,0,1,0", "11,0,0,0"], "0,0,0,0", 12);
     let many: Vec<u32> = (0..64).map(|variable| 100 + variable).collect();
     alone("code 5 with 63 of 64", &many, &["2,0,63,0", "5,1,0,0", "11,0,1,0"], "163,0,0,0", 13);
     alone("code 5 with 64 of 64", &many, &["2,0,64,0", "2,1,5,0", "5,1,0,0", "11,0,1,0"], "0,0,0,0", 12);
@@ -251,25 +251,25 @@ fn fault_schedules(checks: &mut Checks) {
     let k = &card_of(2, 1000, 7, EXCHANGE);
     // Process 0 helps 1 past H36; 1 gets its exit in at P6, and 0 finishes the operation at P20.
     let exited = "c0 0 0 0 c1 1 1 0 0 0 0 0 0 w1 1 0 1 0 1 1 1 1 1";
-    schedule(checks, "exited after P6", flip, exited, &["step,1,done,0,0,0,0,9"], &values(&[('0', 17), ('1', 6)]));
+    schedule(checks, "exited after P6", flip, exited, &["step,1,done,1,0,0,0,0,9"], &values(&[('0', 17), ('1', 6)]));
     // Process 1 reads at H21 a record that 0 wrote under the same number.
     let equal = "c0 0 0 0 c1 1 1 0 0 0 0 0 0 1 1 1 1 1 1 1 1";
-    schedule(checks, "equal seq, flip", flip, equal, &["step,1,done,0,0,0,0,10"], &values(&[('0', 16), ('1', 5)]));
-    schedule(checks, "equal seq, K", k, equal, &["step,1,done,7,0,0,0,10"], &values(&[('7', 16), ('9', 5)]));
+    schedule(checks, "equal seq, flip", flip, equal, &["step,1,done,1,0,0,0,0,10"], &values(&[('0', 16), ('1', 5)]));
+    schedule(checks, "equal seq, K", k, equal, &["step,1,done,1,7,0,0,0,10"], &values(&[('7', 16), ('9', 5)]));
     late_helper(checks, flip);
     late_write(checks, flip);
     // Process 0 alone steps on; number 1 gives the first turn to 1, number 2 to 0.
     let first = format!("c0 c1 0 0 1 1{}", " 0".repeat(23));
     let shown = values(&[('0', 6), ('0', 7), ('1', 11), ('0', 5)]);
-    schedule(checks, "seq mod p first", flip, &first, &["step,0,done,0,0,0,0,25"], &shown);
+    schedule(checks, "seq mod p first", flip, &first, &["step,0,done,2,0,0,0,0,25"], &shown);
 }
 
 /// P17: process 0 holds gate number 1 when it meets the next announcement of 1.
 fn late_helper(checks: &mut Checks, flip: &str) {
     let short = "c0 0 0 0 c1 1 1 0 0 0 1 1 1 1 1 1 1 1 1 c1 1 1 0 0 0";
-    schedule(checks, "P17", flip, short, &["step,1,done,0,0,0,0,11"], &values(&[('0', 14), ('1', 11)]));
+    schedule(checks, "P17", flip, short, &["step,1,done,1,0,0,0,0,11"], &values(&[('0', 14), ('1', 11)]));
     let long = format!("{short}{}{}", " 1".repeat(23), " 0".repeat(4));
-    let answers = ["step,1,done,0,0,0,0,11", "step,1,done,0,0,0,0,25", "step,0,done,0,0,0,0,13"];
+    let answers = ["step,1,done,1,0,0,0,0,11", "step,1,done,3,0,0,0,0,25", "step,0,done,2,0,0,0,0,13"];
     let shown = values(&[('0', 14), ('1', 11), ('1', 7), ('0', 11), ('1', 5), ('1', 4)]);
     schedule(checks, "P17, to the end", flip, &long, &answers, &shown);
 }
@@ -278,7 +278,7 @@ fn late_helper(checks: &mut Checks, flip: &str) {
 fn late_write(checks: &mut Checks, flip: &str) {
     let entries = format!("c0 0 0 0 c1 1 1{}{} c1{} 0 1", " 0".repeat(16), " 1".repeat(9), " 1".repeat(9));
     let shown = values(&[('0', 7), ('0', 6), ('1', 10), ('1', 4), ('0', 5), ('0', 11), ('1', 1)]);
-    schedule(checks, "swap compares seq", flip, &entries, &["step,1,done,0,0,0,0,11"], &shown);
+    schedule(checks, "swap compares seq", flip, &entries, &["step,1,done,1,0,0,0,0,11"], &shown);
 }
 
 // ---------------------------------------------------------------- card and sequential run side by side
@@ -306,36 +306,47 @@ fn run_alone(words: &mut [u32], program: &[Instruction], inputs: [u32; 4]) -> [u
     outputs
 }
 
-/// Demand 3 on the case of a seed: the words equal the values read after each entry, the outputs those of 'done'.
+/// Demand 3 on the case of a seed: the words equal the values read after each entry, rank and outputs those of 'done'.
 fn side_by_side(seed: u64) -> Result<(), String> {
     let case = case(seed);
     let Ok(card) = open(case.card.as_deref().unwrap_or(&[])) else { return Ok(()) };
     let mut words = card.starting.clone();
     let mut latest = vec![(0, [0; 4]); card.processes];
-    let mut outputs = vec![[0; 4]; card.processes];
+    let mut finished = 0;
+    let mut results = vec![(0, [0; 4]); card.processes];
     let mut machine = Machine::new(card);
     for (place, line) in lines(case.calls.as_deref().unwrap_or(&[])).iter().enumerate() {
         let before = flags(&machine);
         let answer = enter(&mut machine, line, &mut latest);
         for process in (0..before.len()).filter(|&at| before[at] != Flag::Done && flags(&machine)[at] == Flag::Done) {
             let (program, inputs) = latest[process];
-            outputs[process] = run_alone(&mut words, &machine.card.programs[program], inputs);
+            finished += 1;
+            results[process] = (finished, run_alone(&mut words, &machine.card.programs[program], inputs));
         }
         let shown: Vec<u32> = (0..words.len()).map(|variable| machine.read(variable as u32).expect("there")).collect();
-        let agreed = answer.is_none_or(|(process, found)| found == outputs[process]);
-        if shown != words || !agreed {
-            return Err(format!("entry {}: shown {shown:?}, words {words:?}, outputs agree: {agreed}", place + 1));
+        let agreed = answer.is_none_or(|(process, found)| found == results[process]);
+        if shown != words || !agreed || !numbered(&machine, &results) {
+            return Err(format!("entry {}: shown {shown:?}, words {words:?}, answers agree: {agreed}", place + 1));
         }
     }
     Ok(())
+}
+
+/// The number in an announcement: that of the process's latest finished operation if it is done, else 0.
+fn numbered(machine: &Machine, results: &[(u64, [u32; 4])]) -> bool {
+    let agrees = |(announcement, result): (&Announcement, &(u64, [u32; 4]))| match announcement.flag {
+        Flag::Done => announcement.number == result.0,
+        _ => announcement.number == 0,
+    };
+    machine.cells.announcements.iter().zip(results).all(agrees)
 }
 
 fn flags(machine: &Machine) -> Vec<Flag> {
     machine.cells.announcements.iter().map(|announcement| announcement.flag).collect()
 }
 
-/// Enters one command; keeps the latest taken call of each process; gives the outputs of a 'done' answer.
-fn enter(machine: &mut Machine, line: &Line, latest: &mut [(usize, [u32; 4])]) -> Option<(usize, [u32; 4])> {
+/// Enters one command; keeps the latest taken call of each process; gives the number and the outputs of a 'done' answer.
+fn enter(machine: &mut Machine, line: &Line, latest: &mut [(usize, [u32; 4])]) -> Option<(usize, (u64, [u32; 4]))> {
     match parse(line)? {
         Command::Call { process, program, inputs } => {
             if machine.call(process, program, inputs).is_ok() {
@@ -345,7 +356,7 @@ fn enter(machine: &mut Machine, line: &Line, latest: &mut [(usize, [u32; 4])]) -
         }
         Command::RequestExit { process } => machine.request_exit(process).ok().and(None),
         Command::Step { process } => match machine.step(process).ok()?.answer {
-            Answer::Done { outputs, .. } => Some((process as usize, outputs)),
+            Answer::Done { number, outputs, .. } => Some((process as usize, (number, outputs))),
             _ => None,
         },
         Command::Read { .. } => None,

@@ -97,11 +97,11 @@ fn answer(machine: &mut Machine, command: Command, coverage: &mut Coverage) -> S
 
 fn step(machine: &mut Machine, process: u32, coverage: &mut Coverage) -> Result<String, u8> {
     let stepped = machine.step(process)?;
-    coverage.stepped(&stepped);
+    coverage.stepped(&stepped, machine.card.longest_wait());
     Ok(match stepped.answer {
         Answer::Run => coverage.answered("run", "run"),
-        Answer::Done { outputs: [o0, o1, o2, o3], own_steps } => {
-            coverage.answered("done", format!("done,{o0},{o1},{o2},{o3},{own_steps}"))
+        Answer::Done { number, outputs: [o0, o1, o2, o3], own_steps } => {
+            coverage.answered("done", format!("done,{number},{o0},{o1},{o2},{o3},{own_steps}"))
         }
         Answer::Exited { own_steps } => coverage.answered("exited", format!("exited,{own_steps}")),
     })

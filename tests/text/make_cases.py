@@ -166,12 +166,21 @@ def cases():
     yield edited(edited(k, 4, b"ins,1,4,0,0"), 5, b"ins,13,0,0,0")
 
 
-def expected(number, text):
+def agreement(wanted, told, written):
+    """Whether the bytes written are those wanted, a 0 for each that is missing there; the bytes past them are as they were."""
+    same = written == (wanted + bytes(told))[:told]
+    return ",same" if same else ",differs"
+
+
+def expected(number, text, wanted):
+    """The line of a text whose card is written and compared with a text that is wanted."""
     refusal, line = judge(text)
     size = len(text)
     if refusal:
-        return "%d,refused,%d,%d" % (number, refusal, line) + ",0,same" * 4
-    return "%d,accepted" % number + ",%d,same" % size * 2 + ",refused,11,same" * 2
+        return "%d,refused,%d,%d" % (number, refusal, line) + (",0" + agreement(wanted, 0, b"")) * 4
+    whole = ",%d" % size + agreement(wanted, size, text)
+    short = ",refused,11" + agreement(wanted, 0, b"")
+    return "%d,accepted" % number + whole * 2 + short * 2
 
 
 def main():
@@ -181,8 +190,10 @@ def main():
         for text in texts:
             f.write(b"%d\n" % len(text) + text)
     with open(os.path.join(CRATE, "stdout"), "w") as f:
+        # a case that must differ: the first text compared with itself from its second byte on
+        f.write(expected(0, texts[0], texts[0][1:]) + "\n")
         for number, text in enumerate(texts, 1):
-            f.write(expected(number, text) + "\n")
+            f.write(expected(number, text, text) + "\n")
 
 
 if __name__ == "__main__":

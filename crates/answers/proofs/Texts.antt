@@ -1,7 +1,7 @@
 -- Words, numbers and fields put into a buffer part by part, and how far they reach.
 use mathlib.Core.Bool.{Bool, true, false}
-use mathlib.Core.Path.{_≡_, refl}
-use mathlib.Core.List.{List, [], _∷_, _++_, append-nil}
+use mathlib.Core.Path.{_≡_, refl, sym, subst, ap, _∙_}
+use mathlib.Core.List.{List, [], _∷_, _++_, append-nil, append-assoc}
 use Prim.Native.Nat.{ℕ, zero, suc, _+_, _*_, _/_, _<_, _≤_}
 use lib.ListN.{length, length-append}
 use lib.Dec.{ltb}
@@ -14,7 +14,7 @@ use Rattle.construction.specs.declared.Words.{Words}
 use Rattle.construction.specs.declared.Answer.{Answer}
 use Rattle.construction.specs.declared.Verdict.{Verdict}
 use Rattle.construction.specs.declared.Refusal.{Refusal}
-use Rattle.construction.specs.Answers.{bytes, numberOf, refusedWith, answerFields, verdictFields, numbersText, fieldsText}
+use Rattle.construction.specs.Answers.{bytes, numberOf, refusedWith, outputNumbers, answerFields, verdictFields, numbersText, fieldsText}
 
 -- ---- how long a number is: below `tens k` it has at most k + 1 digits
 abbrev tens : ℕ → ℕ
@@ -58,20 +58,55 @@ module _ {b : List ℕ} {at j : ℕ} {x z : List ℕ} where
   pub put-as-within : {y : List ℕ} {n : ℕ} (k : ℕ) → PutWithin b at x j z n → n ≤ k → y ≡ x → PutWithin b at y j z k
   put-as-within k p h e = let l = p .1 in rw e (p .0, omega arith)
 
--- `done`, four outputs and the operation's own steps
-module _ {b : List ℕ} {at i₁ i₂ i₃ i₄ j : ℕ} {y₁ y₂ y₃ y₄ z : List ℕ} (o : Words) (k : ℕ) where
-  pub put-done :
-      Room b at → PutWithin b at (bytes ",done," ++ decimal (o .w0)) i₁ y₁ 26 → PutWithin y₁ i₁ (44 ∷ decimal (o .w1)) i₂ y₂ 21 →
-      PutWithin y₂ i₂ (44 ∷ decimal (o .w2)) i₃ y₃ 21 → PutWithin y₃ i₃ (44 ∷ decimal (o .w3)) i₄ y₄ 21 → PutWithin y₄ i₄ (44 ∷ decimal k) j z 21 →
-      PutWithin b at (fieldsText (answerFields (Answer.Done o k))) j z 110
-  unfolding fieldsText answerFields numbersText
-  put-done h p₁ p₂ p₃ p₄ p₅ =
+-- numbers in a line, part by part
+numbers-both : (l m : List ℕ) → numbersText (l ++ m) ≡ numbersText l ++ numbersText m
+unfolding numbersText
+numbers-both [] m = refl
+numbers-both (n ∷ l) m = rw (numbers-both l m, append-assoc (decimal n) (numbersText l) (numbersText m))
+
+first-number : (n : ℕ) (l : List ℕ) → numbersText (n ∷ l) ≡ 44 ∷ (decimal n ++ numbersText l)
+unfolding numbersText
+first-number n l = refl
+
+one-number : (n : ℕ) → numbersText (n ∷ []) ≡ 44 ∷ decimal n
+unfolding numbersText
+one-number n = ap (λ (l : List ℕ). 44 ∷ l) (append-nil (decimal n))
+
+-- four outputs
+module _ {b : List ℕ} {at i₁ i₂ i₃ j : ℕ} {y₁ y₂ y₃ z : List ℕ} (o : Words) where
+  pub put-outputs :
+      Room b at → PutWithin b at (44 ∷ decimal (o .w0)) i₁ y₁ 21 → PutWithin y₁ i₁ (44 ∷ decimal (o .w1)) i₂ y₂ 21 →
+      PutWithin y₂ i₂ (44 ∷ decimal (o .w2)) i₃ y₃ 21 → PutWithin y₃ i₃ (44 ∷ decimal (o .w3)) j z 21 →
+      PutWithin b at (numbersText (outputNumbers o)) j z 84
+  unfolding numbersText
+  put-outputs h p₁ p₂ p₃ p₄ =
       let l₁ = p₁ .1 in
       let l₂ = p₂ .1 in
       let l₃ = p₃ .1 in
-      let l₄ = p₄ .1 in
-      let l₅ = p₅ .1 in
-      (rw (append-nil (decimal k)) (rest-last (rest-step (rest-step (rest-step (rest-step (rest-all b at _ h) (p₁ .0)) (p₂ .0)) (p₃ .0)) (p₄ .0)) (p₅ .0)), omega arith)
+      let l₄ = p₄ .1 in (
+        rw (append-nil (decimal (o .w3))) (rest-last (rest-step (rest-step (rest-step (rest-all b at _ h) (p₁ .0)) (p₂ .0)) (p₃ .0)) (p₄ .0)),
+        omega arith,
+      )
+
+-- `done`, the gate number, four outputs and the operation's own steps
+last-number : (o : Words) (k : ℕ) → numbersText (outputNumbers o ++ (k ∷ [])) ≡ numbersText (outputNumbers o) ++ (44 ∷ decimal k)
+last-number o k = numbers-both (outputNumbers o) (k ∷ []) ∙ ap (λ (l : List ℕ). numbersText (outputNumbers o) ++ l) (one-number k)
+
+module _ {b : List ℕ} {at i₁ i₂ j : ℕ} {y₁ y₂ z : List ℕ} (n : ℕ) (o : Words) (k : ℕ) where
+  pub put-done :
+      Room b at → PutWithin b at (bytes ",done," ++ decimal n) i₁ y₁ 26 → PutWithin y₁ i₁ (numbersText (outputNumbers o)) i₂ y₂ 84 →
+      PutWithin y₂ i₂ (44 ∷ decimal k) j z 21 → PutWithin b at (fieldsText (answerFields (Answer.Done n o k))) j z 132
+  unfolding fieldsText answerFields
+  put-done h p₁ p₂ p₃ =
+      let l₁ = p₁ .1 in
+      let l₂ = p₂ .1 in
+      let l₃ = p₃ .1 in
+      (subst (λ (x : List ℕ). Put b at x j z) (sym text) (rest-last (rest-step (rest-step (rest-all b at _ h) (p₁ .0)) (p₂ .0)) (p₃ .0)), omega arith)
+    where
+      text :
+          bytes ",done" ++ numbersText (n ∷ (outputNumbers o ++ (k ∷ [])))
+          ≡ (bytes ",done," ++ decimal n) ++ (numbersText (outputNumbers o) ++ (44 ∷ decimal k))
+      text = ap (λ (l : List ℕ). bytes ",done" ++ l) (first-number n (outputNumbers o ++ (k ∷ []))) ∙ ap (λ (l : List ℕ). bytes ",done," ++ (decimal n ++ l)) (last-number o k)
 
 -- `refused`, its number and a line
 module _ {b : List ℕ} {at i j : ℕ} {y z : List ℕ} (r : Refusal) (line : ℕ) where

@@ -15,7 +15,7 @@ ghost use Prim.Native.Nat.{_+_, _≤_};
 ghost use lib.ListN.{length};
 ghost use Rattle.grammar.specs.Writing.{decimal, Put};
 ghost use Rattle.construction.specs.declared.Answer.{Answer as AnswerOf};
-ghost use Rattle.construction.specs.Answers.{numberOf, refusedWith, answerFields, verdictFields, writtenFields, rowFields, fieldsText};
+ghost use Rattle.construction.specs.Answers.{numberOf, refusedWith, outputNumbers, answerFields, verdictFields, writtenFields, rowFields, numbersText, fieldsText};
 
 // The number of a refusal.
 pub fn number_of(refusal: Refusal) -> u64
@@ -54,25 +54,37 @@ pub fn put_refusal(buffer: &mut [u8], at: usize, refusal: Refusal) -> usize
     put_number(buffer, at, b",refused,", number_of(refusal))
 }
 
-// `done`, four outputs and the operation's own steps.
-fn put_done(buffer: &mut [u8], at: usize, outputs: Words, steps: u64) -> usize
-    ensures { λ r. ⌜ Put (now (buffer .entry)) at (fieldsText (answerFields (AnswerOf.Done outputs steps))) r (now (buffer .exit)) × (r ≤ at + 110) ⌝ }
+// Four outputs, each after a comma.
+fn put_outputs(buffer: &mut [u8], at: usize, outputs: Words) -> usize
+    ensures { λ r. ⌜ Put (now (buffer .entry)) at (numbersText (outputNumbers outputs)) r (now (buffer .exit)) × (r ≤ at + 84) ⌝ }
 {
-    let i = put_number(buffer, at, b",done,", outputs.w0 as u64);
+    let i = put_number(buffer, at, b",", outputs.w0 as u64);
     let j = put_number(buffer, i, b",", outputs.w1 as u64);
     let k = put_number(buffer, j, b",", outputs.w2 as u64);
-    let l = put_number(buffer, k, b",", outputs.w3 as u64);
-    put_number(buffer, l, b",", steps)
+    put_number(buffer, k, b",", outputs.w3 as u64)
+}
+
+// `done`, the gate number, four outputs and the operation's own steps.
+fn put_done(buffer: &mut [u8], at: usize, number: u64, outputs: Words, steps: u64) -> usize
+    ensures { λ r. ⌜ Put (now (buffer .entry)) at (fieldsText (answerFields (AnswerOf.Done number outputs steps))) r (now (buffer .exit)) × (r ≤ at + 132) ⌝ }
+{
+    let i = put_number(buffer, at, b",done,", number);
+    let j = put_outputs(buffer, i, outputs);
+    put_number(buffer, j, b",", steps)
 }
 
 // The answer to a call, an exit request, a step or a read.
 pub fn put_answer(buffer: &mut [u8], at: usize, answer: Answer) -> usize
-    ensures { λ r. ⌜ Put (now (buffer .entry)) at (fieldsText (answerFields answer)) r (now (buffer .exit)) × (r ≤ at + 110) ⌝ }
+    ensures { λ r. ⌜ Put (now (buffer .entry)) at (fieldsText (answerFields answer)) r (now (buffer .exit)) × (r ≤ at + 132) ⌝ }
 {
     match answer {
         Answer::Taken => put_word(buffer, at, b",taken"),
         Answer::Run => put_word(buffer, at, b",run"),
-        Answer::Done { outputs, steps } => put_done(buffer, at, outputs, steps),
+        Answer::Done {
+            number,
+            outputs,
+            steps,
+        } => put_done(buffer, at, number, outputs, steps),
         Answer::Exited { steps } => put_number(buffer, at, b",exited,", steps),
         Answer::Value(x) => put_number(buffer, at, b",", x as u64),
         Answer::Refused(refusal) => put_refusal(buffer, at, refusal),

@@ -82,6 +82,7 @@ pub(crate) fn is_taken(answer: Answer) -> bool
         Answer::Taken => true,
         Answer::Run => false,
         Answer::Done {
+            number: _,
             outputs: _,
             steps: _,
         } => false,

@@ -82,7 +82,8 @@ pub fn same_announcement(a: Announcement, b: Announcement) -> bool
     let flag = a.flag;
     let other = b.flag;
     a.program == b.program
-        && (a.seq == b.seq && (same_flag(flag, other) && same_words(a.words, b.words)))
+        && (a.seq == b.seq
+            && (same_flag(flag, other) && (a.number == b.number && same_words(a.words, b.words))))
 }
 
 pub fn same_record(a: Record, b: Record) -> bool

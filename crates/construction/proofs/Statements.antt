@@ -6,6 +6,8 @@ pub mod ExitRequests
 pub mod TextKept
 pub mod Linearizability
 pub mod Limits
+pub mod Numbers
+pub mod Log
 pub mod Waits
 pub mod Sums
 pub mod Counters

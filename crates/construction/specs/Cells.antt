@@ -22,9 +22,9 @@ zeros = record { w0 = 0; w1 = 0; w2 = 0; w3 = 0 }
 abbrev pub openGate : Gate
 openGate = record { holder = Nobody; seq = 1 }
 
--- 'Announcement of each process: .. at opening 0, 0, done, zeros'
+-- 'Announcement of each process: .. at opening 0, 0, done, zeros', and done under no gate number yet (document 02, order 4)
 abbrev pub openAnnouncement : Announcement
-openAnnouncement = record { program = 0; flag = Done; seq = 0; words = zeros }
+openAnnouncement = record { program = 0; flag = Done; seq = 0; number = 0; words = zeros }
 
 -- 'Record of each variable: .. at opening the starting value, 0, 0, 0'
 abbrev pub openRecord : ℕ → Record
@@ -67,7 +67,7 @@ sameGate a b = sameHolder (a .holder) (b .holder) && eqb (a .seq) (b .seq)
 unfoldable pub sameAnnouncement : Announcement → Announcement → Bool
 sameAnnouncement a b =
     eqb (a .program) (b .program)
-    && (eqb (a .seq) (b .seq) && (sameFlag (a .flag) (b .flag) && sameWords (a .words) (b .words)))
+    && (eqb (a .seq) (b .seq) && (sameFlag (a .flag) (b .flag) && (eqb (a .number) (b .number) && sameWords (a .words) (b .words))))
 
 unfoldable pub sameRecord : Record → Record → Bool
 sameRecord a b =

@@ -80,8 +80,8 @@ taken = Answer.Taken ∷ []
 abbrev pub runs : ℕ → List Answer
 runs n = replicate n Answer.Run
 
-abbrev pub done : Words → ℕ → List Answer
-done outputs own = Answer.Done outputs own ∷ []
+abbrev pub done : ℕ → Words → ℕ → List Answer
+done number outputs own = Answer.Done number outputs own ∷ []
 
 abbrev pub exited : ℕ → List Answer
 exited own = Answer.Exited own ∷ []
@@ -92,8 +92,8 @@ shown x = Answer.Value x ∷ []
 abbrev pub refused : Refusal → List Answer
 refused r = Answer.Refused r ∷ []
 
-abbrev pub announced : Flag → ℕ → ℕ → Announcement
-announced flag seq x = record { program = 0; flag = flag; seq = seq; words = one x }
+abbrev pub announced : Flag → ℕ → ℕ → ℕ → Announcement
+announced flag seq number x = record { program = 0; flag = flag; seq = seq; number = number; words = one x }
 
 -- the text of card K after its first line: store the input, output the old value
 abbrev pub bodyK : List ℕ
@@ -109,15 +109,15 @@ cardK2 = bytes "card,2,1,1,100\n" ++ bodyK
 abbrev pub nine : Record
 nine = record { val0 = 7; val1 = 9; toggle = true; seq = 1 }
 
--- card K's listing: 'fourteen times step', done with 7 after 14 steps
+-- card K's listing: 'fourteen times step', done under number 1 with 7 after 14 steps: 'step,0,done,1,7,0,0,0,14' (document 02, order 4)
 abbrev pub listing : Row
 listing =
     record {
       text = cardK;
       entries = readFirst ++ (call 0 (one 9) ++ (steps 0 14 ++ (readFirst ++ steps 0 1)));
-      answers = shown 7 ++ (taken ++ (runs 13 ++ (done (one 7) 14 ++ (shown 9 ++ refused NotBusy))));
+      answers = shown 7 ++ (taken ++ (runs 13 ++ (done 1 (one 7) 14 ++ (shown 9 ++ refused NotBusy))));
       gate = record { holder = Nobody; seq = 2 };
-      announcements = announced Done 1 7 ∷ [];
+      announcements = announced Done 1 1 7 ∷ [];
       variable = 0;
       cell = nine;
     }
@@ -130,7 +130,7 @@ afterNine =
       entries = call 0 (one 9) ++ (steps 0 9 ++ readFirst);
       answers = taken ++ (runs 9 ++ shown 7);
       gate = record { holder = Process 0; seq = 1 };
-      announcements = announced Active 1 9 ∷ [];
+      announcements = announced Active 1 0 9 ∷ [];
       variable = 0;
       cell = nine;
     }
@@ -143,7 +143,7 @@ afterTen =
       entries = call 0 (one 9) ++ (steps 0 10 ++ readFirst);
       answers = taken ++ (runs 10 ++ shown 9);
       gate = record { holder = Process 0; seq = 1 };
-      announcements = announced Done 1 7 ∷ [];
+      announcements = announced Done 1 1 7 ∷ [];
       variable = 0;
       cell = nine;
     }
@@ -154,9 +154,9 @@ sameInput =
     record {
       text = cardK;
       entries = call 0 (one 7) ++ steps 0 13;
-      answers = taken ++ (runs 12 ++ done (one 7) 13);
+      answers = taken ++ (runs 12 ++ done 1 (one 7) 13);
       gate = record { holder = Nobody; seq = 2 };
-      announcements = announced Done 1 7 ∷ [];
+      announcements = announced Done 1 1 7 ∷ [];
       variable = 0;
       cell = openRecord 7;
     }
@@ -167,9 +167,9 @@ exitRequested =
     record {
       text = cardK;
       entries = call 0 (one 9) ++ (exit 0 ++ steps 0 17);
-      answers = taken ++ (taken ++ (runs 16 ++ done (one 7) 17));
+      answers = taken ++ (taken ++ (runs 16 ++ done 1 (one 7) 17));
       gate = record { holder = Nobody; seq = 2 };
-      announcements = announced Done 1 7 ∷ [];
+      announcements = announced Done 1 1 7 ∷ [];
       variable = 0;
       cell = nine;
     }
@@ -180,9 +180,9 @@ twoProcesses =
     record {
       text = cardK2;
       entries = call 0 (one 5) ++ (call 1 (one 9) ++ (steps 0 2 ++ (steps 1 5 ++ (exit 0 ++ (steps 0 10 ++ (steps 1 3 ++ readFirst))))));
-      answers = taken ++ (taken ++ (runs 7 ++ (taken ++ (runs 9 ++ (exited 12 ++ (runs 2 ++ (done (one 7) 8 ++ shown 9)))))));
+      answers = taken ++ (taken ++ (runs 7 ++ (taken ++ (runs 9 ++ (exited 12 ++ (runs 2 ++ (done 1 (one 7) 8 ++ shown 9)))))));
       gate = record { holder = Nobody; seq = 2 };
-      announcements = announced Exit 1 5 ∷ announced Done 1 7 ∷ [];
+      announcements = announced Exit 1 0 5 ∷ announced Done 1 1 7 ∷ [];
       variable = 0;
       cell = nine;
     }
@@ -195,7 +195,7 @@ limited =
       entries = call 0 (one 9) ++ (steps 0 14 ++ readFirst);
       answers = taken ++ (runs 13 ++ (refused LimitReached ++ shown 9));
       gate = record { holder = Nobody; seq = 2 };
-      announcements = announced Done 1 7 ∷ [];
+      announcements = announced Done 1 1 7 ∷ [];
       variable = 0;
       cell = nine;
     }
@@ -214,9 +214,9 @@ stopped =
     record {
       text = cardSums;
       entries = call 0 (two 4294967295 1) ++ steps 0 12;
-      answers = taken ++ (runs 11 ++ done (two 4294967295 0) 12);
+      answers = taken ++ (runs 11 ++ done 1 (two 4294967295 0) 12);
       gate = record { holder = Nobody; seq = 2 };
-      announcements = record { program = 0; flag = Done; seq = 1; words = two 4294967295 0 } ∷ [];
+      announcements = record { program = 0; flag = Done; seq = 1; number = 1; words = two 4294967295 0 } ∷ [];
       variable = 0;
       cell = openRecord 7;
     }
@@ -237,9 +237,9 @@ indirect =
     record {
       text = card64;
       entries = call 0 (one 63) ++ steps 0 13;
-      answers = taken ++ (runs 12 ++ done (one 8) 13);
+      answers = taken ++ (runs 12 ++ done 1 (one 8) 13);
       gate = record { holder = Nobody; seq = 2 };
-      announcements = announced Done 1 8 ∷ [];
+      announcements = announced Done 1 1 8 ∷ [];
       variable = 63;
       cell = openRecord 8;
     }
@@ -250,9 +250,9 @@ indirectPast =
     record {
       text = card64;
       entries = call 0 (one 64) ++ steps 0 12;
-      answers = taken ++ (runs 11 ++ done (one 0) 12);
+      answers = taken ++ (runs 11 ++ done 1 (one 0) 12);
       gate = record { holder = Nobody; seq = 2 };
-      announcements = announced Done 1 0 ∷ [];
+      announcements = announced Done 1 1 0 ∷ [];
       variable = 63;
       cell = openRecord 8;
     }
@@ -263,9 +263,9 @@ skipPast =
     record {
       text = bytes "card,1,1,1,100\nvar,7\nsheet,3\nins,2,0,5,0\nins,9,1,1,31\nins,11,0,0,0\n";
       entries = call 0 (one 0) ++ steps 0 12;
-      answers = taken ++ (runs 11 ++ done (one 0) 12);
+      answers = taken ++ (runs 11 ++ done 1 (one 0) 12);
       gate = record { holder = Nobody; seq = 2 };
-      announcements = announced Done 1 0 ∷ [];
+      announcements = announced Done 1 1 0 ∷ [];
       variable = 0;
       cell = openRecord 7;
     }
@@ -276,9 +276,9 @@ turnOfOther =
     record {
       text = cardK2;
       entries = call 1 (one 9) ++ (call 0 (one 5) ++ (steps 1 2 ++ (steps 0 25 ++ readFirst)));
-      answers = taken ++ (taken ++ (runs 26 ++ (done (one 9) 25 ++ shown 5)));
+      answers = taken ++ (taken ++ (runs 26 ++ (done 2 (one 9) 25 ++ shown 5)));
       gate = record { holder = Nobody; seq = 3 };
-      announcements = announced Done 1 9 ∷ announced Done 1 7 ∷ [];
+      announcements = announced Done 1 2 9 ∷ announced Done 1 1 7 ∷ [];
       variable = 0;
       cell = record { val0 = 5; val1 = 9; toggle = false; seq = 2 };
     }
@@ -289,9 +289,9 @@ equalSeq =
     record {
       text = cardK2;
       entries = call 0 (one 5) ++ (call 1 (one 9) ++ (steps 0 2 ++ (steps 1 9 ++ (steps 0 4 ++ steps 1 5))));
-      answers = taken ++ (taken ++ (runs 19 ++ done (one 7) 14));
+      answers = taken ++ (taken ++ (runs 19 ++ done 1 (one 7) 14));
       gate = record { holder = Nobody; seq = 2 };
-      announcements = announced Active 1 5 ∷ announced Done 1 7 ∷ [];
+      announcements = announced Active 1 0 5 ∷ announced Done 1 1 7 ∷ [];
       variable = 0;
       cell = nine;
     }
@@ -311,7 +311,7 @@ earlyExit =
       entries = call 0 (one 0) ++ (steps 0 3 ++ (call 1 (one 0) ++ (steps 1 2 ++ (steps 0 6 ++ (exit 1 ++ (steps 1 1 ++ (steps 0 1 ++ (steps 1 1 ++ (steps 0 1 ++ readFirst)))))))));
       answers = taken ++ (runs 3 ++ (taken ++ (runs 8 ++ (taken ++ (runs 4 ++ shown 1)))));
       gate = record { holder = Process 1; seq = 1 };
-      announcements = announced Active 1 0 ∷ announced Done 1 0 ∷ [];
+      announcements = announced Active 1 0 0 ∷ announced Done 1 1 0 ∷ [];
       variable = 0;
       cell = flipped 1;
     }
@@ -322,9 +322,9 @@ lateMark =
     record {
       text = cardFlip;
       entries = call 0 (one 0) ++ (steps 0 3 ++ (call 1 (one 0) ++ (steps 1 2 ++ (steps 0 3 ++ (steps 1 9 ++ (call 1 (one 0) ++ (steps 1 2 ++ steps 0 3)))))));
-      answers = taken ++ (runs 3 ++ (taken ++ (runs 13 ++ (done (one 0) 11 ++ (taken ++ runs 5)))));
+      answers = taken ++ (runs 3 ++ (taken ++ (runs 13 ++ (done 1 (one 0) 11 ++ (taken ++ runs 5)))));
       gate = record { holder = Nobody; seq = 2 };
-      announcements = announced Active 1 0 ∷ announced Active 2 0 ∷ [];
+      announcements = announced Active 1 0 0 ∷ announced Active 2 0 0 ∷ [];
       variable = 0;
       cell = flipped 1;
     }
@@ -335,9 +335,9 @@ lateSwap =
     record {
       text = cardFlip;
       entries = call 0 (one 0) ++ (steps 0 3 ++ (call 1 (one 0) ++ (steps 1 2 ++ (steps 0 16 ++ (steps 1 9 ++ (call 1 (one 0) ++ (steps 1 9 ++ (steps 0 1 ++ (steps 1 1 ++ readFirst)))))))));
-      answers = taken ++ (runs 3 ++ (taken ++ (runs 26 ++ (done (one 0) 11 ++ (taken ++ (runs 11 ++ shown 1))))));
+      answers = taken ++ (runs 3 ++ (taken ++ (runs 26 ++ (done 1 (one 0) 11 ++ (taken ++ (runs 11 ++ shown 1))))));
       gate = record { holder = Process 1; seq = 3 };
-      announcements = announced Done 1 0 ∷ announced Done 3 0 ∷ [];
+      announcements = announced Done 1 2 0 ∷ announced Done 3 3 0 ∷ [];
       variable = 0;
       cell = flipped 3;
     }

@@ -35,15 +35,15 @@ pub record Invocation : Type 0 where
   pub program : ℕ
   pub inputs : Words
 
--- an operation that withFinishes: its number, its gate number, and the outputs that the bench got for it
+-- an operation that finishes: its number, its gate number, and the outputs that the bench got for it
 pub record Finish : Type 0 where
   pub operation : ℕ
   pub gate : ℕ
   pub outputs : Words
 
--- how an operation returned: done, with its outputs, or exited
+-- how an operation returned: done, with the gate number and the outputs of its answer, or exited
 pub data Return : Type 0 where
-  done : (outputs : Words) → Return
+  done : (number : ℕ) (outputs : Words) → Return
   exited : Return
 
 -- an operation that returned, and how
@@ -60,12 +60,12 @@ pub data Event : Type 0 where
 abbrev pub eventOf : Answer → Event
 eventOf Answer.Taken = Event.taken
 eventOf Answer.Run = Event.none
-eventOf (Answer.Done o steps) = Event.returned (Return.done o)
+eventOf (Answer.Done number o steps) = Event.returned (Return.done number o)
 eventOf (Answer.Exited steps) = Event.returned Return.exited
 eventOf (Answer.Value x) = Event.none
 eventOf (Answer.Refused r) = Event.none
 
--- what an observer notes, newest first: the operations, those that withFinishes, those that returned; and the bench's words
+-- what an observer notes, newest first: the operations, those that finished, those that returned; and the bench's words
 pub record History : Type 0 where
   pub operations : List Invocation
   pub order : List Finish

@@ -17,5 +17,7 @@ pub mod Limits
 pub mod History
 pub mod Linearizability
 pub mod Allocation
+pub mod Log
+pub mod Numbers
 pub mod Waits
 pub mod Examples

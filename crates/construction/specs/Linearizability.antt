@@ -19,14 +19,14 @@ unfoldable pub times : ℕ → List Finish → ℕ
 times k [] = 0
 times k (f ∷ fs) = cond (eqb (f .operation) k) (suc (times k fs)) (times k fs)
 
--- its rank in the order, counted from 1, and 0 if it does not stand there; and the bench's outputs for it
+-- its rank in the order, counted from 1, and 0 if it does not stand there; and its note there: its gate number and the bench's outputs for it
 unfoldable pub rank : ℕ → List Finish → ℕ
 rank k [] = 0
 rank k (f ∷ fs) = cond (eqb (f .operation) k) (suc (length fs)) (rank k fs)
 
-unfoldable pub outputsOf : ℕ → List Finish → Words
-outputsOf k [] = zeros
-outputsOf k (f ∷ fs) = cond (eqb (f .operation) k) (f .outputs) (outputsOf k fs)
+unfoldable pub finishOf : ℕ → List Finish → Finish
+finishOf k [] = record { operation = k; gate = 0; outputs = zeros }
+finishOf k (f ∷ fs) = cond (eqb (f .operation) k) f (finishOf k fs)
 
 -- an operation has returned
 unfoldable pub hasReturned : ℕ → List Response → Bool
@@ -38,10 +38,16 @@ abbrev pub Numbered : List Finish → Type 0
 Numbered [] = Unit
 Numbered (f ∷ fs) = (f .gate ≡ suc (length fs)) × Numbered fs
 
--- a return agrees with the order: done stands there once, with the bench's outputs; exited never
+-- a return agrees with the order: done stands there once, under the number of its answer, with the bench's outputs; exited never
 abbrev pub Agrees : List Finish → ℕ → Return → Type 0
-Agrees order k (Return.done o) = (times k order ≡ 1) × (outputsOf k order ≡ o)
+Agrees order k (Return.done number o) =
+    (times k order ≡ 1) × (finishOf k order ≡ record { operation = k; gate = number; outputs = o })
 Agrees order k Return.exited = times k order ≡ 0
+
+-- no operation returns twice
+abbrev pub ReturnedOnce : List Response → Type 0
+ReturnedOnce [] = Unit
+ReturnedOnce (r ∷ rs) = (hasReturned (r .operation) rs ≡ false) × ReturnedOnce rs
 
 abbrev pub AllAgree : List Finish → List Response → Type 0
 AllAgree order [] = Unit
@@ -69,10 +75,12 @@ pub record Linearizable (o : Card) (es : List Entry) : Type 0 where
   pub reads :
       (v : ℕ) → v < o .variables →
       read (run o es .card) v ≡ record { card = run o es .card; answer = Answer.Value (getD (run o es .history .words) v 0) }
-  -- 2 and 5: every returned operation agrees with the order
+  -- 2 and 5: every returned operation agrees with the order, and none returns twice
   pub returns : AllAgree (run o es .history .order) (run o es .history .returns)
-  -- 3: gate numbers without a hole
+  pub single : ReturnedOnce (run o es .history .returns)
+  -- 3: gate numbers without a hole; so the gate number of an operation, which a done answer gives (document 02, order 4), is its rank
   pub numbers : Numbered (run o es .history .order)
+  pub ranks : (k : ℕ) → finishOf k (run o es .history .order) .gate ≡ rank k (run o es .history .order)
   -- 4: the next entry, whatever it is, finishes at most one operation, and one that is under way
   pub finishes : (e : Entry) → FinishesAtMostOne (run o es) e
   -- 5: no operation stands in the order twice, and only taken calls stand there

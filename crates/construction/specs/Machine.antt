@@ -98,19 +98,19 @@ firstChoice seq p = cond (ltb 0 p) (seq % p) 0
 
 -- line P2: what a process announces that was called with an operation and read a gate
 abbrev pub announced : Operation → Gate → Announcement
-announced o g = record { program = o .program; flag = Active; seq = g .seq; words = o .inputs }
+announced o g = record { program = o .program; flag = Active; seq = g .seq; number = 0; words = o .inputs }
 
 -- an announcement with another flag
 abbrev pub flagged : Announcement → Flag → Announcement
-flagged a f = record { program = a .program; flag = f; seq = a .seq; words = a .words }
+flagged a f = record { program = a .program; flag = f; seq = a .seq; number = a .number; words = a .words }
 
 -- line P6: the announcement last read, asking to exit, with the inputs of the call
 abbrev pub withdrawn : Announcement → Operation → Announcement
-withdrawn a o = record { program = a .program; flag = Exit; seq = a .seq; words = o .inputs }
+withdrawn a o = record { program = a .program; flag = Exit; seq = a .seq; number = 0; words = o .inputs }
 
--- lines P19 and P20: the announcement last read, done, with the outputs
-abbrev pub finished : Announcement → Words → Announcement
-finished a outputs = record { program = a .program; flag = Done; seq = a .seq; words = outputs }
+-- lines P19 and P20: the announcement last read, done under the number of the gate last read (document 02, order 4), with the outputs
+abbrev pub finished : Announcement → Gate → Words → Announcement
+finished a g outputs = record { program = a .program; flag = Done; seq = a .seq; number = g .seq; words = outputs }
 
 -- whether a swap won
 abbrev pub outcome : Bool → Swap
@@ -174,7 +174,7 @@ accessAnnouncement AnnouncementAccess.ReadFirst m cell operation g a outputs tas
     readAnnouncement cell m (byFlag (cell .flag) C4 P13 C4)
 -- lines P19, P20
 accessAnnouncement (AnnouncementAccess.Finish flag next) m cell operation g a outputs task =
-    replaceAnnouncement cell a task (flagged a flag) (finished a outputs) next
+    replaceAnnouncement cell a task (flagged a flag) (finished a g outputs) next
 
 -- lines H31 and H32: the next write from item k on, or P19
 abbrev pub writeFrom : ℕ → Dictionary → ℕ → Task

@@ -34,7 +34,7 @@ allowed t l = waitOf t + extra (l .exit)
 abbrev pub TellsAtMost : ℕ → Answer → Type 0
 TellsAtMost n Answer.Taken = Unit
 TellsAtMost n Answer.Run = Unit
-TellsAtMost n (Answer.Done o steps) = steps ≤ n
+TellsAtMost n (Answer.Done number o steps) = steps ≤ n
 TellsAtMost n (Answer.Exited steps) = steps ≤ n
 TellsAtMost n (Answer.Value x) = Unit
 TellsAtMost n (Answer.Refused why) = Unit

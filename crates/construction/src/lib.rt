@@ -28,11 +28,12 @@ pub struct Words {
     pub w3: u32,
 }
 
-// The announcement of a process.
+// The announcement of a process. Its number is the gate number under which it was done, 0 while it is active or exit and at opening.
 pub struct Announcement {
     pub program: u8,
     pub flag: Flag,
     pub seq: u64,
+    pub number: u64,
     pub words: Words,
 }
 
@@ -324,8 +325,14 @@ pub enum Refusal {
 pub enum Answer {
     Taken,
     Run,
-    Done { outputs: Words, steps: u64 },
-    Exited { steps: u64 },
+    Done {
+        number: u64,
+        outputs: Words,
+        steps: u64,
+    },
+    Exited {
+        steps: u64,
+    },
     Value(u32),
     Refused(Refusal),
 }

@@ -7,7 +7,7 @@ use native.Mathlib.Omega.{arith}
 use native.Mathlib.Numerals.{add-one}
 use lib.Dec.{eqb, ltb}
 use lib.ListN.{length, getD, set, take, drop, length-take, length-set, length-map, drop-of-length-le}
-use lib.Seq.{drop-cons, getD-take, map-set-same, length-take-le, take-all}
+use lib.Seq.{drop-cons, getD-take, map-set-same, length-take-le, take-set-lt}
 use borrow.Author.Tests.{eq-eqb, ne-eqb, lt-ltb, le-ltb}
 use Rattle.construction.specs.declared.Words.{Words}
 use Rattle.construction.specs.declared.Program.{Program}
@@ -27,10 +27,9 @@ use Rattle.construction.specs.Helping.{ended, lacks, simulateFrom, simulate}
 
 -- a value assigned, and an item inserted
 module _ (d : Dictionary) where
-  assign-keys : (k x : ℕ) (ks : List ℕ) → ks ≡ keys d → ks ≡ keys (assign d k x)
+  assign-keys : (k x : ℕ) → keys (assign d k x) ≡ keys d
   unfolding assign
-  assign-keys k x ks e =
-      e ∙ sym (map-set-same (λ (e : Item). e .variable) (d .items) k (withValue (getD (d .items) k noItem) x) noItem refl)
+  assign-keys k x = map-set-same (λ (e : Item). e .variable) (d .items) k (withValue (getD (d .items) k noItem) x) noItem refl
 
   assign-noted : (k x : ℕ) → length (noted (assign d k x)) ≡ length (noted d)
   unfolding assign
@@ -104,6 +103,12 @@ module _ (ks : List ℕ) (end v k total : ℕ) (long : end ≤ length ks) (sough
       let q : length (take end ks) ≤ k = rw (length-take-le end ks long) p in
       sym (sought ∙ rw (drop-of-length-le (take end ks) q) (omega arith))
 
+-- the numbers of the first items
+pub mapped-take : (f : Item → ℕ) (n : ℕ) (es : List Item) → map f (take n es) ≡ take n (map f es)
+mapped-take f zero es = refl
+mapped-take f (suc n) [] = refl
+mapped-take f (suc n) (e ∷ es) = rw (mapped-take f n es)
+
 -- the keys find what the dictionary finds
 take-again {ℓ} : {A : Type ℓ} (n : ℕ) (l : List A) → take (length (take n l)) l ≡ take n l
 take-again zero l = refl
@@ -116,28 +121,30 @@ position-is v zero es = refl
 position-is v (suc n) [] = refl
 position-is v (suc n) (e ∷ es) = rw (position-is v n es)
 
--- the keys of all items, and how many items are noted
+-- how many items are noted, and their keys
 abbrev pub Keyed : Dictionary → List ℕ → ℕ → Type 0
-Keyed d ks end = (end ≡ length (noted d)) × (ks ≡ keys d)
+Keyed d ks end = (end ≡ length (noted d)) × (take end ks ≡ take end (keys d))
 
-pub enough-keys : (d : Dictionary) (ks : List ℕ) (end : ℕ) → Keyed d ks end → end ≤ length ks
-enough-keys d ks end h =
-    rw (h .0, h .1, length-map (d .items) (λ (e : Item). e .variable), length-take (d .length) (d .items)) (omega arith)
+-- a list that begins with numbers of all noted items is long enough
+long-enough : (d : Dictionary) (f : Item → ℕ) (xs : List ℕ) (end : ℕ) → end ≡ length (noted d) → take end xs ≡ take end (map f (d .items)) → end ≤ length xs
+long-enough d f xs end h e =
+    omega (arith, length-take end xs, ap length e, length-take end (map f (d .items)), length-map (d .items) f, length-take (d .length) (d .items))
 
 find-by-keys : (d : Dictionary) (ks : List ℕ) (v end k : ℕ) → Keyed d ks end → k ≡ placeOf (take end ks) v → k ≡ find d v
 find-by-keys d ks v end k h q =
-    q ∙ rw (h .0, h .1) (position-is v (length (noted d)) (d .items) ∙ rw (take-again (d .length) (d .items)))
+    q ∙ rw (h .1, h .0) (position-is v (length (noted d)) (d .items) ∙ rw (take-again (d .length) (d .items)))
 
--- items with other values: with none, with their own, ..
+-- items with other values: with none, with the first of their own, ..
 revalued-none : (es : List Item) → revalued es [] ≡ es
 unfolding revalued
 revalued-none [] = refl
 revalued-none (e ∷ es) = refl
 
-revalued-own : (es : List Item) → revalued es (map (λ (e : Item). e .value) es) ≡ es
+revalued-own : (n : ℕ) (es : List Item) → revalued es (take n (map (λ (e : Item). e .value) es)) ≡ es
 unfolding revalued
-revalued-own [] = refl
-revalued-own (e ∷ es) = rw (revalued-own es)
+revalued-own zero es = revalued-none es
+revalued-own (suc n) [] = refl
+revalued-own (suc n) (e ∷ es) = rw (revalued-own n es)
 
 -- .. their keys and how many there are, ..
 revalued-keys : (es : List Item) (xs : List ℕ) → map (λ (e : Item). e .variable) (revalued es xs) ≡ map (λ (e : Item). e .variable) es
@@ -154,7 +161,7 @@ revalued-length (e ∷ es) (x ∷ xs) = rw (revalued-length es xs)
 
 -- .. the value at a place, ..
 revalued-at :
-    (es : List Item) (xs : List ℕ) (k : ℕ) → k < length es → length xs ≡ length es →
+    (es : List Item) (xs : List ℕ) (k : ℕ) → k < length es → k < length xs →
     getD xs k 0 ≡ getD (revalued es xs) k noItem .value
 unfolding revalued
 revalued-at [] xs k p q = absurd (omega arith)
@@ -164,7 +171,7 @@ revalued-at (e ∷ es) (x ∷ xs) (suc k) p q = revalued-at es xs k (omega arith
 
 -- .. another value at a place, ..
 revalued-set :
-    (es : List Item) (xs : List ℕ) (k x : ℕ) → length xs ≡ length es →
+    (es : List Item) (xs : List ℕ) (k x : ℕ) → k < length xs →
     revalued es (set xs k x) ≡ set (revalued es xs) k (withValue (getD (revalued es xs) k noItem) x)
 unfolding revalued
 revalued-set [] xs k x q = refl
@@ -183,47 +190,47 @@ revalued-more (e ∷ es) [] k p q = absurd (omega arith)
 revalued-more (e ∷ es) (x ∷ xs) zero p q = rw (revalued-none es)
 revalued-more (e ∷ es) (x ∷ xs) (suc k) p q = rw (revalued-more es xs k (omega arith) (omega arith))
 
--- a dictionary that takes values one after the other: none, ..
+-- a dictionary that takes values one after the other: none, and one more
 pub no-values : (d : Dictionary) → d ≡ withValues d []
 no-values d = rw (revalued-none (d .items))
 
-module _ (d : Dictionary) (xs : List ℕ) (k : ℕ) (b : Dictionary) (e : b ≡ withValues d (take k xs)) where
-  -- .. one more, ..
-  pub more-values :
-      k < length (d .items) → k < length xs →
-      _≡_ {A = Dictionary}
-      (record { length = b .length; items = set (b .items) k (withValue (getD (b .items) k noItem) (getD xs k 0)) })
-      (withValues d (take (k + 1) xs))
-  more-values p q = rw (e, add-one k, revalued-more (d .items) xs k p q)
-
-  -- .. all
-  pub all-values : length xs ≤ k → b ≡ withValues d xs
-  all-values p = e ∙ rw (take-all k xs p)
+pub more-values :
+    (d : Dictionary) (xs : List ℕ) (k : ℕ) (b : Dictionary) → b ≡ withValues d (take k xs) → k < length (d .items) → k < length xs →
+    _≡_ {A = Dictionary}
+    (record { length = b .length; items = set (b .items) k (withValue (getD (b .items) k noItem) (getD xs k 0)) })
+    (withValues d (take (k + 1) xs))
+more-values d xs k b e p q = rw (e, add-one k, revalued-more (d .items) xs k p q)
 
 -- a dictionary and the numbers that stand in it
 module _ {ks before : List ℕ} {end : ℕ} {d : Dictionary} (h : Numbered ks before end d) where
   pub keyed : (xs : List ℕ) → Keyed (withValues d xs) ks end
   keyed xs = (
     h .count ∙ simp (length-take, revalued-length),
-    h .keyed ∙ sym (revalued-keys (d .items) xs),
+    h .keyed ∙ rw (revalued-keys (d .items) xs),
   )
 
   pub enough : end ≤ length ks
-  enough = enough-keys d ks end (h .count, h .keyed)
+  enough = long-enough d (λ (e : Item). e .variable) ks end (h .count) (h .keyed)
 
-  pub own-values : withValues d before ≡ d
-  own-values = rw (h .valued, revalued-own (d .items))
+  pub own-values : withValues d (take end before) ≡ d
+  own-values = rw (h .valued, revalued-own end (d .items))
 
-  pub long : length before ≡ length (d .items)
-  long = rw (h .valued, length-map (d .items) (λ (e : Item). e .value))
+  pub inside : end ≤ length (d .items)
+  inside = omega (arith, h .count, length-take (d .length) (d .items))
 
-  module _ (xs : List ℕ) (same : length xs ≡ length before) (k : ℕ) (inside : k < end) where
-    pub value-is : getD xs k 0 ≡ valueAt (withValues d xs) k
-    value-is = revalued-at (d .items) xs k (omega (arith, h .count, length-take (d .length) (d .items))) (same ∙ long)
+  pub enough-values : end ≤ length before
+  enough-values = long-enough d (λ (e : Item). e .value) before end (h .count) (h .valued)
 
-    pub assigned : (x : ℕ) → withValues d (set xs k x) ≡ assign (withValues d xs) k x
+  module _ (xs : List ℕ) (same : length xs ≡ length before) (k : ℕ) (below : k < end) where
+    among : k < length (take end xs)
+    among = omega (arith, same, length-take end xs, enough-values)
+
+    pub value-is : getD xs k 0 ≡ valueAt (withValues d (take end xs)) k
+    value-is = sym (getD-take end xs k 0 below) ∙ revalued-at (d .items) (take end xs) k (omega (arith, inside)) among
+
+    pub assigned : (x : ℕ) → withValues d (take end (set xs k x)) ≡ assign (withValues d (take end xs)) k x
     unfolding assign
-    assigned x = rw (revalued-set (d .items) xs k x (same ∙ long))
+    assigned x = rw (take-set-lt end xs k x below, revalued-set (d .items) (take end xs) k x among)
 
 -- a simulation whose result is `total` goes on from s and d with so many instructions left
 abbrev pub Going : ℕ → Program → Words → Simulated → List ℕ → ℕ → ℕ → Simulation → Dictionary → Type 0
@@ -278,7 +285,7 @@ module _ {n : ℕ} {program : Program} {inputs : Words} {total : Simulated} {ks 
     unfolding simulateFrom
     stores x t b p q y z = (
       h .going .0 ∙ rw (h .left, ← h .next, p, ← found, there q, z, y),
-      (rw y (h .going .1 .0 ∙ sym (assign-noted d k x)), rw y (assign-keys d k x ks (h .going .1 .1))),
+      (rw y (h .going .1 .0 ∙ sym (assign-noted d k x)), rw (y, assign-keys d k x) (h .going .1 .1)),
     )
 
     pub store-lacks : (x : ℕ) → e ≡ Effect.Store v x → end ≤ k → lacks v s d ≡ total

@@ -66,14 +66,13 @@ module _ (n : ℕ) (program : Program) (inputs : Words) (cell : Record) (number 
   pub noted-on :
       cell .seq ≤ number → (e : Item) → e ≡ itemOf number (task .target) cell → (d₀ : Dictionary) → d₀ ≡ insert d e →
       {ks before : List ℕ} {end : ℕ} → Numbered ks before end d₀ →
-      (after : List ℕ) (r : Paused) → simulate n program inputs s d₀ ≡ standing r (withValues d₀ after) →
-      (d₁ : Dictionary) (k : ℕ) → d₁ ≡ withValues d₀ (take k after) → length after ≤ k →
+      (after : List ℕ) (r : Paused) → simulate n program inputs s d₀ ≡ standing r (withValues d₀ (take end after)) →
+      (d₁ : Dictionary) → d₁ ≡ withValues d₀ (take end after) →
       (next : ℕ) → next ≡ nextWrite number d₁ 0 → (t : Task) → t ≡ pauseTask (r .pause) next end →
       _≡_ {A = Helped} (record { task = t; simulation = r .simulation; dictionary = d₁ }) (note n program inputs cell number task s d)
   unfolding note
-  noted-on p e ee d₀ ed {end = end} h after r er d₁ k taken all next en t et =
-      let e₁ = laws.all-values d₀ after k d₁ taken all in
-      rw (le-ltb _ _ p, ← ee, ← ed, er, ← e₁, et, goes-on number d₁ (r .pause) next end en (rw e₁ (laws.keyed h after .0)))
+  noted-on p e ee d₀ ed {end = end} h after r er d₁ e₁ next en t et =
+      rw (le-ltb _ _ p, ← ee, ← ed, er, ← e₁, et, goes-on number d₁ (r .pause) next end en (rw e₁ (laws.keyed h (take end after) .0)))
 
 module _ (number : ℕ) (task : Task) (d : Dictionary) (full : length (d .items) ≡ 32) where
   pub written :

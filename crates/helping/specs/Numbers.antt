@@ -4,7 +4,7 @@ use mathlib.Core.Bool.{cond}
 use mathlib.Core.List.{List, [], _∷_, map}
 use mathlib.Core.Path.{_≡_}
 use lib.Dec.{eqb}
-use lib.ListN.{length}
+use lib.ListN.{length, take}
 use Rattle.construction.specs.declared.Words.{Words}
 use Rattle.construction.specs.declared.Program.{Program}
 use Rattle.construction.specs.declared.Item.{Item}
@@ -36,10 +36,10 @@ revalued (e ∷ es) (x ∷ xs) = withValue e x ∷ revalued es xs
 abbrev pub withValues : Dictionary → List ℕ → Dictionary
 withValues d xs = record { length = d .length; items = revalued (d .items) xs }
 
--- these keys and values stand in a dictionary, and so many items are noted
+-- so many items of a dictionary are noted, and these are their keys and values
 pub record Numbered (ks xs : List ℕ) (end : ℕ) (d : Dictionary) : Type 0 where
-  pub keyed : ks ≡ keys d
-  pub valued : xs ≡ values d
+  pub keyed : take end ks ≡ take end (keys d)
+  pub valued : take end xs ≡ take end (values d)
   pub count : end ≡ length (noted d)
 
 -- a simulation that stands still, with its dictionary
@@ -49,4 +49,4 @@ standing r d = record { pause = r .pause; simulation = r .simulation; dictionary
 -- a run on numbers leaves what the simulation leaves on every dictionary in which they stand
 pub record Runs (n : ℕ) (program : Program) (inputs : Words) (s : Simulation) (ks : List ℕ) (end : ℕ) (before after : List ℕ) (r : Paused) : Type 0 where
   pub long : length after ≡ length before
-  pub left : (d : Dictionary) → Numbered ks before end d → simulate n program inputs s d ≡ standing r (withValues d after)
+  pub left : (d : Dictionary) → Numbered ks before end d → simulate n program inputs s d ≡ standing r (withValues d (take end after))

@@ -3,11 +3,12 @@ use construction::Dictionary;
 use construction::Item;
 use construction::Record;
 ghost use mathlib.Core.Path.{_≡_};
-ghost use Prim.Native.Nat.{min};
+ghost use Prim.Native.Nat.{min, _≤_};
+ghost use lib.ListN.{take};
 ghost use Rattle.helping.specs.Numbers.{keys, values};
 ghost use Rattle.construction.specs.Dictionary.{valueUnder, itemOf, insert, altered, nextWrite};
 
-// The variables and the values of all items.
+// The variables and the values of items.
 pub(crate) struct Numbers {
     pub keys: [u8; 32],
     pub values: [u32; 32],
@@ -20,14 +21,15 @@ pub(crate) fn noted(length: u8) -> u8
     if length < 32 { length } else { 32 }
 }
 
-// The variables and values of all items.
-pub(crate) fn numbers_of(dictionary: Dictionary) -> Numbers
-    ensures { λ r. ⌜ (r .keys ≡ keys dictionary) × (r .values ≡ values dictionary) ⌝ }
+// The variables and values of the first items.
+pub(crate) fn numbers_of(dictionary: Dictionary, end: u8) -> Numbers
+    requires { ⌜ end ≤ 32 ⌝ }
+    ensures { λ r. ⌜ (take end (r .keys) ≡ take end (keys dictionary)) × (take end (r .values) ≡ take end (values dictionary)) ⌝ }
 {
     let mut keys = [0u8; 32];
     let mut values = [0u32; 32];
     let mut k: u8 = 0;
-    while k < 32 {
+    while k < end {
         let at = k as usize;
         keys[at] = dictionary.items[at].variable;
         values[at] = dictionary.items[at].value;

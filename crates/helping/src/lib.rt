@@ -130,15 +130,15 @@ pub fn note(
         };
     }
     let mut d = insert(dictionary, item_of(number, task.target, cell));
-    let numbers = numbers_of(d);
+    let end = noted(d.length);
+    let numbers = numbers_of(d, end);
     let keys = numbers.keys;
     let mut values = numbers.values;
-    let end = noted(d.length);
     let paused = simulate(n, program, inputs, simulation, &keys, end, &mut values);
     let pause = paused.pause;
     let state = paused.simulation;
     let mut k: u8 = 0;
-    while k < 32 {
+    while k < end {
         let at = k as usize;
         d.items[at].value = values[at];
         k = k + 1;

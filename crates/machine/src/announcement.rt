@@ -28,6 +28,7 @@ pub fn announced(operation: Operation, gate: Gate) -> Announcement
         program: operation.program,
         flag: Flag::Active,
         seq: gate.seq,
+        number: 0,
         words,
     }
 }
@@ -41,31 +42,35 @@ pub fn flagged(announcement: Announcement, flag: Flag) -> Announcement
         program: announcement.program,
         flag,
         seq: announcement.seq,
+        number: announcement.number,
         words,
     }
 }
 
-// Line P6: what a process announces that asks to exit.
+// Line P6: what a process announces that asks to exit. It is done under no gate number.
 pub fn withdrawn(last: Announcement, operation: Operation) -> Announcement
     ensures { λ r. ⌜ r ≡ withdrawn last operation ⌝ }
 {
+    let number = 0;
     let words = operation.inputs;
     Announcement {
         program: last.program,
         flag: Flag::Exit,
         seq: last.seq,
+        number,
         words,
     }
 }
 
-// Lines P19 and P20: what a helper makes of the announcement that it helped.
-pub fn finished(last: Announcement, outputs: Words) -> Announcement
-    ensures { λ r. ⌜ r ≡ finished last outputs ⌝ }
+// Lines P19 and P20: what a helper makes of the announcement that it helped, under the number of the gate that it last read.
+pub fn finished(last: Announcement, gate: Gate, outputs: Words) -> Announcement
+    ensures { λ r. ⌜ r ≡ finished last gate outputs ⌝ }
 {
     Announcement {
         program: last.program,
         flag: Flag::Done,
         seq: last.seq,
+        number: gate.seq,
         words: outputs,
     }
 }
@@ -177,7 +182,7 @@ pub fn access_announcement(
             last,
             task,
             flagged(last, flag),
-            finished(last, outputs),
+            finished(last, gate, outputs),
             next,
         ),
     }
@@ -188,10 +193,16 @@ pub fn returned(last: Announcement, steps: u64) -> Answer
     ensures { λ r. ⌜ r ≡ returned last (last .flag) steps ⌝ }
 {
     let flag = last.flag;
+    let number = last.number;
     let outputs = last.words;
+    let done = Answer::Done {
+        number,
+        outputs,
+        steps,
+    };
     match flag {
-        Flag::Done => Answer::Done { outputs, steps },
-        Flag::Active => Answer::Done { outputs, steps },
+        Flag::Done => done,
+        Flag::Active => done,
         Flag::Exit => Answer::Exited { steps },
     }
 }

@@ -42,6 +42,7 @@ pub fn open_announcement() -> Announcement
         program: 0,
         flag: Flag::Done,
         seq: 0,
+        number: 0,
         words: zeros(),
     }
 }

@@ -3,25 +3,68 @@
 // below each the schedules that are played on it from its opening, in lines that start with `>`: a title, a colon and entries
 // (c call: process, program, inputs; w exit request: process; s steps: process, how many; r read: variable; p prints the shared cells and
 // the record of a variable). The expected output is worked out by tests/replay/expected.rs, on the simulator of tests/simulator.
-mod playing; // playing.rt: the entries of a schedule, played one after the other
-mod same; // same.rt: whether two cards are the same in every part
+// What is computed, compared and played equals its definition in specs/; what only prints gives nothing back.
+mod entries; // entries.rt: the entries of a schedule, read from its line
+mod lines; // lines.rt: the lines of the input, and the card text that they give
+mod playing; // playing.rt: entries played one after the other
 
+use crate::lines::after_line;
+use crate::lines::line_end;
+use crate::lines::starts_line;
 use crate::playing::play_line;
-use grammar::reading::has_byte;
+use construction::Answer;
+use construction::Card;
+use construction::Words;
 use libc::STDIN_FILENO;
 
-// The place past the line that holds a place.
-fn line_end(input: &[u8], start: usize) -> usize {
-    for at in start..input.len() {
-        if input[at] == b'\n' {
-            return at + 1;
-        }
-    }
-    input.len()
+// Where the card text stands in the input.
+struct Section {
+    start: usize,
+    end: usize,
 }
 
-// Plays the schedule of the line from `at` to `next` on the card text from `start` to `end`.
-fn play_on(input: &[u8], start: usize, end: usize, at: usize, next: usize) {
+// A number of an entry, and the place past it.
+struct Operand {
+    value: u32,
+    next: usize,
+}
+
+// A request to the card.
+enum Request {
+    Call {
+        process: u32,
+        program: u32,
+        inputs: Words,
+    },
+    Exit {
+        process: u32,
+    },
+    Step {
+        process: u32,
+    },
+    Read {
+        variable: u32,
+    },
+}
+
+// An entry: a request made so many times, or the shared cells and the record of a variable printed.
+enum Entry {
+    Requests { request: Request, times: u32 },
+    Cells { variable: u32 },
+    Nothing,
+}
+
+// A request that was made: its answer, the card after it, and whether that is the card before it.
+struct Played {
+    card: Card,
+    answer: Answer,
+    same: bool,
+}
+
+// Plays the schedule of the line from `at` to `next` on the card text.
+fn play_on(input: &[u8], section: Section, at: usize, next: usize) {
+    let start = section.start;
+    let end = section.end;
     if next <= input.len() && at <= next {
         if end <= input.len() && start <= end {
             play_line(&input[start..end], &input[at..next]);
@@ -29,22 +72,16 @@ fn play_on(input: &[u8], start: usize, end: usize, at: usize, next: usize) {
     }
 }
 
-// Whether a line starts at a place.
-fn starts_line(input: &[u8], at: usize) -> bool {
-    at == 0 || has_byte(input, at - 1, b'\n')
-}
-
 fn play_all(input: &[u8]) {
-    let mut start: usize = 0;
-    let mut end: usize = 0;
+    let mut section = Section { start: 0, end: 0 };
     for at in 0..input.len() {
         if starts_line(input, at) {
             let next = line_end(input, at);
-            match input[at] {
-                b'#' => start = next,
-                b'>' => play_on(input, start, end, at, next),
-                _ => end = next,
+            let first = input[at];
+            if first == b'>' {
+                play_on(input, section, at, next);
             }
+            section = after_line(section, first, next);
         }
     }
 }

@@ -41,7 +41,7 @@ fn write_words(words: Words) {
 
 // An answer's fields, each after a comma.
 fn write_answer(answer: Answer) {
-    let mut text = [0u8; 110];
+    let mut text = [0u8; 132];
     let length = put_answer(&mut text, 0, answer);
     write(&text[..length]);
 }
@@ -102,6 +102,7 @@ fn show_announcement(process: u64, announcement: Announcement) {
     write_field(b",", announcement.program as u64);
     write_field(b",", announcement.seq);
     write_flag(flag);
+    write_field(b",", announcement.number);
     write_words(words);
     write(b"\n");
 }

@@ -30,9 +30,9 @@ module _ {b : List ℕ} {at i j k : ℕ} {y₁ y₂ z : List ℕ} where
 
   pub put-line :
       (line : ℕ) (m : Command) (a : Answer) → Room b at → PutWithin b at (headText line m) i y₁ 25 →
-      PutWithin y₁ i (fieldsText (answerFields a)) j y₂ 110 → Put y₂ j (10 ∷ []) k z → PutWithin b at (lineText line m a) k z longest
+      PutWithin y₁ i (fieldsText (answerFields a)) j y₂ 132 → Put y₂ j (10 ∷ []) k z → PutWithin b at (lineText line m a) k z longest
   unfolding lineText
-  put-line line m a h p q r = put-parts (answerFields a) 25 110 longest h p q r (omega arith)
+  put-line line m a h p q r = put-parts (answerFields a) 25 132 longest h p q r (omega arith)
 
 -- refusals of the card and of the calls
 module _ {b : List ℕ} {i j k : ℕ} {y₁ y₂ z : List ℕ} where

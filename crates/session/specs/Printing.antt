@@ -29,9 +29,9 @@ lineWith start f = start ++ (fieldsText f ++ (10 ∷ []))
 unfoldable pub lineText : ℕ → Command → Answer → List ℕ
 lineText line m a = lineWith (headText line m) (answerFields a)
 
--- no line is longer: a verb, `done` and six numbers of at most 20 digits with their separators
+-- no line is longer: a verb, `done` and seven numbers of at most 20 digits with their separators
 abbrev pub longest : ℕ
-longest = 136
+longest = 158
 
 -- 'A refused card .. prints only `card,refused,number,line`'
 abbrev pub cardRefusal : Verdict → List ℕ

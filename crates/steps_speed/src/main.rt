@@ -1,22 +1,30 @@
 // Speed of call and step: card K's program with eight processes, each called again as soon as its operation returned, under a schedule
 // of pseudo-random numbers. Standard input holds how many steps are made; the shared cells are printed at the end.
 // tests/speed/run.sh times it against tests/speed/steps/steps.rs, which ends with the same cells.
+// The card stands in one variable, the last request's result, so that nothing but the requests copies it.
 use construction::Answer;
+use construction::Answered;
 use construction::Card;
 use construction::Words;
 use grammar::Number;
 use grammar::reading::number_at;
 use libc::STDIN_FILENO;
+ghost use mathlib.Core.Path.{_≡_};
+ghost use Rattle.steps_speed.specs.Runs.{nextRandom, seed, inputsOf, isRun, calledFrom, runFrom, opened};
 
 // Marsaglia's xorshift with shifts 13, 7 and 17.
-fn next_random(x: u64) -> u64 {
+fn next_random(x: u64) -> u64
+    ensures { λ r. ⌜ r ≡ nextRandom x ⌝ }
+{
     let a = x ^ (x << 13);
     let b = a ^ (a >> 7);
     b ^ (b << 17)
 }
 
 // The inputs of a call.
-fn inputs(input: u32) -> Words {
+fn inputs(input: u32) -> Words
+    ensures { λ r. ⌜ r ≡ inputsOf input ⌝ }
+{
     Words {
         w0: input,
         w1: 0,
@@ -25,47 +33,60 @@ fn inputs(input: u32) -> Words {
     }
 }
 
-fn call(card: Card, process: u32, input: u32) -> Card {
-    let answered = card::call(card, process, 0, inputs(input));
-    let after = answered.card;
-    after
-}
-
-fn is_run(answer: Answer) -> bool {
+fn is_run(answer: Answer) -> bool
+    ensures { λ r. ⌜ r ≡ isRun answer ⌝ }
+{
     match answer {
+        Answer::Taken => false,
         Answer::Run => true,
-        _ => false,
+        Answer::Done {
+            number: _,
+            outputs: _,
+            steps: _,
+        } => false,
+        Answer::Exited { steps: _ } => false,
+        Answer::Value(_) => false,
+        Answer::Refused(_) => false,
     }
 }
 
-// A step of a process, and its next call where its operation returned.
-fn step(card: Card, process: u32, input: u32) -> Card {
-    let answered = card::step(card, process);
-    let after = answered.card;
-    let answer = answered.answer;
-    if is_run(answer) {
-        return after;
-    }
-    call(after, process, input)
-}
-
-fn call_all(card: Card) -> Card {
-    let mut card = card;
+// The first call of every process, with its own number as input. A process that was not called yet is refused a step: it is asked here so that
+// step has two callers, and is compiled as one function as in a larger program.
+fn call_all(card: Card) -> Answered
+    ensures { λ r. ⌜ r ≡ calledFrom 8 0 (opened card) ⌝ }
+{
+    let mut answered = Answered {
+        card,
+        answer: Answer::Taken,
+    };
     for process in 0..8 {
-        card = call(card, process, process);
+        answered = card::step(answered.card, process);
+        answered = card::call(answered.card, process, 0, inputs(process));
     }
-    card
+    answered
 }
 
-// The input of a call is the number of the step before it.
-fn run(card: Card, count: u64) -> Card {
-    let mut card = card;
+// So many steps, each with the next call of its process where the operation returned. The input of a call is the number of the step before it.
+fn run(start: Answered, count: u64) -> Answered
+    ensures { λ r. ⌜ r ≡ runFrom count 0 seed start ⌝ }
+{
+    let mut answered = start;
     let mut random: u64 = 88_172_645_463_325_252;
     for k in 0..count {
         random = next_random(random);
-        card = step(card, (random % 8) as u32, (k % 4_294_967_296) as u32);
+        let process = (random % 8) as u32;
+        answered = card::step(answered.card, process);
+        let answer = answered.answer;
+        if !is_run(answer) {
+            answered = card::call(
+                answered.card,
+                process,
+                0,
+                inputs((k % 4_294_967_296) as u32),
+            );
+        }
     }
-    card
+    answered
 }
 
 fn main() {
@@ -78,5 +99,7 @@ fn main() {
         b"card,8,1,1,1000000000000000000\nvar,7\nsheet,4\nins,1,0,0,0\nins,3,1,0,0\nins,4,0,0,0\nins,11,0,1,0\n",
     );
     let card = opened.card;
-    report::show_cells(run(call_all(card), value), 0);
+    let last = run(call_all(card), value);
+    let after = last.card;
+    report::show_cells(after, 0);
 }

@@ -15,7 +15,7 @@ struct Gate { holder: Holder, seq: u64 }
 #[derive(Clone, Copy)]
 enum Flag { Done, Active, Exit }
 #[derive(Clone, Copy)]
-struct Announcement { program: u8, flag: Flag, seq: u64, words: [u32; 4] }
+struct Announcement { program: u8, flag: Flag, seq: u64, number: u64, words: [u32; 4] }
 #[derive(Clone, Copy)]
 struct Record { val0: u32, val1: u32, toggle: bool, seq: u64 }
 #[derive(Clone, Copy)]
@@ -118,7 +118,7 @@ fn open(text: &[u8]) -> Result<Card, Refused> {
 }
 
 fn fresh(processes: u8, variables: u8, programs: u8, limit: u64, starts: [u32; 64], code: [Program; 8]) -> Card {
-    let announcement = Announcement { program: 0, flag: Flag::Done, seq: 0, words: [0; 4] };
+    let announcement = Announcement { program: 0, flag: Flag::Done, seq: 0, number: 0, words: [0; 4] };
     let record = |start| Record { val0: start, val1: 0, toggle: false, seq: 0 };
     let gate = Gate { holder: Holder::Nobody, seq: 0 };
     let item = Item { variable: 0, value: 0, cell: record(0) };

@@ -28,6 +28,7 @@ struct Announcement {
     program: u8,
     flag: Flag,
     seq: u64,
+    number: u64,
     words: Words,
 }
 
@@ -116,7 +117,7 @@ struct Card {
 enum Answer {
     Taken,
     Run,
-    Done(#[allow(dead_code)] Words, #[allow(dead_code)] u64),
+    Done(#[allow(dead_code)] u64, #[allow(dead_code)] Words, #[allow(dead_code)] u64),
     Exited(#[allow(dead_code)] u64),
     Refused(#[allow(dead_code)] u8),
 }
@@ -142,7 +143,7 @@ fn by_flag(flag: Flag, done: Place, active: Place, exit: Place) -> Place {
 impl Card {
     fn open(processes: usize, starts: &[u32], programs: Vec<Vec<Instruction>>, limit: u64) -> Card {
         let cell = Record { val: [0, 0], toggle: false, seq: 0 };
-        let announcement = Announcement { program: 0, flag: Flag::Done, seq: 0, words: [0; 4] };
+        let announcement = Announcement { program: 0, flag: Flag::Done, seq: 0, number: 0, words: [0; 4] };
         let process = Process {
             place: Place::Idle,
             target: 0,
@@ -205,7 +206,7 @@ impl Card {
         process.steps += 1;
         match (process.place, process.copy.flag) {
             (Place::Idle, Flag::Exit) => Answer::Exited(process.steps),
-            (Place::Idle, _) => Answer::Done(process.copy.words, process.steps),
+            (Place::Idle, _) => Answer::Done(process.copy.number, process.copy.words, process.steps),
             _ => Answer::Run,
         }
     }
@@ -266,6 +267,7 @@ impl Card {
             program: process.program,
             flag: Flag::Active,
             seq: process.gate.seq,
+            number: 0,
             words: process.inputs,
         };
         self.announcements[i] = process.copy;
@@ -274,7 +276,7 @@ impl Card {
 
     fn withdraw(&mut self, i: usize) {
         let process = &mut self.processes[i];
-        let exit = Announcement { flag: Flag::Exit, words: process.inputs, ..process.copy };
+        let exit = Announcement { flag: Flag::Exit, number: 0, words: process.inputs, ..process.copy };
         swap(&mut self.announcements[i], process.copy, exit);
         process.place = Place::P7;
     }
@@ -342,7 +344,8 @@ impl Card {
         let holder = self.holder(i);
         let process = &mut self.processes[i];
         let expected = Announcement { flag, ..process.copy };
-        let done = Announcement { flag: Flag::Done, words: process.outputs, ..process.copy };
+        let number = process.gate.seq;
+        let done = Announcement { flag: Flag::Done, number, words: process.outputs, ..process.copy };
         swap(&mut self.announcements[holder], expected, done);
         process.place = next;
     }
@@ -434,7 +437,7 @@ fn show_cells(card: &Card) {
             Flag::Exit => "exit",
         };
         let words = a.words.map(|word| word.to_string()).join(",");
-        println!("announcement,{process},{},{},{flag},{words}", a.program, a.seq);
+        println!("announcement,{process},{},{},{flag},{},{words}", a.program, a.seq, a.number);
     }
     let record = card.records[0];
     println!("record,0,{},{},{},{}", record.val[0], record.val[1], record.toggle as u8, record.seq);
@@ -453,6 +456,7 @@ fn main() {
         vec![Instruction::Input(0, 0), Instruction::Load(1, 0), Instruction::Store(0, 0), Instruction::Output(0, 1)];
     let mut card = Card::open(black_box(8), black_box(&[7]), black_box(vec![program]), 1_000_000_000_000_000_000);
     for process in 0..8 {
+        card.step(process); // refused
         card.call(process, 0, [process as u32, 0, 0, 0]);
     }
     let mut random: u64 = 88_172_645_463_325_252;

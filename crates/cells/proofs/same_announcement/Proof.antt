@@ -8,23 +8,29 @@ returns : tie.Need-returns
 unfolding sameAnnouncement
 returns c =
     rw
-    (eq-eqb _ _ (c .before .before .before .before .before .before .if1 .taken), eq-eqb _ _ (c .before .before .before .if2 .taken), ← c .before .before .same-flag .ensures, c .before .if3 .taken) (c .same-words .ensures)
+    (eq-eqb _ _ (c .before .before .before .before .before .before .before .before .before .if1 .taken), eq-eqb _ _ (c .before .before .before .before .before .before .if2 .taken), ← c .before .before .before .before .before .same-flag .ensures, c .before .before .before .before .if3 .taken, eq-eqb _ _ (c .before .if4 .taken)) (c .same-words .ensures)
 
 returns-2 : tie.Need-returns-2
 unfolding sameAnnouncement
 returns-2 c =
     rw
-    (eq-eqb _ _ (c .before .before .before .before .before .if1 .taken), eq-eqb _ _ (c .before .before .if2 .taken), ← c .before .same-flag .ensures, c .if3 .left)
+    (eq-eqb _ _ (c .before .before .before .before .before .before .before .before .if1 .taken), eq-eqb _ _ (c .before .before .before .before .before .if2 .taken), ← c .before .before .before .before .same-flag .ensures, c .before .before .before .if3 .taken, ne-eqb _ _ (c .if4 .left))
 
 returns-3 : tie.Need-returns-3
 unfolding sameAnnouncement
-returns-3 c = rw (eq-eqb _ _ (c .before .before .before .if1 .taken), ne-eqb _ _ (c .if2 .left))
+returns-3 c =
+    rw
+    (eq-eqb _ _ (c .before .before .before .before .before .if1 .taken), eq-eqb _ _ (c .before .before .if2 .taken), ← c .before .same-flag .ensures, c .if3 .left)
 
 returns-4 : tie.Need-returns-4
 unfolding sameAnnouncement
-returns-4 c = rw (ne-eqb _ _ (c .if1 .left))
+returns-4 c = rw (eq-eqb _ _ (c .before .before .before .if1 .taken), ne-eqb _ _ (c .if2 .left))
+
+returns-5 : tie.Need-returns-5
+unfolding sameAnnouncement
+returns-5 c = rw (ne-eqb _ _ (c .if1 .left))
 
 pub same-announcement-spec : {M : Type 1} → statement M
 same-announcement-spec =
     tie.close
-    (tie.spec (λ c κs. search needs) (λ c κs. search needs) returns returns-2 returns-3 returns-4)
+    (tie.spec (λ c κs. search needs) (λ c κs. search needs) returns returns-2 returns-3 returns-4 returns-5)

@@ -59,7 +59,7 @@ module _ {c : Card} {w : World} {i : ℕ} (B : Before c w i) where
       set-is i (announced (localAt c i .operation) (localAt c i .gate)) (B .inside) in
       record {
         after = announcing W i a;
-        move = announce a (B .inside) (q .0) refl (q .1) (q .2) (q .3);
+        move = announce a (B .inside) (q .0) refl (q .1) (q .2) (q .3) refl;
         gate-is = refl;
         announcements-is = refl;
         records-is = refl;
@@ -188,7 +188,7 @@ module _ {c : Card} {w : World} {i : ℕ} (B : Before c w i) where
             announcements-is =
                 ap {B = List Announcement} (set (c .announcements) i)
                 (announcement-path (ap (λ (r : Announcement). r .program) (sym z)) refl
-                (ap (λ (r : Announcement). r .seq) (sym z)) (sym zw));
+                (ap (λ (r : Announcement). r .seq) (sym z)) (sym (B .good .unnumbered i (active-not-done fa))) (sym zw));
             records-is = refl;
             calls-is = refl;
             local = _;
@@ -215,7 +215,7 @@ module _ {c : Card} {w : World} {i : ℕ} (B : Before c w i) where
         announcementAt c helped ≡ flagged (localAt c i .announcement) f →
         (Move F i W (ending F W helped) → Change i (viewOf W i) (viewOf (ending F W helped) i) →
         Loc F (ending F W helped) i (at l)) →
-        Acted c W i (swapped helped (finished (localAt c i .announcement) (localAt c i .simulation .outputs)) l)
+        Acted c W i (swapped helped (finished (localAt c i .announcement) (localAt c i .gate) (localAt c i .simulation .outputs)) l)
     ends z loc =
         let nd : announcementAt c helped .flag ≢ Done = λ d. nf (sym (ap (λ (r : Announcement). r .flag) z) ∙ d) in
         let zq : announcementAt c helped .seq ≡ localAt c i .announcement .seq = ap (λ (r : Announcement). r .seq) z in
@@ -234,7 +234,7 @@ module _ {c : Card} {w : World} {i : ℕ} (B : Before c w i) where
           gate-is = refl;
           announcements-is =
               ap {B = List Announcement} (set (c .announcements) helped)
-              (announcement-path (sym (ap (λ (r : Announcement). r .program) z)) refl (sym zq) outs);
+              (announcement-path (sym (ap (λ (r : Announcement). r .program) z)) refl (sym zq) (sym zs) outs);
           records-is = refl;
           calls-is = refl;
           local = _;
@@ -250,7 +250,7 @@ module _ {c : Card} {w : World} {i : ℕ} (B : Before c w i) where
         c .gate .holder ≡ Process helped → c .gate .seq ≡ localAt c i .gate .seq → announcementAt c helped .flag ≢ f
     missed e h z a =
         let y = plan .working .alike h z (λ d. nf (sym a ∙ d)) in
-        sameAnnouncement-false _ _ e (announcement-path (y .program) a (y .seq) (y .words))
+        sameAnnouncement-false _ _ e (announcement-path (y .program) a (y .seq) (y .number) (y .words))
 
   -- afterwards the flag of m is done
   is-done : (m : ℕ) → m < c .processes → announcementIn (ending F W m) m .flag ≡ Done

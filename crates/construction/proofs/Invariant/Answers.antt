@@ -7,7 +7,6 @@ use native.Mathlib.Omega.{arith}
 use lib.Dec.{eqb}
 use borrow.Author.Tests.{eqb-true, eqb-false, not-false}
 use Rattle.construction.specs.declared.Announcement.{Announcement}
-use Rattle.construction.specs.declared.Words.{Words}
 use Rattle.construction.specs.declared.Card.{Card}
 use Rattle.construction.specs.declared.Holder.{Holder}
 use Rattle.construction.specs.declared.Holder.the-variants.{Nobody, Process}
@@ -20,7 +19,7 @@ use Rattle.construction.specs.Cells.{isDone, current, previous}
 use Rattle.construction.specs.Parts.{announcementAt, recordAt, localAt, Local, contentsOf}
 use Rattle.construction.specs.Requests.{isBusy, isPending, valueOf, returned, answerOf, isIdle}
 use Rattle.construction.proofs.Basics.{on-test, true-false, true-or-false, active-not-done, exit-not-done}
-use Rattle.construction.proofs.Invariant.World.{Round, World, announcementIn, outputsIn, roundIn, wordAt, Phase, WorldInvariant, Quiet}
+use Rattle.construction.proofs.Invariant.World.{Round, World, announcementIn, Result, resultOf, resultIn, roundIn, wordAt, Phase, WorldInvariant, Quiet}
 use Rattle.construction.proofs.Invariant.Assertions.{LocAt, known}
 use Rattle.construction.proofs.Invariant.Stages.{isAnnounced, Stage, stage}
 use Rattle.construction.proofs.Invariant.Acting.{worldOf}
@@ -65,12 +64,12 @@ module _ (c : Card) (w : World) (I : CardInvariant c w) (v : ℕ) (vl : v < c .v
   unfolding valueOf
   read-is = by-holder (c .gate .holder) (good .phase)
 
--- the answer of an operation that has returned: done with the outputs of the sequential run, or exited
+-- the answer of an operation that has returned: done with the number and the outputs of the sequential run, or exited
 module _ {c : Card} {w : World} (I : CardInvariant c w) (i : ℕ) (lt : i < c .processes) (b : isBusy c i ≡ false) where
   -- what the announcement says, and the answer
   abbrev pub Returned : Answer → Type 0
   Returned a =
-      ((announcementIn w i .flag ≡ Done) × (a ≡ Answer.Done (outputsIn w i) (localAt c i .steps)))
+      ((announcementIn w i .flag ≡ Done) × (a ≡ Answer.Done (resultIn w i .number) (resultIn w i .outputs) (localAt c i .steps)))
       ⊎ ((announcementIn w i .flag ≡ Exit) × (a ≡ Answer.Exited (localAt c i .steps)))
 
   pub answer-is : Returned (answerOf (localAt c i))
@@ -82,13 +81,13 @@ module _ {c : Card} {w : World} (I : CardInvariant c w) (i : ℕ) (lt : i < c .p
       idle : isIdle (localAt c i .task .place) ≡ true
       idle = not-false _ b
 
-      words : announcementIn w i .flag ≡ Done → localAt c i .announcement .words ≡ outputsIn w i
-      words e = sym (ap (λ (a : Announcement). a .words) (q .1 .same)) ∙ q .1 .out e
+      result : announcementIn w i .flag ≡ Done → resultOf (localAt c i .announcement) ≡ resultIn w i
+      result e = sym (ap resultOf (q .1 .same)) ∙ q .1 .out e
 
       go :
           (f : Flag) → announcementIn w i .flag ≡ f →
           Returned (cond (isIdle (localAt c i .task .place)) (returned (localAt c i .announcement) f (localAt c i .steps)) Answer.Run)
-      go Done e = inl (e, rw idle (ap (λ (o : Words). Answer.Done o (localAt c i .steps)) (words e)))
+      go Done e = inl (e, rw idle (ap (λ (r : Result). Answer.Done (r .number) (r .outputs) (localAt c i .steps)) (result e)))
       go Active e = absurd (q .0 .not-active e)
       go Exit e = inr (e, rw idle)
 

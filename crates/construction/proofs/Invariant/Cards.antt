@@ -19,7 +19,7 @@ use Rattle.construction.specs.declared.Contents.{Contents}
 use Rattle.construction.specs.declared.Flag.the-variants.{Done}
 use Rattle.construction.specs.declared.Place.{Place}
 use Rattle.construction.specs.declared.Place.the-variants.{Idle}
-use Rattle.construction.specs.Cells.{zeros, openAnnouncement, openRecord, current}
+use Rattle.construction.specs.Cells.{openAnnouncement, openRecord, current}
 use Rattle.construction.specs.Instructions.{noProgram}
 use Rattle.construction.specs.Dictionary.{empty}
 use Rattle.construction.specs.Parts.{idleTask, noOperation, localAt, withLocal, Local, contentsOf, withCells, withSteps}
@@ -28,7 +28,7 @@ use Rattle.construction.specs.Requests.{isBusy, invoked, exiting}
 use Rattle.construction.specs.Opening.{fresh}
 use Rattle.construction.proofs.Basics.{getD-replicate-same, active-not-done, exit-not-done, nobody-process}
 use Rattle.construction.proofs.Simulating.Sequential.{Short}
-use Rattle.construction.proofs.Invariant.World.{World, WorldInvariant, asking, Quiet, Move}
+use Rattle.construction.proofs.Invariant.World.{World, noResult, resultOf, WorldInvariant, asking, Quiet, Move}
 use Rattle.construction.proofs.Invariant.World.Move.{ask, stay}
 use Rattle.construction.proofs.Invariant.WorldKept.{good-move, seq-move}
 use Rattle.construction.proofs.Invariant.Locals.{Sizes, local-same, local-other, sizes-put}
@@ -125,7 +125,7 @@ inv-step c w i I lt b h = record {
         records = A .records-is n;
         words = A .after .words;
         calls = A .after .calls;
-        outs = A .after .outs;
+        results = A .after .results;
         left = A .after .left;
         bound = A .after .bound;
         rounds = A .after .rounds;
@@ -206,7 +206,7 @@ firstWorld x =
       records = fresh x .records;
       words = take (x .variables) (x .starts);
       calls = replicate 8 noOperation;
-      outs = replicate 8 zeros;
+      results = replicate 8 noResult;
       left = replicate 8 0;
       bound = replicate 8 0;
       rounds = record { words = take (x .variables) (x .starts); call = noOperation } ∷ [];
@@ -232,7 +232,7 @@ module _ (x : Contents) (few : x .processes ≤ 8) (narrow : x .variables ≤ 64
       announcements = refl;
       records = length-map (x .starts) openRecord ∙ many;
       calls = refl;
-      outs = refl;
+      results = refl;
       left = refl;
       bound = refl;
     };
@@ -242,6 +242,8 @@ module _ (x : Contents) (few : x .processes ≤ 8) (narrow : x .variables ≤ 64
     bound-below = λ m. rw (getD-replicate-same {A = ℕ} 8 m 0) (omega arith);
     announcement-below = λ m. rw (getD-replicate-same 8 m openAnnouncement) (omega arith);
     fresh = λ m e. absurd (e (open-flag m));
+    number-below = λ m. rw (getD-replicate-same 8 m openAnnouncement) (omega arith);
+    unnumbered = λ m e. absurd (e (open-flag m));
     inside = λ m e. absurd (nobody-process refl e);
     active-operation = λ m e. absurd (active-not-done e (open-flag m));
     phase = (refl, refl);
@@ -279,7 +281,7 @@ module _ (x : Contents) (few : x .processes ≤ 8) (narrow : x .variables ≤ 64
           record {
             same = refl;
             out = λ _.
-                ap (λ (a : Announcement). a .words) (getD-replicate-same 8 j openAnnouncement) ∙ sym (getD-replicate-same 8 j zeros);
+                ap resultOf (getD-replicate-same 8 j openAnnouncement) ∙ sym (getD-replicate-same 8 j noResult);
           },
         );
     tidy = λ j.

@@ -13,21 +13,21 @@ use Rattle.construction.specs.declared.Operation.{Operation}
 use Rattle.construction.specs.declared.Holder.{Holder}
 use Rattle.construction.specs.declared.Holder.the-variants.{Nobody, Process}
 use Rattle.construction.specs.declared.Flag.the-variants.{Done, Active, Exit}
-use Rattle.construction.specs.Cells.{zeros, openAnnouncement, openRecord, rewritten}
+use Rattle.construction.specs.Cells.{openAnnouncement, openRecord, rewritten}
 use Rattle.construction.specs.Parts.{noOperation}
 use Rattle.construction.specs.Machine.{flagged, finished}
 use Rattle.construction.proofs.Basics.{on-set, active-not-done, active-not-exit, exit-not-done, nobody-process, process-same, else-exit}
-use Rattle.construction.proofs.Invariant.World.{noRound, endingIn, World, announcementIn, recordIn, leftIn, boundIn, callIn, outputsIn, roundIn, operationOf, WorldInvariant, asking, announcing, leaving, ending, Quiet, Move}
+use Rattle.construction.proofs.Invariant.World.{noRound, endingIn, World, announcementIn, recordIn, leftIn, boundIn, callIn, Result, noResult, resultIn, resultOf, roundIn, operationOf, WorldInvariant, asking, announcing, leaving, ending, Quiet, Move}
 use Rattle.construction.proofs.Invariant.World.Move.{stay, ask, announce, leave, take, write, end, free}
 use Rattle.construction.proofs.Invariant.WorldKept.{announcements-set}
 use Rattle.construction.specs.declared.Contents.{Contents}
 
--- what a process sees: the gate, and its own announcement, call, outputs and bound
+-- what a process sees: the gate, and its own announcement, call, result and bound
 pub record View : Type 0 where
   pub gate : Gate
   pub announcement : Announcement
   pub call : Operation
-  pub outputs : Words
+  pub result : Result
   pub bound : ℕ
 
 abbrev pub viewOf : World → ℕ → View
@@ -36,22 +36,22 @@ viewOf w j =
       gate = w .gate;
       announcement = announcementIn w j;
       call = callIn w j;
-      outputs = outputsIn w j;
+      result = resultIn w j;
       bound = boundIn w j;
     }
 
 -- the same with another gate, and with its operation finished
 abbrev pub gated : View → Gate → View
 gated x g =
-    record { gate = g; announcement = x .announcement; call = x .call; outputs = x .outputs; bound = x .bound }
+    record { gate = g; announcement = x .announcement; call = x .call; result = x .result; bound = x .bound }
 
 abbrev completed : View → Words → View
 completed x o =
     record {
       gate = x .gate;
-      announcement = finished (x .announcement) o;
+      announcement = finished (x .announcement) (x .gate) o;
       call = x .call;
-      outputs = o;
+      result = record { number = x .gate .seq; outputs = o };
       bound = x .bound;
     }
 
@@ -84,9 +84,9 @@ silent-change (took m hn f) q =
 silent-change (ended o h d) q = absurd (q .1 h)
 silent-change (freed b) q = (q .0, nobody-process refl, λ e. omega (arith, q .2 e))
 
--- what the announcement of j says: the outputs where it is done, and else the latest call
+-- what the announcement of j says: the result where it is done, and else the latest call
 pub record Owned (x : View) : Type 0 where
-  pub out : x .announcement .flag ≡ Done → x .announcement .words ≡ x .outputs
+  pub out : x .announcement .flag ≡ Done → resultOf (x .announcement) ≡ x .result
   pub op : x .announcement .flag ≢ Done → operationOf (x .announcement) ≡ x .call
 
 -- where j asks to exit, it holds the gate under no number past n
@@ -107,12 +107,12 @@ pub record Gone (x : View) (j : ℕ) : Type 0 where
 pub record Returning (x : View) (a : Announcement) : Type 0 where
   pub done : x .announcement .flag ≡ Done
   pub same : x .announcement ≡ a
-  pub out : a .words ≡ x .outputs
+  pub out : resultOf a ≡ x .result
 
--- j has returned: its announcement is a, with the outputs if it is done
+-- j has returned: its announcement is a, with the result if it is done
 pub record Rested (x : View) (a : Announcement) : Type 0 where
   pub same : x .announcement ≡ a
-  pub out : x .announcement .flag ≡ Done → x .announcement .words ≡ x .outputs
+  pub out : x .announcement .flag ≡ Done → resultOf (x .announcement) ≡ x .result
 
 -- if j holds the gate, then under number n
 pub record Last (x : View) (j n : ℕ) : Type 0 where
@@ -173,15 +173,15 @@ module _ {F : Contents} {w : World} (G : WorldInvariant F w) where
     where
       go : Dec (j ≡ m) → Change j (viewOf w j) (viewOf (ending F w m) j)
       go (yes e) =
-          rw (e, getD-set-same (w .announcements) m _ openAnnouncement (omega arith), getD-set-same (w .outs) m _ zeros (omega arith))
+          rw (e, getD-set-same (w .announcements) m _ openAnnouncement (omega arith), getD-set-same (w .results) m _ noResult (omega arith))
           (ended (endingIn F w (w .gate .seq) .outputs) hm fl)
       go (no n) =
-          rw (getD-set-other (w .announcements) m j _ openAnnouncement n, getD-set-other (w .outs) m j _ zeros n) kept
+          rw (getD-set-other (w .announcements) m j _ openAnnouncement n, getD-set-other (w .results) m j _ noResult n) kept
 
   pub change : {i : ℕ} {v : World} {j : ℕ} → j ≢ i → Move F i w v → Change j (viewOf w j) (viewOf v j)
   change ne stay = kept
   change {i} {j = j} ne (ask q lt Q) = rw (getD-set-other (w .calls) i j q noOperation ne) kept
-  change {i} {j = j} ne (announce a lt Q fa op l b) = rw (getD-set-other (w .announcements) i j a openAnnouncement ne) kept
+  change {i} {j = j} ne (announce a lt Q fa op l b n) = rw (getD-set-other (w .announcements) i j a openAnnouncement ne) kept
   change {i} {j = j} ne (leave lt fa) =
       rw (getD-set-other (w .announcements) i j _ openAnnouncement ne, getD-set-other (w .bound) i j _ 0 ne) kept
   change ne (take m lt hn fl op z) =
@@ -214,6 +214,7 @@ pub record Nominated (w : World) (j m n : ℕ) : Type 0 where
 pub record Alike (r a : Announcement) : Type 0 where
   pub program : r .program ≡ a .program
   pub seq : r .seq ≡ a .seq
+  pub number : r .number ≡ a .number
   pub words : r .words ≡ a .words
 
 -- while the gate is (m, s): m's announcement is a, but for its flag, or done; its flag is not active; its flag is done
@@ -231,7 +232,7 @@ module _ {F : Contents} {i : ℕ} {w : World} (G : WorldInvariant F w) where
   pub seen-stays : {v : World} {m s : ℕ} → Move F i w v → Seen w m s → Seen v m s
   seen-stays stay o = o
   seen-stays (ask c lt Q) o = record { still = o .still }
-  seen-stays (announce a lt Q fa op l b) o = record { still = o .still }
+  seen-stays (announce a lt Q fa op l b n) o = record { still = o .still }
   seen-stays (leave lt fa) o = record { still = o .still }
   seen-stays {m = m} (take m′ lt hn fl op z) o = record { still = λ l. absurd (nobody-process hn (o .still l .0)) }
   seen-stays (write m v x vl hm fl below ex) o = record { still = o .still }
@@ -285,7 +286,7 @@ module _ {F : Contents} {i : ℕ} {w : World} (G : WorldInvariant F w) where
   pub nominated-stays : {v : World} {j m n : ℕ} → j ≢ i → Move F i w v → Nominated w j m n → Nominated v j m n
   nominated-stays ne stay o = o
   nominated-stays ne (ask c lt Q) o = record { below = o .below; fit = λ h e. eligible-ask ne (o .fit h e) c lt Q (sym e) }
-  nominated-stays ne (announce a lt Q fa op l b) o =
+  nominated-stays ne (announce a lt Q fa op l b n) o =
       record { below = o .below; fit = λ h e. eligible-announce ne (o .fit h e) a lt fa op }
   nominated-stays ne (leave lt fa) o = record { below = o .below; fit = λ h e. eligible-leave ne (o .fit h e) lt (sym e) }
   nominated-stays ne (take m lt hn fl op z) o = record { below = o .below; fit = λ h. absurd (nobody-process h refl) }
@@ -300,12 +301,12 @@ module _ {F : Contents} {i : ℕ} {w : World} (G : WorldInvariant F w) where
 
   -- a claim about m's announcement while the gate is (m, s), which an exit request and the end of the operation keep
   module _ (P : Announcement → Type 0) (m s : ℕ) (exits : (r : Announcement) → r .flag ≡ Active → P r → P (flagged r Exit))
-      (ends : (r : Announcement) (o : Words) → P (finished r o)) (seen : Seen w m s)
+      (ends : (r : Announcement) (g : Gate) (o : Words) → P (finished r g o)) (seen : Seen w m s)
       (f : w .gate .holder ≡ Process m → w .gate .seq ≡ s → P (announcementIn w m)) where
     held-stays : {v : World} → Move F i w v → v .gate .holder ≡ Process m → v .gate .seq ≡ s → P (announcementIn v m)
     held-stays stay h e = f h e
     held-stays (ask c lt Q) h e = f h e
-    held-stays (announce a lt Q fa op l b) h e =
+    held-stays (announce a lt Q fa op l b n) h e =
         announcements-set G P i m a lt (λ z. absurd (Q .free-of (h ∙ ap Process z))) (λ _. f h e)
     held-stays (leave lt fa) h e =
         announcements-set G P i m _ lt (λ z. rw (← z) (exits (announcementIn w m) (rw z fa) (f h e))) (λ _. f h e)
@@ -313,34 +314,34 @@ module _ {F : Contents} {i : ℕ} {w : World} (G : WorldInvariant F w) where
         absurd (nobody-process hn (seen .still (rw e at (G .left-below m)) .0))
     held-stays (write m′ v x vl hm fl below ex) h e = f h e
     held-stays (end m′ lt hm fl all) h e =
-        announcements-set G P m′ m _ lt (λ _. ends (announcementIn w m′) _) (λ _. f h e)
+        announcements-set G P m′ m _ lt (λ _. ends (announcementIn w m′) (w .gate) _) (λ _. f h e)
     held-stays (free m′ lt hm d) h e = absurd (nobody-process refl h)
 
   pub working-stays :
       {v : World} {m s : ℕ} {a : Announcement} → Move F i w v → Seen w m s → Working w m s a → Working v m s a
   working-stays {m = m} {s} {a} M seen o = record {
     alike = held-stays (λ r. r .flag ≢ Done → Alike r a) m s
-        (λ r fa q _. let z = q (active-not-done fa) in record { program = z .program; seq = z .seq; words = z .words })
-        (λ r _ q. absurd (q refl)) seen (o .alike) M;
+        (λ r fa q _. let z = q (active-not-done fa) in record { program = z .program; seq = z .seq; number = z .number; words = z .words })
+        (λ r _ _ q. absurd (q refl)) seen (o .alike) M;
   }
 
   pub halfway-stays : {v : World} {m s : ℕ} → Move F i w v → Seen w m s → Halfway w m s → Halfway v m s
   halfway-stays {m = m} {s} M seen o = record {
     isnt = held-stays (λ r. r .flag ≢ Active) m s
-        (λ r fa q z. active-not-exit z refl) (λ r _ z. active-not-done z refl) seen (o .isnt) M;
+        (λ r fa q z. active-not-exit z refl) (λ r _ _ z. active-not-done z refl) seen (o .isnt) M;
   }
 
   pub over-stays : {v : World} {m s : ℕ} → Move F i w v → Seen w m s → Over w m s → Over v m s
   over-stays {m = m} {s} M seen o = record {
     over = held-stays (λ r. r .flag ≡ Done) m s
-        (λ r fa q. absurd (active-not-done fa q)) (λ r _. refl) seen (o .over) M;
+        (λ r fa q. absurd (active-not-done fa q)) (λ r _ _. refl) seen (o .over) M;
   }
 
   -- the gate's number does not fall
   pub below-stays : {v : World} {n : ℕ} → Move F i w v → n ≤ w .gate .seq → n ≤ v .gate .seq
   below-stays stay h = h
   below-stays (ask c lt Q) h = h
-  below-stays (announce a lt Q fa op l b) h = h
+  below-stays (announce a lt Q fa op l b n) h = h
   below-stays (leave lt fa) h = h
   below-stays (take m lt hn fl op z) h = h
   below-stays (write m v x vl hm fl below ex) h = h
@@ -352,7 +353,7 @@ module _ {F : Contents} {i : ℕ} {w : World} (G : WorldInvariant F w) where
   unfolding rewritten
   record-stays stay u = inl refl
   record-stays (ask c lt Q) u = inl refl
-  record-stays (announce a lt Q fa op l b) u = inl refl
+  record-stays (announce a lt Q fa op l b n) u = inl refl
   record-stays (leave lt fa) u = inl refl
   record-stays (take m lt hn fl op z) u = inl refl
   record-stays (write m v x vl hm fl below ex) u =
@@ -366,7 +367,7 @@ module _ {F : Contents} {i : ℕ} {w : World} (G : WorldInvariant F w) where
       {v : World} → Move F i w v → (s : ℕ) → s < length (w .rounds) → (roundIn v s ≡ roundIn w s) × (s < length (v .rounds))
   round-stays stay s h = (refl, h)
   round-stays (ask c lt Q) s h = (refl, h)
-  round-stays (announce a lt Q fa op l b) s h = (refl, h)
+  round-stays (announce a lt Q fa op l b n) s h = (refl, h)
   round-stays (leave lt fa) s h = (refl, h)
   round-stays (take m lt hn fl op z) s h =
       (List·getD-append (w .rounds) _ noRound s h, rw length-append (omega arith))

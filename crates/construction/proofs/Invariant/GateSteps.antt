@@ -19,7 +19,7 @@ use Rattle.construction.specs.Cells.{sameHolder, sameGate, swapGate, rel
 use Rattle.construction.specs.Parts.{announcementAt, withGate, localAt, Local, contentsOf, withLocal}
 use Rattle.construction.specs.Machine.{goTo, byHolder, holderOf, accessGate, perform, after}
 use Rattle.construction.proofs.Basics.{on-test, true-false, gate-path, sameGate-true, sameGate-false, sameHolder-true, sameHolder-refl, nobody-process, active-not-done, exit-not-done}
-use Rattle.construction.proofs.Invariant.World.{World, leftIn, taking, freeing, Quiet}
+use Rattle.construction.proofs.Invariant.World.{World, resultOf, leftIn, taking, freeing, Quiet}
 use Rattle.construction.proofs.Invariant.World.Move.{take, free}
 use Rattle.construction.proofs.Invariant.Claims.{View, viewOf, gated, Limit, Returning, Rested, Eligible}
 use Rattle.construction.proofs.Invariant.Assertions.{Mine, Helper, LocAt, Loc}
@@ -37,7 +37,7 @@ rests w i q ne = (
     free-of = ne;
     late = λ e. absurd (exit-not-done e (q .done));
   },
-  record { same = q .same; out = λ _. ap (λ (r : Announcement). r .words) (q .same) ∙ q .out },
+  record { same = q .same; out = λ _. ap resultOf (q .same) ∙ q .out },
 )
 
 -- the gate plays no part in what is known of one's own operation

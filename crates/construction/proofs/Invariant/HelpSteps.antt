@@ -132,7 +132,7 @@ module _ {c : Card} {w : World} {i : ℕ} (B : Before c w i) where
       positive = omega (arith, B .good .fresh m nd);
       working =
           subst (λ (k : ℕ). Working W k s (announcementAt c m)) (sym n)
-          (record { alike = λ _ _ _. record { program = refl; seq = refl; words = refl } });
+          (record { alike = λ _ _ _. record { program = refl; seq = refl; number = refl; words = refl } });
     }
 
     -- the first simulation touches no dictionary

@@ -32,7 +32,15 @@ unfoldable pub endingOf : Contents → ℕ → Round → Ending
 endingOf F number r =
     sequential (F .variables) (programOf F (r .call .program) number) (r .call .inputs) (r .words)
 
--- The shared cells; the words of the sequential run; of each process its latest taken call and the outputs of its latest finished
+-- what an operation came to that is done: its gate number and its outputs
+pub record Result : Type 0 where
+  pub number : ℕ
+  pub outputs : Words
+
+abbrev pub noResult : Result
+noResult = record { number = 0; outputs = zeros }
+
+-- The shared cells; the words of the sequential run; of each process its latest taken call and the result of its latest finished
 -- operation. `left` is the last number under which a process gave back the gate, `bound` the gate's number at its exit request,
 -- `rounds` one for each number of the gate so far (number 0 stands for the opening), `count` 1 more than the finished operations.
 pub record World : Type 0 where
@@ -41,7 +49,7 @@ pub record World : Type 0 where
   pub records : List Record
   pub words : List ℕ
   pub calls : List Operation
-  pub outs : List Words
+  pub results : List Result
   pub left : List ℕ
   pub bound : List ℕ
   pub rounds : List Round
@@ -65,8 +73,8 @@ boundIn w j = getD (w .bound) j 0
 abbrev pub callIn : World → ℕ → Operation
 callIn w j = getD (w .calls) j noOperation
 
-abbrev pub outputsIn : World → ℕ → Words
-outputsIn w j = getD (w .outs) j zeros
+abbrev pub resultIn : World → ℕ → Result
+resultIn w j = getD (w .results) j noResult
 
 abbrev pub roundOf : List Round → ℕ → Round
 roundOf rounds s = getD rounds s noRound
@@ -83,6 +91,10 @@ wordAt l v = getD l v 0
 -- what an announcement asks for
 abbrev pub operationOf : Announcement → Operation
 operationOf a = record { program = a .program; inputs = a .words }
+
+-- what an announcement says that is done
+abbrev pub resultOf : Announcement → Result
+resultOf a = record { number = a .number; outputs = a .words }
 
 -- the gate is held for an operation of m that is not done
 pub record Pending (w : World) (m : ℕ) : Type 0 where
@@ -125,7 +137,7 @@ pub record Lengths (a r c o l b : ℕ) : Type 0 where
   pub announcements : a ≡ 8
   pub records : r ≡ 64
   pub calls : c ≡ 8
-  pub outs : o ≡ 8
+  pub results : o ≡ 8
   pub left : l ≡ 8
   pub bound : b ≡ 8
 
@@ -133,7 +145,7 @@ pub record Lengths (a r c o l b : ℕ) : Type 0 where
 pub record WorldInvariant (F : Contents) (w : World) : Type 0 where
   pub fits : Fits F
   pub lengths :
-      Lengths (length (w .announcements)) (length (w .records)) (length (w .calls)) (length (w .outs)) (length (w .left))
+      Lengths (length (w .announcements)) (length (w .records)) (length (w .calls)) (length (w .results)) (length (w .left))
       (length (w .bound))
   pub size-words : length (w .words) ≡ F .variables
   pub size-round : (s : ℕ) → s < length (w .rounds) → length (roundIn w s .words) ≡ F .variables
@@ -141,6 +153,8 @@ pub record WorldInvariant (F : Contents) (w : World) : Type 0 where
   pub bound-below : (m : ℕ) → boundIn w m ≤ w .gate .seq
   pub announcement-below : (m : ℕ) → announcementIn w m .seq ≤ w .gate .seq
   pub fresh : (m : ℕ) → announcementIn w m .flag ≢ Done → leftIn w m < announcementIn w m .seq
+  pub number-below : (m : ℕ) → announcementIn w m .number ≤ w .gate .seq
+  pub unnumbered : (m : ℕ) → announcementIn w m .flag ≢ Done → announcementIn w m .number ≡ 0
   pub inside : (m : ℕ) → w .gate .holder ≡ Process m → m < F .processes
   pub active-operation : (m : ℕ) → announcementIn w m .flag ≡ Active → operationOf (announcementIn w m) ≡ callIn w m
   pub phase : Phase (w .gate .holder) w
@@ -155,7 +169,7 @@ asking w i q =
       records = w .records;
       words = w .words;
       calls = set (w .calls) i q;
-      outs = w .outs;
+      results = w .results;
       left = w .left;
       bound = w .bound;
       rounds = w .rounds;
@@ -171,7 +185,7 @@ announcing w i a =
       records = w .records;
       words = w .words;
       calls = w .calls;
-      outs = w .outs;
+      results = w .results;
       left = w .left;
       bound = w .bound;
       rounds = w .rounds;
@@ -187,7 +201,7 @@ leaving w i =
       records = w .records;
       words = w .words;
       calls = w .calls;
-      outs = w .outs;
+      results = w .results;
       left = w .left;
       bound = set (w .bound) i (w .gate .seq);
       rounds = w .rounds;
@@ -203,7 +217,7 @@ taking w m =
       records = w .records;
       words = w .words;
       calls = w .calls;
-      outs = w .outs;
+      results = w .results;
       left = w .left;
       bound = w .bound;
       rounds = w .rounds ++ (record { words = w .words; call = callIn w m } ∷ []);
@@ -219,7 +233,7 @@ storing w v x =
       records = set (w .records) v (rewritten (recordIn w v) x (w .gate .seq));
       words = w .words;
       calls = w .calls;
-      outs = w .outs;
+      results = w .results;
       left = w .left;
       bound = w .bound;
       rounds = w .rounds;
@@ -231,11 +245,11 @@ abbrev pub ending : Contents → World → ℕ → World
 ending F w m =
     record {
       gate = w .gate;
-      announcements = set (w .announcements) m (finished (announcementIn w m) (endingIn F w (w .gate .seq) .outputs));
+      announcements = set (w .announcements) m (finished (announcementIn w m) (w .gate) (endingIn F w (w .gate .seq) .outputs));
       records = w .records;
       words = endingIn F w (w .gate .seq) .words;
       calls = w .calls;
-      outs = set (w .outs) m (endingIn F w (w .gate .seq) .outputs);
+      results = set (w .results) m (record { number = w .gate .seq; outputs = endingIn F w (w .gate .seq) .outputs });
       left = w .left;
       bound = w .bound;
       rounds = w .rounds;
@@ -251,7 +265,7 @@ freeing w m =
       records = w .records;
       words = w .words;
       calls = w .calls;
-      outs = w .outs;
+      results = w .results;
       left = set (w .left) m (w .gate .seq);
       bound = w .bound;
       rounds = w .rounds;
@@ -270,7 +284,7 @@ pub data Move (F : Contents) (i : ℕ) (w : World) : World → Type 0 where
   ask : (q : Operation) → i < F .processes → Quiet w i → Move F i w (asking w i q)
   announce :
       (a : Announcement) → i < F .processes → Quiet w i → a .flag ≡ Active → operationOf a ≡ callIn w i →
-      leftIn w i < a .seq → a .seq ≤ w .gate .seq → Move F i w (announcing w i a)
+      leftIn w i < a .seq → a .seq ≤ w .gate .seq → a .number ≡ 0 → Move F i w (announcing w i a)
   leave : i < F .processes → announcementIn w i .flag ≡ Active → Move F i w (leaving w i)
   take :
       (m : ℕ) → m < F .processes → w .gate .holder ≡ Nobody → announcementIn w m .flag ≢ Done →

@@ -69,6 +69,8 @@ module _ {F : Contents} {w : World} (G : WorldInvariant F w) where
     bound-below = G .bound-below;
     announcement-below = G .announcement-below;
     fresh = G .fresh;
+    number-below = G .number-below;
+    unnumbered = G .unnumbered;
     inside = G .inside;
     active-operation = λ m a.
         on-set (λ r. operationOf (announcementIn w m) ≡ r) (w .calls) i m q noOperation (omega arith)
@@ -90,8 +92,8 @@ module _ {F : Contents} {w : World} (G : WorldInvariant F w) where
 
   good-announce :
       (i : ℕ) (a : Announcement) → i < F .processes → Quiet w i → a .flag ≡ Active → operationOf a ≡ callIn w i →
-      leftIn w i < a .seq → a .seq ≤ w .gate .seq → WorldInvariant F (announcing w i a)
-  good-announce i a lt Q fa op l b = record {
+      leftIn w i < a .seq → a .seq ≤ w .gate .seq → a .number ≡ 0 → WorldInvariant F (announcing w i a)
+  good-announce i a lt Q fa op l b n = record {
     fits = G .fits;
     lengths = rw length-set (G .lengths);
     size-words = G .size-words;
@@ -102,6 +104,10 @@ module _ {F : Contents} {w : World} (G : WorldInvariant F w) where
         announcements-set (λ r. r .seq ≤ w .gate .seq) i m a lt (λ _. b) (λ _. G .announcement-below m);
     fresh = λ m.
         announcements-set (λ r. r .flag ≢ Done → leftIn w m < r .seq) i m a lt (λ e _. rw e l) (λ _. G .fresh m);
+    number-below = λ m.
+        announcements-set (λ r. r .number ≤ w .gate .seq) i m a lt (λ _. omega (arith, n)) (λ _. G .number-below m);
+    unnumbered = λ m.
+        announcements-set (λ r. r .flag ≢ Done → r .number ≡ 0) i m a lt (λ _ _. n) (λ _. G .unnumbered m);
     inside = G .inside;
     active-operation = λ m.
         announcements-set (λ r. r .flag ≡ Active → operationOf r ≡ callIn w m) i m a lt
@@ -144,6 +150,11 @@ module _ {F : Contents} {w : World} (G : WorldInvariant F w) where
     fresh = λ m.
         announcements-set (λ r. r .flag ≢ Done → leftIn w m < r .seq) i m _ lt
         (λ e _. rw e (G .fresh i (active-not-done fa))) (λ _. G .fresh m);
+    number-below = λ m.
+        announcements-set (λ r. r .number ≤ w .gate .seq) i m _ lt (λ _. G .number-below i) (λ _. G .number-below m);
+    unnumbered = λ m.
+        announcements-set (λ r. r .flag ≢ Done → r .number ≡ 0) i m _ lt
+        (λ _ _. G .unnumbered i (active-not-done fa)) (λ _. G .unnumbered m);
     inside = G .inside;
     active-operation = λ m.
         announcements-set (λ r. r .flag ≡ Active → operationOf r ≡ callIn w m) i m _ lt
@@ -183,6 +194,8 @@ module _ {F : Contents} {w : World} (G : WorldInvariant F w) where
         bound-below = G .bound-below;
         announcement-below = G .announcement-below;
         fresh = G .fresh;
+        number-below = G .number-below;
+        unnumbered = G .unnumbered;
         inside = λ j e. rw (← process-same e) lt;
         active-operation = G .active-operation;
         phase = (
@@ -265,6 +278,8 @@ module _ {F : Contents} {w : World} (G : WorldInvariant F w) where
         bound-below = G .bound-below;
         announcement-below = G .announcement-below;
         fresh = G .fresh;
+        number-below = G .number-below;
+        unnumbered = G .unnumbered;
         inside = G .inside;
         active-operation = G .active-operation;
         phase = phase-write v x (w .gate .holder) (G .phase);
@@ -294,7 +309,7 @@ module _ {F : Contents} {w : World} (G : WorldInvariant F w) where
 
       good-end : WorldInvariant F (ending F w m)
       good-end =
-          let a : Announcement = finished (announcementIn w m) (endingIn F w (w .gate .seq) .outputs) in
+          let a : Announcement = finished (announcementIn w m) (w .gate) (endingIn F w (w .gate .seq) .outputs) in
           record {
             fits = G .fits;
             lengths = simp length-set (G .lengths);
@@ -307,6 +322,10 @@ module _ {F : Contents} {w : World} (G : WorldInvariant F w) where
                 announcements-set (λ r. r .seq ≤ w .gate .seq) m j a lt (λ _. G .announcement-below m) (λ _. G .announcement-below j);
             fresh = λ j.
                 announcements-set (λ r. r .flag ≢ Done → leftIn w j < r .seq) m j a lt (λ _ q. absurd (q refl)) (λ _. G .fresh j);
+            number-below = λ j.
+                announcements-set (λ r. r .number ≤ w .gate .seq) m j a lt (λ _. omega arith) (λ _. G .number-below j);
+            unnumbered = λ j.
+                announcements-set (λ r. r .flag ≢ Done → r .number ≡ 0) m j a lt (λ _ q. absurd (q refl)) (λ _. G .unnumbered j);
             inside = G .inside;
             active-operation = λ j.
                 announcements-set (λ r. r .flag ≡ Active → operationOf r ≡ callIn w j) m j a lt
@@ -337,6 +356,8 @@ module _ {F : Contents} {w : World} (G : WorldInvariant F w) where
         bound-below = λ j. omega (arith, G .bound-below j);
         announcement-below = λ j. omega (arith, G .announcement-below j);
         fresh = λ j q. set-left (λ b. b < announcementIn w j .seq) j (λ e. absurd (q (rw e d))) (λ _. G .fresh j q);
+        number-below = λ j. omega (arith, G .number-below j);
+        unnumbered = G .unnumbered;
         inside = λ j e. absurd (nobody-process refl e);
         active-operation = G .active-operation;
         phase = (omega arith, omega arith);
@@ -346,7 +367,7 @@ module _ {F : Contents} {w : World} (G : WorldInvariant F w) where
 pub good-move : {F : Contents} {i : ℕ} {w v : World} → WorldInvariant F w → Move F i w v → WorldInvariant F v
 good-move G stay = G
 good-move G (ask q lt Q) = good-ask G _ q lt Q
-good-move G (announce a lt Q fa op l b) = good-announce G _ a lt Q fa op l b
+good-move G (announce a lt Q fa op l b n) = good-announce G _ a lt Q fa op l b n
 good-move G (leave lt fa) = good-leave G _ lt fa
 good-move G (take m lt hn fl op z) = good-take G m lt hn fl op
 good-move G (write m v x vl hm fl below ex) = good-write G m hm fl v x vl below ex
@@ -357,7 +378,7 @@ good-move G (free m lt hm d) = good-free G m lt hm d
 pub seq-move : {F : Contents} {i : ℕ} {w v : World} → Move F i w v → v .gate .seq ≤ suc (w .gate .seq)
 seq-move stay = omega arith
 seq-move (ask c lt Q) = omega arith
-seq-move (announce a lt Q fa op l b) = omega arith
+seq-move (announce a lt Q fa op l b n) = omega arith
 seq-move (leave lt fa) = omega arith
 seq-move (take m lt hn fl op z) = omega arith
 seq-move (write m v x vl hm fl below ex) = omega arith

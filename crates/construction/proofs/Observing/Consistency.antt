@@ -30,7 +30,7 @@ use Rattle.construction.proofs.Basics.{true-or-false, true-false, cond-
 use Rattle.construction.proofs.Observing.Histories.{turned-same}
 use Rattle.construction.proofs.Statements.OneAccess.{one-access}
 use Rattle.construction.proofs.Observing.Outcomes.{Outcome, outcome}
-use Rattle.construction.proofs.Invariant.World.{World, announcementIn, outputsIn, ending, asking}
+use Rattle.construction.proofs.Invariant.World.{World, announcementIn, resultIn, ending, asking}
 use Rattle.construction.proofs.Invariant.Stages.{isAnnounced, stage, announced-busy, busy-stage}
 use Rattle.construction.proofs.Invariant.Cards.{CardInvariant, Stepped, gate-is, announcements-is, inv-call, inv-exit, inv-step}
 use Rattle.construction.proofs.Invariant.Answers.{read-is, answer-is, holder-announced}
@@ -256,9 +256,9 @@ module _ (o : Card) (m : Observation) (O : Consistent o m) where
     abbrev Ended : Event → Type 0
     Ended v = Follows o d (S .after) (withResponse noticed i v)
 
-    ended-done : isBusy d i ≡ false → announcementIn (S .after) i .flag ≡ Done → Ended (Event.returned (Return.done (outputsIn (S .after) i)))
+    ended-done : isBusy d i ≡ false → announcementIn (S .after) i .flag ≡ Done → Ended (Event.returned (Return.done (resultIn (S .after) i .number) (resultIn (S .after) i .outputs)))
     ended-done idle h =
-        tracks-returned i others moved (Return.done (outputsIn (S .after) i)) own-moved (own-moved .over (returning idle) (ap isDone h)) idle
+        tracks-returned i others moved (Return.done (resultIn (S .after) i .number) (resultIn (S .after) i .outputs)) own-moved (own-moved .over (returning idle) (ap isDone h)) idle
 
     ended-exited : isBusy d i ≡ false → announcementIn (S .after) i .flag ≡ Exit → Ended (Event.returned Return.exited)
     ended-exited idle h = tracks-returned i others moved Return.exited own-moved (own-moved .pending (ap isDone h)) idle

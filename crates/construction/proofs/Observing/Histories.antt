@@ -1,6 +1,6 @@
 -- Laws of what an observer notes: the lists of operations, finishes and returns, and how they grow. No machine.
 use Prim.Native.Nat.{ℕ, zero, suc, _+_, _≤_, _<_}
-use mathlib.Core.Path.{_≡_, refl, sym, _∙_}
+use mathlib.Core.Path.{_≡_, refl, sym, ap, _∙_}
 use mathlib.Core.Bool.{Bool, true, false, cond, not, _&&_, true≢false, false≢true}
 use mathlib.Core.Logic.{_≢_}
 use mathlib.Core.List.{List, [], _∷_}
@@ -14,8 +14,9 @@ use Rattle.construction.specs.declared.Flag.the-variants.{Done, Active, 
 use Rattle.construction.specs.declared.Announcement.{Announcement}
 use Rattle.construction.specs.Cells.{isDone, openAnnouncement}
 use Rattle.construction.specs.History.{Invocation, Finish, Return, Response, hasCalled, latest, turned}
+use Rattle.construction.specs.Numbers.{callerOf, latestNumber}
 use Rattle.construction.proofs.Basics.{on-test}
-use Rattle.construction.specs.Linearizability.{times, rank, outputsOf, hasReturned, Agrees, AllAgree}
+use Rattle.construction.specs.Linearizability.{times, rank, finishOf, hasReturned, Numbered, Agrees, AllAgree}
 
 -- a list of notes, newest first, and an earlier one
 pub data Extends {A : Type 0} (old : List A) : List A → Type 0 where
@@ -65,11 +66,41 @@ latest-apart (x ∷ xs) i j ne h k =
     (λ q _ e. omega (arith, latest-below xs i h′)) (λ q k′. latest-apart xs i j ne h′ k′) k)
     h
 
+-- the latest call of a process is its own
+pub caller-latest : (xs : List Invocation) (i : ℕ) → hasCalled xs i ≡ true → callerOf xs (latest xs i) ≡ i
+unfolding hasCalled latest callerOf
+caller-latest [] i h = absurd (false≢true h)
+caller-latest (x ∷ xs) i h =
+    on-equal
+    (λ b. cond b true (hasCalled xs i) ≡ true →
+    cond (eqb (length xs) (cond b (length xs) (latest xs i))) (x .process) (callerOf xs (cond b (length xs) (latest xs i))) ≡ i) (x .process) i
+    (λ e _. chosen (length xs) (length xs) (x .process) (callerOf xs (length xs)) refl ∙ e)
+    (λ _ k. passed _ _ _ _ (λ (e : length xs ≡ latest xs i). omega (arith, latest-below xs i k)) ∙ caller-latest xs i k) h
+
+-- one more call alters nothing of what finished before it
+pub latest-asked :
+    (x : Invocation) (xs : List Invocation) (fs : List Finish) (i : ℕ) → ((k : ℕ) → length xs ≤ k → times k fs ≡ 0) →
+    latestNumber (x ∷ xs) fs i ≡ latestNumber xs fs i
+unfolding latestNumber callerOf times
+latest-asked x xs [] i h = refl
+latest-asked x xs (f ∷ fs) i h =
+    rw (passed (length xs) (f .operation) (x .process) (callerOf xs (f .operation)) here)
+    (ap (λ (n : ℕ). cond (eqb (callerOf xs (f .operation)) i) (f .gate) n) (latest-asked x xs fs i before))
+  where
+    here : length xs ≢ f .operation
+    here e =
+        let z : suc (times (f .operation) fs) ≡ 0 = sym (chosen (f .operation) (f .operation) _ (times (f .operation) fs) refl) ∙ h (f .operation) (omega arith) in
+        omega arith
+
+    before : (k : ℕ) → length xs ≤ k → times k fs ≡ 0
+    before k l =
+        on-test (λ n. n ≡ 0 → times k fs ≡ 0) (eqb (f .operation) k) (λ _ z. absurd (omega arith)) (λ _ z. z) (h k l)
+
 -- returns agree with a longer order, if the operation that finished has not returned
 agrees-longer :
     (f : Finish) (fs : List Finish) (k : ℕ) → f .operation ≢ k → (r : Return) → Agrees fs k r → Agrees (f ∷ fs) k r
-unfolding times outputsOf
-agrees-longer f fs k ne (Return.done o) h = (passed _ k _ _ ne ∙ h .0, passed _ k _ _ ne ∙ h .1)
+unfolding times finishOf
+agrees-longer f fs k ne (Return.done n o) h = (passed _ k _ _ ne ∙ h .0, passed _ k _ _ ne ∙ h .1)
 agrees-longer f fs k ne Return.exited h = passed _ k _ _ ne ∙ h
 
 pub agree-longer :
@@ -87,7 +118,7 @@ agree-earlier fs (Extends.more q) a = agree-earlier fs q (a .1)
 
 -- an operation that returned stands equally often in any two orders that its return agrees with
 same-times : (old new : List Finish) (j : ℕ) (r : Return) → Agrees old j r → Agrees new j r → times j old ≡ times j new
-same-times old new j (Return.done o) p q = p .0 ∙ sym (q .0)
+same-times old new j (Return.done n o) p q = p .0 ∙ sym (q .0)
 same-times old new j Return.exited p q = p ∙ sym q
 
 pub returned-times :
@@ -133,6 +164,14 @@ place-after {old} k Extends.same e h = absurd (omega (arith, no-place k old e))
 place-after {old} k (Extends.more {x = f} {l = l} q) e h =
     on-equal (λ b. 0 < cond b (suc (length l)) (rank k l) → length old < cond b (suc (length l)) (rank k l)) (f .operation) k
     (λ _ _. omega (arith, extends-length q)) (λ _ z. place-after k q e z) h
+
+-- the gate number of an operation is its rank
+pub gate-rank : (k : ℕ) (fs : List Finish) → Numbered fs → finishOf k fs .gate ≡ rank k fs
+unfolding finishOf rank
+gate-rank k [] h = refl
+gate-rank k (f ∷ fs) h =
+    on-equal (λ b. cond b f (finishOf k fs) .gate ≡ cond b (suc (length fs)) (rank k fs)) (f .operation) k
+    (λ _. h .0) (λ _. gate-rank k fs (h .1))
 
 -- flags that turn to done between two lists of announcements: none, or one
 abbrev pub turns : Flag → Flag → Bool

@@ -1,7 +1,7 @@
 -- What the observer's notes have to do with the world: how each move keeps it, and how a call and a return do.
 use Prim.Native.Nat.{ℕ, suc, _≤_, _<_}
 use mathlib.Core.Path.{_≡_, refl, sym, subst, ap, _∙_}
-use mathlib.Core.Bool.{Bool, true, false, cond, true≢false}
+use mathlib.Core.Bool.{Bool, true, false, cond, true≢false, false≢true}
 use mathlib.Core.Logic.{_≢_, _⊎_, inl, inr, ⊎-elim}
 use mathlib.Core.List.{List, [], _∷_}
 use native.Mathlib.Omega.{arith}
@@ -12,23 +12,23 @@ use lib.Seq.{getD-set-same, getD-set-other}
 use Rattle.construction.specs.declared.Flag.{Flag}
 use Rattle.construction.specs.declared.Flag.the-variants.{Done, Active, Exit}
 use Rattle.construction.specs.declared.Holder.the-variants.{Process}
-use Rattle.construction.specs.declared.Words.{Words}
 use Rattle.construction.specs.declared.Announcement.{Announcement}
 use Rattle.construction.specs.declared.Operation.{Operation}
 use Rattle.construction.specs.declared.Card.{Card}
-use Rattle.construction.specs.Cells.{zeros, isDone, openAnnouncement}
+use Rattle.construction.specs.Cells.{isDone, openAnnouncement}
 use Rattle.construction.specs.Sequential.{Ending, sequential}
 use Rattle.construction.specs.Instructions.{noProgram}
 use Rattle.construction.specs.Parts.{noOperation}
-use Rattle.construction.specs.History.{Invocation, History, hasCalled, latest, latestCall, turned, benchRun, withFinish, Return, Event, withResponse}
+use Rattle.construction.specs.History.{Invocation, Finish, History, hasCalled, latest, latestCall, turned, benchRun, withFinish, Return, Event, withResponse}
 use Rattle.construction.proofs.Basics.{on-set, true-or-false, true-false, ne-isDone}
-use Rattle.construction.proofs.Observing.Histories.{on-equal, chosen, passed, latest-below, latest-apart, agree-longer, turns, turned-same, turned-not, turned-one}
-use Rattle.construction.proofs.Invariant.World.{World, announcementIn, callIn, outputsIn, endingIn, WorldInvariant, asking, ending, Move}
+use Rattle.construction.proofs.Observing.Histories.{on-equal, chosen, passed, latest-below, latest-apart, agree-longer, caller-latest, latest-asked, turns, turned-same, turned-not, turned-one}
+use Rattle.construction.proofs.Invariant.World.{World, announcementIn, callIn, Result, noResult, resultIn, endingIn, WorldInvariant, asking, ending, Move}
 use Rattle.construction.proofs.Invariant.World.Move.{stay, ask, announce, leave, take, write, end, free}
 use Rattle.construction.proofs.Invariant.WorldKept.{ends-now}
 use Rattle.construction.specs.declared.Contents.{Contents}
 use Rattle.construction.specs.Machine.{finished}
-use Rattle.construction.specs.Linearizability.{times, outputsOf, hasReturned, Numbered, Agrees, AllAgree, UnderWay}
+use Rattle.construction.specs.Linearizability.{times, finishOf, hasReturned, Numbered, Agrees, AllAgree, ReturnedOnce, UnderWay}
+use Rattle.construction.specs.Numbers.{callerOf, latestNumber}
 
 -- the flag of process j is done
 abbrev pub doneIn : World → ℕ → Bool
@@ -38,8 +38,12 @@ doneIn w j = isDone (announcementIn w j .flag)
 abbrev pub requestOf : Invocation → Operation
 requestOf x = record { program = x .program; inputs = x .inputs }
 
+-- what the order has to say of an operation with a result
+abbrev pub finishAs : ℕ → Result → Finish
+finishAs k r = record { operation = k; gate = r .number; outputs = r .outputs }
+
 -- Process j has an operation under way, its latest taken call. That stands in the order once if it is announced and its flag is done,
--- with the outputs of the sequential run, and else not.
+-- with its gate number and the outputs of the sequential run, and else not.
 pub record Own (announced : Bool) (w : World) (s : History) (j : ℕ) : Type 0 where
   pub asked : hasCalled (s .operations) j ≡ true
   pub request : requestOf (latestCall (s .operations) j) ≡ callIn w j
@@ -48,7 +52,7 @@ pub record Own (announced : Bool) (w : World) (s : History) (j : ℕ) : Type 0 w
   pub pending : doneIn w j ≡ false → times (latest (s .operations) j) (s .order) ≡ 0
   pub over :
       announced ≡ true → doneIn w j ≡ true →
-      (times (latest (s .operations) j) (s .order) ≡ 1) × (outputsOf (latest (s .operations) j) (s .order) ≡ outputsIn w j)
+      (times (latest (s .operations) j) (s .order) ≡ 1) × (finishOf (latest (s .operations) j) (s .order) ≡ finishAs (latest (s .operations) j) (resultIn w j))
 
 -- The notes go with the world of p processes, of which some are busy and some have announced their operations
 pub record Tracks (p : ℕ) (busy announced : ℕ → Bool) (w : World) (s : History) : Type 0 where
@@ -56,10 +60,12 @@ pub record Tracks (p : ℕ) (busy announced : ℕ → Bool) (w : World) (s : His
   pub count : suc (length (s .order)) ≡ w .count
   pub numbers : Numbered (s .order)
   pub agree : AllAgree (s .order) (s .returns)
+  pub single : ReturnedOnce (s .returns)
   pub once : (k : ℕ) → times k (s .order) ≤ 1
   pub known : (k : ℕ) → length (s .operations) ≤ k → times k (s .order) ≡ 0
   pub unborn : (k : ℕ) → length (s .operations) ≤ k → hasReturned k (s .returns) ≡ false
   pub own : (j : ℕ) → j < p → busy j ≡ true → Own (announced j) w s j
+  pub last : (j : ℕ) → j < p → doneIn w j ≡ true → announcementIn w j .number ≡ latestNumber (s .operations) (s .order) j
 
 pub under-way : {a : Bool} {w : World} {s : History} {j : ℕ} → Own a w s j → UnderWay s j
 under-way O = record { called = O .asked; unreturned = O .unreturned }
@@ -69,8 +75,9 @@ pub record NothingFinishes (announced : ℕ → Bool) (w v : World) : Type 0 whe
   pub none : turned 0 (w .announcements) (v .announcements) ≡ []
   pub words : v .words ≡ w .words
   pub count : v .count ≡ w .count
-  pub outs : v .outs ≡ w .outs
+  pub results : v .results ≡ w .results
   pub done : (j : ℕ) → announced j ≡ true → doneIn v j ≡ doneIn w j
+  pub kept : (j : ℕ) → doneIn v j ≡ true → announcementIn v j ≡ announcementIn w j
 
 pub record OneFinishes (F : Contents) (w v : World) : Type 0 where
   pub process : ℕ
@@ -86,14 +93,15 @@ turns-active Exit = refl
 
 module _ {F : Contents} {w : World} (announced : ℕ → Bool) (G : WorldInvariant F w) where
   -- a move that changes none of what the observer sees
-  calm-same : {v : World} → v .announcements ≡ w .announcements → v .words ≡ w .words → v .count ≡ w .count → v .outs ≡ w .outs → NothingFinishes announced w v
+  calm-same : {v : World} → v .announcements ≡ w .announcements → v .words ≡ w .words → v .count ≡ w .count → v .results ≡ w .results → NothingFinishes announced w v
   calm-same a b c d =
       record {
         none = ap (turned 0 (w .announcements)) a ∙ turned-same 0 (w .announcements);
         words = b;
         count = c;
-        outs = d;
+        results = d;
         done = λ j t. ap (λ (l : List Announcement). isDone (getD l j openAnnouncement .flag)) a;
+        kept = λ j t. ap (λ (l : List Announcement). getD l j openAnnouncement) a;
       }
 
   -- every move is one of the two, if a process that has announced its operation does not announce again
@@ -102,15 +110,17 @@ module _ {F : Contents} {w : World} (announced : ℕ → Bool) (G : WorldInvaria
       NothingFinishes announced w v ⊎ OneFinishes F w v
   kind-of stay only = inl (calm-same refl refl refl refl)
   kind-of (ask q lt Q) only = inl (calm-same refl refl refl refl)
-  kind-of {i} (announce a lt Q fa op l b) only =
+  kind-of {i} (announce a lt Q fa op l b n) only =
       let size : i < length (w .announcements) = omega (arith, G .lengths .announcements, G .fits .few) in
       inl (record {
         none = turned-not 0 (w .announcements) i a (rw fa (turns-active (announcementIn w i .flag)));
         words = refl;
         count = refl;
-        outs = refl;
+        results = refl;
         done = λ j t. on-set (λ x. isDone (x .flag) ≡ doneIn w j) (w .announcements) i j a openAnnouncement size
             (λ e. absurd (Q .not-active (only (rw (← e) t) (rw (getD-set-same (w .announcements) i a openAnnouncement size) fa)))) (λ ne. refl);
+        kept = λ j. on-set (λ x. isDone (x .flag) ≡ true → x ≡ announcementIn w j) (w .announcements) i j a openAnnouncement size
+            (λ e t. absurd (true-false _ t (ap isDone fa))) (λ ne t. refl);
       })
   kind-of {i} (leave lt fa) only =
       let size : i < length (w .announcements) = omega (arith, G .lengths .announcements, G .fits .few) in
@@ -118,9 +128,11 @@ module _ {F : Contents} {w : World} (announced : ℕ → Bool) (G : WorldInvaria
         none = turned-not 0 (w .announcements) i _ (rw fa refl);
         words = refl;
         count = refl;
-        outs = refl;
+        results = refl;
         done = λ j t. on-set (λ x. isDone (x .flag) ≡ doneIn w j) (w .announcements) i j _ openAnnouncement size
             (λ e. rw (e, fa) refl) (λ ne. refl);
+        kept = λ j. on-set (λ x. isDone (x .flag) ≡ true → x ≡ announcementIn w j) (w .announcements) i j _ openAnnouncement size
+            (λ e t. absurd (false≢true t)) (λ ne t. refl);
       })
   kind-of (take m lt hn fl op z) only = inl (calm-same refl refl refl refl)
   kind-of (write m u x vl hm fl below ex) only = inl (calm-same refl refl refl refl)
@@ -135,7 +147,7 @@ turned-ends {F} {w} G E =
 
 -- a move that finishes nothing
 own-calm :
-    {a : Bool} {w v : World} {s : History} {j : ℕ} → (a ≡ true → doneIn v j ≡ doneIn w j) → v .outs ≡ w .outs → v .calls ≡ w .calls →
+    {a : Bool} {w v : World} {s : History} {j : ℕ} → (a ≡ true → doneIn v j ≡ doneIn w j) → v .results ≡ w .results → v .calls ≡ w .calls →
     Own a w s j → Own a v s j
 own-calm {a} {w} {v} {s} {j} d e f O =
     record {
@@ -146,7 +158,7 @@ own-calm {a} {w} {v} {s} {j} d e f O =
       pending = λ z. ⊎-elim (λ t. O .pending (sym (d t) ∙ z)) (O .early) (true-or-false a);
       over = λ t z.
           let q = O .over t (sym (d t) ∙ z) in
-          (q .0, q .1 ∙ ap (λ (l : List Words). getD l j zeros) (sym e));
+          (q .0, q .1 ∙ ap (λ (l : List Result). finishAs (latest (s .operations) j) (getD l j noResult)) (sym e));
     }
 
 pub tracks-calm :
@@ -161,7 +173,11 @@ tracks-calm C f T =
       once = T .once;
       known = T .known;
       unborn = T .unborn;
-      own = λ j lt b. own-calm (C .done j) (C .outs) f (T .own j lt b);
+      own = λ j lt b. own-calm (C .done j) (C .results) f (T .own j lt b);
+      single = T .single;
+      last = λ j lt t.
+          let e = C .kept j t in
+          ap (λ (a : Announcement). a .number) e ∙ T .last j lt (sym (ap (λ (a : Announcement). isDone (a .flag)) e) ∙ t);
     }
 
 -- a move that finishes the operation of m, whose number the sequential run gives it too
@@ -181,7 +197,7 @@ module _
   size = omega (arith, G .fits .few)
 
   own-ended : (j : ℕ) → j ≢ m → {a : Bool} → Own a w s j → Own a (ending F w m) (withFinish o (w .gate .seq) m s) j
-  unfolding times outputsOf
+  unfolding times finishOf
   own-ended j ne Q =
       let far : latest (s .operations) m ≢ latest (s .operations) j = latest-apart (s .operations) m j (λ e. ne (sym e)) (O .asked) (Q .asked) in
       let same : announcementIn (ending F w m) j ≡ announcementIn w j = getD-set-other (w .announcements) m j _ openAnnouncement ne in
@@ -193,32 +209,34 @@ module _
         pending = λ z. passed _ _ _ _ far ∙ Q .pending (ap (λ (x : Announcement). isDone (x .flag)) (sym same) ∙ z);
         over = λ t z.
             let q = Q .over t (ap (λ (x : Announcement). isDone (x .flag)) (sym same) ∙ z) in
-            (passed _ _ _ _ far ∙ q .0, passed _ _ _ _ far ∙ (q .1 ∙ sym (getD-set-other (w .outs) m j _ zeros ne)));
+            (passed _ _ _ _ far ∙ q .0, passed _ _ _ _ far ∙ (q .1 ∙ ap (finishAs (latest (s .operations) j)) (sym (getD-set-other (w .results) m j _ noResult ne))));
       }
 
+  finished-is : announcementIn (ending F w m) m ≡ finished (announcementIn w m) (w .gate) (endingIn F w (w .gate .seq) .outputs)
+  finished-is = getD-set-same (w .announcements) m _ openAnnouncement (omega (arith, size, G .lengths .announcements))
+
   own-finished : Own true (ending F w m) (withFinish o (w .gate .seq) m s) m
-  unfolding times outputsOf
+  unfolding times finishOf
   own-finished =
       record {
         asked = O .asked;
         request = O .request;
         unreturned = O .unreturned;
         early = λ t. absurd (true≢false t);
-        pending = λ z. absurd (true≢false (ap (λ (x : Announcement). isDone (x .flag)) (sym here) ∙ z));
+        pending = λ z. absurd (true≢false (ap (λ (x : Announcement). isDone (x .flag)) (sym finished-is) ∙ z));
         over = λ t z. (
           chosen (latest (s .operations) m) _ _ (times (latest (s .operations) m) (s .order)) refl ∙ ap suc (O .pending (ne-isDone _ undone)),
-          chosen (latest (s .operations) m) _ _ (outputsOf (latest (s .operations) m) (s .order)) refl ∙ (ap (λ (e : Ending). e .outputs) same-run ∙ sym out),
+          chosen (latest (s .operations) m) _ _ (finishOf (latest (s .operations) m) (s .order)) refl
+              ∙ (ap (λ (e : Ending). record { operation = latest (s .operations) m; gate = w .gate .seq; outputs = e .outputs }) same-run
+              ∙ ap (finishAs (latest (s .operations) m)) (sym out)),
         );
       }
     where
-      here : announcementIn (ending F w m) m ≡ finished (announcementIn w m) (endingIn F w (w .gate .seq) .outputs)
-      here = getD-set-same (w .announcements) m _ openAnnouncement (omega (arith, size, G .lengths .announcements))
-
-      out : outputsIn (ending F w m) m ≡ endingIn F w (w .gate .seq) .outputs
-      out = getD-set-same (w .outs) m _ zeros (omega (arith, size, G .lengths .outs))
+      out : resultIn (ending F w m) m ≡ record { number = w .gate .seq; outputs = endingIn F w (w .gate .seq) .outputs }
+      out = getD-set-same (w .results) m _ noResult (omega (arith, size, G .lengths .results))
 
   pub tracks-finished : announced m ≡ true → Tracks p busy announced (ending F w m) (withFinish o (w .gate .seq) m s)
-  unfolding times
+  unfolding times latestNumber
   tracks-finished ann =
       record {
         words = ap (λ (e : Ending). e .words) same-run;
@@ -233,11 +251,27 @@ module _
             passed _ _ _ _ far ∙ T .known k h;
         unborn = T .unborn;
         own = λ j l b. one j (ℕ-discrete j m) (T .own j l b);
+        single = T .single;
+        last = λ j l t. numbered j l t (ℕ-discrete j m);
       }
     where
       one : (j : ℕ) → Dec (j ≡ m) → Own (announced j) w s j → Own (announced j) (ending F w m) (withFinish o (w .gate .seq) m s) j
       one j (yes e) Q = rw (e, ann) own-finished
       one j (no ne) Q = own-ended j ne Q
+
+      caller : callerOf (s .operations) (latest (s .operations) m) ≡ m
+      caller = caller-latest (s .operations) m (O .asked)
+
+      numbered :
+          (j : ℕ) → j < p → doneIn (ending F w m) j ≡ true → Dec (j ≡ m) →
+          announcementIn (ending F w m) j .number ≡ latestNumber (s .operations) (withFinish o (w .gate .seq) m s .order) j
+      numbered j l t (yes e) =
+          rw e (ap (λ (x : Announcement). x .number) finished-is ∙ sym (chosen _ m (w .gate .seq) (latestNumber (s .operations) (s .order) m) caller))
+      numbered j l t (no ne) =
+          let same : announcementIn (ending F w m) j ≡ announcementIn w j = getD-set-other (w .announcements) m j _ openAnnouncement ne in
+          ap (λ (x : Announcement). x .number) same
+          ∙ (T .last j l (ap (λ (x : Announcement). isDone (x .flag)) (sym same) ∙ t)
+          ∙ sym (passed _ j (w .gate .seq) (latestNumber (s .operations) (s .order) j) (λ q. ne (sym q ∙ caller))))
 
 -- process i goes on at another place with its operation under way: unannounced only if it was, and announced only if it was or just then
 pub own-next :
@@ -281,6 +315,8 @@ module _
         known = T .known;
         unborn = T .unborn;
         own = on-process (λ j. Own (announced′ j) w s j) mine (λ j ne O. O);
+        single = T .single;
+        last = T .last;
       }
 
   -- a call of process i is taken
@@ -299,6 +335,8 @@ module _
         known = λ k h. T .known k (omega arith);
         unborn = λ k h. T .unborn k (omega arith);
         own = on-process (λ j. Own (announced′ j) (asking w i (requestOf x)) after j) (λ _. new) old;
+        single = T .single;
+        last = λ j l t. T .last j l t ∙ sym (latest-asked x (s .operations) (s .order) j (T .known));
       }
     where
       after : History
@@ -358,4 +396,6 @@ module _
           pending = Q .pending;
           over = Q .over;
         });
+        single = (O .unreturned, T .single);
+        last = T .last;
       }

@@ -62,7 +62,7 @@ module _ (f : Fields) where
   answerFrom =
       cond (says "taken") Answer.Taken
       (cond (says "run") Answer.Run
-      (cond (says "done") (Answer.Done (record { w0 = number 0; w1 = number 1; w2 = number 2; w3 = number 3 }) (number 4))
+      (cond (says "done") (Answer.Done (number 0) (record { w0 = number 1; w1 = number 2; w2 = number 3; w3 = number 4 }) (number 5))
       (cond (says "exited") (Answer.Exited (number 0))
       (cond isRefusal (Answer.Refused why) (Answer.Value (number 0))))))
 
@@ -79,7 +79,7 @@ answer-back : (a : Answer) → answerFrom (answerFields a) ≡ a
 unfolding answerFields hasWord
 answer-back Answer.Taken = refl
 answer-back Answer.Run = refl
-answer-back (Answer.Done o k) = refl
+answer-back (Answer.Done n o k) = refl
 answer-back (Answer.Exited k) = refl
 answer-back (Answer.Value x) = refl
 answer-back (Answer.Refused r) = ap Answer.Refused (refusal-back r)

@@ -8,13 +8,16 @@ use lib.ListN.{length, getD}
 use Rattle.construction.specs.declared.Card.{Card}
 use Rattle.construction.specs.declared.Contents.{Contents}
 use Rattle.construction.specs.declared.Task.{Task}
+use Rattle.construction.specs.declared.Announcement.{Announcement}
+use Rattle.construction.specs.Cells.{openAnnouncement}
+use Rattle.construction.specs.Numbers.{latestNumber}
 use Rattle.construction.specs.Instructions.{noProgram}
 use Rattle.construction.specs.Parts.{idleTask}
 use Rattle.construction.specs.Requests.{isIdle}
 use Rattle.construction.specs.Opening.{fresh, readCard, opened}
 use Rattle.construction.specs.History.{Entry, History, Observation, opening, observe, observeAll, run}
 use Rattle.construction.proofs.Basics.{true-false, getD-replicate-same}
-use Rattle.construction.proofs.Observing.Histories.{agree-earlier, returned-times, place-below, place-kept, place-after}
+use Rattle.construction.proofs.Observing.Histories.{agree-earlier, gate-rank, returned-times, place-below, place-kept, place-after}
 use Rattle.construction.proofs.Text.Bounds.{Bounded, opened-bounded}
 use Rattle.construction.proofs.Simulating.Sequential.{Short}
 use Rattle.construction.proofs.Invariant.Cards.{firstWorld, inv-fresh}
@@ -33,7 +36,7 @@ short-code : (x : Contents) → Bounded x → (k : ℕ) → Short (x .variables)
 short-code x B k = record { ends = omega (arith, B .lines k); light = B .weights k; some = B .some k }
 
 fresh-consistent : (x : Contents) → Bounded x → Consistent (fresh x) (opening (fresh x))
-unfolding fresh times hasReturned accessOf
+unfolding fresh times hasReturned accessOf latestNumber
 fresh-consistent x B =
     record {
       world = firstWorld x;
@@ -47,6 +50,8 @@ fresh-consistent x B =
             once = λ k. omega arith;
             known = λ k h. refl;
             unborn = λ k h. refl;
+            single = tt;
+            last = λ j l d. ap (λ (a : Announcement). a .number) (getD-replicate-same 8 j openAnnouncement);
             own = λ j l b. absurd (true-false _ b (ap (λ (t : Task). not (isIdle (t .place))) (getD-replicate-same 8 j idleTask)));
           };
       text = refl;
@@ -86,7 +91,9 @@ linearizability t es =
     record {
       reads = read-shown (opened t .card) (run (opened t .card) es) O;
       returns = O .tracks .agree;
+      single = O .tracks .single;
       numbers = O .tracks .numbers;
+      ranks = λ k. gate-rank k (run (opened t .card) es .history .order) (O .tracks .numbers);
       finishes = finishes-one (opened t .card) (run (opened t .card) es) O;
       once = O .tracks .once;
       known = O .tracks .known;

@@ -2,7 +2,7 @@ use borrow.Author.Needs.{needs}
 use native.Mathlib.Omega.{arith}
 use Prim.Native.Nat.{_-_}
 use mathlib.Core.Path.{_≡_, refl, sym, _∙_}
-use lib.ListN.{length, length-set}
+use lib.ListN.{length, take, length-set}
 use Rattle.construction.specs.Helping.{simulate}
 use Rattle.construction.specs.declared.Dictionary.{Dictionary}
 use Rattle.helping.specs.Numbers.{withValues, Numbered}
@@ -13,7 +13,7 @@ use Rattle.helping.proofs.simulation.simulate.Tie as tie
 
 abbrev Inv-loop : tie.InvT-loop
 Inv-loop n inputs keys end values₀ program s₀ fuel₀ values s fuel =
-    (length values ≡ length values₀) × ((d : Dictionary) → Numbered keys values₀ end d → laws.Going n program inputs (simulate n program inputs s₀ d) keys end fuel s (withValues d values))
+    (length values ≡ length values₀) × ((d : Dictionary) → Numbered keys values₀ end d → laws.Going n program inputs (simulate n program inputs s₀ d) keys end fuel s (withValues d (take end values)))
 
 abbrev μ-loop : tie.MeasureT-loop
 μ-loop n inputs keys end values₀ program s₀ fuel₀ values s fuel = fuel
@@ -24,7 +24,7 @@ here :
     let l = c .before .before .before .before .loop in
     (d : Dictionary) → Numbered (a .keys .now) (a .values .now) (a .end) d →
     laws.Here (a .n) (a .t2) (a .inputs) (simulate (a .n) (a .t2) (a .inputs) (a .s) d) (a .keys .now) (a .end) (l .fuel) (l .fuel - 1) (l .s)
-    (withValues d (l .values)) (c .next-effect .result)
+    (withValues d (take (a .end) (l .values))) (c .next-effect .result)
 here c d h =
     let start = c .before .before .before .before .before in
     let l = c .before .before .before .before .loop in

@@ -1,0 +1,4 @@
+-- The definitions that the contracts cite
+pub mod Lines
+pub mod Entries
+pub mod Playing

@@ -118,9 +118,9 @@ pub fn step(card: Card, process: u32) -> Answered
             let found = c.announcements[at];
             let operation = c.operations[i];
             let simulation = c.simulations[i];
-            let outputs = simulation.outputs;
+            let yields = simulation.yields;
             let cell = announcement_at(m, found);
-            let after = access_announcement(access, m, cell, operation, gate, last, outputs, task);
+            let after = access_announcement(access, m, cell, operation, gate, last, yields, task);
             let stored = after.cell;
             let read = after.read;
             let task = after.task;

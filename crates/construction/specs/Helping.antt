@@ -7,13 +7,16 @@ use Rattle.construction.specs.declared.Program.{Program}
 use Rattle.construction.specs.declared.Dictionary.{Dictionary}
 use Rattle.construction.specs.declared.Simulation.{Simulation}
 use Rattle.construction.specs.declared.Simulated.{Simulated}
-use Rattle.construction.specs.declared.Pause.the-variants.{Ended, Lacks}
-use Rattle.construction.specs.Instructions.{nextEffect}
+use Rattle.construction.specs.declared.Pause.the-variants.{Ended, Faulted, Lacks}
+use Rattle.construction.specs.Instructions.{nextEffect, faulted}
 use Rattle.construction.specs.Effects.{Store, touched, execute, onExecuted}
 use Rattle.construction.specs.Dictionary.{find, has, valueAt, assign}
 
 abbrev pub ended : Simulation → Dictionary → Simulated
 ended s d = record { pause = Ended; simulation = s; dictionary = d }
+
+abbrev pub faults : Simulation → Dictionary → Simulated
+faults s d = record { pause = Faulted; simulation = faulted s; dictionary = d }
 
 abbrev pub lacks : ℕ → Simulation → Dictionary → Simulated
 lacks v s d = record { pause = Lacks v; simulation = s; dictionary = d }
@@ -41,6 +44,7 @@ module _ (n : ℕ) (program : Program) (inputs : Words) where
       (λ v. lacks v s d)
       (onExecuted (execute n (noteOf d) s e)
       (ended s d)
+      (faults s d)
       (λ t l. simulateFrom fuel t (withNotes d l)))
 
 unfoldable pub simulate : ℕ → Program → Words → Simulation → Dictionary → Simulated

@@ -19,5 +19,6 @@ pub mod Linearizability
 pub mod Allocation
 pub mod Log
 pub mod Numbers
+pub mod Faults
 pub mod Waits
 pub mod Examples

@@ -20,14 +20,16 @@ use Rattle.construction.proofs.Basics.{on-test, and-true, true-or-false
 
 -- by cases on an execute, what it is in hand
 pub on-executed {ℓ κ} :
-    {A : Type ℓ} (P : A → Type κ) (o : Executed) {ends : A} {goes : Simulation → List Store → A} →
-    (o ≡ Executed.Ends → P ends) → ((t : Simulation) (l : List Store) → o ≡ Executed.Goes t l → P (goes t l)) → P (onExecuted o ends goes)
-on-executed P Executed.Ends p q = p refl
-on-executed P (Executed.Goes t l) p q = q t l refl
+    {A : Type ℓ} (P : A → Type κ) (o : Executed) {ends faults : A} {goes : Simulation → List Store → A} →
+    (o ≡ Executed.Ends → P ends) → (o ≡ Executed.Faults → P faults) → ((t : Simulation) (l : List Store) → o ≡ Executed.Goes t l → P (goes t l)) → P (onExecuted o ends faults goes)
+on-executed P Executed.Ends p f q = p refl
+on-executed P Executed.Faults p f q = f refl
+on-executed P (Executed.Goes t l) p f q = q t l refl
 
 -- a counter below 32 moves forward
 abbrev pub Forward : ℕ → Executed → Type 0
 Forward k Executed.Ends = Unit {0}
+Forward k Executed.Faults = Unit {0}
 Forward k (Executed.Goes t l) = k < t .counter
 
 forward-more : (k c : ℕ) → k < 32 → k < forward k c
@@ -38,6 +40,7 @@ pub execute-forward :
     (n : ℕ) (look : ℕ → ℕ) (s : Simulation) (e : Effect) → s .counter < 32 → Forward (s .counter) (execute n look s e)
 unfolding allocated withRegister withOutput skipped
 execute-forward n look s Effect.Stop h = tt
+execute-forward n look s Effect.Fault h = tt
 execute-forward n look s (Effect.Set a x) h = forward-more (s .counter) 0 h
 execute-forward n look s (Effect.Load a v) h = forward-more (s .counter) 0 h
 execute-forward n look s (Effect.Store v x) h = forward-more (s .counter) 0 h
@@ -47,6 +50,25 @@ execute-forward n look s (Effect.Allocate a) h =
     on-test (Forward (s .counter)) (isCell n (look 0)) (λ _. forward-more (s .counter) 0 h)
     (λ _. on-test (Forward (s .counter)) (eqb (look 0) 0) (λ _. forward-more (s .counter) 0 h) (λ _. tt))
 execute-forward n look s (Effect.Free c) h = forward-more (s .counter) 0 h
+
+-- and the mark of a fault stays as it was
+abbrev pub MarkKept : Simulation → Executed → Type 0
+MarkKept s Executed.Ends = Unit {0}
+MarkKept s Executed.Faults = Unit {0}
+MarkKept s (Executed.Goes t l) = t .yields .fault ≡ s .yields .fault
+
+pub execute-mark : (n : ℕ) (look : ℕ → ℕ) (s : Simulation) (e : Effect) → MarkKept s (execute n look s e)
+unfolding allocated withRegister withOutput skipped
+execute-mark n look s Effect.Stop = tt
+execute-mark n look s Effect.Fault = tt
+execute-mark n look s (Effect.Set a x) = refl
+execute-mark n look s (Effect.Load a v) = refl
+execute-mark n look s (Effect.Store v x) = refl
+execute-mark n look s (Effect.Output a x) = refl
+execute-mark n look s (Effect.Skip c) = refl
+execute-mark n look s (Effect.Allocate a) =
+    on-test (MarkKept s) (isCell n (look 0)) (λ _. refl) (λ _. on-test (MarkKept s) (eqb (look 0) 0) (λ _. refl) (λ _. tt))
+execute-mark n look s (Effect.Free c) = refl
 
 -- P holds of each variable
 abbrev pub Each : (ℕ → Type 0) → List ℕ → Type 0
@@ -68,6 +90,7 @@ EachStore P (x ∷ l) = P (x .variable) × EachStore P l
 
 abbrev pub Storing : (ℕ → Type 0) → Executed → Type 0
 Storing P Executed.Ends = Unit {0}
+Storing P Executed.Faults = Unit {0}
 Storing P (Executed.Goes t l) = EachStore P l
 
 -- what an effect stores to it has touched
@@ -75,6 +98,7 @@ pub execute-stores :
     (P : ℕ → Type 0) (n : ℕ) (look : ℕ → ℕ) (s : Simulation) (e : Effect) → Each P (touched n look e) → Storing P (execute n look s e)
 unfolding allocated
 execute-stores P n look s Effect.Stop q = tt
+execute-stores P n look s Effect.Fault q = tt
 execute-stores P n look s (Effect.Set a x) q = tt
 execute-stores P n look s (Effect.Load a v) q = tt
 execute-stores P n look s (Effect.Store v x) q = (q .0, tt)
@@ -93,6 +117,7 @@ module _ (n : ℕ) (look other : ℕ → ℕ) where
 
   pub same-touched : (e : Effect) → Each Same (touched n look e) → touched n look e ≡ touched n other e
   same-touched Effect.Stop q = refl
+  same-touched Effect.Fault q = refl
   same-touched (Effect.Set a x) q = refl
   same-touched (Effect.Load a v) q = refl
   same-touched (Effect.Store v x) q = refl
@@ -104,6 +129,7 @@ module _ (n : ℕ) (look other : ℕ → ℕ) where
   pub same-executed : (s : Simulation) (e : Effect) → Each Same (touched n look e) → execute n look s e ≡ execute n other s e
   unfolding allocated
   same-executed s Effect.Stop q = refl
+  same-executed s Effect.Fault q = refl
   same-executed s (Effect.Set a x) q = refl
   same-executed s (Effect.Load a v) q = rw (q .0)
   same-executed s (Effect.Store v x) q = refl

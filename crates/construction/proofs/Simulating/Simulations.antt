@@ -15,15 +15,15 @@ use Rattle.construction.specs.declared.Dictionary.{Dictionary}
 use Rattle.construction.specs.declared.Simulation.{Simulation}
 use Rattle.construction.specs.declared.Simulated.{Simulated}
 use Rattle.construction.specs.declared.Pause.{Pause}
-use Rattle.construction.specs.declared.Pause.the-variants.{Ended, Lacks}
-use Rattle.construction.specs.Instructions.{isCell, nextEffect, fetch, started}
-use Rattle.construction.specs.Effects.{Store, Executed, touched, execute}
-use Rattle.construction.specs.Sequential.{Ending, wordAt, withStores, nextExecuted, runFrom, sequential}
+use Rattle.construction.specs.declared.Pause.the-variants.{Ended, Faulted, Lacks}
+use Rattle.construction.specs.Instructions.{isCell, nextEffect, fetch, faulted, started}
+use Rattle.construction.specs.Effects.{Store, Executed, touched, execute, onExecuted}
+use Rattle.construction.specs.Sequential.{Ending, ending, wordAt, withStores, nextExecuted, runFrom, committed, sequential}
 use Rattle.construction.specs.Dictionary.{noItem, empty, noted, find, has, valueAt, withValue, assign, insert}
 use Rattle.construction.specs.Helping.{noteOf, withNotes, onLacking, simulateFrom, simulate}
-use Rattle.construction.proofs.Basics.{on-test, on-set, true-or-false, eqb-refl}
+use Rattle.construction.proofs.Basics.{on-test, on-set, true-or-false, cond-false, eqb-refl}
 use Rattle.construction.proofs.Simulating.Sequential.{Short, fetch-end, past-end, advances, run-step}
-use Rattle.construction.proofs.Simulating.Effects.{on-executed, Each, each-map, each-both, EachStore, Storing, execute-stores, Same, same-touched, same-executed, Touching, touches}
+use Rattle.construction.proofs.Simulating.Effects.{on-executed, MarkKept, execute-mark, Each, each-map, each-both, EachStore, Storing, execute-stores, Same, same-touched, same-executed, Touching, touches}
 use Rattle.construction.proofs.Simulating.Dictionaries.{hasIn, valueIn, putIn, AllIn, all-put, all-snoc, Keyed, keyed-put, keyed-snoc}
 use Rattle.construction.proofs.Simulating.Dictionaries.{value-none, value-put-same, value-put-other, value-snoc-same, value-snoc-other}
 use Rattle.construction.proofs.Simulating.Dictionaries.{has-put, has-position, has-snoc, has-more, found, noted-assign, noted-insert, insert-length, insert-items, assign-items}
@@ -108,7 +108,7 @@ module _ (n : ℕ) (program : Program) (inputs : Words) (ws : List ℕ) (R : End
   abbrev pub path : Simulation → List ℕ → List ℕ
   path s mem = touched n (wordAt mem) (nextEffect n program inputs s)
 
-  -- under way: on words that agree with the dictionary, else with `ws`, the rest of the run ends as R.
+  -- under way, with no mark: on words that agree with the dictionary, else with `ws`, the rest of the run ends as R.
   -- Each item came with an instruction before the counter, or with the one at the counter.
   pub record Core (s : Simulation) (d : Dictionary) : Type 0 where
     pub booked : AllIn P (noted d)
@@ -117,16 +117,23 @@ module _ (n : ℕ) (program : Program) (inputs : Words) (ws : List ℕ) (R : End
     pub mem : List ℕ
     pub size : length mem ≡ n
     pub agree : (v : ℕ) → v < n → getD mem v 0 ≡ valueIn (noted d) v (getD ws v 0)
-    pub rest : runFrom n program inputs 32 s mem ≡ R
+    pub unmarked : s .yields .fault ≡ false
+    pub rest : committed ws (runFrom n program inputs 32 s mem) ≡ R
     pub passed : d .length ≤ weightBefore program (s .counter) + reached (noted d) (path s mem)
 
-  -- ended: the outputs are those of R, and its words agree with the dictionary, else with `ws`
+  -- ended: it yields what R does, and the words of R agree with the dictionary, else with `ws`
   pub record Finished (s : Simulation) (d : Dictionary) : Type 0 where
     pub booked : AllIn P (noted d)
     pub keyed : Keyed (noted d)
     pub room : Room program d
-    pub outputs : s .outputs ≡ R .outputs
+    pub yields : s .yields ≡ R .yields
     pub agree : (v : ℕ) → v < n → getD (R .words) v 0 ≡ valueIn (noted d) v (getD ws v 0)
+
+  -- ended as a fault: it yields what R does, and R has the words `ws`
+  pub record Faulty (s : Simulation) (d : Dictionary) : Type 0 where
+    pub keyed : Keyed (noted d)
+    pub room : Room program d
+    pub ends : ending s ws ≡ R
 
   -- the instruction at the counter touches v, the first that is not noted; there is room for it
   pub record Needing (v : ℕ) (s : Simulation) (d : Dictionary) : Type 0 where
@@ -138,6 +145,7 @@ module _ (n : ℕ) (program : Program) (inputs : Words) (ws : List ℕ) (R : End
 
   abbrev pub PausedAt : Pause → Simulation → Dictionary → Type 0
   PausedAt Ended s d = Finished s d
+  PausedAt Faulted s d = Faulty s d
   PausedAt (Lacks v) s d = Needing v s d
 
   abbrev pub Paused : Simulated → Type 0
@@ -153,6 +161,7 @@ module _ (n : ℕ) (program : Program) (inputs : Words) (ws : List ℕ) (R : End
     mem = ws;
     size = h;
     agree = λ v l. refl;
+    unmarked = refl;
     rest = e;
     passed = omega arith;
   }
@@ -172,6 +181,7 @@ module _ (n : ℕ) (program : Program) (inputs : Words) (ws : List ℕ) (R : End
     mem = q .core .mem;
     size = q .core .size;
     agree = λ u l. q .core .agree u l ∙ rw list (go u (ℕ-discrete (e .variable) u));
+    unmarked = q .core .unmarked;
     rest = q .core .rest;
     passed = rw (list, longer)
         (omega (arith, q .core .passed, lacking-noted (noted d) e (path s (q .core .mem)) v ev (q .next)));
@@ -244,17 +254,29 @@ module _ (n : ℕ) (program : Program) (inputs : Words) (ws : List ℕ) (R : End
         held-stores (assign d (find d (x .variable)) (x .value)) (set mem (x .variable) (x .value)) l
         (still-storable d (x .variable) (x .value) (s .0 .0) l (s .1)) (held-store d mem (x .variable) (x .value) (s .0 .0) (s .0 .1) q)
 
+    -- the run on the words, one instruction on
+    next-run :
+        (s : Simulation) (d : Dictionary) (q : Core s d) →
+        committed ws (onExecuted (nextExecuted n program inputs s (q .mem)) (ending s (q .mem)) (ending (faulted s) (q .mem))
+        (λ t l. runFrom n program inputs 32 t (withStores (q .mem) l))) ≡ R
+    next-run s d q = ap (committed ws) (sym (run-step n program inputs short 32 s (q .mem) (omega arith))) ∙ q .rest
+
     finish : (s : Simulation) (d : Dictionary) (q : Core s d) → nextExecuted n program inputs s (q .mem) ≡ Executed.Ends → Finished s d
     finish s d q e =
-        let z : record { words = q .mem; outputs = s .outputs } ≡ R =
-        rw e at (sym (run-step n program inputs short 32 s (q .mem) (omega arith)) ∙ q .rest) in
+        let y : committed ws (ending s (q .mem)) ≡ R = rw e at (next-run s d q) in
+        let z : ending s (q .mem) ≡ R =
+        ap (λ (l : List ℕ). ending s l) (sym (cond-false (s .yields .fault) ws (q .mem) (q .unmarked))) ∙ y in
         record {
           booked = q .booked;
           keyed = q .keyed;
           room = q .room;
-          outputs = ap (λ (r : Ending). r .outputs) z;
+          yields = ap (λ (r : Ending). r .yields) z;
           agree = λ v l. ap (λ (r : Ending). getD (r .words) v 0) (sym z) ∙ q .agree v l;
         }
+
+    faults-so : (s : Simulation) (d : Dictionary) (q : Core s d) → nextExecuted n program inputs s (q .mem) ≡ Executed.Faults → Faulty (faulted s) d
+    unfolding faulted
+    faults-so s d q e = record { keyed = q .keyed; room = q .room; ends = rw e at (next-run s d q) }
 
     weighs : (k : ℕ) → weightOf (fetch program k) ≤ weight program
     weighs k =
@@ -278,6 +300,7 @@ module _ (n : ℕ) (program : Program) (inputs : Words) (ws : List ℕ) (R : End
       -- the first variable that is not noted, by the dictionary and by the words
       lacking-same : (e : Effect) (v : ℕ) → 0 < n → Lacking (noted d) (touched n (noteOf d) e) v → Lacking (noted d) (touched n (wordAt (q .mem)) e) v
       lacking-same Effect.Stop v z r = r
+      lacking-same Effect.Fault v z r = r
       lacking-same (Effect.Set a x) v z r = r
       lacking-same (Effect.Load a u) v z r = r
       lacking-same (Effect.Store u x) v z r = r
@@ -336,7 +359,8 @@ module _ (n : ℕ) (program : Program) (inputs : Words) (ws : List ℕ) (R : End
         mem = withStores (q .mem) l;
         size = held .size;
         agree = held .agree;
-        rest = rw (sym (executed-is all) ∙ e) at (sym (run-step n program inputs short 32 s (q .mem) (omega arith)) ∙ q .rest);
+        unmarked = subst (MarkKept s) e (execute-mark n (noteOf d) s effect) ∙ q .unmarked;
+        rest = rw (sym (executed-is all) ∙ e) at (next-run s d q);
         passed =
             let most = touching (wordAt (q .mem)) .most in
             let after = weight-suc program (s .counter) in
@@ -368,6 +392,7 @@ module _ (n : ℕ) (program : Program) (inputs : Words) (ws : List ℕ) (R : End
         (λ v r. lacking s d q v r)
         (λ all. on-executed Paused (execute n (noteOf d) s (nextEffect n program inputs s))
         (λ e. finish s d q (sym (executed-is s d q all) ∙ e))
+        (λ e. faults-so s d q (sym (executed-is s d q all) ∙ e))
         (λ t l e. simulates-from fuel t (withNotes d l) (omega (arith, advances n program inputs short (noteOf d) s t l e .1))
         (goes-on s d q t l all e)))
 
@@ -394,7 +419,7 @@ simulate-empty n program inputs = go 32 started
     go zero s = refl
     go (suc fuel) s =
         on-lacking Empty empty (touched n (noteOf empty) (nextEffect n program inputs s)) (λ _ _. refl)
-        (λ all. on-executed Empty (execute n (noteOf empty) s (nextEffect n program inputs s)) (λ _. refl)
+        (λ all. on-executed Empty (execute n (noteOf empty) s (nextEffect n program inputs s)) (λ _. refl) (λ _. refl)
         (λ t l e. rw (no-stores l (subst (Storing (Noted [])) e
         (execute-stores (Noted []) n (noteOf empty) s (nextEffect n program inputs s) all))) (go fuel t)))
 
@@ -412,5 +437,5 @@ simulate-length n program inputs = go 32
     go zero s d = refl
     go (suc fuel) s d =
         on-lacking (Same (d .length)) d (touched n (noteOf d) (nextEffect n program inputs s)) (λ _ _. refl)
-        (λ all. on-executed (Same (d .length)) (execute n (noteOf d) s (nextEffect n program inputs s)) (λ _. refl)
+        (λ all. on-executed (Same (d .length)) (execute n (noteOf d) s (nextEffect n program inputs s)) (λ _. refl) (λ _. refl)
         (λ t l e. go fuel t (withNotes d l) ∙ notes-length d l))

@@ -18,7 +18,7 @@ use Rattle.construction.specs.declared.Helped.{Helped}
 use Rattle.construction.specs.declared.Access.{Access}
 use Rattle.construction.specs.declared.Card.{Card}
 use Rattle.construction.specs.declared.Answered.{Answered}
-use Rattle.construction.specs.Instructions.{isCell, nextEffect, forward, withRegister, withOutput, skipped, started}
+use Rattle.construction.specs.Instructions.{isCell, nextEffect, forward, withRegister, withOutput, skipped, faulted, started}
 use Rattle.construction.specs.Effects.{Executed, touched, allocated, execute}
 use Rattle.construction.specs.declared.Effect.{Effect}
 use Rattle.construction.specs.Dictionary.{empty, insert, itemOf}
@@ -48,11 +48,13 @@ forward-room k c = omega arith
 -- an effect that goes on leaves the counter within the room
 abbrev CounterWithin : Executed → Type 0
 CounterWithin Executed.Ends = Unit {0}
+CounterWithin Executed.Faults = Unit {0}
 CounterWithin (Executed.Goes t l) = t .counter ≤ 32
 
 execute-within : (n : ℕ) (look : ℕ → ℕ) (s : Simulation) (e : Effect) → CounterWithin (execute n look s e)
 unfolding allocated withRegister withOutput skipped
 execute-within n look s Effect.Stop = tt
+execute-within n look s Effect.Fault = tt
 execute-within n look s (Effect.Set a x) = forward-room (s .counter) 0
 execute-within n look s (Effect.Load a v) = forward-room (s .counter) 0
 execute-within n look s (Effect.Store v x) = forward-room (s .counter) 0
@@ -70,11 +72,11 @@ Within x = x .simulation .counter ≤ 32
 module _ (n : ℕ) (program : Program) (inputs : Words) where
   simulation-within :
       (fuel : ℕ) (s : Simulation) (d : Dictionary) → s .counter ≤ 32 → Within (simulateFrom n program inputs fuel s d)
-  unfolding simulateFrom
+  unfolding simulateFrom faulted
   simulation-within zero s d h = h
   simulation-within (suc fuel) s d h =
       on-lacking Within d (touched n (noteOf d) (nextEffect n program inputs s)) (λ v _. h)
-      (λ _. on-executed Within (execute n (noteOf d) s (nextEffect n program inputs s)) (λ _. h)
+      (λ _. on-executed Within (execute n (noteOf d) s (nextEffect n program inputs s)) (λ _. h) (λ _. h)
       (λ t l e. simulation-within fuel t (withNotes d l)
       (subst CounterWithin e (execute-within n (noteOf d) s (nextEffect n program inputs s)))))
 

@@ -3,7 +3,7 @@ use mathlib.Core.Path.{refl}
 use Rattle.grammar.specs.Reading.{four, field, number, digits, hasWord}
 use Rattle.construction.specs.Opening.{opened, readCard, varsFrom, programsFrom, readProgram, insFrom, fresh}
 use Rattle.construction.specs.Lines.{cardLine, judgeCard, varLine, judgeVar, sheetLine, judgeSheet, insLine, judgeIns, cardText, varText, sheetText, insText}
-use Rattle.construction.specs.Instructions.{decode, encode, effectOf, fetch, word, withWord, sum, difference, load, store, free, forward, withRegister, withOutput, skipped}
+use Rattle.construction.specs.Instructions.{decode, encode, effectOf, fetch, word, withWord, sum, difference, load, store, free, forward, withRegister, withOutput, skipped, faulted}
 use Rattle.construction.specs.Requests.{call, requestExit, step, read, valueOf}
 use Rattle.construction.specs.Machine.{advance, perform, accessOf, accessGate, accessAnnouncement, firstChoice, beginHelp, note, writing}
 use Rattle.construction.specs.Helping.{simulate, simulateFrom}
@@ -17,9 +17,9 @@ use Rattle.grammar.specs.Writing.{decimal, decimals}
 use Rattle.construction.specs.Examples.{AllHold, rows, AllTextsRefused, refusedTexts, AllYielded, yieldedLines, AllEntriesRefused, refusedEntries, BufferRefused}
 
 pub rows-hold : AllHold rows
-unfolding opened readCard cardLine judgeCard four field number digits hasWord varsFrom varLine judgeVar programsFrom readProgram sheetLine judgeSheet insFrom insLine judgeIns decode weightBefore fresh call requestExit step read valueOf advance perform accessOf accessGate accessAnnouncement firstChoice beginHelp note writing simulate simulateFrom allocated effectOf fetch word withWord sum difference load store free forward withRegister withOutput skipped position assign valueUnder insert altered unaltered nextWrite sameWords sameGate sameAnnouncement sameRecord swapGate swapAnnouncement swapRecord released current previous rewritten
+unfolding opened readCard cardLine judgeCard four field number digits hasWord varsFrom varLine judgeVar programsFrom readProgram sheetLine judgeSheet insFrom insLine judgeIns decode weightBefore fresh call requestExit step read valueOf advance perform accessOf accessGate accessAnnouncement firstChoice beginHelp note writing simulate simulateFrom allocated effectOf fetch word withWord sum difference load store free forward withRegister withOutput skipped faulted position assign valueUnder insert altered unaltered nextWrite sameWords sameGate sameAnnouncement sameRecord swapGate swapAnnouncement swapRecord released current previous rewritten
 rows-hold =
-    ((refl, (refl, refl, refl)), ((refl, (refl, refl, refl)), ((refl, (refl, refl, refl)), ((refl, (refl, refl, refl)), ((refl, (refl, refl, refl)), ((refl, (refl, refl, refl)), ((refl, (refl, refl, refl)), ((refl, (refl, refl, refl)), ((refl, (refl, refl, refl)), ((refl, (refl, refl, refl)), ((refl, (refl, refl, refl)), ((refl, (refl, refl, refl)), ((refl, (refl, refl, refl)), ((refl, (refl, refl, refl)), ((refl, (refl, refl, refl)), ((refl, (refl, refl, refl)), tt))))))))))))))))
+    ((refl, (refl, refl, refl)), ((refl, (refl, refl, refl)), ((refl, (refl, refl, refl)), ((refl, (refl, refl, refl)), ((refl, (refl, refl, refl)), ((refl, (refl, refl, refl)), ((refl, (refl, refl, refl)), ((refl, (refl, refl, refl)), ((refl, (refl, refl, refl)), ((refl, (refl, refl, refl)), ((refl, (refl, refl, refl)), ((refl, (refl, refl, refl)), ((refl, (refl, refl, refl)), ((refl, (refl, refl, refl)), ((refl, (refl, refl, refl)), ((refl, (refl, refl, refl)), ((refl, (refl, refl, refl)), ((refl, (refl, refl, refl)), ((refl, (refl, refl, refl)), tt)))))))))))))))))))
 
 pub texts-refused : AllTextsRefused refusedTexts
 unfolding opened readCard cardLine judgeCard four field number digits hasWord varsFrom varLine judgeVar programsFrom readProgram sheetLine judgeSheet insFrom insLine judgeIns decode weightBefore fetch fresh verdictFields numberOf

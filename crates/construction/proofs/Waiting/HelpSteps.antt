@@ -17,7 +17,7 @@ use Rattle.construction.specs.declared.Dictionary.{Dictionary}
 use Rattle.construction.specs.declared.Began.{Began}
 use Rattle.construction.specs.declared.Helped.{Helped}
 use Rattle.construction.specs.declared.Pause.{Pause}
-use Rattle.construction.specs.declared.Pause.the-variants.{Ended, Lacks}
+use Rattle.construction.specs.declared.Pause.the-variants.{Ended, Faulted, Lacks}
 use Rattle.construction.specs.declared.Card.{Card}
 use Rattle.construction.specs.declared.Contents.{Contents}
 use Rattle.construction.specs.declared.Access.{Access}
@@ -75,6 +75,7 @@ module _ {c : Card} {w : World} {i : ℕ} (B : Before c w i) (small : localAt c 
       {n : ℕ} (d : Dictionary) (r : Pause) (a : Announcement) (z : Simulation) (e : Dictionary) → Loop (c .processes) heavy s n x (localAt c i) →
       n < 7 + e .length → e .length ≤ heavy → At (afterPause s d r .place) (on (afterPause s d r) a z e)
   resumes d Ended a z e q h l b = writes d 0 a z e q (omega arith) (omega arith) b
+  resumes d Faulted a z e q h l b = one-more small q s _ (omega arith) (omega arith) _ _ _ _ _
   resumes d (Lacks v) a z e q h l b = one-more small q s _ (omega arith) h _ _ _ _ _
 
   pub at-P16 : Now P16 → Went c i x Access.Help

@@ -5,6 +5,7 @@ pub mod Refusals
 pub mod ExitRequests
 pub mod TextKept
 pub mod Linearizability
+pub mod Allocation
 pub mod Limits
 pub mod Numbers
 pub mod Log

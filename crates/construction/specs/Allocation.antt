@@ -1,11 +1,23 @@
 -- Cells taken and given back (document 02, order 9): what the bench's runs do to its words, the chain of free cells, the hands of the processes.
-use Prim.Native.Nat.{ℕ, zero, suc}
+use Prim.Native.Nat.{ℕ, zero, suc, _<_}
 use mathlib.Core.Path.{_≡_}
 use mathlib.Core.Bool.{Bool, true, false, cond, not, _&&_}
 use mathlib.Core.List.{List, [], _∷_, _++_}
 use lib.Dec.{eqb, ltb}
-use lib.ListN.{length, getD, set, drop}
-use Rattle.construction.specs.Instructions.{isCell}
+use lib.ListN.{length, getD, set, take, drop}
+use Rattle.construction.specs.declared.Words.{Words}
+use Rattle.construction.specs.declared.Program.{Program}
+use Rattle.construction.specs.declared.Effect.{Effect}
+use Rattle.construction.specs.declared.Simulation.{Simulation}
+use Rattle.construction.specs.declared.Card.{Card}
+use Rattle.construction.specs.declared.Answer.{Answer}
+use Rattle.construction.specs.Cells.{zeros}
+use Rattle.construction.specs.Instructions.{isCell, nextEffect, started}
+use Rattle.construction.specs.Effects.{onExecuted}
+use Rattle.construction.specs.Sequential.{wordAt, withStores, nextExecuted, sequential}
+use Rattle.construction.specs.Parts.{contentsOf, programOf}
+use Rattle.construction.specs.Requests.{read}
+use Rattle.construction.specs.History.{Entry, Invocation, Finish, run}
 
 -- a number in a list, the list without it, a list without repeats
 unfoldable pub among : ℕ → List ℕ → Bool
@@ -89,6 +101,60 @@ Possible words (Action.Gave c) = isCell (length words) c ≡ true
 Possible words (Action.Loaded v) = Unit {0}
 Possible words (Action.Stored v x) = Unit {0}
 
+-- what the effect of an instruction does to words, by the same tests as `execute`: one action, or none
+abbrev pub actionsOf : ℕ → (ℕ → ℕ) → Effect → List Action
+actionsOf n look Effect.Stop = []
+actionsOf n look Effect.Fault = []
+actionsOf n look (Effect.Set a x) = []
+actionsOf n look (Effect.Load a v) = Action.Loaded v ∷ []
+actionsOf n look (Effect.Store v x) = Action.Stored v x ∷ []
+actionsOf n look (Effect.Output a x) = []
+actionsOf n look (Effect.Skip c) = []
+actionsOf n look (Effect.Allocate a) =
+    cond (isCell n (look 0)) (Action.Took (look 0) ∷ []) (cond (eqb (look 0) 0) (Action.TookNone ∷ []) [])
+actionsOf n look (Effect.Free c) = Action.Gave c ∷ []
+
+abbrev pub performedBy : ℕ → List Action → List Performed
+performedBy i [] = []
+performedBy i (a ∷ l) = record { process = i; action = a } ∷ performedBy i l
+
+-- what a run for process i does to the words, newest first; 'faults apart': a run that ends as a fault does nothing
+module _ (n : ℕ) (program : Program) (inputs : Words) (i : ℕ) where
+  unfoldable pub performedFrom : ℕ → Simulation → List ℕ → List Performed
+  performedFrom zero s words = []
+  performedFrom (suc fuel) s words =
+      onExecuted (nextExecuted n program inputs s words)
+      []
+      []
+      (λ t l.
+      performedFrom fuel t (withStores words l) ++ performedBy i (actionsOf n (wordAt words) (nextEffect n program inputs s)))
+
+  abbrev pub performedIn : List ℕ → List Performed
+  performedIn words = cond (sequential n program inputs words .yields .fault) [] (performedFrom 32 started words)
+
+-- the operation with a number
+unfoldable pub operationAt : List Invocation → ℕ → Invocation
+operationAt [] k = record { process = 0; program = 0; inputs = zeros }
+operationAt (x ∷ xs) k = cond (eqb (length xs) k) x (operationAt xs k)
+
+-- 'the bench's runs' in the order of finishing: what each does to the words that the earlier ones left
+abbrev pub startWords : Card → List ℕ
+startWords o = take (o .variables) (o .starts)
+
+abbrev pub performedAs : Card → ℕ → Invocation → List ℕ → List Performed
+performedAs o number x words =
+    performedIn (o .variables) (programOf (contentsOf o) (x .program) number) (x .inputs) (x .process) words
+
+unfoldable pub performedAll : Card → List Invocation → List Finish → List Performed
+performedAll o xs [] = []
+performedAll o xs (f ∷ fs) =
+    performedAs o (suc (length fs)) (operationAt xs (f .operation)) (wordsAfter (startWords o) (performedAll o xs fs))
+    ++ performedAll o xs fs
+
+-- over the run of demand 3
+abbrev pub performed : Card → List Entry → List Performed
+performed o es = performedAll o (run o es .history .operations) (run o es .history .order)
+
 -- the premises, each of the actions that the bench's runs make, newest first, from the words at opening
 
 -- 'the starting chain has no repeats'
@@ -131,5 +197,24 @@ pub record InHands (words : List ℕ) (xs : List Performed) : Type 0 where
   -- the free cells are those given back, the last one first, and then those of the starting chain that were never taken
   pub taken : ℕ
   pub stack : chain (wordsAfter words xs) ≡ givenBack xs ++ drop taken (chain words)
-  -- 'of the free cells given back the last one is the next taken': variable 0 holds its number
+  -- of the free cells given back variable 0 holds the number of the last one
   pub next : (c : ℕ) (l : List ℕ) → givenBack xs ≡ c ∷ l → getD (wordsAfter words xs) 0 0 ≡ c
+
+-- the theorem on hands, for the opened card o after the list of entries es: under the three premises it holds at every moment of the bench's
+-- runs; and the words that the actions leave are the bench's, and so those that `look` shows (demand 3)
+pub record Disciplined (o : Card) (es : List Entry) : Type 0 where
+  pub chain : ChainWithoutRepeats (startWords o)
+  pub touches : OnlyByCodes (startWords o) (performed o es)
+  pub gives : OnlyFromHands (performed o es)
+
+pub record Allocating (o : Card) (es : List Entry) : Type 0 where
+  pub hands : (later earlier : List Performed) → performed o es ≡ later ++ earlier → InHands (startWords o) earlier
+  -- 'of the free cells given back the last one is the next taken'
+  pub last :
+      (later earlier : List Performed) (i c d : ℕ) (l : List ℕ) →
+      performed o es ≡ later ++ (record { process = i; action = Action.Took c } ∷ earlier) → givenBack earlier ≡ d ∷ l → c ≡ d
+  pub words : wordsAfter (startWords o) (performed o es) ≡ run o es .history .words
+  pub shown :
+      (v : ℕ) → v < o .variables →
+      read (run o es .card) v
+      ≡ record { card = run o es .card; answer = Answer.Value (getD (wordsAfter (startWords o) (performed o es)) v 0) }

@@ -143,8 +143,8 @@ chain-ends (suc k) words c h =
     (λ (f : isCell (length words) c ≡ false). rw f f)
     (true-or-false (isCell (length words) c))
 
-pub chain-linked : (words : List ℕ) → 0 < length words → NoRepeats (chain words) → Linked words (getD words 0 0) (chain words)
-chain-linked words z r = chain-ends (length words) words (getD words 0 0) (few (length words) (0 ∷ chain words) (apart, r) below)
+long-linked : (words : List ℕ) → 0 < length words → NoRepeats (chain words) → Linked words (getD words 0 0) (chain words)
+long-linked words z r = chain-ends (length words) words (getD words 0 0) (few (length words) (0 ∷ chain words) (apart, r) below)
   where
     inside : (c : ℕ) → among c (chain words) ≡ true → (c ≢ 0) × (c < length words)
     inside c h = cell-inside (length words) c (chain-cells (length words) words (getD words 0 0) c h)
@@ -154,6 +154,11 @@ chain-linked words z r = chain-ends (length words) words (getD words 0 0) (few (
 
     below : (c : ℕ) → among c (0 ∷ chain words) ≡ true → c < length words
     below c h = ⊎-elim (λ (e : 0 ≡ c). omega arith) (λ k. inside c k .1) (among-cons c 0 (chain words) h)
+
+pub chain-linked : (words : List ℕ) → NoRepeats (chain words) → Linked words (getD words 0 0) (chain words)
+unfolding chainFrom
+chain-linked [] r = refl
+chain-linked (y ∷ ys) r = long-linked (y ∷ ys) (omega arith) r
 
 -- a store apart from the chain leaves it
 pub linked-set :

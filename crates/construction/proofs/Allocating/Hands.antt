@@ -38,7 +38,6 @@ drop-next (suc k) (y ∷ l) x r e = drop-next k l x r e
 
 -- words, hands and the cells given back, from the starting words on
 pub record Kept (start words : List ℕ) (hands : ℕ → List ℕ) (back : List ℕ) : Type 0 where
-  pub size : 0 < length words
   pub stack : List ℕ
   pub linked : Linked words (getD words 0 0) stack
   pub repeats : NoRepeats stack
@@ -48,13 +47,12 @@ pub record Kept (start words : List ℕ) (hands : ℕ → List ℕ) (back : List
   pub shape : stack ≡ back ++ drop taken (chain start)
 
 -- at the start all hands are empty
-pub kept-start : (words : List ℕ) → 0 < length words → ChainWithoutRepeats words → Kept words words (λ i. []) []
+pub kept-start : (words : List ℕ) → ChainWithoutRepeats words → Kept words words (λ i. []) []
 unfolding among
-kept-start words z r =
+kept-start words r =
     record {
-      size = z;
       stack = chain words;
-      linked = chain-linked words z r;
+      linked = chain-linked words r;
       repeats = r;
       one = λ c i j a b. absurd (false≢true a);
       free = λ c i a. absurd (false≢true a);
@@ -79,7 +77,6 @@ module _ (start words : List ℕ) (hands : ℕ → List ℕ) (back : List ℕ) (
       let same : (j : ℕ) → handsAfter a j ≡ hands j = λ j. rw (f (hands j)) (cond-same (eqb i j) (hands j)) in
       rw (e, g)
       (record {
-        size = K .size;
         stack = K .stack;
         linked = K .linked;
         repeats = K .repeats;
@@ -96,7 +93,6 @@ module _ (start words : List ℕ) (hands : ℕ → List ℕ) (back : List ℕ) (
       let whole = linked-whole words (K .stack) (K .linked) (K .repeats) in
       let head : getD (set words v x) 0 0 ≡ getD words 0 0 = getD-set-other words v 0 x 0 (λ e. eqb-false v 0 z (sym e)) in
       record {
-        size = rw length-set (K .size);
         stack = K .stack;
         linked = rw head (linked-set words (getD words 0 0) (K .stack) v x (rw whole at f) (K .linked));
         repeats = K .repeats;
@@ -124,7 +120,6 @@ module _ (start words : List ℕ) (hands : ℕ → List ℕ) (back : List ℕ) (
       absurd (true-false _ t (subst (λ c. isCell (length words) c ≡ false) e (subst (Linked words (getD words 0 0)) q (K .linked))))
   took-top v t e (y ∷ s) q =
       record {
-        size = rw (length-set, length-set) (K .size);
         stack = s;
         linked = rw head (linked-set (set words 0 (getD words v 0)) (getD words v 0) s v 0 apart
             (linked-set words (getD words v 0) s 0 (getD words v 0) away next));
@@ -157,7 +152,7 @@ module _ (start words : List ℕ) (hands : ℕ → List ℕ) (back : List ℕ) (
       inside = cell-inside (length words) v t
 
       head : getD (set (set words 0 (getD words v 0)) v 0) 0 0 ≡ getD words v 0
-      head = getD-set-other (set words 0 (getD words v 0)) v 0 0 0 (λ z. inside .0 (sym z)) ∙ getD-set-same words 0 (getD words v 0) 0 (K .size)
+      head = getD-set-other (set words 0 (getD words v 0)) v 0 0 0 (λ z. inside .0 (sym z)) ∙ getD-set-same words 0 (getD words v 0) 0 (omega (arith, inside .1))
 
       shape : y ∷ s ≡ back ++ drop (K .taken) (chain start)
       shape = sym q ∙ K .shape
@@ -207,7 +202,6 @@ module _ (start words : List ℕ) (hands : ℕ → List ℕ) (back : List ℕ) (
       Kept start (after words (Action.Gave v)) (handsAfter (Action.Gave v)) (v ∷ back)
   gave v t own =
       record {
-        size = rw (length-set, length-set) (K .size);
         stack = v ∷ K .stack;
         linked = rw head (
           refl,
@@ -227,7 +221,7 @@ module _ (start words : List ℕ) (hands : ℕ → List ℕ) (back : List ℕ) (
       inside = cell-inside (length words) v t
 
       head : getD (set (set words v (getD words 0 0)) 0 v) 0 0 ≡ v
-      head = getD-set-same (set words v (getD words 0 0)) 0 v 0 (rw length-set (K .size))
+      head = getD-set-same (set words v (getD words 0 0)) 0 v 0 (rw length-set (omega (arith, inside .1)))
 
       held : getD (set (set words v (getD words 0 0)) 0 v) v 0 ≡ getD words 0 0
       held = getD-set-other (set words v (getD words 0 0)) 0 v v 0 (inside .0) ∙ getD-set-same words v (getD words 0 0) 0 (inside .1)
@@ -248,12 +242,12 @@ AllPossible words [] = Unit {0}
 AllPossible words (x ∷ xs) = Possible (wordsAfter words xs) (x .action) × AllPossible words xs
 
 pub kept-actions :
-    (start : List ℕ) (xs : List Performed) → 0 < length start → ChainWithoutRepeats start →
+    (start : List ℕ) (xs : List Performed) → ChainWithoutRepeats start →
     AllPossible start xs → OnlyByCodes start xs → OnlyFromHands xs → Kept start (wordsAfter start xs) (hand xs) (givenBack xs)
 unfolding wordsAfter hand givenBack
-kept-actions start [] z r p t g = kept-start start z r
-kept-actions start (x ∷ xs) z r p t g =
-    kept-action start (wordsAfter start xs) (hand xs) (givenBack xs) (kept-actions start xs z r (p .1) (t .1) (g .1)) (x .process) (x .action)
+kept-actions start [] r p t g = kept-start start r
+kept-actions start (x ∷ xs) r p t g =
+    kept-action start (wordsAfter start xs) (hand xs) (givenBack xs) (kept-actions start xs r (p .1) (t .1) (g .1)) (x .process) (x .action)
     (p .0) (t .0) (g .0)
 
 -- what the theorem says of hands and of the chain

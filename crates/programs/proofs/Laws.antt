@@ -3,7 +3,7 @@ use Prim.Native.Nat.{ℕ, zero, suc, _+_, _%_, _^_, _<_, _≤_}
 use mathlib.Core.Bool.{Bool, true, false, cond, not}
 use mathlib.Core.Path.{_≡_, refl, sym, _∙_}
 use native.Mathlib.Omega.{arith}
-use lib.Dec.{eqb, ltb}
+use lib.Dec.{eqb, leb, ltb}
 use lib.ListN.{length, getD, List·getD-eq-default}
 use borrow.Author.Tests.{ne-eqb, lt-ltb, le-ltb, ltb-true, ltb-false}
 use Rattle.construction.specs.declared.Words.{Words}
@@ -14,6 +14,7 @@ use Rattle.construction.specs.declared.Program.{Program}
 use Rattle.construction.specs.Instructions.{withWord, load, store, isCell, free, noLine, fetch}
 use Rattle.construction.proofs.Basics.{and-true}
 use Rattle.programs.specs.Fetching.{instructionAt}
+use Rattle.programs.specs.Cells.{isAstray}
 
 module _ (f : Words) (x : ℕ) where
   -- four words of which the one at place k is x
@@ -71,6 +72,12 @@ module _ (n c : ℕ) where
   pub cell-none : c ≡ 0 → not (eqb c 0) ≡ isCell n c
   cell-none p = rw p
 
+  pub astray-some : (c ≡ 0 → ⊥) → leb n c ≡ isAstray n c
+  astray-some p = rw (ne-eqb c 0 p)
+
+  pub astray-none : c ≡ 0 → not (eqb c 0) ≡ isAstray n c
+  astray-none p = rw p
+
   module _ {t : Bool} (e : t ≡ isCell n c) where
     pub cell-below : t ≡ true → c < n
     cell-below p = ltb-true c n (and-true (not (eqb c 0)) (ltb c n) (sym e ∙ p) .1)
@@ -79,7 +86,7 @@ module _ (n c : ℕ) where
     unfolding free
     free-there p = rw (← e, p)
 
-    pub free-none : t ≡ false → Effect.Stop ≡ free n c
+    pub free-none : t ≡ false → Effect.Fault ≡ free n c
     unfolding free
     free-none p = rw (← e, p)
 

@@ -11,6 +11,7 @@ use construction::Yield;
 ghost use mathlib.Core.Path.{_≡_};
 ghost use mathlib.Core.Bool.{cond};
 ghost use Rattle.construction.specs.Instructions.{word, withWord, sum, difference, load, store, isCell, free, effectOf};
+ghost use Rattle.programs.specs.Cells.{isAstray};
 ghost use Rattle.programs.specs.Fetching.{instructionAt};
 ghost use Rattle.construction.specs.Instructions.{forward, withRegister, withOutput, skipped, faulted};
 
@@ -92,14 +93,21 @@ pub fn is_cell(n: u8, number: u32) -> bool
     number != 0 && number < n as u32
 }
 
-// Code 14: the cell of a number given back, which ends the program where there is no such cell.
+// Code 13: whether variable 0 holds a number that is neither 0 nor that of a cell.
+pub fn is_astray(n: u8, number: u32) -> bool
+    ensures { λ r. ⌜ r ≡ isAstray n number ⌝ }
+{
+    number != 0 && n as u32 <= number
+}
+
+// Code 14: the cell of a number given back, a fault where there is no such cell.
 pub fn free(n: u8, number: u32) -> Effect
     ensures { λ r. ⌜ r ≡ free n number ⌝ }
 {
     if is_cell(n, number) {
         return Effect::Free { cell: number as u8 };
     }
-    Effect::Stop
+    Effect::Fault
 }
 
 fn skip_if(test: bool, count: u8) -> Effect

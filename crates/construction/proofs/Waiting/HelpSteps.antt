@@ -19,7 +19,6 @@ use Rattle.construction.specs.declared.Helped.{Helped}
 use Rattle.construction.specs.declared.Pause.{Pause}
 use Rattle.construction.specs.declared.Pause.the-variants.{Ended, Faulted, Lacks}
 use Rattle.construction.specs.declared.Card.{Card}
-use Rattle.construction.specs.declared.Contents.{Contents}
 use Rattle.construction.specs.declared.Access.{Access}
 use Rattle.construction.specs.declared.Place.{Place}
 use Rattle.construction.specs.declared.Place.the-variants.{P16, H21, H36, P19, P21}
@@ -28,8 +27,8 @@ use Rattle.construction.specs.Instructions.{started}
 use Rattle.construction.specs.Dictionary.{empty, noted, nextWrite, itemOf, insert}
 use Rattle.construction.specs.Helping.{simulate}
 use Rattle.construction.specs.Parts.{Local, localAt, contentsOf, announcementAt, recordAt, programOf, withAnnouncement, withRecord, withLocal}
-use Rattle.construction.specs.Machine.{goTo, holderOf, writeFrom, afterPause, helped, helps, beginHelp, note, writing, after, perform}
-use Rattle.construction.specs.Weight.{weight, cardWeight}
+use Rattle.construction.specs.Machine.{goTo, holderOf, writeFrom, afterPause, helps, beginHelp, note, writing, after, perform}
+use Rattle.construction.specs.Weight.{cardWeight}
 use Rattle.construction.proofs.Basics.{on-test}
 use Rattle.construction.proofs.Simulating.Dictionaries.{insert-length}
 use Rattle.construction.proofs.Simulating.Weights.{weight-card}

@@ -38,6 +38,7 @@ pub fn number_of(refusal: Refusal) -> u64
         Refusal::ShortBuffer => 11,
         Refusal::OperandOutOfRange => 12,
         Refusal::UnusedOperand => 13,
+        Refusal::TooHeavy => 14,
     }
 }
 

@@ -9,6 +9,8 @@ pub mod Simulating
 pub mod Invariant
 -- Entries by cases, and that the history an observer keeps agrees with the invariant after every entry.
 pub mod Observing
+-- Chains of free cells, and the hands of processes.
+pub mod Allocating
 -- Wait freedom, apart from safety: what an operation has cost at each place, that its turn comes, and that every entry keeps both.
 pub mod Waiting
 -- The theorems that docs/STATEMENTS.md names.

@@ -6,6 +6,7 @@ pub mod Tracing
 pub mod ExitRequests
 pub mod TextKept
 pub mod Linearizability
+pub mod Allocation
 pub mod Limits
 pub mod Numbers
 pub mod Log

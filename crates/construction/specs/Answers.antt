@@ -21,7 +21,7 @@ use Rattle.construction.specs.declared.InsLine.{InsLine}
 use Rattle.construction.specs.declared.Decoded.{Decoded}
 use Rattle.construction.specs.declared.Encoded.{Encoded}
 use Rattle.construction.specs.declared.Refusal.{Refusal}
-use Rattle.construction.specs.declared.Refusal.the-variants.{TooLong, Malformed, OutOfRange, UnknownCode, NoProcess, NoProgram, Busy, NotBusy, NoPlace, LimitReached, ShortBuffer, OperandOutOfRange, UnusedOperand}
+use Rattle.construction.specs.declared.Refusal.the-variants.{TooLong, Malformed, OutOfRange, UnknownCode, NoProcess, NoProgram, Busy, NotBusy, NoPlace, LimitReached, ShortBuffer, OperandOutOfRange, UnusedOperand, TooHeavy}
 use Rattle.construction.specs.Instructions.{encode}
 
 -- the bytes of a text
@@ -41,7 +41,7 @@ fields word numbers = record { word = bytes word; numbers = numbers }
 abbrev pub refusedWith : ℕ → Fields
 refusedWith number = fields "refused" (number ∷ [])
 
--- the number of a refusal in the table of 'Turned back', 12 and 13 in document 02, order 8
+-- the number of a refusal in the table of 'Turned back', 12 and 13 in document 02, order 8, and 14 in its order 9
 unfoldable pub numberOf : Refusal → ℕ
 numberOf TooLong = 1
 numberOf Malformed = 2
@@ -56,6 +56,7 @@ numberOf LimitReached = 10
 numberOf ShortBuffer = 11
 numberOf OperandOutOfRange = 12
 numberOf UnusedOperand = 13
+numberOf TooHeavy = 14
 
 -- a call, an exit request, a step or a read: '`taken`, `run`, `done` with four outputs and the operation's own steps, `exited` with its own
 -- steps, the looked value, or `refused` and the number'; 'a done answer gives it', the gate number, 'before the outputs' (document 02, order 4);

@@ -519,9 +519,9 @@ abbrev pub refusedTexts : List RefusedText
 refusedTexts =
     record { text = bytes "card,1,1,1,5\nvar,07\nsheet,1\nins,12,0,0,0\n"; number = 2; line = 2 }
     ∷ record { text = bytes "card,9,1,1,5\nvar,7\nsheet,1\nins,12,0,0,0\n"; number = 3; line = 1 }
-    ∷ record { text = bytes "card,1,1,1,5\nvar,7\nsheet,1\nins,13,0,0,0\n"; number = 4; line = 4 }
+    ∷ record { text = bytes "card,1,1,1,5\nvar,7\nsheet,1\nins,15,0,0,0\n"; number = 4; line = 4 }
     ∷ record { text = bytes "card,1,1,1,5\nvar,7\nsheet,1\nins,0,9,9,9\n"; number = 4; line = 4 }
-    ∷ record { text = bytes "card,1,1,1,5\nvar,7\nsheet,2\nins,3,0,1,0\nins,13,0,0,0\n"; number = 12; line = 4 }
+    ∷ record { text = bytes "card,1,1,1,5\nvar,7\nsheet,2\nins,3,0,1,0\nins,15,0,0,0\n"; number = 12; line = 4 }
     ∷ record { text = bytes "card,1,1,1,5\nvar,7\nsheet,1\nins,1,4,0,7\n"; number = 12; line = 4 }
     ∷ record { text = bytes "card,1,1,1,5\nvar,7\nsheet,1\nins,12,0,0,1\n"; number = 13; line = 4 }
     ∷ []
@@ -544,7 +544,7 @@ yieldedLines =
     ∷ record { line = sheetLineFields (sheetLine (bytes "sheet,32\n") 0); expected = fields "sheet" (32 ∷ []) }
     ∷ record { line = sheetLineFields (sheetLine (bytes "sheet,33\n") 0); expected = refusedWith 3 }
     ∷ record { line = insLineFields (insLine 1 (bytes "ins,9,3,2,31\n") 0); expected = fields "ins" (9 ∷ 3 ∷ 2 ∷ 31 ∷ []) }
-    ∷ record { line = insLineFields (insLine 1 (bytes "ins,13,0,0,0\n") 0); expected = refusedWith 4 }
+    ∷ record { line = insLineFields (insLine 1 (bytes "ins,15,0,0,0\n") 0); expected = refusedWith 4 }
     ∷ record { line = insLineFields (insLine 1 (bytes "ins,0,9,9,9\n") 0); expected = refusedWith 4 }
     ∷ record { line = insLineFields (insLine 1 (bytes "ins,1,4,0,7\n") 0); expected = refusedWith 12 }
     ∷ record { line = insLineFields (insLine 1 (bytes "ins,9,0,0,0\n") 0); expected = refusedWith 12 }

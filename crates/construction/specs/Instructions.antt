@@ -1,4 +1,4 @@
--- The twelve instructions (document 01, 'The card text'): what one does, decoding and encoding.
+-- The fourteen instructions (document 01, 'The card text', and document 02, order 9): what one does, decoding and encoding.
 use Prim.Native.Nat.{ℕ, suc, _+_, _-_, min}
 use mathlib.Core.Bool.{Bool, true, cond, not, _&&_}
 use mathlib.Core.List.{List, [], _∷_}
@@ -48,6 +48,14 @@ load n a v = cond (ltb v n) (Effect.Load a v) Effect.Fault
 unfoldable pub store : ℕ → ℕ → ℕ → Effect
 store n v x = cond (ltb v n) (Effect.Store v x) Effect.Fault
 
+-- a number that a cell can have (document 02, order 9): variable 0 is none
+abbrev pub isCell : ℕ → ℕ → Bool
+isCell n v = not (eqb v 0) && ltb v n
+
+-- code 14: 'A cell number of n or more, or 0 given back, is a fault', tested 'before any touch'
+unfoldable pub free : ℕ → ℕ → Effect
+free n c = cond (isCell n c) (Effect.Free c) Effect.Fault
+
 -- the table of codes: what an instruction does on a card of n variables. The sequential run and the helper both go by it.
 unfoldable pub effectOf : ℕ → Words → Words → Instruction → Effect
 effectOf n inputs r Instruction.Stop = Effect.Stop
@@ -62,17 +70,8 @@ effectOf n inputs r (Instruction.Subtract a b) = Effect.Set a (difference (word 
 effectOf n inputs r (Instruction.SkipEqual a b c) = Effect.Skip (cond (eqb (word r a) (word r b)) c 0)
 effectOf n inputs r (Instruction.SkipLess a b c) = Effect.Skip (cond (ltb (word r a) (word r b)) c 0)
 effectOf n inputs r (Instruction.Output a b) = Effect.Output a (word r b)
-
--- by cases on an effect
-abbrev pub onEffect {ℓ} :
-    {A : Type ℓ} → Effect → A → A → (ℕ → ℕ → A) → (ℕ → ℕ → A) → (ℕ → ℕ → A) → (ℕ → ℕ → A) → (ℕ → A) → A
-onEffect Effect.Stop stop fault set load store output skip = stop
-onEffect Effect.Fault stop fault set load store output skip = fault
-onEffect (Effect.Set a x) stop fault set load store output skip = set a x
-onEffect (Effect.Load a v) stop fault set load store output skip = load a v
-onEffect (Effect.Store v x) stop fault set load store output skip = store v x
-onEffect (Effect.Output a x) stop fault set load store output skip = output a x
-onEffect (Effect.Skip c) stop fault set load store output skip = skip c
+effectOf n inputs r (Instruction.Allocate a) = Effect.Allocate a
+effectOf n inputs r (Instruction.Free a) = free n (word r a)
 
 -- the place after the next one and c more; past the end it stands at the end
 unfoldable pub forward : ℕ → ℕ → ℕ
@@ -132,7 +131,7 @@ row a b c make = record { format = Known a b c; instruction = make }
 abbrev pub noRow : CodeRow
 noRow = record { format = Unknown; instruction = λ a b c. Instruction.Stop }
 
--- the table: a row for each code, from 0, which is none, to 12
+-- the table: a row for each code, from 0, which is none, to 14
 abbrev pub codes : List CodeRow
 codes =
     noRow
@@ -148,6 +147,8 @@ codes =
     ∷ row Register Register Skip (λ a b c. Instruction.SkipLess a b c)
     ∷ row Register Register Unused (λ a b c. Instruction.Output a b)
     ∷ row Unused Unused Unused (λ a b c. Instruction.Stop)
+    ∷ row Register Unused Unused (λ a b c. Instruction.Allocate a)
+    ∷ row Register Unused Unused (λ a b c. Instruction.Free a)
     ∷ []
 
 abbrev pub rowOf : ℕ → CodeRow
@@ -205,3 +206,5 @@ encode (Instruction.Subtract a b) = encoded 8 a b 0
 encode (Instruction.SkipEqual a b c) = encoded 9 a b c
 encode (Instruction.SkipLess a b c) = encoded 10 a b c
 encode (Instruction.Output a b) = encoded 11 a b 0
+encode (Instruction.Allocate a) = encoded 13 a 0 0
+encode (Instruction.Free a) = encoded 14 a 0 0

@@ -1,5 +1,6 @@
 pub mod Cells
 pub mod Instructions
+pub mod Effects
 pub mod Sequential
 pub mod Dictionary
 pub mod Marks
@@ -19,6 +20,7 @@ pub mod Limits
 pub mod History
 pub mod Paths
 pub mod Linearizability
+pub mod Allocation
 pub mod Log
 pub mod Numbers
 pub mod Faults

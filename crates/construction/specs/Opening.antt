@@ -1,5 +1,5 @@
 -- What a card text opens to (document 01, 'The card text' and 'Turned back'): judged by its length, then line by line.
-use Prim.Native.Nat.{ℕ, zero, suc}
+use Prim.Native.Nat.{ℕ, zero, suc, _+_}
 use mathlib.Core.Bool.{false, cond}
 use mathlib.Core.List.{List, map}
 use lib.ListN.{length, set, replicate}
@@ -16,9 +16,10 @@ use Rattle.construction.specs.declared.Card.{Card}
 use Rattle.construction.specs.declared.Opened.{Opened}
 use Rattle.construction.specs.declared.Instruction.{Instruction}
 use Rattle.construction.specs.declared.Refusal.{Refusal}
-use Rattle.construction.specs.declared.Refusal.the-variants.{TooLong, Malformed}
+use Rattle.construction.specs.declared.Refusal.the-variants.{TooLong, Malformed, TooHeavy}
 use Rattle.construction.specs.Cells.{openGate, openAnnouncement, openRecord}
 use Rattle.construction.specs.Instructions.{noLine, noProgram, started}
+use Rattle.construction.specs.Weight.{weight}
 use Rattle.construction.specs.Dictionary.{empty}
 use Rattle.construction.specs.Parts.{idleTask, noOperation, noGate}
 use Rattle.construction.specs.Lines.{cardLine, varLine, sheetLine, insLine}
@@ -85,16 +86,25 @@ unfoldable pub insFrom : ℕ → List ℕ → ℕ → ℕ → ProgramReading →
 insFrom n t zero k r = r
 insFrom n t (suc m) k r = nextIns (insLine n t (r .at)) r k (λ x. insFrom n t m (suc k) x)
 
--- one program: `sheet,length` and its lines
+-- 'A sheet with more than 32 by that count is refused with 14, at its last line, after 13' (document 02, order 9): its lines are good by then
+abbrev pub judgeWeight : Verdict → ℕ → ProgramReading → ProgramReading
+judgeWeight Verdict.Accepted last r = cond (ltb 32 (weight (r .program))) (programRefusedAt TooHeavy last) r
+judgeWeight (Verdict.Refused why line) last r = r
+
+abbrev pub weighed : ℕ → ProgramReading → ProgramReading
+weighed last r = judgeWeight (r .verdict) last r
+
+-- one program: `sheet,length` and its lines, m lines after that one
 abbrev pub programAfter : ℕ → List ℕ → SheetLine → ℕ → ProgramReading
 programAfter n t (SheetLine.Length m i) line =
-    insFrom n t m 0
+    weighed (line + m)
+    (insFrom n t m 0
     (record {
       verdict = Verdict.Accepted;
       program = record { length = m; lines = replicate 32 noLine };
       at = i;
       line = suc line;
-    })
+    }))
 programAfter n t (SheetLine.Refused why) line = programRefusedAt why line
 
 unfoldable pub readProgram : ℕ → List ℕ → ℕ → ℕ → ProgramReading

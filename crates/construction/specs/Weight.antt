@@ -1,4 +1,5 @@
--- The weight of a program: how many records its instructions can touch for the first time, reached or not (codes 3 to 6 count 1).
+-- The weight of a program: how many records its instructions can touch for the first time, reached or not (codes 3 to 6 count 1, codes 13
+-- and 14 count 2).
 use Prim.Native.Nat.{ℕ, zero, suc, _+_, max}
 use mathlib.Core.List.{List, [], _∷_}
 use Rattle.construction.specs.declared.Instruction.{Instruction}
@@ -19,6 +20,8 @@ weightOf (Instruction.Subtract a b) = 0
 weightOf (Instruction.SkipEqual a b c) = 0
 weightOf (Instruction.SkipLess a b c) = 0
 weightOf (Instruction.Output a b) = 0
+weightOf (Instruction.Allocate a) = 2
+weightOf (Instruction.Free a) = 2
 
 -- the weight of the instructions before place k, and of all
 unfoldable pub weightBefore : Program → ℕ → ℕ

@@ -52,7 +52,7 @@ pub struct Record {
     pub seq: u64,
 }
 
-// One of the twelve kinds of instruction, with only its own operands.
+// One of the fourteen kinds of instruction, with only its own operands.
 pub enum Instruction {
     Stop,
     Input { register: u8, input: u8 },
@@ -66,6 +66,8 @@ pub enum Instruction {
     SkipEqual { left: u8, right: u8, skip: u8 },
     SkipLess { left: u8, right: u8, skip: u8 },
     Output { output: u8, register: u8 },
+    Allocate { register: u8 },
+    Free { register: u8 },
 }
 
 // What an operand of an instruction is: not used, a register (also an input or an output), a word, a variable, or a number of
@@ -109,7 +111,8 @@ pub struct Program {
     pub lines: [Line; 32],
 }
 
-// What one instruction does: a register set, a variable loaded or stored, an output set, instructions skipped, the end, or the end as a fault.
+// What one instruction does: a register set, a variable loaded or stored, an output set, instructions skipped, the first free cell taken, a cell
+// given back, the end, or the end as a fault.
 pub enum Effect {
     Stop,
     Fault,
@@ -118,6 +121,8 @@ pub enum Effect {
     Store { variable: u8, value: u32 },
     Output { output: u8, value: u32 },
     Skip { count: u8 },
+    Allocate { register: u8 },
+    Free { cell: u8 },
 }
 
 // An item of a dictionary (document 01: noted record): a variable, its record as read, and its value in the simulation.
@@ -310,7 +315,7 @@ pub struct Card {
     pub masks: [u64; 8],
 }
 
-// Why something is refused: rows 1 to 11 of document 01's table, 12 and 13 of document 02, order 8.
+// Why something is refused: rows 1 to 11 of document 01's table, 12 and 13 of document 02, order 8, and 14 of its order 9.
 pub enum Refusal {
     TooLong,
     Malformed,
@@ -325,6 +330,7 @@ pub enum Refusal {
     ShortBuffer,
     OperandOutOfRange,
     UnusedOperand,
+    TooHeavy,
 }
 
 // The answer to a call, an exit request, a step or a read. Done covers document 02's `fault` (order 6): what it yields tells which.

@@ -1,6 +1,7 @@
 -- The dictionary and the simulation by the tests that decide them, over plain values
 use Prim.Native.Nat.{ℕ, zero, suc, _+_, _*_, _%_, _^_, _<_, _≤_}
-use mathlib.Core.Bool.{true, false, not}
+use mathlib.Core.Bool.{Bool, true, false, not}
+use mathlib.Core.Logic.{⊎-elim}
 use mathlib.Core.List.{List, [], _∷_, map}
 use mathlib.Core.Path.{_≡_, refl, sym, _∙_, ap}
 use native.Mathlib.Omega.{arith}
@@ -8,10 +9,10 @@ use native.Mathlib.Numerals.{add-one}
 use native.Mathlib.Nat.{one-mul}
 use lib.Bits.{bitOr}
 use lib.Pow.{shl-exact}
-use lib.Dec.{eqb, ltb}
+use lib.Dec.{eqb, leb, ltb}
 use lib.ListN.{length, getD, set, take, drop, length-take, length-set, length-map, drop-of-length-le}
-use lib.Seq.{drop-cons, getD-take, map-set-same, length-take-le, take-set-lt}
-use borrow.Author.Tests.{eq-eqb, ne-eqb, lt-ltb, le-ltb}
+use lib.Seq.{set-getD, drop-cons, getD-take, map-set-same, length-take-le, take-set-lt}
+use borrow.Author.Tests.{eq-eqb, ne-eqb, lt-ltb, le-ltb, eqb-true, leb-true, leb-false, not-true}
 use Rattle.construction.specs.declared.Words.{Words}
 use Rattle.construction.specs.declared.Program.{Program}
 use Rattle.construction.specs.declared.Record.{Record}
@@ -21,9 +22,12 @@ use Rattle.construction.specs.declared.Dictionary.{Dictionary}
 use Rattle.construction.specs.declared.Simulation.{Simulation}
 use Rattle.construction.specs.declared.Simulated.{Simulated}
 use Rattle.construction.specs.Cells.{current, previous}
-use Rattle.construction.specs.Instructions.{effectOf, noLine, nextEffect, withRegister, withOutput, skipped, faulted}
+use Rattle.construction.specs.Instructions.{isCell, effectOf, noLine, nextEffect, withRegister, withOutput, skipped, faulted}
 use Rattle.programs.specs.Fetching.{instructionAt}
 use Rattle.programs.proofs.Laws.{fetched}
+use Rattle.programs.specs.Cells.{isAstray}
+use Rattle.construction.specs.Effects.{allocated}
+use Rattle.construction.proofs.Basics.{and-true, true-or-false}
 use Rattle.construction.specs.Dictionary.{noItem, noted, position, find, valueAt, withValue, assign, valueUnder, insert, altered, unaltered, nextWrite}
 use Rattle.helping.specs.Numbers.{keys, values, placeOf, revalued, withValues, Numbered}
 use Rattle.construction.specs.Marks.{withBit}
@@ -236,6 +240,38 @@ module _ {ks before : List ℕ} {end : ℕ} {d : Dictionary} (h : Numbered ks be
     unfolding assign
     assigned x = rw (take-set-lt end xs k x below, revalued-set (d .items) (take end xs) k x among)
 
+  pub assigned-twice :
+      (xs : List ℕ) → length xs ≡ length before → (k : ℕ) → k < end → (x j : ℕ) → j < end → (y : ℕ) →
+      withValues d (take end (set (set xs k x) j y)) ≡ assign (assign (withValues d (take end xs)) k x) j y
+  assigned-twice xs same k below x j under y =
+      assigned (set xs k x) (length-set xs k x ∙ same) j under y ∙ ap (λ (b : Dictionary). assign b j y) (assigned xs same k below x)
+
+-- a value assigned that was there
+assign-own : (d : Dictionary) (k : ℕ) → assign d k (valueAt d k) ≡ d
+unfolding assign
+assign-own d k = rw (set-getD (d .items) k noItem)
+
+-- numbers that variable 0 may hold
+astray-true : (n x : ℕ) → isAstray n x ≡ true → (isCell n x ≡ false) × (eqb x 0 ≡ false)
+astray-true n x t =
+    let a = and-true (not (eqb x 0)) (leb n x) t in
+    let z = not-true (eqb x 0) (a .0) in
+    (rw (z, le-ltb x n (leb-true n x (a .1))), z)
+
+astray-false : (n x : ℕ) → isAstray n x ≡ false → eqb x 0 ≡ false → isCell n x ≡ true
+astray-false n x f z = let l : leb n x ≡ false = rw z at f in rw (z, lt-ltb x n (leb-false n x l))
+
+pub astray-most : (n x : ℕ) {b : Bool} → b ≡ isAstray n x → b ≡ false → x ≤ n
+astray-most n x e f =
+    ⊎-elim (λ z. omega (arith, eqb-true x 0 z)) (λ z. omega (arith, leb-false n x (rw z at (sym e ∙ f)))) (true-or-false (eqb x 0))
+
+no-cell : (n x : ℕ) → x ≡ 0 → isCell n x ≡ false
+no-cell n x e = rw e
+
+-- a value assigned leaves the keys
+keyed-assign : (ks : List ℕ) (end : ℕ) (d : Dictionary) (k x : ℕ) → Keyed d ks end → Keyed (assign d k x) ks end
+keyed-assign ks end d k x q = (q .0 ∙ sym (assign-noted d k x), rw (assign-keys d k x) (q .1))
+
 -- a simulation whose result is `total` goes on from s and d with so many instructions left
 abbrev pub Going : ℕ → Program → Words → Simulated → List ℕ → ℕ → ℕ → Simulation → Dictionary → Type 0
 Going n program inputs total ks end fuel s d = (total ≡ simulateFrom n program inputs fuel s d) × Keyed d ks end
@@ -277,6 +313,10 @@ module _ {n : ℕ} {program : Program} {inputs : Words} {total : Simulated} {ks 
     absent : end ≤ k → ltb k (length (noted d)) ≡ false
     absent q = le-ltb _ _ (rw (h .going .1 .0) at q)
 
+    -- a value assigned moves no variable
+    found-after : (j w : ℕ) → k ≡ find (assign d j w) v
+    found-after j w = find-by-keys (assign d j w) ks v end k (keyed-assign ks end d j w (h .going .1)) place
+
     pub loads :
         (a x : ℕ) (t : Simulation) → e ≡ Effect.Load a v → k < end → x ≡ valueAt d k → t ≡ withRegister s a x →
         Going n program inputs total ks end m t d
@@ -299,6 +339,71 @@ module _ {n : ℕ} {program : Program} {inputs : Words} {total : Simulated} {ks 
     pub store-lacks : (x : ℕ) → e ≡ Effect.Store v x → end ≤ k → lacks v s d ≡ total
     unfolding simulateFrom
     store-lacks x p q = sym (h .going .0 ∙ rw (h .left, ← h .next, p, ← found, absent q))
+
+  -- codes 13 and 14: variable 0 stands at k
+  module _ (k : ℕ) (first : k ≡ placeOf (take end ks) 0) where
+    pub allocate-lacks : (a : ℕ) → e ≡ Effect.Allocate a → end ≤ k → lacks 0 s d ≡ total
+    unfolding simulateFrom
+    allocate-lacks a p q = sym (h .going .0 ∙ rw (h .left, ← h .next, p, ← found 0 k first, absent 0 k first q))
+
+    pub free-lacks : (c : ℕ) → e ≡ Effect.Free c → end ≤ k → lacks 0 s d ≡ total
+    unfolding simulateFrom
+    free-lacks c p q = sym (h .going .0 ∙ rw (h .left, ← h .next, p, ← found 0 k first, absent 0 k first q))
+
+    module _ (here : k < end) (x : ℕ) (y : x ≡ valueAt d k) {b : Bool} (t : b ≡ isAstray n x) where
+      pub allocate-faults : (a : ℕ) → e ≡ Effect.Allocate a → b ≡ true → faults s d ≡ total
+      unfolding simulateFrom allocated
+      allocate-faults a p q =
+          let z = astray-true n x (sym t ∙ q) in
+          sym (h .going .0 ∙ rw (h .left, ← h .next, p, ← found 0 k first, there 0 k first here, ← y, z .0, z .1))
+
+      -- the cell, or variable 0 where there is none, stands at j
+      module _ (a : ℕ) (p : e ≡ Effect.Allocate a) (q : b ≡ false) (j : ℕ) (place : j ≡ placeOf (take end ks) x) where
+        same-place : x ≡ 0 → j ≡ k
+        same-place z = place ∙ (ap (placeOf (take end ks)) z ∙ sym first)
+
+        pub allocate-lacks-cell : end ≤ j → lacks x s d ≡ total
+        unfolding simulateFrom
+        allocate-lacks-cell g =
+            ⊎-elim
+            (λ z. absurd (omega (arith, same-place (eqb-true x 0 z))))
+            (λ z. sym (h .going .0
+            ∙ rw (h .left, ← h .next, p, ← found 0 k first, there 0 k first here, ← y, astray-false n x (sym t ∙ q) z, ← found x j place, absent x j place g)))
+            (true-or-false (eqb x 0))
+
+        pub allocates :
+            (w : ℕ) (u : Simulation) (f : Dictionary) → j < end → w ≡ valueAt d j → f ≡ assign (assign d k w) j 0 → u ≡ withRegister s a x →
+            Going n program inputs total ks end m u f
+        unfolding simulateFrom allocated
+        allocates w u f g v r o =
+            ⊎-elim
+            (λ z.
+            let none : x ≡ 0 = eqb-true x 0 z in
+            let same : f ≡ d =
+            r ∙ rw (same-place none, v, same-place none, assign-own d k) (ap (assign d k) (sym none ∙ y) ∙ assign-own d k) in
+            (h .going .0 ∙ rw (h .left, ← h .next, p, ← found 0 k first, there 0 k first here, ← y, no-cell n x none, z, o, same, none), rw same (h .going .1)))
+            (λ z. (
+              h .going .0
+                  ∙ rw (h .left, ← h .next, p, ← found 0 k first, there 0 k first here, ← y, astray-false n x (sym t ∙ q) z, ← found x j place, there x j place g, ← v, ← found 0 k first, ← found-after x j place k w, o, r),
+              rw r (keyed-assign ks end (assign d k w) j 0 (keyed-assign ks end d k w (h .going .1))),
+            ))
+            (true-or-false (eqb x 0))
+
+    module _ (here : k < end) (c : ℕ) (p : e ≡ Effect.Free c) (j : ℕ) (place : j ≡ placeOf (take end ks) c) where
+      pub free-lacks-cell : end ≤ j → lacks c s d ≡ total
+      unfolding simulateFrom
+      free-lacks-cell g =
+          sym (h .going .0 ∙ rw (h .left, ← h .next, p, ← found 0 k first, there 0 k first here, ← found c j place, absent c j place g))
+
+      pub frees :
+          (w : ℕ) (u : Simulation) (f : Dictionary) → j < end → w ≡ valueAt d k → f ≡ assign (assign d j w) k c → u ≡ skipped s 0 →
+          Going n program inputs total ks end m u f
+      unfolding simulateFrom
+      frees w u f g v r o = (
+        h .going .0
+            ∙ rw (h .left, ← h .next, p, ← found 0 k first, there 0 k first here, ← found c j place, there c j place g, ← v, ← found-after 0 k first j w, o, r),
+        rw r (keyed-assign ks end (assign d j w) k c (keyed-assign ks end d j w (h .going .1))),
+      )
 
 -- the effect by the line at the counter
 pub effect-is :

@@ -96,6 +96,53 @@ pub(crate) fn simulate(
             }
             Effect::Output { output, value } => s = programs::with_output(s, output, value),
             Effect::Skip { count } => s = programs::skipped(s, count),
+            Effect::Allocate { register } => {
+                let first = find(keys, end, 0);
+                if end <= first {
+                    return Paused {
+                        pause: Pause::Lacks(0),
+                        simulation: s,
+                    };
+                }
+                let number = values[first as usize];
+                if programs::is_astray(n, number) {
+                    return Paused {
+                        pause: Pause::Faulted,
+                        simulation: programs::faulted(s),
+                    };
+                }
+                // where there is no free cell, this is variable 0 itself, which is 0 and stays so
+                let cell = number as u8;
+                let place = find(keys, end, cell);
+                if end <= place {
+                    return Paused {
+                        pause: Pause::Lacks(cell),
+                        simulation: s,
+                    };
+                }
+                values[first as usize] = values[place as usize];
+                values[place as usize] = 0;
+                s = programs::with_register(s, register, number);
+            }
+            Effect::Free { cell } => {
+                let first = find(keys, end, 0);
+                if end <= first {
+                    return Paused {
+                        pause: Pause::Lacks(0),
+                        simulation: s,
+                    };
+                }
+                let place = find(keys, end, cell);
+                if end <= place {
+                    return Paused {
+                        pause: Pause::Lacks(cell),
+                        simulation: s,
+                    };
+                }
+                values[place as usize] = values[first as usize];
+                values[first as usize] = cell as u32;
+                s = programs::skipped(s, 0);
+            }
         }
     }
     Paused {

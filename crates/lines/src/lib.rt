@@ -39,7 +39,7 @@ fn in_range(low: u64, high: u64, x: u64) -> bool
     both(low <= x, x <= high)
 }
 
-// The format of a code, from the table of codes 0, which is none, to 12.
+// The format of a code, from the table of codes 0, which is none, to 14.
 fn format_of(code: u64) -> Format
     ensures { λ r. ⌜ r ≡ rowOf code .format ⌝ }
 {
@@ -49,6 +49,7 @@ fn format_of(code: u64) -> Format
     let store = Known(Variable, Register, Unused);
     let skip = Known(Register, Register, Skip);
     let stop = Known(Unused, Unused, Unused);
+    let register = Known(Register, Unused, Unused);
     let formats = [
         Unknown,
         registers,
@@ -63,8 +64,10 @@ fn format_of(code: u64) -> Format
         skip,
         registers,
         stop,
+        register,
+        register,
     ];
-    if code < 13 {
+    if code < 15 {
         formats[code as usize]
     } else {
         Unknown
@@ -124,8 +127,10 @@ fn instruction_of(code: u64, a: u8, b: u8, c: u8) -> Instruction
             register: b,
         },
         Instruction::Stop,
+        Instruction::Allocate { register: a },
+        Instruction::Free { register: a },
     ];
-    if code < 13 {
+    if code < 15 {
         instructions[code as usize]
     } else {
         Instruction::Stop

@@ -1,9 +1,9 @@
 -- The definitions of the instructions by the tests that decide them, over plain values
 use Prim.Native.Nat.{ℕ, zero, suc, _+_, _%_, _^_, _<_, _≤_}
-use mathlib.Core.Bool.{Bool, true, false, cond}
-use mathlib.Core.Path.{_≡_, refl}
+use mathlib.Core.Bool.{Bool, true, false, cond, not}
+use mathlib.Core.Path.{_≡_, refl, sym, _∙_}
 use native.Mathlib.Omega.{arith}
-use lib.Dec.{eqb, ltb}
+use lib.Dec.{eqb, leb, ltb}
 use lib.ListN.{length, getD, List·getD-eq-default}
 use borrow.Author.Tests.{ne-eqb, lt-ltb, le-ltb, ltb-true, ltb-false}
 use Rattle.construction.specs.declared.Words.{Words}
@@ -11,8 +11,10 @@ use Rattle.construction.specs.declared.Effect.{Effect}
 use Rattle.construction.specs.declared.Instruction.{Instruction}
 use Rattle.construction.specs.declared.Line.{Line}
 use Rattle.construction.specs.declared.Program.{Program}
-use Rattle.construction.specs.Instructions.{withWord, load, store, noLine, fetch}
+use Rattle.construction.specs.Instructions.{withWord, load, store, isCell, free, noLine, fetch}
+use Rattle.construction.proofs.Basics.{and-true}
 use Rattle.programs.specs.Fetching.{instructionAt}
+use Rattle.programs.specs.Cells.{isAstray}
 
 module _ (f : Words) (x : ℕ) where
   -- four words of which the one at place k is x
@@ -61,6 +63,32 @@ module _ (n v x : ℕ) where
   pub store-none : n ≤ v → Effect.Fault ≡ store n v x
   unfolding store
   store-none p = rw (le-ltb _ _ p)
+
+-- a number that a cell can have
+module _ (n c : ℕ) where
+  pub cell-some : (c ≡ 0 → ⊥) → ltb c n ≡ isCell n c
+  cell-some p = rw (ne-eqb c 0 p)
+
+  pub cell-none : c ≡ 0 → not (eqb c 0) ≡ isCell n c
+  cell-none p = rw p
+
+  pub astray-some : (c ≡ 0 → ⊥) → leb n c ≡ isAstray n c
+  astray-some p = rw (ne-eqb c 0 p)
+
+  pub astray-none : c ≡ 0 → not (eqb c 0) ≡ isAstray n c
+  astray-none p = rw p
+
+  module _ {t : Bool} (e : t ≡ isCell n c) where
+    pub cell-below : t ≡ true → c < n
+    cell-below p = ltb-true c n (and-true (not (eqb c 0)) (ltb c n) (sym e ∙ p) .1)
+
+    pub free-there : t ≡ true → Effect.Free c ≡ free n c
+    unfolding free
+    free-there p = rw (← e, p)
+
+    pub free-none : t ≡ false → Effect.Fault ≡ free n c
+    unfolding free
+    free-none p = rw (← e, p)
 
 module _ (size k : ℕ) (line : Line) where
   pub at-there : k < size → k < 32 → line .instruction ≡ instructionAt size k line

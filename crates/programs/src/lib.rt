@@ -1,4 +1,4 @@
-// The twelve instructions of document 01 ('The card text') as code: operands, arithmetic, and what an instruction does to a
+// The fourteen instructions of documents 01 ('The card text') and 02 (order 9) as code: operands, arithmetic, and what an instruction does to a
 // running program. It rests on the crate construction, which declares the types and defines each result.
 pub mod weights; // weights.rt: how many records programs can touch
 
@@ -10,7 +10,8 @@ use construction::Words;
 use construction::Yield;
 ghost use mathlib.Core.Path.{_≡_};
 ghost use mathlib.Core.Bool.{cond};
-ghost use Rattle.construction.specs.Instructions.{word, withWord, sum, difference, load, store, effectOf};
+ghost use Rattle.construction.specs.Instructions.{word, withWord, sum, difference, load, store, isCell, free, effectOf};
+ghost use Rattle.programs.specs.Cells.{isAstray};
 ghost use Rattle.programs.specs.Fetching.{instructionAt};
 ghost use Rattle.construction.specs.Instructions.{forward, withRegister, withOutput, skipped, faulted};
 
@@ -85,6 +86,30 @@ pub fn store(n: u8, variable: u32, value: u32) -> Effect
     }
 }
 
+// Whether a number is that of a cell.
+pub fn is_cell(n: u8, number: u32) -> bool
+    ensures { λ r. ⌜ r ≡ isCell n number ⌝ }
+{
+    number != 0 && number < n as u32
+}
+
+// Code 13: whether variable 0 holds a number that is neither 0 nor that of a cell.
+pub fn is_astray(n: u8, number: u32) -> bool
+    ensures { λ r. ⌜ r ≡ isAstray n number ⌝ }
+{
+    number != 0 && n as u32 <= number
+}
+
+// Code 14: the cell of a number given back, a fault where there is no such cell.
+pub fn free(n: u8, number: u32) -> Effect
+    ensures { λ r. ⌜ r ≡ free n number ⌝ }
+{
+    if is_cell(n, number) {
+        return Effect::Free { cell: number as u8 };
+    }
+    Effect::Fault
+}
+
 fn skip_if(test: bool, count: u8) -> Effect
     ensures { λ r. ⌜ r ≡ Effect.Skip (cond test count 0) ⌝ }
 {
@@ -131,6 +156,8 @@ pub fn effect_of(n: u8, inputs: Words, r: Words, instruction: Instruction) -> Ef
             output,
             value: word(r, register),
         },
+        Instruction::Allocate { register } => Effect::Allocate { register },
+        Instruction::Free { register } => free(n, word(r, register)),
     }
 }
 

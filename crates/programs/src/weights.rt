@@ -57,6 +57,8 @@ pub fn weight_of(instruction: Instruction) -> u8
             output: _,
             register: _,
         } => 0,
+        Instruction::Allocate { register: _ } => 2,
+        Instruction::Free { register: _ } => 2,
     }
 }
 

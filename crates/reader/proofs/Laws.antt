@@ -4,16 +4,17 @@ use mathlib.Core.List.{List}
 use Prim.Native.Nat.{ℕ, zero, suc, _+_, _-_, _<_, _≤_}
 use lib.ListN.{length}
 use native.Mathlib.Omega.{arith}
-use borrow.Author.Tests.{eq-eqb, ne-eqb}
+use borrow.Author.Tests.{eq-eqb, ne-eqb, lt-ltb, le-ltb}
 use Rattle.construction.specs.declared.Refusal.{Refusal}
-use Rattle.construction.specs.declared.Refusal.the-variants.{Malformed}
+use Rattle.construction.specs.declared.Refusal.the-variants.{Malformed, TooHeavy}
+use Rattle.construction.specs.Weight.{weight}
 use Rattle.construction.specs.declared.Verdict.{Verdict}
 use Rattle.construction.specs.declared.ProgramReading.{ProgramReading}
 use Rattle.construction.specs.declared.Reading.{Reading}
 use Rattle.construction.specs.Lines.{varLine, sheetLine, insLine}
-use Rattle.construction.specs.Opening.{refusedAt, withLine, insFrom, readProgram, programsFrom, withStart, varsFrom, ifAccepted, atEnd, thenEnd, thenPrograms}
+use Rattle.construction.specs.Opening.{refusedAt, programRefusedAt, weighed, withLine, insFrom, readProgram, programsFrom, withStart, varsFrom, ifAccepted, atEnd, thenEnd, thenPrograms}
 use Rattle.construction.proofs.Text.Lines.{sheet-read}
-use Rattle.construction.proofs.Text.Reading.{afterLength, on-ins, on-sheet, on-var}
+use Rattle.construction.proofs.Text.Reading.{afterLength, on-ins, on-sheet, on-weighed, on-var}
 
 -- ---- a loop that has k of its m turns behind it
 pub one-less : (m k : ℕ) → k < m → m - k ≡ suc (m - (k + 1))
@@ -31,7 +32,9 @@ pub program-line : (n : ℕ) (t : List ℕ) (at line : ℕ) → readProgram n t 
 unfolding readProgram
 program-line n t at line =
     on-sheet (λ x. x .line ≤ line + 33) n t (sheetLine t at) line
-    (λ m i e. omega (arith, ins-line n t m 0 (afterLength m i (suc line)), sheet-read t at m i e .fits)) (λ why. omega arith)
+    (λ m i e. on-weighed (λ x. x .line ≤ line + 33) (line + m) (insFrom n t m 0 (afterLength m i (suc line)))
+    (λ _. omega (arith, ins-line n t m 0 (afterLength m i (suc line)), sheet-read t at m i e .fits)) (omega (arith, sheet-read t at m i e .fits)))
+    (λ why. omega arith)
 
 pub vars-line : (t : List ℕ) (m k : ℕ) (r : Reading) → varsFrom t m k r .line ≤ r .line + m
 unfolding varsFrom
@@ -39,6 +42,14 @@ vars-line t zero k r = omega arith
 vars-line t (suc m) k r =
     on-var (λ x. x .line ≤ r .line + suc m) (varLine t (r .at)) r k (λ x. varsFrom t m (suc k) x)
     (λ v i _. omega (arith, vars-line t m (suc k) (withStart r k v i))) (λ why. omega arith)
+
+-- ---- a program by its weight
+module _ (last : ℕ) (r : ProgramReading) {v : Verdict} (e : v ≡ r .verdict) (p : v ≡ Verdict.Accepted) {w : ℕ} (q : w ≡ weight (r .program)) where
+  pub weighed-heavy : 32 < w → programRefusedAt TooHeavy last ≡ weighed last r
+  weighed-heavy h = sym (rw (← e, p, ← q, lt-ltb 32 w h))
+
+  pub weighed-light : w ≤ 32 → r ≡ weighed last r
+  weighed-light h = sym (rw (← e, p, ← q, le-ltb 32 w h))
 
 -- ---- what follows the first line
 module _ {v : Verdict} (r : Reading) (go : Reading → Reading) where

@@ -20,9 +20,10 @@ use construction::Refusal;
 use construction::SheetLine;
 use construction::VarLine;
 use construction::Verdict;
+use programs::weights::weight;
 ghost use mathlib.Core.Path.{_≡_};
 ghost use Prim.Native.Nat.{_≤_};
-ghost use Rattle.construction.specs.Opening.{insFrom, readProgram, programsFrom, varsFrom, thenEnd, thenPrograms, readCard, opened};
+ghost use Rattle.construction.specs.Opening.{insFrom, weighed, readProgram, programsFrom, varsFrom, thenEnd, thenPrograms, readCard, opened};
 ghost use Rattle.construction.specs.Instructions.{noLine};
 ghost use Rattle.reader.specs.Gathering.{programSoFar, soFar, begun};
 ghost use lib.ListN.{replicate};
@@ -74,6 +75,21 @@ fn read_lines(variables: u8, text: &[u8], length: u8, start: usize, first: u64) 
     }
 }
 
+// A program that counts more than 32 is refused at its last line.
+fn weigh(read: ProgramReading, last: u64) -> ProgramReading
+    ensures { λ r. ⌜ r ≡ weighed last read ⌝ }
+{
+    let verdict = read.verdict;
+    let Verdict::Accepted = verdict else {
+        return read;
+    };
+    let program = read.program;
+    if 32 < weight(program) {
+        return program_refused_at(Refusal::TooHeavy, last);
+    }
+    read
+}
+
 // One program: its `sheet` line and its lines.
 fn read_program(variables: u8, text: &[u8], at: usize, number: u64) -> ProgramReading
     requires { ⌜ number ≤ 9000 ⌝ }
@@ -83,7 +99,8 @@ fn read_program(variables: u8, text: &[u8], at: usize, number: u64) -> ProgramRe
     let SheetLine::Length { length, next } = line else {
         return program_refused_at(sheet_refusal(line), number);
     };
-    read_lines(variables, text, length, next, number + 1)
+    let read = read_lines(variables, text, length, next, number + 1);
+    weigh(read, number + length as u64)
 }
 
 // The programs, as many as the `card` line says.

@@ -51,6 +51,8 @@ pub fn encode(x: Instruction) -> Encoded
         Instruction::SkipEqual { left, right, skip } => encoded(9, left, right, skip),
         Instruction::SkipLess { left, right, skip } => encoded(10, left, right, skip),
         Instruction::Output { output, register } => encoded(11, output, register, 0),
+        Instruction::Allocate { register } => encoded(13, register, 0, 0),
+        Instruction::Free { register } => encoded(14, register, 0, 0),
     }
 }
 

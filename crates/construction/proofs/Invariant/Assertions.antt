@@ -218,18 +218,15 @@ module _ {F : Contents} {i : ℕ} {w v : World} (G : WorldInvariant F w) (M : Mo
         booked = all-map (ItemNoted F w s) (ItemNoted F v s) (noted d) noted-stays (q .core .booked);
         keyed = q .core .keyed;
         room = q .core .room;
-        passed = q .core .passed;
-        ahead = q .core .ahead;
         mem = q .core .mem;
         size = q .core .size;
         agree = rw same-round (q .core .agree);
         unmarked = q .core .unmarked;
         rest = rw same-round (q .core .rest);
+        passed = q .core .passed;
       };
       inside = q .inside;
-      absent = q .absent;
       next = q .next;
-      passing = q .passing;
       spare = q .spare;
       fewer = q .fewer;
     }

@@ -214,7 +214,7 @@ firstWorld x =
     }
 
 module _ (x : Contents) (few : x .processes ≤ 8) (narrow : x .variables ≤ 64) (capped : x .limit ≤ 1000000000000000000)
-    (many : length (x .starts) ≡ 64) (short : (k : ℕ) → Short (getD (x .code) k noProgram)) where
+    (many : length (x .starts) ≡ 64) (short : (k : ℕ) → Short (x .variables) (getD (x .code) k noProgram)) where
   open-flag : (m : ℕ) → getD (replicate 8 openAnnouncement) m openAnnouncement .flag ≡ Done
   open-flag m = ap (λ (a : Announcement). a .flag) (getD-replicate-same 8 m openAnnouncement)
 

@@ -131,7 +131,7 @@ pub record Recorded (F : Contents) (records : List Record) (rounds : List Round)
 pub record Fits (F : Contents) : Type 0 where
   pub few : F .processes ≤ 8
   pub narrow : F .variables ≤ 64
-  pub short : (k number : ℕ) → Short (programOf F k number)
+  pub short : (k number : ℕ) → Short (F .variables) (programOf F k number)
 
 -- the lengths of what there is for each process and for each variable
 pub record Lengths (a r c o l b : ℕ) : Type 0 where

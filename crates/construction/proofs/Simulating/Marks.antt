@@ -1,6 +1,6 @@
 -- A word as a set of variables (specs/Marks): one bit more is that bit and no other, and one more to count.
 use Prim.Native.Nat.{ℕ, zero, suc, _+_, _*_, _/_, _%_, _^_, _<_, max}
-use mathlib.Core.Path.{_≡_, refl, sym, ap, _∙_}
+use mathlib.Core.Path.{_≡_, refl, sym, ap, subst, _∙_}
 use mathlib.Core.Bool.{true, false}
 use mathlib.Core.Logic.{_≢_, ⊎-elim}
 use mathlib.Core.List.{List, [], _∷_, _++_}
@@ -19,12 +19,14 @@ use Rattle.construction.specs.declared.Item.{Item}
 use Rattle.construction.specs.declared.Dictionary.{Dictionary}
 use Rattle.construction.specs.declared.Simulation.{Simulation}
 use Rattle.construction.specs.declared.Simulated.{Simulated}
-use Rattle.construction.specs.Instructions.{nextEffect, skipped}
+use Rattle.construction.specs.Instructions.{nextEffect}
+use Rattle.construction.specs.Effects.{Store, touched, execute}
 use Rattle.construction.specs.Dictionary.{noted, find, has, assign, insert}
-use Rattle.construction.specs.Helping.{simulate, simulateFrom}
+use Rattle.construction.specs.Helping.{noteOf, withNotes, simulate, simulateFrom}
 use Rattle.construction.specs.Marks.{withBit, bit, Marks}
 use Rattle.construction.proofs.Basics.{on-test, true-or-false, true-false, eqb-refl}
-use Rattle.construction.proofs.Simulating.Sequential.{by-effect}
+use Rattle.construction.proofs.Simulating.Effects.{on-executed, EachStore, Storing, execute-stores}
+use Rattle.construction.proofs.Simulating.Simulations.{Noted, on-lacking}
 use Rattle.construction.proofs.Simulating.Dictionaries.{hasIn, has-put, has-snoc, has-more, has-position, noted-assign, noted-insert, insert-length}
 
 two : 0 < 2
@@ -159,20 +161,36 @@ assign-keys d v x h = (
   refl,
 )
 
+stores-map : (P Q : ℕ → Type 0) (l : List Store) → ((v : ℕ) → P v → Q v) → EachStore P l → EachStore Q l
+stores-map P Q [] f q = tt
+stores-map P Q (x ∷ l) f q = (f (x .variable) (q .0), stores-map P Q l f (q .1))
+
+notes-keys : (d : Dictionary) (l : List Store) → EachStore (Noted (noted d)) l → SameKeys d (withNotes d l)
+notes-keys d [] q = (λ _. refl, refl)
+notes-keys d (x ∷ l) q =
+    let h : has d (x .variable) ≡ true = has-position (noted d) (x .variable) ∙ q .0 in
+    let z = assign-keys d (x .variable) (x .value) h in
+    let b : Dictionary = assign d (find d (x .variable)) (x .value) in
+    let y = notes-keys b l
+    (stores-map (Noted (noted d)) (Noted (noted b)) l (λ v e. sym (has-position (noted b) v) ∙ (z .0 v ∙ (has-position (noted d) v ∙ e))) (q .1)) in
+    (λ u. y .0 u ∙ z .0 u, y .1 ∙ z .1)
+
 module _ (n : ℕ) (program : Program) (inputs : Words) where
   simulation-keys : (fuel : ℕ) (s : Simulation) (d : Dictionary) → SameKeys d (simulateFrom n program inputs fuel s d .dictionary)
   unfolding simulateFrom
   simulation-keys zero s d = (λ _. refl, refl)
   simulation-keys (suc fuel) s d =
-      by-effect (λ (x : Simulated). SameKeys d (x .dictionary)) (nextEffect n program inputs s) (λ _. same) (λ _. same) (λ a x _. simulation-keys fuel _ d)
-      (λ a v _. on-test (λ (x : Simulated). SameKeys d (x .dictionary)) (has d v) (λ _. simulation-keys fuel _ d) (λ _. same))
-      (λ v x _. on-test (λ (y : Simulated). SameKeys d (y .dictionary)) (has d v)
-      (λ h.
-      let z = assign-keys d v x h in
-      let y = simulation-keys fuel (skipped s 0) (assign d (find d v) x) in
-      (λ u. y .0 u ∙ z .0 u, y .1 ∙ z .1)) (λ _. same))
-      (λ a x _. simulation-keys fuel _ d) (λ c _. simulation-keys fuel _ d)
+      let effect = nextEffect n program inputs s in
+      on-lacking Same d (touched n (noteOf d) effect) (λ _ _. same)
+      (λ all. on-executed Same (execute n (noteOf d) s effect) (λ _. same) (λ _. same)
+      (λ t l e.
+      let z = notes-keys d l (subst (Storing (Noted (noted d))) e (execute-stores (Noted (noted d)) n (noteOf d) s effect all)) in
+      let y = simulation-keys fuel t (withNotes d l) in
+      (λ u. y .0 u ∙ z .0 u, y .1 ∙ z .1)))
     where
+      Same : Simulated → Type 0
+      Same x = SameKeys d (x .dictionary)
+
       same : SameKeys d d
       same = (λ _. refl, refl)
 

@@ -1,9 +1,9 @@
 -- The sequential run: one instruction at a time, as many words at its end as at its start, and fuel past the end changes nothing.
 use Prim.Native.Nat.{ℕ, zero, suc, _+_, _≤_, _<_, min}
-use mathlib.Core.Path.{_≡_, refl, sym, ap, _∙_}
-use mathlib.Core.Bool.{Bool, true, false}
+use mathlib.Core.Bool.{true, false}
+use mathlib.Core.Path.{_≡_, refl, sym, subst, ap, _∙_}
 use mathlib.Core.Logic.{⊎-elim}
-use mathlib.Core.List.{List}
+use mathlib.Core.List.{List, [], _∷_}
 use native.Mathlib.Omega.{arith}
 use lib.Dec.{ltb}
 use lib.ListN.{length, getD, set, length-set, List·getD-eq-default}
@@ -14,49 +14,33 @@ use Rattle.construction.specs.declared.Line.{Line}
 use Rattle.construction.specs.declared.Program.{Program}
 use Rattle.construction.specs.declared.Effect.{Effect}
 use Rattle.construction.specs.declared.Simulation.{Simulation}
-use Rattle.construction.specs.Instructions.{onEffect, effectOf, nextEffect, fetch, noLine, forward, withRegister, withOutput, skipped, faulted, started}
-use Rattle.construction.specs.Sequential.{Ending, ending, runFrom, committed, sequential}
+use Rattle.construction.specs.Instructions.{effectOf, nextEffect, fetch, noLine, faulted, started}
+use Rattle.construction.specs.Effects.{Store, Executed, execute, onExecuted}
+use Rattle.construction.specs.Weight.{weight}
+use Rattle.construction.specs.Sequential.{Ending, ending, wordAt, withStores, nextExecuted, runFrom, committed, sequential}
 use Rattle.construction.specs.Cells.{faultYield}
-use Rattle.construction.proofs.Basics.{on-test, true-or-false, true-false, cond-true}
+use Rattle.construction.proofs.Basics.{on-test, true-or-false, true-false, cond-true, clash}
+use Rattle.construction.proofs.Simulating.Effects.{on-executed, Forward, execute-forward, MarkKept, execute-mark}
 
--- by cases on an effect, what it is in hand
-pub by-effect {ℓ κ} :
-    {A : Type ℓ} (P : A → Type κ) (e : Effect) {stop fault : A} {set load store output : ℕ → ℕ → A} {skip : ℕ → A} →
-    (e ≡ Effect.Stop → P stop) →
-    (e ≡ Effect.Fault → P fault) →
-    ((a x : ℕ) → e ≡ Effect.Set a x → P (set a x)) →
-    ((a v : ℕ) → e ≡ Effect.Load a v → P (load a v)) →
-    ((v x : ℕ) → e ≡ Effect.Store v x → P (store v x)) →
-    ((a x : ℕ) → e ≡ Effect.Output a x → P (output a x)) →
-    ((c : ℕ) → e ≡ Effect.Skip c → P (skip c)) → P (onEffect e stop fault set load store output skip)
-by-effect P Effect.Stop p f q r s t u = p refl
-by-effect P Effect.Fault p f q r s t u = f refl
-by-effect P (Effect.Set a x) p f q r s t u = q a x refl
-by-effect P (Effect.Load a v) p f q r s t u = r a v refl
-by-effect P (Effect.Store v x) p f q r s t u = s v x refl
-by-effect P (Effect.Output a x) p f q r s t u = t a x refl
-by-effect P (Effect.Skip c) p f q r s t u = u c refl
-
-abbrev pub stops : Effect → Bool
-stops Effect.Stop = true
-stops Effect.Fault = true
-stops (Effect.Set a x) = false
-stops (Effect.Load a v) = false
-stops (Effect.Store v x) = false
-stops (Effect.Output a x) = false
-stops (Effect.Skip c) = false
-
--- no instruction stands past place 31
-abbrev pub Short : Program → Type 0
-Short program = min (program .length) (length (program .lines)) ≤ 32
+-- no instruction stands past place 31; the program weighs at most 32; only where there are variables does it touch any
+pub record Short (n : ℕ) (program : Program) : Type 0 where
+  pub ends : min (program .length) (length (program .lines)) ≤ 32
+  pub light : weight program ≤ 32
+  pub some : 0 < weight program → 0 < n
 
 -- 'a sheet also stops past its end', and at place 32
-fetch-end : (program : Program) (k : ℕ) → Short program → min 32 (program .length) ≤ k → fetch program k ≡ Instruction.Stop
+pub fetch-end :
+    (n : ℕ) (program : Program) (k : ℕ) → Short n program → min 32 (program .length) ≤ k → fetch program k ≡ Instruction.Stop
 unfolding fetch
-fetch-end program k short h =
+fetch-end n program k short h =
     on-test (λ (i : Instruction). i ≡ Instruction.Stop) (ltb k (program .length))
-    (λ t. ap (λ (l : Line). l .instruction) (List·getD-eq-default (program .lines) noLine (omega (arith, ltb-true k _ t))))
+    (λ t. ap (λ (l : Line). l .instruction)
+    (List·getD-eq-default (program .lines) noLine (omega (arith, short .ends, ltb-true k _ t))))
     (λ _. refl)
+
+pub stores-length : (mem : List ℕ) (l : List Store) → length (withStores mem l) ≡ length mem
+stores-length mem [] = refl
+stores-length mem (x ∷ l) = stores-length (set mem (x .variable) (x .value)) l ∙ length-set mem (x .variable) (x .value)
 
 module _ (n : ℕ) (program : Program) (inputs : Words) where
   -- the run leaves as many words as it found
@@ -65,77 +49,62 @@ module _ (n : ℕ) (program : Program) (inputs : Words) where
   unfolding runFrom
   run-length zero s mem = refl
   run-length (suc fuel) s mem =
-      by-effect (λ (r : Ending). length (r .words) ≡ length mem) (nextEffect n program inputs s)
+      on-executed (λ (r : Ending). length (r .words) ≡ length mem) (nextExecuted n program inputs s mem)
       (λ _. refl)
       (λ _. refl)
-      (λ a x _. run-length fuel (withRegister s a x) mem)
-      (λ a v _. run-length fuel (withRegister s a (getD mem v 0)) mem)
-      (λ v x _. run-length fuel (skipped s 0) (set mem v x) ∙ length-set mem v x)
-      (λ a x _. run-length fuel (withOutput s a x) mem)
-      (λ c _. run-length fuel (skipped s c) mem)
+      (λ t l _. run-length fuel t (withStores mem l) ∙ stores-length mem l)
 
   -- a run that ends as a fault yields zeros and the mark
   run-fault :
       (fuel : ℕ) (s : Simulation) (mem : List ℕ) → s .yields .fault ≡ false → runFrom n program inputs fuel s mem .yields .fault ≡ true →
       runFrom n program inputs fuel s mem .yields ≡ faultYield
-  unfolding runFrom faulted withRegister withOutput skipped
+  unfolding runFrom faulted
   run-fault zero s mem c h = absurd (true-false _ h c)
   run-fault (suc fuel) s mem c h =
-      by-effect (λ (r : Ending). r .yields .fault ≡ true → r .yields ≡ faultYield) (nextEffect n program inputs s)
+      on-executed (λ (r : Ending). r .yields .fault ≡ true → r .yields ≡ faultYield) (nextExecuted n program inputs s mem)
       (λ _ t. absurd (true-false _ t c))
       (λ _ _. refl)
-      (λ a x _. run-fault fuel (withRegister s a x) mem c)
-      (λ a v _. run-fault fuel (withRegister s a (getD mem v 0)) mem c)
-      (λ v x _. run-fault fuel (skipped s 0) (set mem v x) c)
-      (λ a x _. run-fault fuel (withOutput s a x) mem c)
-      (λ k _. run-fault fuel (skipped s k) mem c) h
+      (λ t l e. run-fault fuel t (withStores mem l)
+      (subst (MarkKept s) e (execute-mark n (wordAt mem) s (nextEffect n program inputs s)) ∙ c)) h
 
-  module _ (short : Short program) where
+  module _ (short : Short n program) where
     -- past the end the run has ended
     pub past-end : (s : Simulation) → min 32 (program .length) ≤ s .counter → nextEffect n program inputs s ≡ Effect.Stop
     unfolding effectOf
-    past-end s h = rw (fetch-end program (s .counter) short h)
+    past-end s h = rw (fetch-end n program (s .counter) short h)
 
-    -- every instruction moves the counter forward
+    -- every instruction that does not end the run moves the counter forward
     pub advances :
-        (s : Simulation) (c : ℕ) →
-        stops (nextEffect n program inputs s) ≡ false → s .counter < 32 × s .counter < forward (s .counter) c
-    unfolding forward
-    advances s c f =
+        (look : ℕ → ℕ) (s t : Simulation) (l : List Store) →
+        execute n look s (nextEffect n program inputs s) ≡ Executed.Goes t l → s .counter < 32 × s .counter < t .counter
+    advances look s t l e =
         let h : s .counter < 32 = ⊎-elim (ltb-true _ _)
-        (λ g. absurd (true-false _ (ap stops (past-end s (omega (arith, ltb-false (s .counter) 32 g)))) f))
+        (λ g. let z : nextEffect n program inputs s ≡ Effect.Stop = past-end s (omega (arith, ltb-false (s .counter) 32 g)) in
+        clash (cc))
         (true-or-false (ltb (s .counter) 32)) in
-        (h, omega arith)
+        (h, subst (Forward (s .counter)) e (execute-forward n look s (nextEffect n program inputs s) h))
 
     -- fuel that reaches the end is enough
     enough :
         (fuel : ℕ) (s : Simulation) (mem : List ℕ) →
         32 ≤ fuel + s .counter → runFrom n program inputs (suc fuel) s mem ≡ runFrom n program inputs fuel s mem
-    unfolding runFrom withRegister withOutput skipped
+    unfolding runFrom
     enough zero s mem h = rw (past-end s (omega arith))
     enough (suc fuel) s mem h =
-        by-effect (λ r. r ≡ runFrom n program inputs (suc fuel) s mem) (nextEffect n program inputs s)
+        on-executed (λ r. r ≡ runFrom n program inputs (suc fuel) s mem) (nextExecuted n program inputs s mem)
         (λ e. rw e refl)
         (λ e. rw e refl)
-        (λ a x e. rw e (enough fuel (withRegister s a x) mem (omega (arith, advances s 0 (ap stops e) .1))))
-        (λ a v e. rw e (enough fuel (withRegister s a (getD mem v 0)) mem (omega (arith, advances s 0 (ap stops e) .1))))
-        (λ v x e. rw e (enough fuel (skipped s 0) (set mem v x) (omega (arith, advances s 0 (ap stops e) .1))))
-        (λ a x e. rw e (enough fuel (withOutput s a x) mem (omega (arith, advances s 0 (ap stops e) .1))))
-        (λ c e. rw e (enough fuel (skipped s c) mem (omega (arith, advances s c (ap stops e) .1))))
+        (λ t l e. rw e (enough fuel t (withStores mem l) (omega (arith, advances (wordAt mem) s t l e .1))))
 
     -- one instruction of the run; the fuel may stay
     pub run-step :
         (fuel : ℕ) (s : Simulation) (mem : List ℕ) →
         32 ≤ fuel + s .counter →
         runFrom n program inputs fuel s mem
-        ≡ onEffect (nextEffect n program inputs s)
+        ≡ onExecuted (nextExecuted n program inputs s mem)
         (ending s mem)
         (ending (faulted s) mem)
-        (λ a x. runFrom n program inputs fuel (withRegister s a x) mem)
-        (λ a v. runFrom n program inputs fuel (withRegister s a (getD mem v 0)) mem)
-        (λ v x. runFrom n program inputs fuel (skipped s 0) (set mem v x))
-        (λ a x. runFrom n program inputs fuel (withOutput s a x) mem)
-        (λ c. runFrom n program inputs fuel (skipped s c) mem)
+        (λ t l. runFrom n program inputs fuel t (withStores mem l))
     unfolding runFrom
     run-step fuel s mem h = sym (enough fuel s mem h)
 

@@ -1,8 +1,9 @@
 -- A helper's simulation on its dictionary agrees with the sequential run (lines H1 to H30).
 use Prim.Native.Nat.{ℕ, zero, suc, _+_, _≤_, _<_}
 use mathlib.Core.Path.{_≡_, refl, sym, subst, ap, _∙_}
-use mathlib.Core.Bool.{true, false, cond}
+use mathlib.Core.Bool.{true, false, cond, false≢true}
 use mathlib.Core.List.{List, [], _∷_, _++_}
+use mathlib.Core.Logic.{_⊎_, inl, inr, ⊎-elim}
 use native.Mathlib.Omega.{arith}
 use native.Mathlib.Decide.{ℕ-discrete}
 use lib.ListN.{length, getD, set, length-set, length-replicate}
@@ -15,28 +16,85 @@ use Rattle.construction.specs.declared.Simulation.{Simulation}
 use Rattle.construction.specs.declared.Simulated.{Simulated}
 use Rattle.construction.specs.declared.Pause.{Pause}
 use Rattle.construction.specs.declared.Pause.the-variants.{Ended, Faulted, Lacks}
-use Rattle.construction.specs.Instructions.{nextEffect, fetch, forward, withRegister, withOutput, skipped, faulted, started}
-use Rattle.construction.specs.Sequential.{Ending, ending, runFrom, committed, sequential}
+use Rattle.construction.specs.Instructions.{isCell, nextEffect, fetch, faulted, started}
+use Rattle.construction.specs.Effects.{Store, Executed, touched, execute, onExecuted}
+use Rattle.construction.specs.Sequential.{Ending, ending, wordAt, withStores, nextExecuted, runFrom, committed, sequential}
 use Rattle.construction.specs.Dictionary.{noItem, empty, noted, find, has, valueAt, withValue, assign, insert}
-use Rattle.construction.specs.Helping.{simulateFrom, simulate}
-use Rattle.construction.proofs.Basics.{on-test, on-set, true-false, cond-false, eqb-refl}
-use Rattle.construction.proofs.Simulating.Sequential.{by-effect, stops, Short, past-end, advances, run-step}
+use Rattle.construction.specs.Helping.{noteOf, withNotes, onLacking, simulateFrom, simulate}
+use Rattle.construction.proofs.Basics.{on-test, on-set, true-or-false, cond-false, eqb-refl}
+use Rattle.construction.proofs.Simulating.Sequential.{Short, fetch-end, past-end, advances, run-step}
+use Rattle.construction.proofs.Simulating.Effects.{on-executed, MarkKept, execute-mark, Each, each-map, each-both, EachStore, Storing, execute-stores, Same, same-touched, same-executed, Touching, touches}
 use Rattle.construction.proofs.Simulating.Dictionaries.{hasIn, valueIn, putIn, AllIn, all-put, all-snoc, Keyed, keyed-put, keyed-snoc}
 use Rattle.construction.proofs.Simulating.Dictionaries.{value-none, value-put-same, value-put-other, value-snoc-same, value-snoc-other}
-use Rattle.construction.proofs.Simulating.Dictionaries.{has-position, has-snoc, found, noted-assign, noted-insert, insert-length, insert-items, assign-items}
+use Rattle.construction.proofs.Simulating.Dictionaries.{has-put, has-position, has-snoc, has-more, found, noted-assign, noted-insert, insert-length, insert-items, assign-items}
 use Rattle.construction.specs.Weight.{weightOf, weightBefore, weight}
-use Rattle.construction.proofs.Simulating.Weights.{weight-places, weight-later, weight-suc, Touches, touches}
-use borrow.Author.Tests.{le-ltb}
+use Rattle.construction.proofs.Simulating.Weights.{weight-later, weight-suc}
+use borrow.Author.Tests.{ltb-true, ltb-false}
+use lib.Dec.{ltb}
 
--- the variable that an effect touches; 0 where it touches none
-abbrev pub variableOf : Effect → ℕ
-variableOf Effect.Stop = 0
-variableOf Effect.Fault = 0
-variableOf (Effect.Set a x) = 0
-variableOf (Effect.Load a v) = v
-variableOf (Effect.Store v x) = v
-variableOf (Effect.Output a x) = 0
-variableOf (Effect.Skip c) = 0
+-- how many variables of a list are noted before the first that is not
+unfoldable pub reached : List Item → List ℕ → ℕ
+reached b [] = 0
+reached b (v ∷ l) = cond (hasIn b v) (suc (reached b l)) 0
+
+-- v is the first that is not noted
+abbrev pub Lacking : List Item → List ℕ → ℕ → Type 0
+Lacking b [] v = ⊥
+Lacking b (u ∷ l) v = ((hasIn b u ≡ false) × (u ≡ v)) ⊎ ((hasIn b u ≡ true) × Lacking b l v)
+
+-- all are noted
+abbrev pub Noted : List Item → ℕ → Type 0
+Noted b v = hasIn b v ≡ true
+
+reached-most : (b : List Item) (l : List ℕ) → reached b l ≤ length l
+unfolding reached
+reached-most b [] = omega arith
+reached-most b (v ∷ l) =
+    on-test (λ k. k ≤ suc (length l)) (hasIn b v) (λ _. omega (arith, reached-most b l)) (λ _. omega arith)
+
+lacking-fewer : (b : List Item) (l : List ℕ) (v : ℕ) → Lacking b l v → reached b l < length l
+unfolding reached
+lacking-fewer b [] v q = absurd q
+lacking-fewer b (u ∷ l) v (inl q) = rw (q .0) (omega arith)
+lacking-fewer b (u ∷ l) v (inr q) = rw (q .0) (omega (arith, lacking-fewer b l v (q .1)))
+
+lacking-absent : (b : List Item) (l : List ℕ) (v : ℕ) → Lacking b l v → hasIn b v ≡ false
+lacking-absent b [] v q = absurd q
+lacking-absent b (u ∷ l) v (inl q) = rw (← q .1) (q .0)
+lacking-absent b (u ∷ l) v (inr q) = lacking-absent b l v (q .1)
+
+lacking-inside : (P : ℕ → Type 0) (b : List Item) (l : List ℕ) (v : ℕ) → Each P l → Lacking b l v → P v
+lacking-inside P b [] v h q = absurd q
+lacking-inside P b (u ∷ l) v h (inl q) = rw (← q .1) (h .0)
+lacking-inside P b (u ∷ l) v h (inr q) = lacking-inside P b l v (h .1) (q .1)
+
+-- once it is noted, one more is reached at least
+lacking-noted :
+    (b : List Item) (e : Item) (l : List ℕ) (v : ℕ) → e .variable ≡ v → Lacking b l v → suc (reached b l) ≤ reached (b ++ (e ∷ [])) l
+unfolding reached
+lacking-noted b e [] v h q = absurd q
+lacking-noted b e (u ∷ l) v h (inl q) =
+    let present : hasIn (b ++ (e ∷ [])) u ≡ true =
+    has-snoc b e u (q .0) ∙ rw (h, ← q .1) (eqb-refl u) in
+    rw (q .0, present) (omega arith)
+lacking-noted b e (u ∷ l) v h (inr q) =
+    rw (q .0, has-more b e u (q .0)) (omega (arith, lacking-noted b e l v h (q .1)))
+
+-- by cases on the first that is not noted
+pub on-lacking {ℓ κ} :
+    {A : Type ℓ} (P : A → Type κ) (d : Dictionary) (l : List ℕ) {lacking : ℕ → A} {all : A} →
+    ((v : ℕ) → Lacking (noted d) l v → P (lacking v)) → (Each (Noted (noted d)) l → P all) → P (onLacking d l lacking all)
+on-lacking P d [] p q = q tt
+on-lacking P d (v ∷ l) p q =
+    on-test P (has d v)
+    (λ t. let h = sym (has-position (noted d) v) ∙ t in on-lacking P d l (λ u r. p u (inr (h, r))) (λ r. q (h, r)))
+    (λ f. p v (inl (sym (has-position (noted d) v) ∙ f, refl)))
+
+-- what is stored leaves the length of a dictionary
+notes-length : (d : Dictionary) (l : List Store) → withNotes d l .length ≡ d .length
+unfolding assign
+notes-length d [] = refl
+notes-length d (x ∷ l) = notes-length (assign d (find d (x .variable)) (x .value)) l
 
 -- the dictionary is never too full: at most 32 items, and at most the weight of the program
 pub record Room (program : Program) (d : Dictionary) : Type 0 where
@@ -46,20 +104,22 @@ pub record Room (program : Program) (d : Dictionary) : Type 0 where
 
 -- the simulation from the words `ws` to the ending `R`; P holds of each item, whatever its value
 module _ (n : ℕ) (program : Program) (inputs : Words) (ws : List ℕ) (R : Ending) (P : Item → Type 0) where
+  -- the variables that the instruction at the counter touches, on these words
+  abbrev pub path : Simulation → List ℕ → List ℕ
+  path s mem = touched n (wordAt mem) (nextEffect n program inputs s)
+
   -- under way, with no mark: on words that agree with the dictionary, else with `ws`, the rest of the run ends as R.
   -- Each item came with an instruction before the counter, or with the one at the counter.
   pub record Core (s : Simulation) (d : Dictionary) : Type 0 where
     pub booked : AllIn P (noted d)
     pub keyed : Keyed (noted d)
     pub room : Room program d
-    pub passed : d .length ≤ weightBefore program (suc (s .counter))
-    pub ahead :
-        hasIn (noted d) (variableOf (nextEffect n program inputs s)) ≡ false → d .length ≤ weightBefore program (s .counter)
     pub mem : List ℕ
     pub size : length mem ≡ n
     pub agree : (v : ℕ) → v < n → getD mem v 0 ≡ valueIn (noted d) v (getD ws v 0)
     pub unmarked : s .yields .fault ≡ false
     pub rest : committed ws (runFrom n program inputs 32 s mem) ≡ R
+    pub passed : d .length ≤ weightBefore program (s .counter) + reached (noted d) (path s mem)
 
   -- ended: it yields what R does, and the words of R agree with the dictionary, else with `ws`
   pub record Finished (s : Simulation) (d : Dictionary) : Type 0 where
@@ -75,15 +135,16 @@ module _ (n : ℕ) (program : Program) (inputs : Words) (ws : List ℕ) (R : End
     pub room : Room program d
     pub ends : ending s ws ≡ R
 
-  -- the instruction at the counter touches v, which is not noted; there is room for it
+  -- the instruction at the counter touches v, the first that is not noted; there is room for it
   pub record Needing (v : ℕ) (s : Simulation) (d : Dictionary) : Type 0 where
     pub core : Core s d
     pub inside : v < n
-    pub absent : hasIn (noted d) v ≡ false
-    pub next : variableOf (nextEffect n program inputs s) ≡ v
-    pub passing : d .length < weightBefore program (suc (s .counter))
+    pub next : Lacking (noted d) (path s (core .mem)) v
     pub spare : d .length < 32
     pub fewer : d .length < weight program
+
+  pub needing-absent : {v : ℕ} {s : Simulation} {d : Dictionary} → Needing v s d → hasIn (noted d) v ≡ false
+  needing-absent {v} {s} {d} q = lacking-absent (noted d) (path s (q .core .mem)) v (q .next)
 
   abbrev pub PausedAt : Pause → Simulation → Dictionary → Type 0
   PausedAt Ended s d = Finished s d
@@ -100,13 +161,12 @@ module _ (n : ℕ) (program : Program) (inputs : Words) (ws : List ℕ) (R : End
     booked = tt;
     keyed = tt;
     room = record { array = length-replicate 32 noItem; small = omega arith; few = omega arith };
-    passed = omega arith;
-    ahead = λ _. omega arith;
     mem = ws;
     size = h;
     agree = λ v l. refl;
     unmarked = refl;
     rest = e;
+    passed = omega arith;
   }
 
   -- lines H21 to H25: the lacking variable noted, with its value before the operation
@@ -121,13 +181,13 @@ module _ (n : ℕ) (program : Program) (inputs : Words) (ws : List ℕ) (R : End
       small = rw longer (q .spare);
       few = rw longer (q .fewer);
     };
-    passed = rw longer (q .passing);
-    ahead = λ f. absurd (true-false _ present f);
     mem = q .core .mem;
     size = q .core .size;
     agree = λ u l. q .core .agree u l ∙ rw list (go u (ℕ-discrete (e .variable) u));
     unmarked = q .core .unmarked;
     rest = q .core .rest;
+    passed = rw (list, longer)
+        (omega (arith, q .core .passed, lacking-noted (noted d) e (path s (q .core .mem)) v ev (q .next)));
   }
     where
       list : noted (insert d e) ≡ noted d ++ (e ∷ [])
@@ -137,12 +197,7 @@ module _ (n : ℕ) (program : Program) (inputs : Words) (ws : List ℕ) (R : End
       longer = insert-length d e (q .spare)
 
       absent : hasIn (noted d) (e .variable) ≡ false
-      absent = rw ev (q .absent)
-
-      present : hasIn (noted (insert d e)) (variableOf (nextEffect n program inputs s)) ≡ true
-      present =
-          rw (list, q .next, ← ev)
-          (has-snoc (noted d) e (e .variable) absent ∙ eqb-refl (e .variable))
+      absent = rw ev (lacking-absent (noted d) (path s (q .core .mem)) v (q .next))
 
       at-it :
           valueIn (noted d) (e .variable) (getD ws (e .variable) 0)
@@ -155,37 +210,63 @@ module _ (n : ℕ) (program : Program) (inputs : Words) (ws : List ℕ) (R : End
       go u (yes z) = rw (← z) at-it
       go u (no ne) = sym (value-snoc-other (noted d) e u (getD ws u 0) ne)
 
-  -- past the instruction at the counter
-  moved :
-      (s : Simulation) (d : Dictionary) (k : ℕ) →
-      Core s d → s .counter < k → (d .length ≤ weightBefore program k) × (d .length ≤ weightBefore program (suc k))
-  moved s d k q h =
-      let y = weight-later program (suc (s .counter)) k h in
-      let z = weight-later program k (suc k) (omega arith) in
-      (omega (arith, q .passed), omega (arith, q .passed))
+  module _ (short : Short n program) (blind : (e : Item) (x : ℕ) → P e → P (withValue e x)) where
+    -- the words and the dictionary, whatever comes next
+    record Held (d : Dictionary) (mem : List ℕ) : Type 0 where
+      booked : AllIn P (noted d)
+      keyed : Keyed (noted d)
+      array : length (d .items) ≡ 32
+      size : length mem ≡ n
+      agree : (v : ℕ) → v < n → getD mem v 0 ≡ valueIn (noted d) v (getD ws v 0)
 
-  -- a later state with the same dictionary, from which the run goes on to R
-  later :
-      (s s′ : Simulation) (d : Dictionary) (q : Core s d) →
-      s .counter < s′ .counter → s′ .yields .fault ≡ s .yields .fault → committed ws (runFrom n program inputs 32 s′ (q .mem)) ≡ R → Core s′ d
-  later s s′ d q h m r = record {
-    booked = q .booked;
-    keyed = q .keyed;
-    room = q .room;
-    passed = moved s d (s′ .counter) q h .1;
-    ahead = λ _. moved s d (s′ .counter) q h .0;
-    mem = q .mem;
-    size = q .size;
-    agree = q .agree;
-    unmarked = m ∙ q .unmarked;
-    rest = r;
-  }
+    -- line H28: a variable that is noted takes a value
+    held-store :
+        (d : Dictionary) (mem : List ℕ) (v x : ℕ) →
+        hasIn (noted d) v ≡ true → v < n → Held d mem → Held (assign d (find d v) x) (set mem v x)
+    held-store d mem v x t h q = record {
+      booked = rw list (all-put P (noted d) v x (λ y. blind y x) (q .booked));
+      keyed = rw list (keyed-put (noted d) v x (q .keyed));
+      array = assign-items d (find d v) x ∙ q .array;
+      size = length-set mem v x ∙ q .size;
+      agree = λ u l. rw list
+          (on-set (λ y. y ≡ valueIn (putIn (noted d) v x) u (getD ws u 0)) mem v u x 0
+          (rw (q .size) h)
+          (λ z. rw z (sym (value-put-same (noted d) v x (getD ws v 0) t)))
+          (λ ne. q .agree u l ∙ sym (value-put-other (noted d) v x u (getD ws u 0) ne)));
+    }
+      where
+        list : noted (assign d (find d v) x) ≡ putIn (noted d) v x
+        list = noted-assign d v x (has-position (noted d) v ∙ t)
 
-  module _ (short : Short program) (blind : (e : Item) (x : ℕ) → P e → P (withValue e x)) where
-    finish : (s : Simulation) (d : Dictionary) → nextEffect n program inputs s ≡ Effect.Stop → Core s d → Finished s d
-    finish s d e q =
-        let y : committed ws (ending s (q .mem)) ≡ R =
-        rw e at (ap (committed ws) (sym (run-step n program inputs short 32 s (q .mem) (omega arith))) ∙ q .rest) in
+    abbrev Storable : Dictionary → ℕ → Type 0
+    Storable d v = (hasIn (noted d) v ≡ true) × (v < n)
+
+    still-storable :
+        (d : Dictionary) (v x : ℕ) → hasIn (noted d) v ≡ true → (l : List Store) →
+        EachStore (Storable d) l → EachStore (Storable (assign d (find d v) x)) l
+    still-storable d v x t [] q = tt
+    still-storable d v x t (y ∷ l) q = (
+      (rw (noted-assign d v x (has-position (noted d) v ∙ t)) (has-put (noted d) v x (y .variable) ∙ q .0 .0), q .0 .1),
+      still-storable d v x t l (q .1),
+    )
+
+    held-stores :
+        (d : Dictionary) (mem : List ℕ) (l : List Store) → EachStore (Storable d) l → Held d mem → Held (withNotes d l) (withStores mem l)
+    held-stores d mem [] s q = q
+    held-stores d mem (x ∷ l) s q =
+        held-stores (assign d (find d (x .variable)) (x .value)) (set mem (x .variable) (x .value)) l
+        (still-storable d (x .variable) (x .value) (s .0 .0) l (s .1)) (held-store d mem (x .variable) (x .value) (s .0 .0) (s .0 .1) q)
+
+    -- the run on the words, one instruction on
+    next-run :
+        (s : Simulation) (d : Dictionary) (q : Core s d) →
+        committed ws (onExecuted (nextExecuted n program inputs s (q .mem)) (ending s (q .mem)) (ending (faulted s) (q .mem))
+        (λ t l. runFrom n program inputs 32 t (withStores (q .mem) l))) ≡ R
+    next-run s d q = ap (committed ws) (sym (run-step n program inputs short 32 s (q .mem) (omega arith))) ∙ q .rest
+
+    finish : (s : Simulation) (d : Dictionary) (q : Core s d) → nextExecuted n program inputs s (q .mem) ≡ Executed.Ends → Finished s d
+    finish s d q e =
+        let y : committed ws (ending s (q .mem)) ≡ R = rw e at (next-run s d q) in
         let z : ending s (q .mem) ≡ R =
         ap (λ (l : List ℕ). ending s l) (sym (cond-false (s .yields .fault) ws (q .mem) (q .unmarked))) ∙ y in
         record {
@@ -196,107 +277,137 @@ module _ (n : ℕ) (program : Program) (inputs : Words) (ws : List ℕ) (R : End
           agree = λ v l. ap (λ (r : Ending). getD (r .words) v 0) (sym z) ∙ q .agree v l;
         }
 
-    faults-so : (s : Simulation) (d : Dictionary) → nextEffect n program inputs s ≡ Effect.Fault → Core s d → Faulty (faulted s) d
+    faults-so : (s : Simulation) (d : Dictionary) (q : Core s d) → nextExecuted n program inputs s (q .mem) ≡ Executed.Faults → Faulty (faulted s) d
     unfolding faulted
-    faults-so s d e q = record {
-      keyed = q .keyed;
-      room = q .room;
-      ends = rw e at (ap (committed ws) (sym (run-step n program inputs short 32 s (q .mem) (omega arith))) ∙ q .rest);
-    }
+    faults-so s d q e = record { keyed = q .keyed; room = q .room; ends = rw e at (next-run s d q) }
 
-    touched : (s : Simulation) (e : Effect) → nextEffect n program inputs s ≡ e → Touches n (fetch program (s .counter)) e
-    touched s e q =
-        subst (Touches n (fetch program (s .counter))) q (touches n inputs (s .registers) (fetch program (s .counter)))
+    weighs : (k : ℕ) → weightOf (fetch program k) ≤ weight program
+    weighs k =
+        ⊎-elim
+        (λ t. omega (arith, weight-suc program k, weight-later program (suc k) 32 (ltb-true k 32 t)))
+        (λ f. rw (fetch-end n program k short (omega (arith, ltb-false k 32 f))) (omega arith))
+        (true-or-false (ltb k 32))
 
-    -- line H27
-    loaded :
-        (s : Simulation) (d : Dictionary) (a v : ℕ) →
-        nextEffect n program inputs s ≡ Effect.Load a v → has d v ≡ true → (q : Core s d) →
-        committed ws (runFrom n program inputs 32 (withRegister s a (valueAt d (find d v))) (q .mem)) ≡ R
-    loaded s d a v e t q =
-        let same : valueAt d (find d v) ≡ getD (q .mem) v 0 =
-        found d v (getD ws v 0) t ∙ sym (q .agree v (touched s (Effect.Load a v) e .0)) in
-        rw same (rw e at (ap (committed ws) (sym (run-step n program inputs short 32 s (q .mem) (omega arith))) ∙ q .rest))
+    -- one instruction, on words and on a dictionary that agree
+    module _ (s : Simulation) (d : Dictionary) (q : Core s d) where
+      abbrev effect : Effect
+      effect = nextEffect n program inputs s
 
-    -- line H28
-    stored :
-        (s : Simulation) (d : Dictionary) (v x : ℕ) →
-        nextEffect n program inputs s ≡ Effect.Store v x → has d v ≡ true → Core s d → Core (skipped s 0) (assign d (find d v) x)
-    unfolding skipped assign
-    stored s d v x e t q = record {
-      booked = rw list (all-put P (noted d) v x (λ y. blind y x) (q .booked));
-      keyed = rw list (keyed-put (noted d) v x (q .keyed));
-      room = record { array = assign-items d (find d v) x ∙ q .room .array; small = q .room .small; few = q .room .few };
-      passed = forth .1;
-      ahead = λ _. forth .0;
-      mem = set (q .mem) v x;
-      size = length-set (q .mem) v x ∙ q .size;
-      agree = λ u l. rw list
-          (on-set (λ y. y ≡ valueIn (putIn (noted d) v x) u (getD ws u 0)) (q .mem) v u x 0
-          (rw (q .size) (touched s (Effect.Store v x) e .0))
-          (λ z. rw z (sym (value-put-same (noted d) v x (getD ws v 0) (sym (has-position (noted d) v) ∙ t))))
-          (λ ne. q .agree u l ∙ sym (value-put-other (noted d) v x u (getD ws u 0) ne)));
-      unmarked = q .unmarked;
-      rest = rw e at (ap (committed ws) (sym (run-step n program inputs short 32 s (q .mem) (omega arith))) ∙ q .rest);
-    }
-      where
-        list : noted (assign d (find d v) x) ≡ putIn (noted d) v x
-        list = noted-assign d v x t
+      touching : (look : ℕ → ℕ) → Touching n (weightOf (fetch program (s .counter))) (touched n look effect)
+      touching look = touches n look inputs (s .registers) (fetch program (s .counter)) (λ h. short .some (omega (arith, weighs (s .counter))))
 
-        forth : (d .length ≤ weightBefore program (forward (s .counter) 0)) × (d .length ≤ weightBefore program (suc (forward (s .counter) 0)))
-        forth = moved s d (forward (s .counter) 0) q (advances n program inputs short s 0 (ap stops e) .1)
+      -- what is noted has the value that the words have
+      same-noted : (v : ℕ) → v < n → hasIn (noted d) v ≡ true → noteOf d v ≡ wordAt (q .mem) v
+      same-noted v l t = found d v (getD ws v 0) (has-position (noted d) v ∙ t) ∙ sym (q .agree v l)
 
-    -- line H20: an instruction that touches a variable not noted waits for it
-    lacking :
-        (s : Simulation) (d : Dictionary) (v : ℕ) →
-        stops (nextEffect n program inputs s) ≡ false → variableOf (nextEffect n program inputs s) ≡ v →
-        v < n × 0 < weightOf (fetch program (s .counter)) → has d v ≡ false → Core s d → Needing v s d
-    lacking s d v g e (l, t) f q =
-        let absent : hasIn (noted d) v ≡ false = sym (has-position (noted d) v) ∙ f in
-        let few : d .length ≤ weightBefore program (s .counter) = q .ahead (rw e absent) in
-        let more = weight-suc program (s .counter) t in
-        let most = weight-later program (suc (s .counter)) 32 (advances n program inputs short s 0 g .0) in
-        let all = weight-places program 32 in
-        record {
-          core = q;
-          inside = l;
-          absent = absent;
-          next = e;
-          passing = omega arith;
-          spare = omega arith;
-          fewer = omega arith;
-        }
+      -- the first variable that is not noted, by the dictionary and by the words
+      lacking-same : (e : Effect) (v : ℕ) → 0 < n → Lacking (noted d) (touched n (noteOf d) e) v → Lacking (noted d) (touched n (wordAt (q .mem)) e) v
+      lacking-same Effect.Stop v z r = r
+      lacking-same Effect.Fault v z r = r
+      lacking-same (Effect.Set a x) v z r = r
+      lacking-same (Effect.Load a u) v z r = r
+      lacking-same (Effect.Store u x) v z r = r
+      lacking-same (Effect.Output a x) v z r = r
+      lacking-same (Effect.Skip c) v z r = r
+      lacking-same (Effect.Allocate a) v z (inl r) = inl r
+      lacking-same (Effect.Allocate a) v z (inr r) =
+          inr (r .0, subst (λ c. Lacking (noted d) (cond (isCell n c) (c ∷ []) []) v) (same-noted 0 z (r .0)) (r .1))
+      lacking-same (Effect.Free c) v z r = r
+
+      -- line H20: an instruction that touches a variable not noted waits for it
+      lacking : (v : ℕ) → Lacking (noted d) (touched n (noteOf d) effect) v → Needing v s d
+      lacking v r =
+          let inside = lacking-inside (λ u. u < n) (noted d) (touched n (noteOf d) effect) v (touching (noteOf d) .inside) r in
+          let next = lacking-same effect v (omega arith) r in
+          let fewer = lacking-fewer (noted d) (path s (q .mem)) v next in
+          let most = touching (wordAt (q .mem)) .most in
+          let after = weight-suc program (s .counter) in
+          let all = weight-later program (suc (s .counter)) 32 (below fewer) in
+          record {
+            core = q;
+            inside = inside;
+            next = next;
+            spare = omega (arith, q .passed, short .light);
+            fewer = omega (arith, q .passed);
+          }
+        where
+          below : reached (noted d) (path s (q .mem)) < length (path s (q .mem)) → s .counter < 32
+          below k =
+              ⊎-elim (ltb-true _ _)
+              (λ f. let none : weightOf (fetch program (s .counter)) ≡ 0 =
+              ap weightOf (fetch-end n program (s .counter) short (omega (arith, ltb-false (s .counter) 32 f))) in
+              absurd (omega (arith, touching (wordAt (q .mem)) .most)))
+              (true-or-false (ltb (s .counter) 32))
+
+      -- all are noted: the outcome is that on the words
+      same : Each (Noted (noted d)) (touched n (noteOf d) effect) → Each (Same n (noteOf d) (wordAt (q .mem))) (touched n (noteOf d) effect)
+      same all =
+          each-map (λ u. (hasIn (noted d) u ≡ true) × (u < n)) (Same n (noteOf d) (wordAt (q .mem))) (touched n (noteOf d) effect)
+          (λ u p. same-noted u (p .1) (p .0))
+          (each-both (Noted (noted d)) (λ u. u < n) (touched n (noteOf d) effect) all (touching (noteOf d) .inside))
+
+      executed-is :
+          Each (Noted (noted d)) (touched n (noteOf d) effect) →
+          execute n (noteOf d) s effect ≡ nextExecuted n program inputs s (q .mem)
+      executed-is all = same-executed n (noteOf d) (wordAt (q .mem)) s effect (same all)
+
+      -- lines H26 to H30: it is executed
+      goes-on :
+          (t : Simulation) (l : List Store) → Each (Noted (noted d)) (touched n (noteOf d) effect) →
+          execute n (noteOf d) s effect ≡ Executed.Goes t l → Core t (withNotes d l)
+      goes-on t l all e = record {
+        booked = held .booked;
+        keyed = held .keyed;
+        room = record { array = held .array; small = rw size (q .room .small); few = rw size (q .room .few) };
+        mem = withStores (q .mem) l;
+        size = held .size;
+        agree = held .agree;
+        unmarked = subst (MarkKept s) e (execute-mark n (noteOf d) s effect) ∙ q .unmarked;
+        rest = rw (sym (executed-is all) ∙ e) at (next-run s d q);
+        passed =
+            let most = touching (wordAt (q .mem)) .most in
+            let after = weight-suc program (s .counter) in
+            let later = weight-later program (suc (s .counter)) (t .counter) (advances n program inputs short (noteOf d) s t l e .1) in
+            rw size (omega (arith, q .passed, reached-most (noted d) (path s (q .mem))));
+      }
+        where
+          storable : EachStore (Storable d) l
+          storable =
+              subst (Storing (Storable d)) e
+              (execute-stores (Storable d) n (noteOf d) s effect
+              (each-both (Noted (noted d)) (λ u. u < n) (touched n (noteOf d) effect) all (touching (noteOf d) .inside)))
+
+          held : Held (withNotes d l) (withStores (q .mem) l)
+          held =
+              held-stores d (q .mem) l storable
+              (record { booked = q .booked; keyed = q .keyed; array = q .room .array; size = q .size; agree = q .agree })
+
+          size : withNotes d l .length ≡ d .length
+          size = notes-length d l
 
     simulates-from :
         (fuel : ℕ) (s : Simulation) (d : Dictionary) →
         32 ≤ fuel + s .counter → Core s d → Paused (simulateFrom n program inputs fuel s d)
-    unfolding simulateFrom withRegister withOutput skipped
-    simulates-from zero s d h q = finish s d (past-end n program inputs short s (omega arith)) q
+    unfolding simulateFrom
+    simulates-from zero s d h q = finish s d q (rw (past-end n program inputs short s (omega arith)) refl)
     simulates-from (suc fuel) s d h q =
-        let forth : (c : ℕ) → stops (nextEffect n program inputs s) ≡ false → s .counter < forward (s .counter) c =
-        λ c f. advances n program inputs short s c f .1 in
-        let next = ap (committed ws) (sym (run-step n program inputs short 32 s (q .mem) (omega arith))) ∙ q .rest in
-        let go : (s′ : Simulation) → s .counter < s′ .counter → s′ .yields .fault ≡ s .yields .fault →
-        committed ws (runFrom n program inputs 32 s′ (q .mem)) ≡ R →
-        Paused (simulateFrom n program inputs fuel s′ d) =
-        λ s′ l m r. simulates-from fuel s′ d (omega arith) (later s s′ d q l m r) in
-        by-effect Paused (nextEffect n program inputs s)
-        (λ e. finish s d e q)
-        (λ e. faults-so s d e q)
-        (λ a x e. go (withRegister s a x) (forth 0 (ap stops e)) refl (rw e at next))
-        (λ a v e. on-test Paused (has d v)
-        (λ t. go (withRegister s a (valueAt d (find d v))) (forth 0 (ap stops e)) refl (loaded s d a v e t q))
-        (λ f. lacking s d v (ap stops e) (ap variableOf e) (touched s (Effect.Load a v) e) f q))
-        (λ v x e. on-test Paused (has d v)
-        (λ t. simulates-from fuel (skipped s 0) (assign d (find d v) x) (omega (arith, forth 0 (ap stops e)))
-        (stored s d v x e t q))
-        (λ f. lacking s d v (ap stops e) (ap variableOf e) (touched s (Effect.Store v x) e) f q))
-        (λ a x e. go (withOutput s a x) (forth 0 (ap stops e)) refl (rw e at next))
-        (λ c e. go (skipped s c) (forth c (ap stops e)) refl (rw e at next))
+        on-lacking Paused d (touched n (noteOf d) (nextEffect n program inputs s))
+        (λ v r. lacking s d q v r)
+        (λ all. on-executed Paused (execute n (noteOf d) s (nextEffect n program inputs s))
+        (λ e. finish s d q (sym (executed-is s d q all) ∙ e))
+        (λ e. faults-so s d q (sym (executed-is s d q all) ∙ e))
+        (λ t l e. simulates-from fuel t (withNotes d l) (omega (arith, advances n program inputs short (noteOf d) s t l e .1))
+        (goes-on s d q t l all e)))
 
     pub simulates : (s : Simulation) (d : Dictionary) → Core s d → Paused (simulate n program inputs s d)
     unfolding simulate
     simulates s d q = simulates-from 32 s d (omega arith) q
+
+-- where nothing is noted nothing is stored
+no-stores : (l : List Store) → EachStore (Noted []) l → l ≡ []
+unfolding hasIn
+no-stores [] q = refl
+no-stores (x ∷ l) q = absurd (false≢true (q .0))
 
 -- a simulation that has noted nothing leaves its dictionary empty
 pub simulate-empty :
@@ -304,21 +415,22 @@ pub simulate-empty :
 unfolding simulate simulateFrom
 simulate-empty n program inputs = go 32 started
   where
+    Empty : Simulated → Type 0
+    Empty x = x .dictionary ≡ empty
+
     go : (fuel : ℕ) (s : Simulation) → simulateFrom n program inputs fuel s empty .dictionary ≡ empty
     go zero s = refl
     go (suc fuel) s =
-        by-effect (λ (x : Simulated). x .dictionary ≡ empty) (nextEffect n program inputs s) (λ _. refl) (λ _. refl) (λ _ _ _. go fuel _)
-        (λ a v _. missing _ _ v refl) (λ v x _. missing _ _ v refl) (λ _ _ _. go fuel _) (λ _ _. go fuel _)
-      where
-        missing :
-            (x y : Simulated) (v : ℕ) → y .dictionary ≡ empty → cond (has empty v) x y .dictionary ≡ empty
-        missing x y v e = rw (le-ltb (find empty v) 0 (omega arith)) e
+        on-lacking Empty empty (touched n (noteOf empty) (nextEffect n program inputs s)) (λ _ _. refl)
+        (λ all. on-executed Empty (execute n (noteOf empty) s (nextEffect n program inputs s)) (λ _. refl) (λ _. refl)
+        (λ t l e. rw (no-stores l (subst (Storing (Noted [])) e
+        (execute-stores (Noted []) n (noteOf empty) s (nextEffect n program inputs s) all))) (go fuel t)))
 
 -- a simulation notes nothing by itself
 pub simulate-length :
     (n : ℕ) (program : Program) (inputs : Words) (s : Simulation) (d : Dictionary) →
     simulate n program inputs s d .dictionary .length ≡ d .length
-unfolding simulate simulateFrom assign
+unfolding simulate simulateFrom
 simulate-length n program inputs = go 32
   where
     Same : ℕ → Simulated → Type 0
@@ -327,7 +439,6 @@ simulate-length n program inputs = go 32
     go : (fuel : ℕ) (s : Simulation) (d : Dictionary) → simulateFrom n program inputs fuel s d .dictionary .length ≡ d .length
     go zero s d = refl
     go (suc fuel) s d =
-        by-effect (Same (d .length)) (nextEffect n program inputs s) (λ _. refl) (λ _. refl) (λ _ _ _. go fuel _ d)
-        (λ a v _. on-test (Same (d .length)) (has d v) (λ _. go fuel _ d) (λ _. refl))
-        (λ v x _. on-test (Same (d .length)) (has d v) (λ _. go fuel _ (assign d (find d v) x)) (λ _. refl))
-        (λ _ _ _. go fuel _ d) (λ _ _. go fuel _ d)
+        on-lacking (Same (d .length)) d (touched n (noteOf d) (nextEffect n program inputs s)) (λ _ _. refl)
+        (λ all. on-executed (Same (d .length)) (execute n (noteOf d) s (nextEffect n program inputs s)) (λ _. refl) (λ _. refl)
+        (λ t l e. go fuel t (withNotes d l) ∙ notes-length d l))

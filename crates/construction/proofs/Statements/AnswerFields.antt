@@ -13,7 +13,7 @@ use Rattle.construction.specs.declared.RowSwap.{RowSwap}
 use Rattle.construction.specs.declared.Verdict.{Verdict}
 use Rattle.construction.specs.declared.Written.{Written}
 use Rattle.construction.specs.declared.Refusal.{Refusal}
-use Rattle.construction.specs.declared.Refusal.the-variants.{TooLong, Malformed, OutOfRange, UnknownCode, NoProcess, NoProgram, Busy, NotBusy, NoPlace, LimitReached, ShortBuffer, OperandOutOfRange, UnusedOperand}
+use Rattle.construction.specs.declared.Refusal.the-variants.{TooLong, Malformed, OutOfRange, UnknownCode, NoProcess, NoProgram, Busy, NotBusy, NoPlace, LimitReached, ShortBuffer, OperandOutOfRange, UnusedOperand, TooHeavy}
 use Rattle.construction.specs.Answers.{bytes, Fields, fields, numberOf, outputNumbers, doneWord, answerFields, verdictFields, writtenFields, rowFields}
 
 -- what can be read back is known
@@ -23,7 +23,7 @@ known tell from back a b e = sym (back a) ∙ (ap from e ∙ back b)
 -- a refusal from its number
 abbrev refusalFrom : ℕ → Refusal
 refusalFrom n =
-    getD (TooLong ∷ TooLong ∷ Malformed ∷ OutOfRange ∷ UnknownCode ∷ NoProcess ∷ NoProgram ∷ Busy ∷ NotBusy ∷ NoPlace ∷ LimitReached ∷ ShortBuffer ∷ OperandOutOfRange ∷ UnusedOperand ∷ []) n TooLong
+    getD (TooLong ∷ TooLong ∷ Malformed ∷ OutOfRange ∷ UnknownCode ∷ NoProcess ∷ NoProgram ∷ Busy ∷ NotBusy ∷ NoPlace ∷ LimitReached ∷ ShortBuffer ∷ OperandOutOfRange ∷ UnusedOperand ∷ TooHeavy ∷ []) n TooLong
 
 refusal-back : (r : Refusal) → refusalFrom (numberOf r) ≡ r
 unfolding numberOf
@@ -40,6 +40,7 @@ refusal-back LimitReached = refl
 refusal-back ShortBuffer = refl
 refusal-back OperandOutOfRange = refl
 refusal-back UnusedOperand = refl
+refusal-back TooHeavy = refl
 
 pub number-known : (r s : Refusal) → numberOf r ≡ numberOf s → r ≡ s
 number-known = known numberOf refusalFrom refusal-back

@@ -1,9 +1,9 @@
 -- The place of a process within its program never passes 32 (document 02, order 5): a skip past the end stands at the end of the room.
 use Prim.Native.Nat.{ℕ, zero, suc, _+_, _≤_, _<_}
-use mathlib.Core.Path.{_≡_}
+use mathlib.Core.Path.{_≡_, subst}
 use mathlib.Core.List.{List, [], _∷_}
 use native.Mathlib.Omega.{arith}
-use lib.Dec.{ltb}
+use lib.Dec.{eqb, ltb}
 use lib.ListN.{getD, set}
 use Rattle.construction.specs.declared.Words.{Words}
 use Rattle.construction.specs.declared.Program.{Program}
@@ -18,15 +18,18 @@ use Rattle.construction.specs.declared.Helped.{Helped}
 use Rattle.construction.specs.declared.Access.{Access}
 use Rattle.construction.specs.declared.Card.{Card}
 use Rattle.construction.specs.declared.Answered.{Answered}
-use Rattle.construction.specs.Instructions.{nextEffect, forward, withRegister, withOutput, skipped, faulted, started}
-use Rattle.construction.specs.Dictionary.{empty, has, insert, itemOf}
-use Rattle.construction.specs.Helping.{simulate, simulateFrom}
+use Rattle.construction.specs.Instructions.{isCell, nextEffect, forward, withRegister, withOutput, skipped, faulted, started}
+use Rattle.construction.specs.Effects.{Executed, touched, allocated, execute}
+use Rattle.construction.specs.declared.Effect.{Effect}
+use Rattle.construction.specs.Dictionary.{empty, insert, itemOf}
+use Rattle.construction.specs.Helping.{noteOf, withNotes, simulate, simulateFrom}
 use Rattle.construction.specs.Parts.{localAt}
 use Rattle.construction.specs.Machine.{helps, beginHelp, note, accessIn, perform, advance}
 use Rattle.construction.specs.Opening.{fresh, opened}
 use Rattle.construction.specs.History.{Entry, Observation, observe, observeAll, opening, run}
 use Rattle.construction.proofs.Basics.{on-test, set-keeps, getD-replicate-same}
-use Rattle.construction.proofs.Simulating.Sequential.{by-effect}
+use Rattle.construction.proofs.Simulating.Effects.{on-executed}
+use Rattle.construction.proofs.Simulating.Simulations.{on-lacking}
 use Rattle.construction.proofs.Observing.Outcomes.{Outcome, outcome}
 
 -- a skip goes on at the instruction after those skipped, and past the room at its end
@@ -42,6 +45,26 @@ forward-room : (k c : ℕ) → forward k c ≤ 32
 unfolding forward
 forward-room k c = omega arith
 
+-- an effect that goes on leaves the counter within the room
+abbrev CounterWithin : Executed → Type 0
+CounterWithin Executed.Ends = Unit {0}
+CounterWithin Executed.Faults = Unit {0}
+CounterWithin (Executed.Goes t l) = t .counter ≤ 32
+
+execute-within : (n : ℕ) (look : ℕ → ℕ) (s : Simulation) (e : Effect) → CounterWithin (execute n look s e)
+unfolding allocated withRegister withOutput skipped
+execute-within n look s Effect.Stop = tt
+execute-within n look s Effect.Fault = tt
+execute-within n look s (Effect.Set a x) = forward-room (s .counter) 0
+execute-within n look s (Effect.Load a v) = forward-room (s .counter) 0
+execute-within n look s (Effect.Store v x) = forward-room (s .counter) 0
+execute-within n look s (Effect.Output a x) = forward-room (s .counter) 0
+execute-within n look s (Effect.Skip c) = forward-room (s .counter) c
+execute-within n look s (Effect.Allocate a) =
+    on-test CounterWithin (isCell n (look 0)) (λ _. forward-room (s .counter) 0)
+    (λ _. on-test CounterWithin (eqb (look 0) 0) (λ _. forward-room (s .counter) 0) (λ _. tt))
+execute-within n look s (Effect.Free c) = forward-room (s .counter) 0
+
 -- a simulation, from whatever state within the room
 abbrev Within : Simulated → Type 0
 Within x = x .simulation .counter ≤ 32
@@ -49,14 +72,13 @@ Within x = x .simulation .counter ≤ 32
 module _ (n : ℕ) (program : Program) (inputs : Words) where
   simulation-within :
       (fuel : ℕ) (s : Simulation) (d : Dictionary) → s .counter ≤ 32 → Within (simulateFrom n program inputs fuel s d)
-  unfolding simulateFrom withRegister withOutput skipped faulted
+  unfolding simulateFrom faulted
   simulation-within zero s d h = h
   simulation-within (suc fuel) s d h =
-      let room : (c : ℕ) → forward (s .counter) c ≤ 32 = forward-room (s .counter) in
-      by-effect Within (nextEffect n program inputs s) (λ _. h) (λ _. h) (λ a x _. simulation-within fuel _ d (room 0))
-      (λ a v _. on-test Within (has d v) (λ _. simulation-within fuel _ d (room 0)) (λ _. h))
-      (λ v x _. on-test Within (has d v) (λ _. simulation-within fuel _ _ (room 0)) (λ _. h))
-      (λ a x _. simulation-within fuel _ d (room 0)) (λ c _. simulation-within fuel _ d (room c))
+      on-lacking Within d (touched n (noteOf d) (nextEffect n program inputs s)) (λ v _. h)
+      (λ _. on-executed Within (execute n (noteOf d) s (nextEffect n program inputs s)) (λ _. h) (λ _. h)
+      (λ t l e. simulation-within fuel t (withNotes d l)
+      (subst CounterWithin e (execute-within n (noteOf d) s (nextEffect n program inputs s)))))
 
 -- what helping begins with and goes on with
 begin-within :

@@ -4,12 +4,14 @@ use lib.Count.{ones, onesIn}
 use Rattle.grammar.specs.Reading.{four, field, number, digits, hasWord}
 use Rattle.construction.specs.Opening.{opened, readCard, varsFrom, programsFrom, readProgram, insFrom, fresh}
 use Rattle.construction.specs.Lines.{cardLine, judgeCard, varLine, judgeVar, sheetLine, judgeSheet, insLine, judgeIns, cardText, varText, sheetText, insText}
-use Rattle.construction.specs.Instructions.{decode, encode, effectOf, fetch, word, withWord, sum, difference, load, store, forward, withRegister, withOutput, skipped, faulted}
+use Rattle.construction.specs.Instructions.{decode, encode, effectOf, fetch, word, withWord, sum, difference, load, store, free, forward, withRegister, withOutput, skipped, faulted}
 use Rattle.construction.specs.Requests.{call, requestExit, step, read, valueOf}
 use Rattle.construction.specs.Machine.{advance, swapOf, perform, accessOf, accessGate, accessAnnouncement, firstChoice, beginHelp, note, writing}
 use Rattle.construction.specs.Marks.{withBit}
 use Rattle.construction.specs.Tracing.{trace, reportOf, labelOf, isNoting}
 use Rattle.construction.specs.Helping.{simulate, simulateFrom}
+use Rattle.construction.specs.Effects.{allocated}
+use Rattle.construction.specs.Weight.{weightBefore}
 use Rattle.construction.specs.Dictionary.{position, assign, valueUnder, insert, altered, unaltered, nextWrite}
 use Rattle.construction.specs.Cells.{sameWords, sameGate, sameAnnouncement, sameRecord, swapGate, swapAnnouncement, swapRecord, released, current, previous, rewritten}
 use Rattle.construction.specs.Answers.{numberOf, answerFields, verdictFields, writtenFields, cardLineFields, varLineFields, sheetLineFields, decodedFields, insLineFields}
@@ -18,17 +20,17 @@ use Rattle.grammar.specs.Writing.{decimal, decimals}
 use Rattle.construction.specs.Examples.{AllHold, rows, AllTold, tracedRows, AllTextsRefused, refusedTexts, AllYielded, yieldedLines, AllEntriesRefused, refusedEntries, BufferRefused}
 
 pub rows-hold : AllHold rows
-unfolding opened readCard cardLine judgeCard four field number digits hasWord varsFrom varLine judgeVar programsFrom readProgram sheetLine judgeSheet insFrom insLine judgeIns decode fresh call requestExit step read valueOf advance perform accessOf accessGate accessAnnouncement firstChoice beginHelp note writing simulate simulateFrom effectOf fetch word withWord sum difference load store forward withRegister withOutput skipped faulted position assign valueUnder insert altered unaltered nextWrite sameWords sameGate sameAnnouncement sameRecord swapGate swapAnnouncement swapRecord released current previous rewritten
+unfolding opened readCard cardLine judgeCard four field number digits hasWord varsFrom varLine judgeVar programsFrom readProgram sheetLine judgeSheet insFrom insLine judgeIns decode weightBefore fresh call requestExit step read valueOf advance perform accessOf accessGate accessAnnouncement firstChoice beginHelp note writing simulate simulateFrom allocated effectOf fetch word withWord sum difference load store free forward withRegister withOutput skipped faulted position assign valueUnder insert altered unaltered nextWrite sameWords sameGate sameAnnouncement sameRecord swapGate swapAnnouncement swapRecord released current previous rewritten
 rows-hold =
     ((refl, (refl, refl, refl)), ((refl, (refl, refl, refl)), ((refl, (refl, refl, refl)), ((refl, (refl, refl, refl)), ((refl, (refl, refl, refl)), ((refl, (refl, refl, refl)), ((refl, (refl, refl, refl)), ((refl, (refl, refl, refl)), ((refl, (refl, refl, refl)), ((refl, (refl, refl, refl)), ((refl, (refl, refl, refl)), ((refl, (refl, refl, refl)), ((refl, (refl, refl, refl)), ((refl, (refl, refl, refl)), ((refl, (refl, refl, refl)), ((refl, (refl, refl, refl)), ((refl, (refl, refl, refl)), ((refl, (refl, refl, refl)), ((refl, (refl, refl, refl)), tt)))))))))))))))))))
 
 -- the pieces that speak of lines
 pub rows-told : AllTold tracedRows
-unfolding opened readCard cardLine judgeCard four field number digits hasWord varsFrom varLine judgeVar programsFrom readProgram sheetLine judgeSheet insFrom insLine judgeIns decode fresh call requestExit step read valueOf advance perform accessOf accessGate accessAnnouncement firstChoice beginHelp note writing simulate simulateFrom effectOf fetch word withWord sum difference load store forward withRegister withOutput skipped position assign valueUnder insert altered unaltered nextWrite sameWords sameGate sameAnnouncement sameRecord swapGate swapAnnouncement swapRecord released current previous rewritten withBit ones onesIn swapOf trace reportOf labelOf isNoting
+unfolding opened readCard cardLine judgeCard four field number digits hasWord varsFrom varLine judgeVar programsFrom readProgram sheetLine judgeSheet insFrom insLine judgeIns decode weightBefore fresh call requestExit step read valueOf advance perform accessOf accessGate accessAnnouncement firstChoice beginHelp note writing simulate simulateFrom allocated effectOf fetch word withWord sum difference load store free forward withRegister withOutput skipped faulted position assign valueUnder insert altered unaltered nextWrite sameWords sameGate sameAnnouncement sameRecord swapGate swapAnnouncement swapRecord released current previous rewritten withBit ones onesIn swapOf trace reportOf labelOf isNoting
 rows-told = (refl, (refl, (refl, (refl, tt))))
 
 pub texts-refused : AllTextsRefused refusedTexts
-unfolding opened readCard cardLine judgeCard four field number digits hasWord varsFrom varLine judgeVar programsFrom readProgram sheetLine judgeSheet insFrom insLine judgeIns decode fresh verdictFields numberOf
+unfolding opened readCard cardLine judgeCard four field number digits hasWord varsFrom varLine judgeVar programsFrom readProgram sheetLine judgeSheet insFrom insLine judgeIns decode weightBefore fetch fresh verdictFields numberOf
 texts-refused = (refl, (refl, (refl, (refl, (refl, (refl, (refl, tt)))))))
 
 pub lines-yield : AllYielded yieldedLines
@@ -36,10 +38,10 @@ unfolding cardLine judgeCard four field number digits hasWord varLine judgeVar s
 lines-yield = (refl, (refl, (refl, (refl, (refl, (refl, (refl, (refl, (refl, (refl, (refl, (refl, tt))))))))))))
 
 pub entries-refused : AllEntriesRefused refusedEntries
-unfolding opened readCard cardLine judgeCard four field number digits hasWord varsFrom varLine judgeVar programsFrom readProgram sheetLine judgeSheet insFrom insLine judgeIns decode fresh call requestExit step read valueOf advance perform accessOf accessGate accessAnnouncement firstChoice beginHelp note writing simulate simulateFrom effectOf fetch word withWord forward withRegister skipped position assign valueUnder insert sameWords sameGate sameAnnouncement sameRecord swapGate swapAnnouncement swapRecord trace answerFields numberOf
+unfolding opened readCard cardLine judgeCard four field number digits hasWord varsFrom varLine judgeVar programsFrom readProgram sheetLine judgeSheet insFrom insLine judgeIns decode weightBefore fresh call requestExit step read valueOf advance perform accessOf accessGate accessAnnouncement firstChoice beginHelp note writing simulate simulateFrom allocated effectOf fetch word withWord forward withRegister skipped position assign valueUnder insert sameWords sameGate sameAnnouncement sameRecord swapGate swapAnnouncement swapRecord answerFields numberOf trace
 entries-refused =
     (record { refusal = refl; kept = refl }, (record { refusal = refl; kept = refl }, (record { refusal = refl; kept = refl }, (record { refusal = refl; kept = refl }, (record { refusal = refl; kept = refl }, (record { refusal = refl; kept = refl }, (record { refusal = refl; kept = refl }, (record { refusal = refl; kept = refl }, (record { refusal = refl; kept = refl }, tt)))))))))
 
 pub buffer-refused : BufferRefused
-unfolding opened readCard cardLine judgeCard four field number digits hasWord varsFrom varLine judgeVar programsFrom readProgram sheetLine judgeSheet insFrom insLine judgeIns decode fresh written textOf varsText programsText linesText cardText varText sheetText insText encode decimal decimals writtenFields numberOf
+unfolding opened readCard cardLine judgeCard four field number digits hasWord varsFrom varLine judgeVar programsFrom readProgram sheetLine judgeSheet insFrom insLine judgeIns decode weightBefore fetch fresh written textOf varsText programsText linesText cardText varText sheetText insText encode decimal decimals writtenFields numberOf
 buffer-refused = refl

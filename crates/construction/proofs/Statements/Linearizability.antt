@@ -32,8 +32,8 @@ unfolding observeAll
 all-consistent o m [] O = O
 all-consistent o m (e ∷ es) O = all-consistent o (observe o m e) es (entry-kept o m O e)
 
-short-code : (x : Contents) → Bounded x → (k : ℕ) → Short (getD (x .code) k noProgram)
-short-code x B k = omega (arith, B .lines k)
+short-code : (x : Contents) → Bounded x → (k : ℕ) → Short (x .variables) (getD (x .code) k noProgram)
+short-code x B k = record { ends = omega (arith, B .lines k); light = B .weights k; some = B .some k }
 
 fresh-consistent : (x : Contents) → Bounded x → Consistent (fresh x) (opening (fresh x))
 unfolding fresh times hasReturned accessOf latestNumber

@@ -36,6 +36,7 @@ use Rattle.construction.specs.Opening.{fresh, opened}
 use Rattle.construction.specs.History.{Entry, Observation, observe, observeAll, opening, run}
 use Rattle.construction.proofs.Basics.{on-test, clash, cond-true, cond-false, getD-replicate-same}
 use Rattle.construction.proofs.Simulating.Dictionaries.{hasIn}
+use Rattle.construction.proofs.Simulating.Simulations.{needing-absent}
 use Rattle.construction.proofs.Simulating.Marks.{no-bits, marks-insert, marks-simulated}
 use Rattle.construction.proofs.Invariant.World.{World}
 use Rattle.construction.proofs.Invariant.Locals.{Sizes}
@@ -107,7 +108,7 @@ module _ {c : Card} {w : World} (I : CardInvariant c w) (j : ℕ) where
   noting-at H21 exit q =
       record {
         small = omega (arith, q .2 .inside, I .good .fits .narrow);
-        new = q .2 .absent;
+        new = needing-absent _ _ _ _ _ _ (q .2);
         spare = q .2 .spare;
         room = q .2 .core .room .array;
       }

@@ -1,5 +1,5 @@
 -- What every text opens to lies within the bounds of document 01, 'The card and its edges', also where the text is refused.
-use Prim.Native.Nat.{ℕ, zero, suc, _≤_}
+use Prim.Native.Nat.{ℕ, zero, suc, _+_, _≤_, _<_}
 use mathlib.Core.Path.{_≡_, refl, _∙_}
 use mathlib.Core.List.{List}
 use native.Mathlib.Omega.{arith}
@@ -9,12 +9,17 @@ use Rattle.construction.specs.declared.CardLine.{CardLine}
 use Rattle.construction.specs.declared.Contents.{Contents}
 use Rattle.construction.specs.declared.Reading.{Reading}
 use Rattle.construction.specs.declared.ProgramReading.{ProgramReading}
-use Rattle.construction.specs.Instructions.{noProgram}
+use Rattle.construction.specs.declared.Verdict.{Verdict}
+use Rattle.construction.specs.declared.Refusal.{Refusal}
+use Rattle.construction.specs.declared.Refusal.the-variants.{TooLong, Malformed}
+use Rattle.construction.specs.declared.Program.{Program}
+use Rattle.construction.specs.Instructions.{noProgram, fetch}
+use Rattle.construction.specs.Weight.{weightBefore, weight}
 use Rattle.construction.specs.Lines.{cardLine, varLine, sheetLine, insLine}
-use Rattle.construction.specs.Opening.{noContents, withLine, insFrom, readProgram, withProgram, programsFrom, withStart, varsFrom, atEnd, thenPrograms, afterCard, readCard}
-use Rattle.construction.proofs.Basics.{on-test, set-keeps, getD-replicate-same}
+use Rattle.construction.specs.Opening.{noContents, refusedAt, withLine, insFrom, readProgram, withProgram, programsFrom, withStart, varsFrom, atEnd, thenPrograms, afterCard, readCard}
+use Rattle.construction.proofs.Basics.{on-test, clash, set-keeps, getD-replicate-same}
 use Rattle.construction.proofs.Text.Lines.{card-read}
-use Rattle.construction.proofs.Text.Reading.{afterFields, afterLength, on-ins, on-sheet, on-program, on-var, on-accepted, on-card}
+use Rattle.construction.proofs.Text.Reading.{afterFields, afterLength, on-ins, on-sheet, on-weighed, on-program, on-var, on-accepted, on-card}
 
 -- the bounds of a card's contents
 pub record Bounded (x : Contents) : Type 0 where
@@ -24,6 +29,13 @@ pub record Bounded (x : Contents) : Type 0 where
   pub starts : length (x .starts) ≡ 64
   pub code : length (x .code) ≡ 8
   pub lines : (k : ℕ) → length (getD (x .code) k noProgram .lines) ≡ 32
+  pub weights : (k : ℕ) → weight (getD (x .code) k noProgram) ≤ 32
+  -- a program that touches variables stands on a card that has some
+  pub some : (k : ℕ) → 0 < weight (getD (x .code) k noProgram) → 0 < x .variables
+
+weight-none : weight noProgram ≡ 0
+unfolding weightBefore fetch
+weight-none = refl
 
 -- a program has 32 places, whatever was read
 abbrev Lines : ProgramReading → Type 0
@@ -39,7 +51,21 @@ ins-lines n t (suc m) k r h =
 program-lines : (n : ℕ) (t : List ℕ) (at line : ℕ) → Lines (readProgram n t at line)
 unfolding readProgram
 program-lines n t at line =
-    on-sheet Lines n t (sheetLine t at) line (λ m i _. ins-lines n t m 0 (afterLength m i (suc line)) refl) (λ why. refl)
+    on-sheet Lines n t (sheetLine t at) line
+    (λ m i _. on-weighed Lines (line + m) (insFrom n t m 0 (afterLength m i (suc line)))
+    (λ _. ins-lines n t m 0 (afterLength m i (suc line)) refl) refl)
+    (λ why. refl)
+
+-- and weighs at most 32 where it is accepted
+abbrev Light : ProgramReading → Type 0
+Light r = r .verdict ≡ Verdict.Accepted → weight (r .program) ≤ 32
+
+program-light : (n : ℕ) (t : List ℕ) (at line : ℕ) → Light (readProgram n t at line)
+unfolding readProgram
+program-light n t at line =
+    on-sheet Light n t (sheetLine t at) line
+    (λ m i _. on-weighed Light (line + m) (insFrom n t m 0 (afterLength m i (suc line))) (λ h. h) (λ e. clash (cc)))
+    (λ why e. clash (cc))
 
 -- the bounds hold at the first line and after each later one
 empty-bounded : Bounded noContents
@@ -51,52 +77,75 @@ empty-bounded =
       starts = refl;
       code = refl;
       lines = λ k. rw (getD-replicate-same 8 k noProgram);
+      weights = λ k. rw (getD-replicate-same 8 k noProgram) (omega (arith, weight-none));
+      some = λ k h. absurd (omega (arith, weight-none, rw (getD-replicate-same 8 k noProgram) at h));
     }
 
-abbrev Within : Reading → Type 0
-Within r = Bounded (r .contents)
+-- a reading that goes on has variables
+pub record Within (r : Reading) : Type 0 where
+  pub bounds : Bounded (r .contents)
+  pub some : r .verdict ≡ Verdict.Accepted → 0 < r .contents .variables
 
-vars-bounded : (t : List ℕ) (m k : ℕ) (r : Reading) → Within r → Within (varsFrom t m k r)
+empty-within : (why : Refusal) (line : ℕ) → Within (refusedAt why line)
+empty-within why line = record { bounds = empty-bounded; some = λ e. clash (cc) }
+
+vars-bounded : (t : List ℕ) (m k : ℕ) (r : Reading) → r .verdict ≡ Verdict.Accepted → Within r → Within (varsFrom t m k r)
 unfolding varsFrom
-vars-bounded t zero k r h = h
-vars-bounded t (suc m) k r h =
+vars-bounded t zero k r e h = h
+vars-bounded t (suc m) k r e h =
+    let b = h .bounds in
     on-var Within (varLine t (r .at)) r k (λ x. varsFrom t m (suc k) x)
     (λ v i _.
-    vars-bounded t m (suc k) (withStart r k v i)
+    vars-bounded t m (suc k) (withStart r k v i) refl
     (record {
-      processes = h .processes;
-      variables = h .variables;
-      limit = h .limit;
-      starts = rw length-set (h .starts);
-      code = h .code;
-      lines = h .lines;
+      bounds =
+          record {
+            processes = b .processes;
+            variables = b .variables;
+            limit = b .limit;
+            starts = rw length-set (b .starts);
+            code = b .code;
+            lines = b .lines;
+            weights = b .weights;
+            some = b .some;
+          };
+      some = λ _. h .some e;
     }))
-    (λ why. empty-bounded)
+    (λ why. empty-within why (r .line))
 
-with-program : (r : Reading) (k : ℕ) (x : ProgramReading) → Lines x → Within r → Within (withProgram r k x)
-with-program r k x l h =
+with-program :
+    (r : Reading) (k : ℕ) (x : ProgramReading) → Lines x → weight (x .program) ≤ 32 → r .verdict ≡ Verdict.Accepted → Within r →
+    Within (withProgram r k x)
+with-program r k x l w e h =
+    let b = h .bounds in
     record {
-      processes = h .processes;
-      variables = h .variables;
-      limit = h .limit;
-      starts = h .starts;
-      code = rw length-set (h .code);
-      lines = λ j.
-          set-keeps (λ y. length (y .lines) ≡ 32) (r .contents .code) k j (x .program) noProgram (λ _. l) (h .lines j);
+      bounds =
+          record {
+            processes = b .processes;
+            variables = b .variables;
+            limit = b .limit;
+            starts = b .starts;
+            code = rw length-set (b .code);
+            lines = λ j.
+                set-keeps (λ (y : Program). length (y .lines) ≡ 32) (r .contents .code) k j (x .program) noProgram (λ _. l) (b .lines j);
+            weights = λ j. set-keeps (λ (y : Program). weight y ≤ 32) (r .contents .code) k j (x .program) noProgram (λ _. w) (b .weights j);
+            some = λ j _. h .some e;
+          };
+      some = λ _. h .some e;
     }
 
-programs-bounded : (t : List ℕ) (m k : ℕ) (r : Reading) → Within r → Within (programsFrom t m k r)
+programs-bounded : (t : List ℕ) (m k : ℕ) (r : Reading) → r .verdict ≡ Verdict.Accepted → Within r → Within (programsFrom t m k r)
 unfolding programsFrom
-programs-bounded t zero k r h = h
-programs-bounded t (suc m) k r h =
+programs-bounded t zero k r e h = h
+programs-bounded t (suc m) k r e h =
     let x = readProgram (r .contents .variables) t (r .at) (r .line) in
     on-program Within (x .verdict) x r k (λ y. programsFrom t m (suc k) y)
-    (λ _. programs-bounded t m (suc k) (withProgram r k x)
-    (with-program r k x (program-lines (r .contents .variables) t (r .at) (r .line)) h))
-    (λ why line. empty-bounded)
+    (λ a. programs-bounded t m (suc k) (withProgram r k x) refl
+    (with-program r k x (program-lines (r .contents .variables) t (r .at) (r .line)) (program-light (r .contents .variables) t (r .at) (r .line) a) e h))
+    empty-within
 
 end-bounded : (t : List ℕ) (r : Reading) → Within r → Within (atEnd t r)
-end-bounded t r h = on-test Within (eqb (r .at) (length t)) (λ _. h) (λ _. empty-bounded)
+end-bounded t r h = on-test Within (eqb (r .at) (length t)) (λ _. h) (λ _. empty-within Malformed (r .line))
 
 card-bounded : (t : List ℕ) (x : CardLine) → cardLine t 0 ≡ x → Within (afterCard t x)
 card-bounded t x e =
@@ -104,21 +153,27 @@ card-bounded t x e =
     (λ p n s l i f.
     let c = card-read t 0 p n s l i (e ∙ f) .fits in
     let first : Within (afterFields p n s l i) = record {
-      processes = c .processes .1;
-      variables = c .variables .1;
-      limit = c .limit .1;
-      starts = refl;
-      code = refl;
-      lines = empty-bounded .lines;
+      bounds =
+          record {
+            processes = c .processes .1;
+            variables = c .variables .1;
+            limit = c .limit .1;
+            starts = refl;
+            code = refl;
+            lines = empty-bounded .lines;
+            weights = empty-bounded .weights;
+            some = λ _ _. omega (arith, c .variables);
+          };
+      some = λ _. omega (arith, c .variables);
     } in
-    let vars = vars-bounded t n 0 (afterFields p n s l i) first in
+    let vars = vars-bounded t n 0 (afterFields p n s l i) refl first in
     let r = varsFrom t n 0 (afterFields p n s l i) in
-    let programs = on-accepted Within r (λ y. programsFrom t s 0 y) (λ _. programs-bounded t s 0 r vars) (λ _ _ _. vars) in
+    let programs = on-accepted Within r (λ y. programsFrom t s 0 y) (λ a. programs-bounded t s 0 r a vars) (λ _ _ _. vars) in
     let q = thenPrograms t s r in
     on-accepted Within q (λ y. atEnd t y) (λ _. end-bounded t q programs) (λ _ _ _. programs))
-    (λ why. empty-bounded)
+    (λ why. empty-within why 1)
 
 pub opened-bounded : (t : List ℕ) → Bounded (readCard t .contents)
 unfolding readCard
 opened-bounded t =
-    on-test Within (ltb 16384 (length t)) (λ _. empty-bounded) (λ _. card-bounded t (cardLine t 0) refl)
+    (on-test Within (ltb 16384 (length t)) (λ _. empty-within TooLong 0) (λ _. card-bounded t (cardLine t 0) refl)) .bounds

@@ -74,7 +74,7 @@ codes-sound : (k : ℕ) → Sound k (rowOf k .format)
 unfolding encode
 codes-sound =
     rows-at (λ k r. Sound k (r .format)) codes
-    (tt, (λ a b c. (refl, refl, refl), (λ a b c. (refl, refl, refl), (λ a b c. (refl, refl, refl), (λ a b c. (refl, refl, refl), (λ a b c. (refl, refl, refl), (λ a b c. (refl, refl, refl), (λ a b c. (refl, refl, refl), (λ a b c. (refl, refl, refl), (λ a b c. (refl, refl, refl), (λ a b c. (refl, refl, refl), (λ a b c. (refl, refl, refl), (λ a b c. (refl, refl, refl), λ k. tt)))))))))))))
+    (tt, (λ a b c. (refl, refl, refl), (λ a b c. (refl, refl, refl), (λ a b c. (refl, refl, refl), (λ a b c. (refl, refl, refl), (λ a b c. (refl, refl, refl), (λ a b c. (refl, refl, refl), (λ a b c. (refl, refl, refl), (λ a b c. (refl, refl, refl), (λ a b c. (refl, refl, refl), (λ a b c. (refl, refl, refl), (λ a b c. (refl, refl, refl), (λ a b c. (refl, refl, refl), (λ a b c. (refl, refl, refl), (λ a b c. (refl, refl, refl), λ k. tt)))))))))))))))
 
 -- what decodes encodes to the same numbers, which no reading has kept down
 pub record Decodes (x : Encoded) (y : Instruction) : Type 0 where

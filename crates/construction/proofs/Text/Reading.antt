@@ -1,8 +1,11 @@
 -- Cases on what a line of a card text yields (document 01, 'The card text').
 use mathlib.Core.Path.{_≡_, refl}
 use mathlib.Core.List.{List}
-use Prim.Native.Nat.{ℕ, suc}
+use native.Mathlib.Omega.{arith}
+use lib.Dec.{ltb}
+use Prim.Native.Nat.{ℕ, suc, _+_, _≤_}
 use lib.ListN.{replicate}
+use borrow.Author.Tests.{ltb-false}
 use Rattle.construction.specs.declared.CardLine.{CardLine}
 use Rattle.construction.specs.declared.VarLine.{VarLine}
 use Rattle.construction.specs.declared.SheetLine.{SheetLine}
@@ -13,12 +16,16 @@ use Rattle.construction.specs.declared.Verdict.{Verdict}
 use Rattle.construction.specs.declared.ProgramReading.{ProgramReading}
 use Rattle.construction.specs.declared.Reading.{Reading}
 use Rattle.construction.specs.Instructions.{noLine, noProgram}
+use Rattle.construction.specs.Weight.{weight}
+use Rattle.construction.specs.declared.Refusal.the-variants.{TooHeavy}
 use Rattle.construction.specs.Opening.{
   refusedAt,
   programRefusedAt,
   withLine,
   nextIns,
   insFrom,
+  judgeWeight,
+  weighed,
   programAfter,
   withProgram,
   nextProgram,
@@ -30,6 +37,7 @@ use Rattle.construction.specs.Opening.{
   thenPrograms,
   afterCard,
 }
+use Rattle.construction.proofs.Basics.{on-test, clash}
 
 -- ---- what is read after the `card` line and after a `sheet` line
 abbrev pub afterFields : ℕ → ℕ → ℕ → ℕ → ℕ → Reading
@@ -55,10 +63,20 @@ on-ins P (InsLine.Refused why) r k go f g = g why
 
 pub on-sheet :
     (P : ProgramReading → Type 0) (n : ℕ) (t : List ℕ) (x : SheetLine) (line : ℕ) →
-    ((m i : ℕ) → x ≡ SheetLine.Length m i → P (insFrom n t m 0 (afterLength m i (suc line)))) → ((why : Refusal) → P (programRefusedAt why line)) →
+    ((m i : ℕ) → x ≡ SheetLine.Length m i → P (weighed (line + m) (insFrom n t m 0 (afterLength m i (suc line))))) → ((why : Refusal) → P (programRefusedAt why line)) →
     P (programAfter n t x line)
 on-sheet P n t (SheetLine.Length m i) line f g = f m i refl
 on-sheet P n t (SheetLine.Refused why) line f g = g why
+
+-- a program that was read is refused for its weight, or stays; one that stays and is accepted weighs at most 32
+pub on-weighed :
+    (P : ProgramReading → Type 0) (last : ℕ) (r : ProgramReading) →
+    ((r .verdict ≡ Verdict.Accepted → weight (r .program) ≤ 32) → P r) → P (programRefusedAt TooHeavy last) → P (weighed last r)
+on-weighed P last r f g = by (r .verdict) refl
+  where
+    by : (v : Verdict) → r .verdict ≡ v → P (judgeWeight v last r)
+    by Verdict.Accepted e = on-test P (ltb 32 (weight (r .program))) (λ _. g) (λ l. f (λ _. ltb-false 32 _ l))
+    by (Verdict.Refused why line) e = f (λ a. clash (cc))
 
 pub on-program :
     (P : Reading → Type 0) (v : Verdict) (x : ProgramReading) (r : Reading) (k : ℕ) (go : Reading → Reading) →

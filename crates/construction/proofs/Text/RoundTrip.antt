@@ -58,7 +58,7 @@ use Rattle.construction.specs.Opening.{
 use Rattle.construction.specs.Writing.{varsText, linesText, programText, programsText, textOf}
 use Rattle.construction.proofs.Text.Lines.{card-read, var-read, sheet-read, ins-read}
 use Rattle.construction.proofs.Text.Decoding.{decoded-encodes}
-use Rattle.construction.proofs.Text.Reading.{afterFields, afterLength, on-ins, on-sheet, on-program, on-var, on-accepted, on-card}
+use Rattle.construction.proofs.Text.Reading.{afterFields, afterLength, on-ins, on-sheet, on-weighed, on-program, on-var, on-accepted, on-card}
 
 abbrev Accepted : Verdict → Type 0
 Accepted v = v ≡ Verdict.Accepted
@@ -175,9 +175,13 @@ program-text :
 unfolding readProgram
 program-text n s t at line =
     on-sheet (λ x. Accepted (x .verdict) → drop at t ≡ programText (x .program) ++ drop (x .at) t) n t (sheetLine t at) line
-    (λ m i f e.
+    (λ m i f.
+    on-weighed (λ x. Accepted (x .verdict) → drop at t ≡ programText (x .program) ++ drop (x .at) t) (line + m)
+    (insFrom n t m 0 (afterLength m i (suc line)))
+    (λ _ e.
     let q = lines-read n s t m 0 (afterLength m i (suc line)) (omega (arith, sheet-read t at m i f .fits, length-replicate 32 noLine)) e in
     rw (q .length-kept, append-assoc (sheetText m)) (sheet-text t at m i f ∙ ap (λ (l : List ℕ). sheetText m ++ l) (q .text)))
+    (λ e. clash (cc)))
     (λ why e. clash (cc))
 
 -- ---- the programs

@@ -51,6 +51,14 @@ returns-12 : tie.Need-returns-12
 unfolding effectOf
 returns-12 c = rw ((c .before .before .instruction11 .given .1)) (cc)
 
+returns-13 : tie.Need-returns-13
+unfolding effectOf
+returns-13 c = rw ((c .before .instruction12 .given .1)) (cc)
+
+returns-14 : tie.Need-returns-14
+unfolding effectOf
+returns-14 c = rw ((c .before .before .before .instruction13 .given .1)) (cc)
+
 pub effect-of-spec : {M : Type 1} → statement M
 effect-of-spec =
     tie.close
@@ -95,6 +103,10 @@ effect-of-spec =
     (λ c κs. search needs)
     (λ c. search needs)
     (λ c κs. search needs)
+    (λ c. search needs)
+    (λ c. search needs)
+    (λ c κs. search needs)
+    (λ c κs. search needs)
     returns
     returns-2
     returns-3
@@ -106,4 +118,6 @@ effect-of-spec =
     returns-9
     returns-10
     returns-11
-    returns-12)
+    returns-12
+    returns-13
+    returns-14)

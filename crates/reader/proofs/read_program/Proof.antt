@@ -16,7 +16,7 @@ read-lines-requires c κs = omega (arith, sheet-read (c .before .before .before 
 
 returns-2 : tie.Need-returns-2
 unfolding readProgram
-returns-2 c = rw (c .read-lines .ensures, ← c .before .before .before .before .sheet-line .ensures, c .before .before .line .given .1, add-one)
+returns-2 c = rw (c .weigh .ensures, c .before .read-lines .ensures, ← c .before .before .before .before .before .sheet-line .ensures, c .before .before .before .line .given .1, add-one)
 
 pub read-program-spec : {M : Type 1} → statement M
 read-program-spec =
@@ -30,4 +30,7 @@ read-program-spec =
     returns
     (λ c. search needs)
     read-lines-requires
+    (λ c. search needs)
+    (λ c. search needs)
+    (λ c κs. search needs)
     returns-2)

@@ -2,7 +2,7 @@ use borrow.Author.Needs.{needs}
 use native.Mathlib.Omega.{arith}
 use Prim.Native.Nat.{_-_}
 use mathlib.Core.Path.{_≡_, refl, sym, _∙_}
-use lib.ListN.{length, take, length-set}
+use lib.ListN.{length, getD, take, length-set}
 use Rattle.construction.specs.Helping.{simulate}
 use Rattle.construction.specs.declared.Dictionary.{Dictionary}
 use Rattle.helping.specs.Numbers.{withValues, Numbered}
@@ -70,8 +70,44 @@ loop-again-4 c = ((c .before .before .before .before .before .before .before .be
 loop-again-5 : tie.Need-loop-again-5 Inv-loop μ-loop
 loop-again-5 c = ((c .before .before .before .before .before .before .before .before .loop .inv .0), λ d h. laws.skips (here (c .before .before .before .before) d h) _ _ (c .before .before .effect5 .given .1) (c .skipped2 .ensures))
 
+find-requires-3 : tie.Need-find-requires-3 Inv-loop μ-loop
+find-requires-3 c κs = (c .before .before .before .before .before .before .before .before .pre)
+
 returns-5 : tie.Need-returns-5 Inv-loop μ-loop
-returns-5 c = record { long = c .before .loop .inv .0; left = λ d h. sym (laws.simulate-end _ _ _ _ _ _ _ ((c .before .loop .inv .1) d h .0) (c .loop-test .left)) }
+returns-5 c = record { long = (c .before .before .before .before .before .before .before .before .before .loop .inv .0); left = λ d h. sym (laws.allocate-lacks (here (c .before .before .before .before .before) d h) _ (c .before .find3 .ensures) _ (c .before .before .before .effect6 .given .1) (c .if3 .taken)) }
+
+returns-6 : tie.Need-returns-6 Inv-loop μ-loop
+returns-6 c = record { long = (c .before .before .before .before .before .before .before .before .before .before .before .before .before .loop .inv .0); left = λ d h. sym (rw (c .faulted2 .ensures) (laws.allocate-faults (here (c .before .before .before .before .before .before .before .before .before) d h) _ (c .before .before .before .before .before .find3 .ensures) (c .before .before .before .before .if3 .left) _ (laws.value-is h _ (c .before .before .before .before .before .before .before .before .before .before .before .before .before .loop .inv .0) _ (c .before .before .before .before .if3 .left)) (c .before .before .is-astray .ensures) _ (c .before .before .before .before .before .before .before .effect6 .given .1) (c .before .if4 .taken))) }
+
+cast-cell : tie.Need-cast-cell Inv-loop μ-loop
+cast-cell c = omega (arith, laws.astray-most (c .before .before .before .before .before .before .before .before .before .before .before .before .before .args .n) (getD (c .before .before .before .before .before .before .before .before .before .before .before .before .loop .values) (c .before .before .before .before .find3 .result) 0) (c .before .is-astray .ensures) (c .if4 .left))
+
+find-requires-4 : tie.Need-find-requires-4 Inv-loop μ-loop
+find-requires-4 c κs = (c .before .before .before .before .before .before .before .before .before .before .before .before .before .pre)
+
+returns-7 : tie.Need-returns-7 Inv-loop μ-loop
+returns-7 c = record { long = (c .before .before .before .before .before .before .before .before .before .before .before .before .before .before .loop .inv .0); left = λ d h. sym (laws.allocate-lacks-cell (here (c .before .before .before .before .before .before .before .before .before .before) d h) _ (c .before .before .before .before .before .before .find3 .ensures) (c .before .before .before .before .before .if3 .left) _ (laws.value-is h _ (c .before .before .before .before .before .before .before .before .before .before .before .before .before .before .loop .inv .0) _ (c .before .before .before .before .before .if3 .left)) (c .before .before .before .is-astray .ensures) _ (c .before .before .before .before .before .before .before .before .effect6 .given .1) (c .before .before .if4 .left) _ (c .before .find4 .ensures) (c .if5 .taken)) }
+
+loop-again-6 : tie.Need-loop-again-6 Inv-loop μ-loop
+loop-again-6 c = (simp length-set (c .before .before .before .before .before .before .before .before .before .before .before .before .before .before .before .before .loop .inv .0), λ d h. laws.allocates (here (c .before .before .before .before .before .before .before .before .before .before .before .before) d h) _ (c .before .before .before .before .before .before .before .before .find3 .ensures) (c .before .before .before .before .before .before .before .if3 .left) _ (laws.value-is h _ (c .before .before .before .before .before .before .before .before .before .before .before .before .before .before .before .before .loop .inv .0) _ (c .before .before .before .before .before .before .before .if3 .left)) (c .before .before .before .before .before .is-astray .ensures) _ (c .before .before .before .before .before .before .before .before .before .before .effect6 .given .1) (c .before .before .before .before .if4 .left) _ (c .before .before .before .find4 .ensures) _ _ _ (c .before .before .if5 .left) (laws.value-is h _ (c .before .before .before .before .before .before .before .before .before .before .before .before .before .before .before .before .loop .inv .0) _ (c .before .before .if5 .left)) (laws.assigned-twice h _ (c .before .before .before .before .before .before .before .before .before .before .before .before .before .before .before .before .loop .inv .0) _ (c .before .before .before .before .before .before .before .if3 .left) _ _ (c .before .before .if5 .left) _) (c .with-register3 .ensures))
+
+find-requires-5 : tie.Need-find-requires-5 Inv-loop μ-loop
+find-requires-5 c κs = (c .before .before .before .before .before .before .before .before .pre)
+
+returns-8 : tie.Need-returns-8 Inv-loop μ-loop
+returns-8 c = record { long = (c .before .before .before .before .before .before .before .before .before .loop .inv .0); left = λ d h. sym (laws.free-lacks (here (c .before .before .before .before .before) d h) _ (c .before .find5 .ensures) _ (c .before .before .before .effect7 .given .1) (c .if6 .taken)) }
+
+find-requires-6 : tie.Need-find-requires-6 Inv-loop μ-loop
+find-requires-6 c κs = (c .before .before .before .before .before .before .before .before .before .before .pre)
+
+returns-9 : tie.Need-returns-9 Inv-loop μ-loop
+returns-9 c = record { long = (c .before .before .before .before .before .before .before .before .before .before .before .loop .inv .0); left = λ d h. sym (laws.free-lacks-cell (here (c .before .before .before .before .before .before .before) d h) _ (c .before .before .before .find5 .ensures) (c .before .before .if6 .left) _ (c .before .before .before .before .before .effect7 .given .1) _ (c .before .find6 .ensures) (c .if7 .taken)) }
+
+loop-again-7 : tie.Need-loop-again-7 Inv-loop μ-loop
+loop-again-7 c = (simp length-set (c .before .before .before .before .before .before .before .before .before .before .before .before .before .loop .inv .0), λ d h. laws.frees (here (c .before .before .before .before .before .before .before .before .before) d h) _ (c .before .before .before .before .before .find5 .ensures) (c .before .before .before .before .if6 .left) _ (c .before .before .before .before .before .before .before .effect7 .given .1) _ (c .before .before .before .find6 .ensures) _ _ _ (c .before .before .if7 .left) (laws.value-is h _ (c .before .before .before .before .before .before .before .before .before .before .before .before .before .loop .inv .0) _ (c .before .before .before .before .if6 .left)) (laws.assigned-twice h _ (c .before .before .before .before .before .before .before .before .before .before .before .before .before .loop .inv .0) _ (c .before .before .if7 .left) _ _ (c .before .before .before .before .if6 .left) _) (c .skipped3 .ensures))
+
+returns-10 : tie.Need-returns-10 Inv-loop μ-loop
+returns-10 c = record { long = c .before .loop .inv .0; left = λ d h. sym (laws.simulate-end _ _ _ _ _ _ _ ((c .before .loop .inv .1) d h .0) (c .loop-test .left)) }
 
 pub simulate-spec : {M : Type 1} → statement M
 simulate-spec =
@@ -120,4 +156,46 @@ simulate-spec =
     (λ c κs. search needs)
     (λ c. omega arith)
     loop-again-5
-    returns-5)
+    (λ c. search needs)
+    find-requires-3
+    returns-5
+    (λ c. omega arith)
+    (λ c. omega arith)
+    (λ c. omega arith)
+    (λ c κs. search needs)
+    (λ c κs. search needs)
+    returns-6
+    cast-cell
+    find-requires-4
+    returns-7
+    (λ c. omega arith)
+    (λ c. omega arith)
+    (λ c. omega arith)
+    (λ c. omega arith)
+    (λ c. omega arith)
+    (λ c. omega arith)
+    (λ c. omega arith)
+    (λ c. omega arith)
+    (λ c. omega arith)
+    (λ c κs. search needs)
+    (λ c. omega arith)
+    loop-again-6
+    (λ c. search needs)
+    find-requires-5
+    returns-8
+    find-requires-6
+    returns-9
+    (λ c. omega arith)
+    (λ c. omega arith)
+    (λ c. omega arith)
+    (λ c. omega arith)
+    (λ c. omega arith)
+    (λ c. omega arith)
+    (λ c. omega arith)
+    (λ c. omega arith)
+    (λ c. omega arith)
+    (λ c. omega arith)
+    (λ c κs. search needs)
+    (λ c. omega arith)
+    loop-again-7
+    returns-10)

@@ -14,7 +14,10 @@ fn words(words: [u32; 4]) -> String {
 fn answer(answer: Answer) -> String {
     match answer {
         Answer::Run => "run".into(),
-        Answer::Done { number, outputs, own_steps } => format!("done,{number},{},{own_steps}", words(outputs)),
+        Answer::Done { number, outputs, fault, own_steps } => {
+            let word = if fault { "fault" } else { "done" };
+            format!("{word},{number},{},{own_steps}", words(outputs))
+        }
         Answer::Exited { own_steps } => format!("exited,{own_steps}"),
     }
 }
@@ -34,7 +37,8 @@ fn cells(machine: &Machine, variable: usize) {
             Flag::Active => "active",
             Flag::Exit => "exit",
         };
-        println!("announcement,{process},{},{},{flag},{},{}", a.program, a.seq, a.number, words(a.words));
+        let fault = a.fault as u8;
+        println!("announcement,{process},{},{},{flag},{},{},{fault}", a.program, a.seq, a.number, words(a.words));
     }
     match machine.cells.records.get(variable) {
         Some(r) => println!("record,{variable},{},{},{},{}", r.val[0], r.val[1], r.toggle, r.seq),

@@ -11,7 +11,8 @@ const OUTCOMES: [(Label, &[&str]); 18] = [
     (Label::P6, &["won", "lost"]), (Label::P7, &["done", "not done"]),
     (Label::P10, &["free", "held"]), (Label::C2, &["active", "not active"]), (Label::C4, &["done", "not done"]),
     (Label::P13, &["won", "lost"]), (Label::P14, &["free", "held"]),
-    (Label::P16, &["help", "done", "greater seq"]), (Label::H21, &["lower seq", "equal seq", "greater seq"]),
+    (Label::P16, &["help", "fault", "done", "greater seq"]),
+    (Label::H21, &["lower seq", "equal seq", "fault", "greater seq"]),
     (Label::H36, &["won", "lost"]), (Label::P19, &["won", "lost"]), (Label::P20, &["won", "lost"]),
     (Label::P21, &["won", "lost"]), (Label::P22, &["active", "exit", "done"]),
     (Label::F1, &["own", "not own"]), (Label::F3, &["won", "lost"]),
@@ -26,7 +27,7 @@ const REFUSALS: [(&str, u8); 20] = [
 ];
 
 /// Every answer to a taken command.
-const ANSWERS: [&str; 7] = ["called", "requested", "run", "done", "exited", "traced", "value"];
+const ANSWERS: [&str; 8] = ["called", "requested", "run", "done", "fault", "exited", "traced", "value"];
 
 #[derive(Default)]
 pub struct Coverage {

@@ -120,13 +120,15 @@ fn make(code: u64, a: usize, b: usize, c: usize) -> Instruction {
 /// A few instructions that do something with a variable, or one at random.
 fn fragment(random: &mut Random, variables: usize) -> Vec<Instruction> {
     let (v, w, i, o) = (random.below(variables), random.below(variables), random.below(4), random.below(4));
-    match random.below(9) {
+    match random.below(10) {
         0 => vec![make(1, 0, i, 0), make(3, 1, v, 0), make(4, v, 0, 0), make(11, o, 1, 0)],
         1 => vec![make(3, 0, v, 0), make(1, 1, i, 0), make(7, 0, 1, 0), make(4, v, 0, 0), make(11, o, 0, 0)],
         2 => vec![make(2, 0, 1, 0), make(3, 1, v, 0), make(8, 0, 1, 0), make(4, v, 0, 0)],
         3 => vec![make(1, 0, i, 0), make(5, 1, 0, 0), make(11, o, 1, 0), make(1, 2, o, 0), make(6, 0, 2, 0)],
         4 => vec![make(3, 0, v, 0), make(5, 1, 0, 0), make(6, 1, 0, 0), make(11, o, 1, 0)],
         5 => vec![make(3, 0, v, 0), make(1, 3, i, 0), make(9 + o as u64 % 2, 0, 3, 1), make(4, w, 3, 0)],
+        // writes and outputs before a touch that is a fault for many inputs
+        6 => vec![make(1, 0, i, 0), make(4, v, 0, 0), make(11, o, 0, 0), make(5 + o as u64 % 2, 0, 0, 0)],
         _ => (0..3).map(|_| any_instruction(random, variables)).collect(),
     }
 }

@@ -204,6 +204,8 @@ pub struct Announcement {
     /// The gate number under which it was done; 0 while active or exit, and at opening (document 02, order 4).
     pub number: u64,
     pub words: [u32; 4],
+    /// The mark of an operation that was done as a fault (document 02, order 6).
+    pub fault: bool,
 }
 
 #[derive(Clone, Copy, Debug, PartialEq, Eq)]
@@ -223,7 +225,7 @@ pub struct Cells {
 
 /// 'Shared cells': each cell at opening.
 fn opening_cells(card: &Card) -> Cells {
-    let announcement = Announcement { program: 0, seq: 0, flag: Flag::Done, number: 0, words: [0; 4] };
+    let announcement = Announcement { program: 0, seq: 0, flag: Flag::Done, number: 0, words: [0; 4], fault: false };
     let record = |&value: &u32| Record { val: [value, 0], toggle: 0, seq: 0 };
     Cells {
         gate: Gate { holder: None, seq: 1 },
@@ -258,6 +260,7 @@ struct Helping {
     at: usize,
     registers: [u32; 4],
     outputs: [u32; 4],
+    fault: bool,
     dictionary: Vec<Noted>,
     /// The variable that the next H21 reads.
     touching: usize,
@@ -265,17 +268,27 @@ struct Helping {
     considered: usize,
 }
 
+/// What an instruction touches: nothing, a variable, or a number of n or more.
+enum Touch {
+    Nothing,
+    Variable(usize),
+    Off,
+}
+
 impl Helping {
-    /// The variable that an instruction touches; a number of n or more touches nothing.
-    fn touched(&self, instruction: &Instruction, variables: usize) -> Option<usize> {
+    fn touched(&self, instruction: &Instruction, variables: usize) -> Touch {
         let variable = match instruction.code {
             3 => instruction.b,
             4 => instruction.a,
             5 => self.registers[instruction.b] as usize,
             6 => self.registers[instruction.a] as usize,
-            _ => return None,
+            _ => return Touch::Nothing,
         };
-        (variable < variables).then_some(variable)
+        if variable < variables {
+            Touch::Variable(variable)
+        } else {
+            Touch::Off
+        }
     }
 
     /// H20 and H26: the dictionary's entry of a variable.
@@ -283,17 +296,28 @@ impl Helping {
         self.dictionary.iter_mut().find(|noted| noted.variable == variable)
     }
 
-    /// H7 to H30: runs on to a first touch (then H21 is next) or to the stop (then H31).
+    /// H7 to H30: runs on to a first touch (then H21 is next), to the stop (then H31), or to a fault (then P19).
     fn run(&mut self, program: &[Instruction], inputs: &[u32; 4], gate_seq: u64, variables: usize) -> Label {
         while let Some(instruction) = program.get(self.at).filter(|instruction| instruction.code != 12) {
-            let touched = self.touched(instruction, variables);
-            if let Some(variable) = touched.filter(|&variable| self.entry(variable).is_none()) {
-                self.touching = variable;
-                return Label::H21;
-            }
+            let touched = match self.touched(instruction, variables) {
+                Touch::Off => return self.end_as_fault(),
+                Touch::Variable(variable) if self.entry(variable).is_none() => {
+                    self.touching = variable;
+                    return Label::H21;
+                }
+                Touch::Variable(variable) => Some(variable),
+                Touch::Nothing => None,
+            };
             self.execute(instruction, touched, inputs);
         }
         self.next_write(gate_seq)
+    }
+
+    /// None of its writes is made, and its outputs are 0 (document 02, order 6).
+    fn end_as_fault(&mut self) -> Label {
+        self.outputs = [0; 4];
+        self.fault = true;
+        Label::P19
     }
 
     /// The instruction table; a touched variable is in the dictionary.
@@ -314,7 +338,7 @@ impl Helping {
         }
     }
 
-    /// H27; code 5 gives 0 where nothing is touched.
+    /// H27.
     fn load(&mut self, touched: Option<usize>) -> u32 {
         touched.and_then(|variable| self.entry(variable)).map_or(0, |noted| noted.value)
     }
@@ -378,7 +402,7 @@ struct Operation {
 #[derive(Clone, Copy, Debug, PartialEq, Eq)]
 pub enum Answer {
     Run,
-    Done { number: u64, outputs: [u32; 4], own_steps: u64 },
+    Done { number: u64, outputs: [u32; 4], fault: bool, own_steps: u64 },
     Exited { own_steps: u64 },
 }
 
@@ -506,6 +530,7 @@ impl Operation {
             flag: Flag::Active,
             number: 0,
             words: self.inputs,
+            fault: false,
         };
         (Place::At(Label::P3), "read")
     }
@@ -517,7 +542,8 @@ impl Operation {
     }
 
     fn p6(&mut self, cells: &mut Cells) -> (Place, &'static str) {
-        let wanted = Announcement { flag: Flag::Exit, number: 0, words: self.inputs, ..self.announcement };
+        let wanted =
+            Announcement { flag: Flag::Exit, number: 0, words: self.inputs, fault: false, ..self.announcement };
         let outcome = swap(&mut cells.announcements[self.process], self.announcement, wanted);
         (Place::At(Label::P7), outcome)
     }
@@ -591,7 +617,7 @@ impl Operation {
             return (Place::At(Label::P21), "greater seq");
         }
         self.helping = Helping::default();
-        (self.help(card), "help")
+        (self.help(card), if self.helping.fault { "fault" } else { "help" })
     }
 
     /// Local work of helping up to the next access.
@@ -610,7 +636,7 @@ impl Operation {
         let (side, outcome) =
             if record.seq < self.gate.seq { (record.toggle, "lower seq") } else { (1 - record.toggle, "equal seq") };
         self.helping.dictionary.push(Noted { variable, record, value: record.val[side] });
-        (self.help(card), outcome)
+        (self.help(card), if self.helping.fault { "fault" } else { outcome })
     }
 
     /// H33 to H36, then H31 again.
@@ -627,8 +653,9 @@ impl Operation {
     /// P19 and P20.
     fn mark_done(&mut self, flag: Flag, next: Label, cells: &mut Cells) -> (Place, &'static str) {
         let expected = Announcement { flag, ..self.announcement };
+        let Helping { outputs, fault, .. } = self.helping;
         let number = self.gate.seq;
-        let done = Announcement { flag: Flag::Done, number, words: self.helping.outputs, ..self.announcement };
+        let done = Announcement { flag: Flag::Done, number, words: outputs, fault, ..self.announcement };
         (Place::At(next), swap(&mut cells.announcements[self.holder()], expected, done))
     }
 
@@ -661,7 +688,8 @@ impl Operation {
         let own_steps = self.own_steps;
         match self.place {
             Place::ReturnDone => {
-                Answer::Done { number: self.announcement.number, outputs: self.announcement.words, own_steps }
+                let Announcement { number, words, fault, .. } = self.announcement;
+                Answer::Done { number, outputs: words, fault, own_steps }
             }
             Place::ReturnExited => Answer::Exited { own_steps },
             _ => Answer::Run,

@@ -148,14 +148,15 @@ fn two_processes(checks: &mut Checks) {
     checks.session("K with two processes", &card_of(2, 100, 7, EXCHANGE), &commands, &printed);
 }
 
-/// The pieces about instructions: what a program run alone gives, and its steps.
+/// The pieces about instructions: what a program run alone gives (its outputs, or a fault), and its steps.
 fn program_pieces(checks: &mut Checks) {
     let mut alone = |name: &str, variables: &[u32], program: &[&str], outputs: &str, own_steps: usize| {
         let values: String = variables.iter().map(|value| format!("var,{value}\n")).collect();
         let body: String = program.iter().map(|line| format!("ins,{line}\n")).collect();
         let card = format!("card,1,{},1,100\n{values}sheet,{}\n{body}", variables.len(), program.len());
         let commands = format!("call,0,0,11,12,13,14\n{}", steps(0, own_steps));
-        let printed = format!("call,0,taken\n{}step,0,done,1,{outputs},{own_steps}\n", runs(0, own_steps - 1));
+        let answer = if outputs == "fault" { "fault,1,0,0,0,0".into() } else { format!("done,1,{outputs}") };
+        let printed = format!("call,0,taken\n{}step,0,{answer},{own_steps}\n", runs(0, own_steps - 1));
         checks.session(name, &card, &commands, &printed);
     };
     alone(
@@ -168,8 +169,9 @@ fn program_pieces(checks: &mut Checks) {
     alone("0 minus 1", &[0], &["2,1,1,0", "8,0,1,0", "11,0,0,0"], "0,0,0,0", 12);
     let many: Vec<u32> = (0..64).map(|variable| 100 + variable).collect();
     alone("code 5 with 63 of 64", &many, &["2,0,63,0", "5,1,0,0", "11,0,1,0"], "163,0,0,0", 13);
-    alone("code 5 with 64 of 64", &many, &["2,0,64,0", "2,1,5,0", "5,1,0,0", "11,0,1,0"], "0,0,0,0", 12);
-    alone("code 6 with 64 of 64", &many, &["2,0,64,0", "6,0,0,0", "11,0,0,0"], "64,0,0,0", 12);
+    alone("code 5 with 64 of 64", &many, &["2,0,64,0", "2,1,5,0", "5,1,0,0", "11,0,1,0"], "fault", 12);
+    alone("code 6 with 64 of 64", &many, &["2,0,64,0", "6,0,0,0", "11,0,0,0"], "fault", 12);
+    alone("a write and an output before a fault", &[7], &["2,0,9,0", "4,0,0,0", "11,0,0,0", "5,1,0,0"], "fault", 13);
     alone("skip 31 at the second of three", &[0], &["2,0,5,0", "9,0,0,31", "11,0,0,0"], "0,0,0,0", 12);
     alone("no skip", &[0], &["2,0,5,0", "10,0,0,31", "11,0,0,0"], "5,0,0,0", 12);
     alone("stop", &[0], &["1,0,3,0", "11,2,0,0", "12,0,0,0", "11,0,0,0"], "0,0,14,0", 12);
@@ -323,18 +325,18 @@ fn late_write(checks: &mut Checks, flip: &str) {
 
 // ---------------------------------------------------------------- card and sequential run side by side
 
-/// The single-user run of document 01: plain words, each operation from start to stop.
-fn run_alone(words: &mut [u32], program: &[Instruction], inputs: [u32; 4]) -> [u32; 4] {
-    let (mut r, mut outputs, mut at) = ([0u32; 4], [0u32; 4], 0);
+/// The single-user run of document 01: plain words, each operation from start to stop. None for a fault, which leaves the words.
+fn run_alone(words: &mut Vec<u32>, program: &[Instruction], inputs: [u32; 4]) -> Option<[u32; 4]> {
+    let (mut left, mut r, mut outputs, mut at) = (words.clone(), [0u32; 4], [0u32; 4], 0);
     while let Some(&Instruction { code, a, b, c }) = program.get(at) {
         at += 1;
         match code {
             1 => r[a] = inputs[b],
             2 => r[a] = b as u32,
-            3 => r[a] = words[b],
-            4 => words[a] = r[b],
-            5 => r[a] = words.get(r[b] as usize).copied().unwrap_or(0),
-            6 => words.get_mut(r[a] as usize).into_iter().for_each(|word| *word = r[b]),
+            3 => r[a] = left[b],
+            4 => left[a] = r[b],
+            5 => r[a] = *left.get(r[b] as usize)?,
+            6 => *left.get_mut(r[a] as usize)? = r[b],
             7 => r[a] = r[a].saturating_add(r[b]),
             8 => r[a] = r[a].saturating_sub(r[b]),
             9 => at += if r[a] == r[b] { c } else { 0 },
@@ -343,17 +345,21 @@ fn run_alone(words: &mut [u32], program: &[Instruction], inputs: [u32; 4]) -> [u
             _ => break,
         }
     }
-    outputs
+    *words = left;
+    Some(outputs)
 }
 
-/// Demand 3 on the case of a seed: the words equal the values read after each entry, rank and outputs those of 'done'.
+/// What an operation came to that is done: its rank, its outputs, and whether it was a fault.
+type Done = (u64, [u32; 4], bool);
+
+/// Demand 3 on the case of a seed: the words equal the values read after each entry, rank, outputs and mark those of 'done' and 'fault'.
 fn side_by_side(seed: u64) -> Result<(), String> {
     let case = case(seed);
     let Ok(card) = open(case.card.as_deref().unwrap_or(&[])) else { return Ok(()) };
     let mut words = card.starting.clone();
     let mut latest = vec![(0, [0; 4]); card.processes];
     let mut finished = 0;
-    let mut results = vec![(0, [0; 4]); card.processes];
+    let mut results = vec![(0, [0; 4], false); card.processes];
     let mut machine = Machine::new(card);
     for (place, line) in lines(case.calls.as_deref().unwrap_or(&[])).iter().enumerate() {
         let before = flags(&machine);
@@ -361,7 +367,8 @@ fn side_by_side(seed: u64) -> Result<(), String> {
         for process in (0..before.len()).filter(|&at| before[at] != Flag::Done && flags(&machine)[at] == Flag::Done) {
             let (program, inputs) = latest[process];
             finished += 1;
-            results[process] = (finished, run_alone(&mut words, &machine.card.programs[program], inputs));
+            let outputs = run_alone(&mut words, &machine.card.programs[program], inputs);
+            results[process] = (finished, outputs.unwrap_or([0; 4]), outputs.is_none());
         }
         let shown: Vec<u32> = (0..words.len()).map(|variable| machine.read(variable as u32).expect("there")).collect();
         let agreed = answer.is_none_or(|(process, found)| found == results[process]);
@@ -372,11 +379,11 @@ fn side_by_side(seed: u64) -> Result<(), String> {
     Ok(())
 }
 
-/// The number in an announcement: that of the process's latest finished operation if it is done, else 0.
-fn numbered(machine: &Machine, results: &[(u64, [u32; 4])]) -> bool {
-    let agrees = |(announcement, result): (&Announcement, &(u64, [u32; 4]))| match announcement.flag {
-        Flag::Done => announcement.number == result.0,
-        _ => announcement.number == 0,
+/// What a done announcement holds is what the process's latest finished operation came to; any other has number 0 and no mark.
+fn numbered(machine: &Machine, results: &[Done]) -> bool {
+    let agrees = |(announcement, result): (&Announcement, &Done)| match announcement.flag {
+        Flag::Done => (announcement.number, announcement.words, announcement.fault) == *result,
+        _ => announcement.number == 0 && !announcement.fault,
     };
     machine.cells.announcements.iter().zip(results).all(agrees)
 }
@@ -385,8 +392,8 @@ fn flags(machine: &Machine) -> Vec<Flag> {
     machine.cells.announcements.iter().map(|announcement| announcement.flag).collect()
 }
 
-/// Enters one command; keeps the latest taken call of each process; gives the number and the outputs of a 'done' answer.
-fn enter(machine: &mut Machine, line: &Line, latest: &mut [(usize, [u32; 4])]) -> Option<(usize, (u64, [u32; 4]))> {
+/// Enters one command; keeps the latest taken call of each process; gives what a 'done' or 'fault' answer says.
+fn enter(machine: &mut Machine, line: &Line, latest: &mut [(usize, [u32; 4])]) -> Option<(usize, Done)> {
     match parse(line)? {
         Command::Call { process, program, inputs } => {
             if machine.call(process, program, inputs).is_ok() {
@@ -396,7 +403,7 @@ fn enter(machine: &mut Machine, line: &Line, latest: &mut [(usize, [u32; 4])]) -
         }
         Command::RequestExit { process } => machine.request_exit(process).ok().and(None),
         Command::Step { process } | Command::Trace { process } => match machine.step(process).ok()?.answer {
-            Answer::Done { number, outputs, .. } => Some((process as usize, (number, outputs))),
+            Answer::Done { number, outputs, fault, .. } => Some((process as usize, (number, outputs, fault))),
             _ => None,
         },
         Command::Read { .. } => None,

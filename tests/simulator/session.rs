@@ -109,8 +109,9 @@ fn step_fields(machine: &Machine, stepped: &Stepped, coverage: &mut Coverage) ->
     coverage.stepped(stepped, machine.card.longest_wait());
     match stepped.answer {
         Answer::Run => coverage.answered("run", "run"),
-        Answer::Done { number, outputs: [o0, o1, o2, o3], own_steps } => {
-            coverage.answered("done", format!("done,{number},{o0},{o1},{o2},{o3},{own_steps}"))
+        Answer::Done { number, outputs: [o0, o1, o2, o3], fault, own_steps } => {
+            let word = if fault { "fault" } else { "done" };
+            coverage.answered(word, format!("{word},{number},{o0},{o1},{o2},{o3},{own_steps}"))
         }
         Answer::Exited { own_steps } => coverage.answered("exited", format!("exited,{own_steps}")),
     }

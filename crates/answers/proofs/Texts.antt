@@ -11,10 +11,11 @@ use Rattle.grammar.specs.Writing.{decimal, largest, Put}
 use Rattle.grammar.proofs.Decimals.{decimal-one, decimal-more}
 use Rattle.grammar.proofs.Puts.{Room, rest-all, rest-step, rest-last, put-both}
 use Rattle.construction.specs.declared.Words.{Words}
+use Rattle.construction.specs.declared.Yield.{Yield}
 use Rattle.construction.specs.declared.Answer.{Answer}
 use Rattle.construction.specs.declared.Verdict.{Verdict}
 use Rattle.construction.specs.declared.Refusal.{Refusal}
-use Rattle.construction.specs.Answers.{bytes, numberOf, refusedWith, outputNumbers, answerFields, verdictFields, numbersText, fieldsText}
+use Rattle.construction.specs.Answers.{bytes, numberOf, refusedWith, wordText, doneWord, outputNumbers, answerFields, verdictFields, numbersText, fieldsText}
 
 -- ---- how long a number is: below `tens k` it has at most k + 1 digits
 abbrev tens : ℕ → ℕ
@@ -88,25 +89,35 @@ module _ {b : List ℕ} {at i₁ i₂ i₃ j : ℕ} {y₁ y₂ y₃ z : List ℕ
         omega arith,
       )
 
--- `done`, the gate number, four outputs and the operation's own steps
+-- `done` or `fault`, the gate number, four outputs and the operation's own steps
 last-number : (o : Words) (k : ℕ) → numbersText (outputNumbers o ++ (k ∷ [])) ≡ numbersText (outputNumbers o) ++ (44 ∷ decimal k)
 last-number o k = numbers-both (outputNumbers o) (k ∷ []) ∙ ap (λ (l : List ℕ). numbersText (outputNumbers o) ++ l) (one-number k)
 
-module _ {b : List ℕ} {at i₁ i₂ j : ℕ} {y₁ y₂ z : List ℕ} (n : ℕ) (o : Words) (k : ℕ) where
+module _ {b : List ℕ} {at i₁ i₂ i₃ j : ℕ} {y₁ y₂ y₃ z : List ℕ} (n : ℕ) (y : Yield) (k : ℕ) where
   pub put-done :
-      Room b at → PutWithin b at (bytes ",done," ++ decimal n) i₁ y₁ 26 → PutWithin y₁ i₁ (numbersText (outputNumbers o)) i₂ y₂ 84 →
-      PutWithin y₂ i₂ (44 ∷ decimal k) j z 21 → PutWithin b at (fieldsText (answerFields (Answer.Done n o k))) j z 132
+      Room b at → PutWithin b at (wordText (bytes (doneWord (y .fault)))) i₁ y₁ 6 → PutWithin y₁ i₁ (44 ∷ decimal n) i₂ y₂ 21 →
+      PutWithin y₂ i₂ (numbersText (outputNumbers (y .outputs))) i₃ y₃ 84 → PutWithin y₃ i₃ (44 ∷ decimal k) j z 21 →
+      PutWithin b at (fieldsText (answerFields (Answer.Done n y k))) j z 132
   unfolding fieldsText answerFields
-  put-done h p₁ p₂ p₃ =
+  put-done h p₁ p₂ p₃ p₄ =
       let l₁ = p₁ .1 in
       let l₂ = p₂ .1 in
       let l₃ = p₃ .1 in
-      (subst (λ (x : List ℕ). Put b at x j z) (sym text) (rest-last (rest-step (rest-step (rest-all b at _ h) (p₁ .0)) (p₂ .0)) (p₃ .0)), omega arith)
+      let l₄ = p₄ .1 in (
+        subst (λ (x : List ℕ). Put b at (word ++ x) j z) (sym text)
+            (rest-last (rest-step (rest-step (rest-step (rest-all b at _ h) (p₁ .0)) (p₂ .0)) (p₃ .0)) (p₄ .0)),
+        omega arith,
+      )
     where
+      word : List ℕ
+      word = wordText (bytes (doneWord (y .fault)))
+
       text :
-          bytes ",done" ++ numbersText (n ∷ (outputNumbers o ++ (k ∷ [])))
-          ≡ (bytes ",done," ++ decimal n) ++ (numbersText (outputNumbers o) ++ (44 ∷ decimal k))
-      text = ap (λ (l : List ℕ). bytes ",done" ++ l) (first-number n (outputNumbers o ++ (k ∷ []))) ∙ ap (λ (l : List ℕ). bytes ",done," ++ (decimal n ++ l)) (last-number o k)
+          numbersText (n ∷ (outputNumbers (y .outputs) ++ (k ∷ [])))
+          ≡ (44 ∷ decimal n) ++ (numbersText (outputNumbers (y .outputs)) ++ (44 ∷ decimal k))
+      text =
+          first-number n (outputNumbers (y .outputs) ++ (k ∷ []))
+          ∙ ap (λ (l : List ℕ). 44 ∷ (decimal n ++ l)) (last-number (y .outputs) k)
 
 -- `refused`, its number and a line
 module _ {b : List ℕ} {at i j : ℕ} {y z : List ℕ} (r : Refusal) (line : ℕ) where

@@ -9,6 +9,7 @@ use construction::RowSwap;
 use construction::Verdict;
 use construction::Words;
 use construction::Written;
+use construction::Yield;
 use grammar::writing::put_decimal;
 use grammar::writing::put_word;
 ghost use mathlib.Core.Path.{_≡_};
@@ -17,7 +18,7 @@ ghost use Prim.Native.Nat.{_+_, _≤_};
 ghost use lib.ListN.{length};
 ghost use Rattle.grammar.specs.Writing.{decimal, Put};
 ghost use Rattle.construction.specs.declared.Answer.{Answer as AnswerOf};
-ghost use Rattle.construction.specs.Answers.{numberOf, refusedWith, outputNumbers, answerFields, verdictFields, writtenFields, rowFields, numbersText, fieldsText};
+ghost use Rattle.construction.specs.Answers.{numberOf, refusedWith, bytes, wordText, doneWord, outputNumbers, answerFields, verdictFields, writtenFields, rowFields, numbersText, fieldsText};
 
 // The number of a refusal.
 pub fn number_of(refusal: Refusal) -> u64
@@ -65,13 +66,25 @@ fn put_outputs(buffer: &mut [u8], at: usize, outputs: Words) -> usize
     put_number(buffer, k, b",", outputs.w3 as u64)
 }
 
-// `done`, the gate number, four outputs and the operation's own steps.
-fn put_done(buffer: &mut [u8], at: usize, number: u64, outputs: Words, steps: u64) -> usize
-    ensures { λ r. ⌜ Put (now (buffer .entry)) at (fieldsText (answerFields (AnswerOf.Done number outputs steps))) r (now (buffer .exit)) × (r ≤ at + 132) ⌝ }
+// `fault` or `done`.
+fn put_done_word(buffer: &mut [u8], at: usize, fault: bool) -> usize
+    ensures { λ r. ⌜ Put (now (buffer .entry)) at (wordText (bytes (doneWord fault))) r (now (buffer .exit)) × (r ≤ at + 6) ⌝ }
 {
-    let i = put_number(buffer, at, b",done,", number);
-    let j = put_outputs(buffer, i, outputs);
-    put_number(buffer, j, b",", steps)
+    if fault {
+        return put_word(buffer, at, b",fault");
+    }
+    put_word(buffer, at, b",done")
+}
+
+// `done` or `fault`, the gate number, four outputs and the operation's own steps.
+fn put_done(buffer: &mut [u8], at: usize, number: u64, yields: Yield, steps: u64) -> usize
+    ensures { λ r. ⌜ Put (now (buffer .entry)) at (fieldsText (answerFields (AnswerOf.Done number yields steps))) r (now (buffer .exit)) × (r ≤ at + 132) ⌝ }
+{
+    let outputs = yields.outputs;
+    let i = put_done_word(buffer, at, yields.fault);
+    let j = put_number(buffer, i, b",", number);
+    let k = put_outputs(buffer, j, outputs);
+    put_number(buffer, k, b",", steps)
 }
 
 // The answer to a call, an exit request, a step or a read.
@@ -83,9 +96,9 @@ pub fn put_answer(buffer: &mut [u8], at: usize, answer: Answer) -> usize
         Answer::Run => put_word(buffer, at, b",run"),
         Answer::Done {
             number,
-            outputs,
+            yields,
             steps,
-        } => put_done(buffer, at, number, outputs, steps),
+        } => put_done(buffer, at, number, yields, steps),
         Answer::Exited { steps } => put_number(buffer, at, b",exited,", steps),
         Answer::Value(x) => put_number(buffer, at, b",", x as u64),
         Answer::Refused(refusal) => put_refusal(buffer, at, refusal),

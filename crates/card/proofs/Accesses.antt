@@ -185,7 +185,7 @@ module _ {c : Card} {i n m : ℕ} {a : Access} (h : Accepted c i n m a) where
     pub at-announcement :
         (b : AnnouncementAccess) → a ≡ Access.Announcement b → (k : ℕ) → k ≡ whose b (c .processes) i (localAt c i .gate) →
         (cell : Announcement) → cell ≡ cond (ltb k 8) (getD (c .announcements) (k % 8) openAnnouncement) openAnnouncement →
-        (r : AnnouncementAccessed) → r ≡ accessAnnouncement b k cell (localAt c i .operation) (localAt c i .gate) (localAt c i .announcement) (localAt c i .simulation .outputs) (localAt c i .task) →
+        (r : AnnouncementAccessed) → r ≡ accessAnnouncement b k cell (localAt c i .operation) (localAt c i .gate) (localAt c i .announcement) (localAt c i .simulation .yields) (localAt c i .task) →
         t ≡ stepAnswer (r .task .place) (r .read) m → (row : List Announcement) → row ≡ set (c .announcements) k (r .cell) →
         left (withCells c (c .gate) row (c .records)) (set (c .tasks) i (r .task)) (c .gates) (set (c .copies) i (r .read)) (c .simulations) (c .dictionaries) (c .masks)
     unfolding perform

@@ -29,7 +29,7 @@ stepJudged i p place steps limit =
 abbrev pub isTaken : Answer → Bool
 isTaken Answer.Taken = true
 isTaken Answer.Run = false
-isTaken (Answer.Done number o steps) = false
+isTaken (Answer.Done number y steps) = false
 isTaken (Answer.Exited steps) = false
 isTaken (Answer.Value x) = false
 isTaken (Answer.Refused r) = false

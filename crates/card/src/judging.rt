@@ -83,7 +83,7 @@ pub(crate) fn is_taken(answer: Answer) -> bool
         Answer::Run => false,
         Answer::Done {
             number: _,
-            outputs: _,
+            yields: _,
             steps: _,
         } => false,
         Answer::Exited { steps: _ } => false,

@@ -126,9 +126,9 @@ pub fn step(card: Card, process: u32) -> Answered
             let found = c.announcements[at];
             let operation = c.operations[i];
             let simulation = c.simulations[i];
-            let outputs = simulation.outputs;
+            let yields = simulation.yields;
             let cell = announcement_at(m, found);
-            let after = access_announcement(access, m, cell, operation, gate, last, outputs, task);
+            let after = access_announcement(access, m, cell, operation, gate, last, yields, task);
             let stored = after.cell;
             let read = after.read;
             let task = after.task;
@@ -232,7 +232,7 @@ pub fn trace(card: Card, process: u32) -> Traced
     let dictionary = card.dictionaries[i];
     let exit = card.exits[i];
     let place = task.place;
-    let outputs = simulation.outputs;
+    let yields = simulation.yields;
     let label = label_of(place, exit);
     let access = access_of(place, exit);
     let written = writing(gate.seq, task, dictionary);
@@ -255,7 +255,7 @@ pub fn trace(card: Card, process: u32) -> Traced
         gate,
         last,
         operation,
-        outputs,
+        yields,
         task,
         item,
     );

@@ -83,7 +83,8 @@ pub fn same_announcement(a: Announcement, b: Announcement) -> bool
     let other = b.flag;
     a.program == b.program
         && (a.seq == b.seq
-            && (same_flag(flag, other) && (a.number == b.number && same_words(a.words, b.words))))
+            && (same_flag(flag, other)
+                && (a.number == b.number && (a.fault == b.fault && same_words(a.words, b.words)))))
 }
 
 pub fn same_record(a: Record, b: Record) -> bool

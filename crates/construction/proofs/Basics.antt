@@ -126,8 +126,8 @@ gate-path e f = λ i. record { holder = e i; seq = f i }
 
 pub announcement-path :
     {a b : Announcement} → a .program ≡ b .program → a .flag ≡ b .flag → a .seq ≡ b .seq → a .number ≡ b .number → a .words ≡ b .words →
-    a ≡ b
-announcement-path e f g n h = λ i. record { program = e i; flag = f i; seq = g i; number = n i; words = h i }
+    a .fault ≡ b .fault → a ≡ b
+announcement-path e f g n h k = λ i. record { program = e i; flag = f i; seq = g i; number = n i; words = h i; fault = k i }
 
 pub sameGate-true : (a b : Gate) → sameGate a b ≡ true → a ≡ b
 unfolding sameGate
@@ -149,11 +149,13 @@ sameAnnouncement-true a b e =
     let k = and-true (eqb (a .seq) (b .seq)) _ (h .1) in
     let l = and-true (sameFlag (a .flag) (b .flag)) _ (k .1) in
     let n = and-true (eqb (a .number) (b .number)) _ (l .1) in
-    announcement-path (eqb-true _ _ (h .0)) (sameFlag-true _ _ (l .0)) (eqb-true _ _ (k .0)) (eqb-true _ _ (n .0)) (sameWords-true _ _ (n .1))
+    let m = and-true (sameBool (a .fault) (b .fault)) _ (n .1) in
+    announcement-path (eqb-true _ _ (h .0)) (sameFlag-true _ _ (l .0)) (eqb-true _ _ (k .0)) (eqb-true _ _ (n .0)) (sameWords-true _ _ (m .1))
+    (sameBool-true _ _ (m .0))
 
 sameAnnouncement-refl : (a : Announcement) → sameAnnouncement a a ≡ true
 unfolding sameAnnouncement
-sameAnnouncement-refl a = rw (eqb-refl (a .program), eqb-refl (a .seq), sameFlag-refl, eqb-refl (a .number)) (sameWords-refl (a .words))
+sameAnnouncement-refl a = rw (eqb-refl (a .program), eqb-refl (a .seq), sameFlag-refl, eqb-refl (a .number), sameBool-refl) (sameWords-refl (a .words))
 
 pub sameAnnouncement-false : (a b : Announcement) → sameAnnouncement a b ≡ false → a ≢ b
 sameAnnouncement-false a b e q = true-false (sameAnnouncement a b) (rw (← q) (sameAnnouncement-refl a)) e

@@ -9,6 +9,7 @@ pub mod Linearizability
 pub mod Limits
 pub mod Numbers
 pub mod Log
+pub mod Faults
 pub mod Waits
 pub mod Sums
 pub mod Counters

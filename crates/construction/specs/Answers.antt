@@ -4,6 +4,7 @@ use Prim.Native.Nat.{ℕ}
 use Prim.Native.Char.{code}
 use Prim.Native.String.{String}
 use mathlib.Core.Path.{_≡_}
+use mathlib.Core.Bool.{Bool, true, false}
 use mathlib.Core.List.{List, [], _∷_, _++_}
 use Rattle.grammar.specs.Writing.{decimal}
 use Rattle.construction.specs.declared.Words.{Words}
@@ -57,14 +58,19 @@ numberOf OperandOutOfRange = 12
 numberOf UnusedOperand = 13
 
 -- a call, an exit request, a step or a read: '`taken`, `run`, `done` with four outputs and the operation's own steps, `exited` with its own
--- steps, the looked value, or `refused` and the number'; 'a done answer gives it', the gate number, 'before the outputs' (document 02, order 4)
+-- steps, the looked value, or `refused` and the number'; 'a done answer gives it', the gate number, 'before the outputs' (document 02, order 4);
+-- 'The answer says `fault` where it said `done`' (order 6)
 abbrev pub outputNumbers : Words → List ℕ
 outputNumbers o = o .w0 ∷ o .w1 ∷ o .w2 ∷ o .w3 ∷ []
+
+abbrev pub doneWord : Bool → String
+doneWord true = "fault"
+doneWord false = "done"
 
 unfoldable pub answerFields : Answer → Fields
 answerFields Answer.Taken = fields "taken" []
 answerFields Answer.Run = fields "run" []
-answerFields (Answer.Done number o steps) = fields "done" (number ∷ (outputNumbers o ++ (steps ∷ [])))
+answerFields (Answer.Done number y steps) = fields (doneWord (y .fault)) (number ∷ (outputNumbers (y .outputs) ++ (steps ∷ [])))
 answerFields (Answer.Exited steps) = fields "exited" (steps ∷ [])
 answerFields (Answer.Value x) = fields "" (x ∷ [])
 answerFields (Answer.Refused r) = refusedWith (numberOf r)

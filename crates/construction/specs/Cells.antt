@@ -7,6 +7,7 @@ use Rattle.construction.specs.declared.Holder.the-variants.{Nobody, Proc
 use Rattle.construction.specs.declared.Flag.{Flag}
 use Rattle.construction.specs.declared.Flag.the-variants.{Done, Active, Exit}
 use Rattle.construction.specs.declared.Words.{Words}
+use Rattle.construction.specs.declared.Yield.{Yield}
 use Rattle.construction.specs.declared.Gate.{Gate}
 use Rattle.construction.specs.declared.Announcement.{Announcement}
 use Rattle.construction.specs.declared.Record.{Record}
@@ -18,13 +19,24 @@ use Rattle.construction.specs.declared.SwappedRecord.{SwappedRecord}
 abbrev pub zeros : Words
 zeros = record { w0 = 0; w1 = 0; w2 = 0; w3 = 0 }
 
+-- what an operation yields that has output nothing, and one that ends as a fault: 'its outputs are 0' (document 02, order 6)
+abbrev pub noYield : Yield
+noYield = record { outputs = zeros; fault = false }
+
+abbrev pub faultYield : Yield
+faultYield = record { outputs = zeros; fault = true }
+
 -- 'Gate: .. at opening none and 1'
 abbrev pub openGate : Gate
 openGate = record { holder = Nobody; seq = 1 }
 
 -- 'Announcement of each process: .. at opening 0, 0, done, zeros', and done under no gate number yet (document 02, order 4)
 abbrev pub openAnnouncement : Announcement
-openAnnouncement = record { program = 0; flag = Done; seq = 0; number = 0; words = zeros }
+openAnnouncement = record { program = 0; flag = Done; seq = 0; number = 0; words = zeros; fault = false }
+
+-- what an announcement says that is done
+abbrev pub yieldOf : Announcement → Yield
+yieldOf a = record { outputs = a .words; fault = a .fault }
 
 -- 'Record of each variable: .. at opening the starting value, 0, 0, 0'
 abbrev pub openRecord : ℕ → Record
@@ -67,7 +79,7 @@ sameGate a b = sameHolder (a .holder) (b .holder) && eqb (a .seq) (b .seq)
 unfoldable pub sameAnnouncement : Announcement → Announcement → Bool
 sameAnnouncement a b =
     eqb (a .program) (b .program)
-    && (eqb (a .seq) (b .seq) && (sameFlag (a .flag) (b .flag) && (eqb (a .number) (b .number) && sameWords (a .words) (b .words))))
+    && (eqb (a .seq) (b .seq) && (sameFlag (a .flag) (b .flag) && (eqb (a .number) (b .number) && (sameBool (a .fault) (b .fault) && sameWords (a .words) (b .words)))))
 
 unfoldable pub sameRecord : Record → Record → Bool
 sameRecord a b =

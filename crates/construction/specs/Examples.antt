@@ -21,7 +21,7 @@ use Rattle.construction.specs.declared.Label.{Label}
 use Rattle.construction.specs.declared.Report.{Report}
 use Rattle.construction.specs.declared.Refusal.{Refusal}
 use Rattle.construction.specs.declared.Refusal.the-variants.{NotBusy, LimitReached}
-use Rattle.construction.specs.Cells.{openRecord}
+use Rattle.construction.specs.Cells.{zeros, faultYield, openRecord}
 use Rattle.construction.specs.Answers.{bytes, Fields, fields, refusedWith, verdictFields, writtenFields, cardLineFields, varLineFields, sheetLineFields, insLineFields, Refuses}
 use Rattle.construction.specs.Lines.{cardLine, varLine, sheetLine, insLine}
 use Rattle.construction.specs.Opening.{opened}
@@ -86,7 +86,10 @@ abbrev pub runs : ℕ → List Answer
 runs n = replicate n Answer.Run
 
 abbrev pub done : ℕ → Words → ℕ → List Answer
-done number outputs own = Answer.Done number outputs own ∷ []
+done number outputs own = Answer.Done number (record { outputs = outputs; fault = false }) own ∷ []
+
+abbrev pub fault : ℕ → ℕ → List Answer
+fault number own = Answer.Done number faultYield own ∷ []
 
 abbrev pub exited : ℕ → List Answer
 exited own = Answer.Exited own ∷ []
@@ -98,7 +101,10 @@ abbrev pub refused : Refusal → List Answer
 refused r = Answer.Refused r ∷ []
 
 abbrev pub announced : Flag → ℕ → ℕ → ℕ → Announcement
-announced flag seq number x = record { program = 0; flag = flag; seq = seq; number = number; words = one x }
+announced flag seq number x = record { program = 0; flag = flag; seq = seq; number = number; words = one x; fault = false }
+
+abbrev pub announcedFault : ℕ → ℕ → Announcement
+announcedFault seq number = record { program = 0; flag = Done; seq = seq; number = number; words = zeros; fault = true }
 
 -- the text of card K after its first line: store the input, output the old value
 abbrev pub bodyK : List ℕ
@@ -221,7 +227,7 @@ stopped =
       entries = call 0 (two 4294967295 1) ++ steps 0 12;
       answers = taken ++ (runs 11 ++ done 1 (two 4294967295 0) 12);
       gate = record { holder = Nobody; seq = 2 };
-      announcements = record { program = 0; flag = Done; seq = 1; number = 1; words = two 4294967295 0 } ∷ [];
+      announcements = record { program = 0; flag = Done; seq = 1; number = 1; words = two 4294967295 0; fault = false } ∷ [];
       variable = 0;
       cell = openRecord 7;
     }
@@ -249,17 +255,69 @@ indirect =
       cell = openRecord 8;
     }
 
--- 'with 64 gives 0, no access': one step less
+-- 'with 64' a fault (document 02, order 6), 'no access': one step less
 abbrev pub indirectPast : Row
 indirectPast =
     record {
       text = card64;
       entries = call 0 (one 64) ++ steps 0 12;
-      answers = taken ++ (runs 11 ++ done 1 (one 0) 12);
+      answers = taken ++ (runs 11 ++ fault 1 12);
       gate = record { holder = Nobody; seq = 2 };
-      announcements = announced Done 1 1 0 ∷ [];
+      announcements = announcedFault 1 1 ∷ [];
       variable = 63;
       cell = openRecord 8;
+    }
+
+-- code 6 with 64: a fault, no access
+abbrev pub storedPast : Row
+storedPast =
+    record {
+      text = bytes "card,1,64,1,100\n" ++ (zeroLines 63 ++ bytes "var,8\nsheet,2\nins,1,0,0,0\nins,6,0,0,0\n");
+      entries = call 0 (one 64) ++ steps 0 12;
+      answers = taken ++ (runs 11 ++ fault 1 12);
+      gate = record { holder = Nobody; seq = 2 };
+      announcements = announcedFault 1 1 ∷ [];
+      variable = 63;
+      cell = openRecord 8;
+    }
+
+-- the text of a card whose program stores its input, outputs it, and reads the variable that it names
+abbrev pub bodyFault : List ℕ
+bodyFault = bytes "var,7\nsheet,4\nins,1,0,0,0\nins,4,0,0,0\nins,11,0,0,0\nins,5,1,0,0\n"
+
+-- a step and a read, again and again
+abbrev pub watched : ℕ → List Entry
+watched zero = []
+watched (suc n) = Entry.Step 0 ∷ Entry.Read 0 ∷ watched n
+
+abbrev pub seven : ℕ → List Answer
+seven zero = []
+seven (suc n) = Answer.Run ∷ Answer.Value 7 ∷ seven n
+
+-- 'none of its writes is made, its outputs are 0': 9 is stored and output before the fault, and no read ever shows it
+abbrev pub unwritten : Row
+unwritten =
+    record {
+      text = bytes "card,1,1,1,100\n" ++ bodyFault;
+      entries = call 0 (one 9) ++ watched 13;
+      answers = taken ++ (seven 12 ++ (fault 1 13 ++ shown 7));
+      gate = record { holder = Nobody; seq = 2 };
+      announcements = announcedFault 1 1 ∷ [];
+      variable = 0;
+      cell = openRecord 7;
+    }
+
+-- two helpers meet the fault of process 1, and 0 is late: when 1 has returned and announced another operation, 0 marks nothing
+abbrev pub lateFault : Row
+lateFault =
+    record {
+      text = bytes "card,2,1,1,100\n" ++ bodyFault;
+      entries = call 0 (one 0) ++ (call 1 (one 9) ++ (steps 0 2 ++ (steps 1 7 ++ (steps 0 3 ++ (steps 1 6 ++ (call 1 (one 0) ++ (steps 1 2 ++ (steps 0 3 ++ readFirst))))))));
+      answers = taken ++ (taken ++ (runs 17 ++ (fault 1 13 ++ (taken ++ (runs 5 ++ shown 7)))));
+      gate = record { holder = Nobody; seq = 2 };
+      announcements = announced Active 1 0 0 ∷ announced Active 2 0 0 ∷ [];
+      variable = 0;
+      cell = openRecord 7;
     }
 
 -- 'Skip 31 at the second instruction of three, its test true, stops': the output stays 0
@@ -349,7 +407,7 @@ lateSwap =
 
 abbrev pub rows : List Row
 rows =
-    listing ∷ afterNine ∷ afterTen ∷ sameInput ∷ exitRequested ∷ twoProcesses ∷ limited ∷ stopped ∷ indirect ∷ indirectPast ∷ skipPast ∷ turnOfOther ∷ equalSeq ∷ earlyExit ∷ lateMark ∷ lateSwap ∷ []
+    listing ∷ afterNine ∷ afterTen ∷ sameInput ∷ exitRequested ∷ twoProcesses ∷ limited ∷ stopped ∷ indirect ∷ indirectPast ∷ storedPast ∷ unwritten ∷ lateFault ∷ skipPast ∷ turnOfOther ∷ equalSeq ∷ earlyExit ∷ lateMark ∷ lateSwap ∷ []
 
 -- The pieces that speak of lines, by what `trace` tells (document 02, order 1): the reports of the traced steps of a list, in their order
 abbrev pub reportsTo : Card → List Entry → List Report

@@ -6,12 +6,15 @@ use Rattle.construction.specs.declared.Program.{Program}
 use Rattle.construction.specs.declared.Dictionary.{Dictionary}
 use Rattle.construction.specs.declared.Simulation.{Simulation}
 use Rattle.construction.specs.declared.Simulated.{Simulated}
-use Rattle.construction.specs.declared.Pause.the-variants.{Ended, Lacks}
-use Rattle.construction.specs.Instructions.{onEffect, nextEffect, withRegister, withOutput, skipped}
+use Rattle.construction.specs.declared.Pause.the-variants.{Ended, Faulted, Lacks}
+use Rattle.construction.specs.Instructions.{onEffect, nextEffect, withRegister, withOutput, skipped, faulted}
 use Rattle.construction.specs.Dictionary.{find, has, valueAt, assign}
 
 abbrev pub ended : Simulation → Dictionary → Simulated
 ended s d = record { pause = Ended; simulation = s; dictionary = d }
+
+abbrev pub faults : Simulation → Dictionary → Simulated
+faults s d = record { pause = Faulted; simulation = faulted s; dictionary = d }
 
 abbrev pub lacks : ℕ → Simulation → Dictionary → Simulated
 lacks v s d = record { pause = Lacks v; simulation = s; dictionary = d }
@@ -23,6 +26,7 @@ module _ (n : ℕ) (program : Program) (inputs : Words) where
   simulateFrom (suc fuel) s d =
       onEffect (nextEffect n program inputs s)
       (ended s d)
+      (faults s d)
       (λ a x. simulateFrom fuel (withRegister s a x) d)
       (λ a v. cond (has d v) (simulateFrom fuel (withRegister s a (valueAt d (find d v))) d) (lacks v s d))
       (λ v x. cond (has d v) (simulateFrom fuel (skipped s 0) (assign d (find d v) x)) (lacks v s d))

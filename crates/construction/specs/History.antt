@@ -7,6 +7,7 @@ use mathlib.Core.List.{List, [], _∷_, _++_}
 use lib.ListN.{length, take}
 use lib.Dec.{eqb}
 use Rattle.construction.specs.declared.Words.{Words}
+use Rattle.construction.specs.declared.Yield.{Yield}
 use Rattle.construction.specs.declared.Announcement.{Announcement}
 use Rattle.construction.specs.declared.Card.{Card}
 use Rattle.construction.specs.declared.Answer.{Answer}
@@ -44,15 +45,15 @@ pub record Invocation : Type 0 where
   pub program : ℕ
   pub inputs : Words
 
--- an operation that finishes: its number, its gate number, and the outputs that the bench got for it
+-- an operation that finishes: its number, its gate number, and what the bench got for it
 pub record Finish : Type 0 where
   pub operation : ℕ
   pub gate : ℕ
-  pub outputs : Words
+  pub yields : Yield
 
--- how an operation returned: done, with the gate number and the outputs of its answer, or exited
+-- how an operation returned: done (or `fault`, document 02, order 6), with the gate number of its answer and what that yields, or exited
 pub data Return : Type 0 where
-  done : (number : ℕ) (outputs : Words) → Return
+  done : (number : ℕ) (yields : Yield) → Return
   exited : Return
 
 -- an operation that returned, and how
@@ -69,7 +70,7 @@ pub data Event : Type 0 where
 abbrev pub eventOf : Answer → Event
 eventOf Answer.Taken = Event.taken
 eventOf Answer.Run = Event.none
-eventOf (Answer.Done number o steps) = Event.returned (Return.done number o)
+eventOf (Answer.Done number y steps) = Event.returned (Return.done number y)
 eventOf (Answer.Exited steps) = Event.returned Return.exited
 eventOf (Answer.Value x) = Event.none
 eventOf (Answer.Refused r) = Event.none
@@ -116,7 +117,7 @@ withFinish o gate i s =
     let e = benchRun o (suc (length (s .order))) (latestCall (s .operations) i) (s .words) in
     record {
       operations = s .operations;
-      order = record { operation = latest (s .operations) i; gate = gate; outputs = e .outputs } ∷ s .order;
+      order = record { operation = latest (s .operations) i; gate = gate; yields = e .yields } ∷ s .order;
       returns = s .returns;
       words = e .words;
     }

@@ -17,7 +17,7 @@ use Rattle.construction.specs.declared.Format.the-variants.{Unknown, Kno
 use Rattle.construction.specs.declared.Decoded.{Decoded}
 use Rattle.construction.specs.declared.Encoded.{Encoded}
 use Rattle.construction.specs.declared.Refusal.the-variants.{UnknownCode, OperandOutOfRange, UnusedOperand}
-use Rattle.construction.specs.Cells.{zeros}
+use Rattle.construction.specs.Cells.{zeros, noYield, faultYield}
 
 -- word k of four
 unfoldable pub word : Words → ℕ → ℕ
@@ -41,12 +41,12 @@ sum x y = min 4294967295 (x + y)
 unfoldable pub difference : ℕ → ℕ → ℕ
 difference x y = x - y
 
--- a variable is touched only if it is there: 'a number of n or more touches nothing; code 5 then gives 0'
+-- a variable is touched only if it is there: 'In codes 5 and 6 a number of n or more ends the operation as a fault' (document 02, order 6)
 unfoldable pub load : ℕ → ℕ → ℕ → Effect
-load n a v = cond (ltb v n) (Effect.Load a v) (Effect.Set a 0)
+load n a v = cond (ltb v n) (Effect.Load a v) Effect.Fault
 
 unfoldable pub store : ℕ → ℕ → ℕ → Effect
-store n v x = cond (ltb v n) (Effect.Store v x) (Effect.Skip 0)
+store n v x = cond (ltb v n) (Effect.Store v x) Effect.Fault
 
 -- the table of codes: what an instruction does on a card of n variables. The sequential run and the helper both go by it.
 unfoldable pub effectOf : ℕ → Words → Words → Instruction → Effect
@@ -65,13 +65,14 @@ effectOf n inputs r (Instruction.Output a b) = Effect.Output a (word r b)
 
 -- by cases on an effect
 abbrev pub onEffect {ℓ} :
-    {A : Type ℓ} → Effect → A → (ℕ → ℕ → A) → (ℕ → ℕ → A) → (ℕ → ℕ → A) → (ℕ → ℕ → A) → (ℕ → A) → A
-onEffect Effect.Stop stop set load store output skip = stop
-onEffect (Effect.Set a x) stop set load store output skip = set a x
-onEffect (Effect.Load a v) stop set load store output skip = load a v
-onEffect (Effect.Store v x) stop set load store output skip = store v x
-onEffect (Effect.Output a x) stop set load store output skip = output a x
-onEffect (Effect.Skip c) stop set load store output skip = skip c
+    {A : Type ℓ} → Effect → A → A → (ℕ → ℕ → A) → (ℕ → ℕ → A) → (ℕ → ℕ → A) → (ℕ → ℕ → A) → (ℕ → A) → A
+onEffect Effect.Stop stop fault set load store output skip = stop
+onEffect Effect.Fault stop fault set load store output skip = fault
+onEffect (Effect.Set a x) stop fault set load store output skip = set a x
+onEffect (Effect.Load a v) stop fault set load store output skip = load a v
+onEffect (Effect.Store v x) stop fault set load store output skip = store v x
+onEffect (Effect.Output a x) stop fault set load store output skip = output a x
+onEffect (Effect.Skip c) stop fault set load store output skip = skip c
 
 -- the place after the next one and c more; past the end it stands at the end
 unfoldable pub forward : ℕ → ℕ → ℕ
@@ -79,19 +80,27 @@ forward k c = min 32 (suc (k + c))
 
 -- 'Registers and outputs start at 0'
 abbrev pub started : Simulation
-started = record { counter = 0; registers = zeros; outputs = zeros }
+started = record { counter = 0; registers = zeros; yields = noYield }
 
 -- the state after r[a] took x, after output a took x, and after c instructions were skipped
 unfoldable pub withRegister : Simulation → ℕ → ℕ → Simulation
 withRegister s a x =
-    record { counter = forward (s .counter) 0; registers = withWord (s .registers) a x; outputs = s .outputs }
+    record { counter = forward (s .counter) 0; registers = withWord (s .registers) a x; yields = s .yields }
 
 unfoldable pub withOutput : Simulation → ℕ → ℕ → Simulation
 withOutput s a x =
-    record { counter = forward (s .counter) 0; registers = s .registers; outputs = withWord (s .outputs) a x }
+    record {
+      counter = forward (s .counter) 0;
+      registers = s .registers;
+      yields = record { outputs = withWord (s .yields .outputs) a x; fault = s .yields .fault };
+    }
 
 unfoldable pub skipped : Simulation → ℕ → Simulation
-skipped s c = record { counter = forward (s .counter) c; registers = s .registers; outputs = s .outputs }
+skipped s c = record { counter = forward (s .counter) c; registers = s .registers; yields = s .yields }
+
+-- the state that a fault leaves: whatever was output, it yields zeros and the mark
+unfoldable pub faulted : Simulation → Simulation
+faulted s = record { counter = s .counter; registers = s .registers; yields = faultYield }
 
 -- a program of no lines
 abbrev pub noLine : Line

@@ -21,5 +21,6 @@ pub mod Paths
 pub mod Linearizability
 pub mod Log
 pub mod Numbers
+pub mod Faults
 pub mod Waits
 pub mod Examples

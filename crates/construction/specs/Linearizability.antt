@@ -10,7 +10,7 @@ use lib.Dec.{eqb}
 use Rattle.construction.specs.declared.Words.{Words}
 use Rattle.construction.specs.declared.Card.{Card}
 use Rattle.construction.specs.declared.Answer.{Answer}
-use Rattle.construction.specs.Cells.{zeros}
+use Rattle.construction.specs.Cells.{noYield}
 use Rattle.construction.specs.Requests.{read}
 use Rattle.construction.specs.History.{Entry, act, Steps, Finish, Return, Response, History, hasCalled, latest, finishing, Observation, run}
 
@@ -19,13 +19,13 @@ unfoldable pub times : ℕ → List Finish → ℕ
 times k [] = 0
 times k (f ∷ fs) = cond (eqb (f .operation) k) (suc (times k fs)) (times k fs)
 
--- its rank in the order, counted from 1, and 0 if it does not stand there; and its note there: its gate number and the bench's outputs for it
+-- its rank in the order, counted from 1, and 0 if it does not stand there; and its note there: its gate number and what the bench got for it
 unfoldable pub rank : ℕ → List Finish → ℕ
 rank k [] = 0
 rank k (f ∷ fs) = cond (eqb (f .operation) k) (suc (length fs)) (rank k fs)
 
 unfoldable pub finishOf : ℕ → List Finish → Finish
-finishOf k [] = record { operation = k; gate = 0; outputs = zeros }
+finishOf k [] = record { operation = k; gate = 0; yields = noYield }
 finishOf k (f ∷ fs) = cond (eqb (f .operation) k) f (finishOf k fs)
 
 -- an operation has returned
@@ -38,11 +38,20 @@ abbrev pub Numbered : List Finish → Type 0
 Numbered [] = Unit
 Numbered (f ∷ fs) = (f .gate ≡ suc (length fs)) × Numbered fs
 
--- a return agrees with the order: done stands there once, under the number of its answer, with the bench's outputs; exited never
+-- a return agrees with the order: done stands there once, under the number of its answer, with the bench's outputs and mark; exited never
 abbrev pub Agrees : List Finish → ℕ → Return → Type 0
-Agrees order k (Return.done number o) =
-    (times k order ≡ 1) × (finishOf k order ≡ record { operation = k; gate = number; outputs = o })
+Agrees order k (Return.done number y) =
+    (times k order ≡ 1) × (finishOf k order ≡ record { operation = k; gate = number; yields = y })
 Agrees order k Return.exited = times k order ≡ 0
+
+-- an operation returned as a fault (document 02, order 6)
+abbrev pub isFault : Return → Bool
+isFault (Return.done number y) = y .fault
+isFault Return.exited = false
+
+unfoldable pub returnedFault : ℕ → List Response → Bool
+returnedFault k [] = false
+returnedFault k (r ∷ rs) = cond (eqb (r .operation) k) (isFault (r .return)) (returnedFault k rs)
 
 -- no operation returns twice
 abbrev pub ReturnedOnce : List Response → Type 0
@@ -78,6 +87,10 @@ pub record Linearizable (o : Card) (es : List Entry) : Type 0 where
   -- 2 and 5: every returned operation agrees with the order, and none returns twice
   pub returns : AllAgree (run o es .history .order) (run o es .history .returns)
   pub single : ReturnedOnce (run o es .history .returns)
+  -- 2, for faults (document 02, order 6): of the returned operations, those returned `fault` are those that the bench ended as a fault
+  pub faults :
+      (k : ℕ) → hasReturned k (run o es .history .returns) ≡ true →
+      returnedFault k (run o es .history .returns) ≡ finishOf k (run o es .history .order) .yields .fault
   -- 3: gate numbers without a hole; so the gate number of an operation, which a done answer gives (document 02, order 4), is its rank
   pub numbers : Numbered (run o es .history .order)
   pub ranks : (k : ℕ) → finishOf k (run o es .history .order) .gate ≡ rank k (run o es .history .order)

@@ -8,9 +8,9 @@ use lib.Dec.{ltb}
 use Rattle.construction.specs.History.{Finish, Return, Response, History}
 use Rattle.construction.specs.Linearizability.{hasReturned}
 
--- the log: a line for each done answer, with its operation, its number and its outputs
+-- the log: a line for each done answer, `fault` among them, with its operation, its number and what it yields
 abbrev pub logged : ℕ → Return → List Finish → List Finish
-logged k (Return.done number o) log = record { operation = k; gate = number; outputs = o } ∷ log
+logged k (Return.done number y) log = record { operation = k; gate = number; yields = y } ∷ log
 logged k Return.exited log = log
 
 unfoldable pub logOf : List Response → List Finish

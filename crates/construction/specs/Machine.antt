@@ -17,7 +17,7 @@ use Rattle.construction.specs.declared.Holder.the-variants.{Nobody, Proc
 use Rattle.construction.specs.declared.Flag.{Flag}
 use Rattle.construction.specs.declared.Flag.the-variants.{Done, Active, Exit}
 use Rattle.construction.specs.declared.Pause.{Pause}
-use Rattle.construction.specs.declared.Pause.the-variants.{Ended, Lacks}
+use Rattle.construction.specs.declared.Pause.the-variants.{Ended, Faulted, Lacks}
 use Rattle.construction.specs.declared.Place.{Place}
 use Rattle.construction.specs.declared.Place.the-variants.{Idle, P1, P3, P5, P7, P10, C2, C4, P13, P14, P16, H21, H36, P19, P20, P21, P22, F1, F3}
 use Rattle.construction.specs.declared.Access.{Access}
@@ -31,6 +31,7 @@ use Rattle.construction.specs.declared.Began.{Began}
 use Rattle.construction.specs.declared.Helped.{Helped}
 use Rattle.construction.specs.declared.Writing.{Writing}
 use Rattle.construction.specs.declared.Words.{Words}
+use Rattle.construction.specs.declared.Yield.{Yield}
 use Rattle.construction.specs.declared.Record.{Record}
 use Rattle.construction.specs.declared.Program.{Program}
 use Rattle.construction.specs.declared.SwappedRecord.{SwappedRecord}
@@ -99,19 +100,20 @@ firstChoice seq p = cond (ltb 0 p) (seq % p) 0
 
 -- line P2: what a process announces that was called with an operation and read a gate
 abbrev pub announced : Operation → Gate → Announcement
-announced o g = record { program = o .program; flag = Active; seq = g .seq; number = 0; words = o .inputs }
+announced o g = record { program = o .program; flag = Active; seq = g .seq; number = 0; words = o .inputs; fault = false }
 
 -- an announcement with another flag
 abbrev pub flagged : Announcement → Flag → Announcement
-flagged a f = record { program = a .program; flag = f; seq = a .seq; number = a .number; words = a .words }
+flagged a f = record { program = a .program; flag = f; seq = a .seq; number = a .number; words = a .words; fault = a .fault }
 
 -- line P6: the announcement last read, asking to exit, with the inputs of the call
 abbrev pub withdrawn : Announcement → Operation → Announcement
-withdrawn a o = record { program = a .program; flag = Exit; seq = a .seq; number = 0; words = o .inputs }
+withdrawn a o = record { program = a .program; flag = Exit; seq = a .seq; number = 0; words = o .inputs; fault = false }
 
--- lines P19 and P20: the announcement last read, done under the number of the gate last read (document 02, order 4), with the outputs
-abbrev pub finished : Announcement → Gate → Words → Announcement
-finished a g outputs = record { program = a .program; flag = Done; seq = a .seq; number = g .seq; words = outputs }
+-- lines P19 and P20: the announcement last read, done under the number of the gate last read (document 02, order 4), with what the operation yields
+abbrev pub finished : Announcement → Gate → Yield → Announcement
+finished a g y =
+    record { program = a .program; flag = Done; seq = a .seq; number = g .seq; words = y .outputs; fault = y .fault }
 
 -- whether a swap won
 abbrev pub outcome : Bool → Swap
@@ -160,22 +162,22 @@ whose AnnouncementAccess.ReadFirst p i g = firstChoice (g .seq) p
 whose (AnnouncementAccess.Finish flag next) p i g = holderOf (g .holder)
 
 unfoldable pub accessAnnouncement :
-    AnnouncementAccess → ℕ → Announcement → Operation → Gate → Announcement → Words → Task → AnnouncementAccessed
+    AnnouncementAccess → ℕ → Announcement → Operation → Gate → Announcement → Yield → Task → AnnouncementAccessed
 -- lines P2, P3
-accessAnnouncement AnnouncementAccess.Announce m cell operation g a outputs task =
+accessAnnouncement AnnouncementAccess.Announce m cell operation g a y task =
     record { cell = announced operation g; read = announced operation g; task = goTo task P5; swap = Swap.None }
 -- line P6
-accessAnnouncement AnnouncementAccess.Withdraw m cell operation g a outputs task =
+accessAnnouncement AnnouncementAccess.Withdraw m cell operation g a y task =
     replaceAnnouncement cell a task a (withdrawn a operation) P7
 -- lines P7, C4 with C6, P22
-accessAnnouncement (AnnouncementAccess.ReadOwn done active exit) m cell operation g a outputs task =
+accessAnnouncement (AnnouncementAccess.ReadOwn done active exit) m cell operation g a y task =
     readAnnouncement cell m (byFlag (cell .flag) done active exit)
 -- line C2
-accessAnnouncement AnnouncementAccess.ReadFirst m cell operation g a outputs task =
+accessAnnouncement AnnouncementAccess.ReadFirst m cell operation g a y task =
     readAnnouncement cell m (byFlag (cell .flag) C4 P13 C4)
 -- lines P19, P20
-accessAnnouncement (AnnouncementAccess.Finish flag next) m cell operation g a outputs task =
-    replaceAnnouncement cell a task (flagged a flag) (finished a g outputs) next
+accessAnnouncement (AnnouncementAccess.Finish flag next) m cell operation g a y task =
+    replaceAnnouncement cell a task (flagged a flag) (finished a g y) next
 
 -- lines H31 and H32: the next write from item k on, or P19
 abbrev pub writeFrom : ℕ → Dictionary → ℕ → Task
@@ -184,9 +186,10 @@ writeFrom number d k =
     (record { place = H36; target = nextWrite number d k })
     (record { place = P19; target = 0 })
 
--- a simulation that lacks a variable reads its record; one that ended writes what it altered
+-- a simulation that lacks a variable reads its record; one that ended writes what it altered; one that ended as a fault writes nothing
 abbrev pub afterPause : ℕ → Dictionary → Pause → Task
 afterPause number d Ended = writeFrom number d 0
+afterPause number d Faulted = record { place = P19; target = 0 }
 afterPause number d (Lacks v) = record { place = H21; target = v }
 
 -- a helper goes on as its simulation stands
@@ -279,7 +282,7 @@ stepGate a i cell l =
 
 abbrev pub stepAnnouncement : AnnouncementAccess → ℕ → Announcement → Local → Accessed Announcement
 stepAnnouncement a m cell l =
-    let x = accessAnnouncement a m cell (l .operation) (l .gate) (l .announcement) (l .simulation .outputs) (l .task) in
+    let x = accessAnnouncement a m cell (l .operation) (l .gate) (l .announcement) (l .simulation .yields) (l .task) in
     record { cell = x .cell; local = after l (x .task) (l .gate) (x .read) (l .simulation) (l .dictionary) (l .mask); swap = x .swap }
 
 abbrev pub stepHelp : Contents → Announcement → Local → Accessed Announcement

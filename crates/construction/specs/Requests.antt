@@ -16,7 +16,7 @@ use Rattle.construction.specs.declared.Access.{Access}
 use Rattle.construction.specs.declared.Answer.{Answer}
 use Rattle.construction.specs.declared.Refusal.{Refusal}
 use Rattle.construction.specs.declared.Refusal.the-variants.{NoProcess, NoProgram, Busy, NotBusy, NoPlace, LimitReached}
-use Rattle.construction.specs.Cells.{isDone, current, previous}
+use Rattle.construction.specs.Cells.{yieldOf, isDone, current, previous}
 use Rattle.construction.specs.Parts.{Local, localAt, announcementAt, recordAt, withLocal}
 use Rattle.construction.specs.Machine.{accessOf, advance}
 
@@ -95,12 +95,12 @@ requestExit c i =
     (cond (not (isBusy c i)) (refused c NotBusy)
     (record { card = withLocal c i (exiting (localAt c i)); answer = Answer.Taken }))
 
--- lines P23, P24 and F4: exited, or done with the gate number and the words of the announcement last read. An active flag cannot occur: an operation returns at P22
+-- lines P23, P24 and F4: exited, or done with the gate number of the announcement last read and what that yields. An active flag cannot occur: an operation returns at P22
 -- if that read exit, and at F1 or F3, which only reads of done lead to, and neither alters the announcement last read. As for every flag there is
 -- an answer, that case is given like done, which leaves exited to the flag exit alone.
 abbrev pub returned : Announcement → Flag → ℕ → Answer
-returned a Done steps = Answer.Done (a .number) (a .words) steps
-returned a Active steps = Answer.Done (a .number) (a .words) steps
+returned a Done steps = Answer.Done (a .number) (yieldOf a) steps
+returned a Active steps = Answer.Done (a .number) (yieldOf a) steps
 returned a Exit steps = Answer.Exited steps
 
 -- 'Returning is local work of the last access'

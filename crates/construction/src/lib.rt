@@ -28,13 +28,20 @@ pub struct Words {
     pub w3: u32,
 }
 
-// The announcement of a process. Its number is the gate number under which it was done, 0 while it is active or exit and at opening.
+// What an operation yields: four outputs, and whether it ended as a fault (document 02, order 6).
+pub struct Yield {
+    pub outputs: Words,
+    pub fault: bool,
+}
+
+// The announcement of a process. Its words are the inputs, and the outputs once it is done; it is marked if it was done as a fault. Its number is the gate number under which it was done, 0 while it is active or exit and at opening.
 pub struct Announcement {
     pub program: u8,
     pub flag: Flag,
     pub seq: u64,
     pub number: u64,
     pub words: Words,
+    pub fault: bool,
 }
 
 // The record of a variable. The toggle is true for 1.
@@ -102,9 +109,10 @@ pub struct Program {
     pub lines: [Line; 32],
 }
 
-// What one instruction does: a register set, a variable loaded or stored, an output set, instructions skipped, or the end.
+// What one instruction does: a register set, a variable loaded or stored, an output set, instructions skipped, the end, or the end as a fault.
 pub enum Effect {
     Stop,
+    Fault,
     Set { register: u8, value: u32 },
     Load { register: u8, variable: u8 },
     Store { variable: u8, value: u32 },
@@ -129,12 +137,13 @@ pub struct Dictionary {
 pub struct Simulation {
     pub counter: u8,
     pub registers: Words,
-    pub outputs: Words,
+    pub yields: Yield,
 }
 
-// Why a simulation stands still: its program ended, or its dictionary lacks a variable.
+// Why a simulation stands still: its program ended, or ended as a fault, or its dictionary lacks a variable.
 pub enum Pause {
     Ended,
+    Faulted,
     Lacks(u8),
 }
 
@@ -294,7 +303,7 @@ pub struct Card {
     // the gate and the announcement that it last read (the paper's g and a)
     pub gates: [Gate; 8],
     pub copies: [Announcement; 8],
-    // the sheet that it runs in helping, with registers and outputs; its book of noted records
+    // the sheet that it runs in helping, with registers and what it yields; its book of noted records
     pub simulations: [Simulation; 8],
     pub dictionaries: [Dictionary; 8],
     // the variables that stand in its book, one bit each
@@ -318,13 +327,13 @@ pub enum Refusal {
     UnusedOperand,
 }
 
-// The answer to a call, an exit request, a step or a read.
+// The answer to a call, an exit request, a step or a read. Done covers document 02's `fault` (order 6): what it yields tells which.
 pub enum Answer {
     Taken,
     Run,
     Done {
         number: u64,
-        outputs: Words,
+        yields: Yield,
         steps: u64,
     },
     Exited {

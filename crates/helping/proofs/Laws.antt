@@ -21,13 +21,13 @@ use Rattle.construction.specs.declared.Dictionary.{Dictionary}
 use Rattle.construction.specs.declared.Simulation.{Simulation}
 use Rattle.construction.specs.declared.Simulated.{Simulated}
 use Rattle.construction.specs.Cells.{current, previous}
-use Rattle.construction.specs.Instructions.{effectOf, noLine, nextEffect, withRegister, withOutput, skipped}
+use Rattle.construction.specs.Instructions.{effectOf, noLine, nextEffect, withRegister, withOutput, skipped, faulted}
 use Rattle.programs.specs.Fetching.{instructionAt}
 use Rattle.programs.proofs.Laws.{fetched}
 use Rattle.construction.specs.Dictionary.{noItem, noted, position, find, valueAt, withValue, assign, valueUnder, insert, altered, unaltered, nextWrite}
 use Rattle.helping.specs.Numbers.{keys, values, placeOf, revalued, withValues, Numbered}
 use Rattle.construction.specs.Marks.{withBit}
-use Rattle.construction.specs.Helping.{ended, lacks, simulateFrom, simulate}
+use Rattle.construction.specs.Helping.{ended, faults, lacks, simulateFrom, simulate}
 
 -- a value assigned, and an item inserted
 module _ (d : Dictionary) where
@@ -250,6 +250,10 @@ module _ {n : ℕ} {program : Program} {inputs : Words} {total : Simulated} {ks 
   pub stops : e ≡ Effect.Stop → ended s d ≡ total
   unfolding simulateFrom
   stops p = sym (h .going .0 ∙ rw (h .left, ← h .next, p))
+
+  pub faulted-at : e ≡ Effect.Fault → faults s d ≡ total
+  unfolding simulateFrom
+  faulted-at p = sym (h .going .0 ∙ rw (h .left, ← h .next, p))
 
   pub sets : (a x : ℕ) (t : Simulation) → e ≡ Effect.Set a x → t ≡ withRegister s a x → Going n program inputs total ks end m t d
   unfolding simulateFrom

@@ -19,7 +19,7 @@ use Rattle.construction.specs.declared.Began.{Began}
 use Rattle.construction.specs.declared.Helped.{Helped}
 use Rattle.construction.specs.declared.Writing.{Writing}
 use Rattle.construction.specs.declared.Pause.{Pause}
-use Rattle.construction.specs.declared.Pause.the-variants.{Ended, Lacks}
+use Rattle.construction.specs.declared.Pause.the-variants.{Ended, Faulted, Lacks}
 use Rattle.construction.specs.declared.Place.the-variants.{P19, P21}
 use Rattle.construction.specs.Instructions.{started}
 use Rattle.construction.specs.Dictionary.{noItem, empty, noted, itemOf, insert, nextWrite, unaltered}
@@ -35,6 +35,7 @@ use Rattle.helping.proofs.Laws as laws
 start-writes : (number : ℕ) (xs : List ℕ) (p : Pause) → pauseTask p 0 0 ≡ afterPause number (withValues empty xs) p
 unfolding nextWrite unaltered
 start-writes number xs Ended = refl
+start-writes number xs Faulted = refl
 start-writes number xs (Lacks v) = refl
 
 module _ (n : ℕ) (program : Program) (cell : Announcement) (number : ℕ) (task : Task) (s : Simulation) (b : Bool) (tested : b ≡ helps cell number) where
@@ -55,6 +56,7 @@ goes-on :
     (number : ℕ) (d : Dictionary) (p : Pause) (next end : ℕ) → next ≡ nextWrite number d 0 → end ≡ length (noted d) →
     pauseTask p next end ≡ afterPause number d p
 goes-on number d Ended next end e f = rw (e, f)
+goes-on number d Faulted next end e f = refl
 goes-on number d (Lacks v) next end e f = refl
 
 module _ (n : ℕ) (program : Program) (inputs : Words) (cell : Record) (number : ℕ) (task : Task) (s : Simulation) (d : Dictionary) (mask : ℕ) where

@@ -51,12 +51,16 @@ fn write_from(next: u8, end: u8) -> Task
     }
 }
 
-// Where a simulation goes on that stands still: it reads a record, or writes what it altered.
+// Where a simulation goes on that stands still: it reads a record, or writes what it altered, or nothing after a fault.
 fn after_pause(pause: Pause, next: u8, end: u8) -> Task
     ensures { λ r. ⌜ r ≡ pauseTask pause next end ⌝ }
 {
     match pause {
         Pause::Ended => write_from(next, end),
+        Pause::Faulted => Task {
+            place: Place::P19,
+            target: 0,
+        },
         Pause::Lacks(variable) => Task {
             place: Place::H21,
             target: variable,

@@ -43,7 +43,7 @@ fn next_effect(n: u8, length: u8, line: Line, inputs: Words, simulation: Simulat
     programs::effect_of(n, inputs, registers, instruction)
 }
 
-// Lines H7 and H20 to H30: the program runs until it ends or lacks a variable.
+// Lines H7 and H20 to H30: the program runs until it ends, or ends as a fault, or lacks a variable.
 pub(crate) fn simulate(
     n: u8,
     program: Program,
@@ -67,6 +67,10 @@ pub(crate) fn simulate(
             Effect::Stop => return Paused {
                 pause: Pause::Ended,
                 simulation: s,
+            },
+            Effect::Fault => return Paused {
+                pause: Pause::Faulted,
+                simulation: programs::faulted(s),
             },
             Effect::Set { register, value } => s = programs::with_register(s, register, value),
             Effect::Load { register, variable } => {

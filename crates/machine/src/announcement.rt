@@ -14,7 +14,7 @@ use construction::Operation;
 use construction::Place;
 use construction::Swap;
 use construction::Task;
-use construction::Words;
+use construction::Yield;
 ghost use mathlib.Core.Path.{_≡_};
 ghost use Rattle.construction.specs.Machine.{announced, flagged, withdrawn, finished, readAnnouncement, replaceAnnouncement, whose, accessAnnouncement};
 ghost use Rattle.construction.specs.Requests.{returned};
@@ -30,6 +30,7 @@ pub fn announced(operation: Operation, gate: Gate) -> Announcement
         seq: gate.seq,
         number: 0,
         words,
+        fault: false,
     }
 }
 
@@ -44,10 +45,11 @@ pub fn flagged(announcement: Announcement, flag: Flag) -> Announcement
         seq: announcement.seq,
         number: announcement.number,
         words,
+        fault: announcement.fault,
     }
 }
 
-// Line P6: what a process announces that asks to exit. It is done under no gate number.
+// Line P6: what a process announces that asks to exit. It is done under no gate number, and carries no mark.
 pub fn withdrawn(last: Announcement, operation: Operation) -> Announcement
     ensures { λ r. ⌜ r ≡ withdrawn last operation ⌝ }
 {
@@ -59,19 +61,22 @@ pub fn withdrawn(last: Announcement, operation: Operation) -> Announcement
         seq: last.seq,
         number,
         words,
+        fault: false,
     }
 }
 
 // Lines P19 and P20: what a helper makes of the announcement that it helped, under the number of the gate that it last read.
-pub fn finished(last: Announcement, gate: Gate, outputs: Words) -> Announcement
-    ensures { λ r. ⌜ r ≡ finished last gate outputs ⌝ }
+pub fn finished(last: Announcement, gate: Gate, yields: Yield) -> Announcement
+    ensures { λ r. ⌜ r ≡ finished last gate yields ⌝ }
 {
+    let words = yields.outputs;
     Announcement {
         program: last.program,
         flag: Flag::Done,
         seq: last.seq,
         number: gate.seq,
-        words: outputs,
+        words,
+        fault: yields.fault,
     }
 }
 
@@ -140,10 +145,10 @@ pub fn access_announcement(
     operation: Operation,
     gate: Gate,
     last: Announcement,
-    outputs: Words,
+    yields: Yield,
     task: Task,
 ) -> AnnouncementAccessed
-    ensures { λ r. ⌜ r ≡ accessAnnouncement access m cell operation gate last outputs task ⌝ }
+    ensures { λ r. ⌜ r ≡ accessAnnouncement access m cell operation gate last yields task ⌝ }
 {
     let now = cell.flag;
     match access {
@@ -182,7 +187,7 @@ pub fn access_announcement(
             last,
             task,
             flagged(last, flag),
-            finished(last, gate, outputs),
+            finished(last, gate, yields),
             next,
         ),
     }
@@ -197,7 +202,10 @@ pub fn returned(last: Announcement, steps: u64) -> Answer
     let outputs = last.words;
     let done = Answer::Done {
         number,
-        outputs,
+        yields: Yield {
+            outputs,
+            fault: last.fault,
+        },
         steps,
     };
     match flag {

@@ -17,6 +17,7 @@ use construction::Record;
 use construction::Simulation;
 use construction::Task;
 use construction::Words;
+use construction::Yield;
 ghost use mathlib.Core.Path.{_≡_};
 ghost use mathlib.Core.List.{map};
 ghost use Rattle.construction.specs.Cells.{zeros, openAnnouncement, openRecord};
@@ -44,6 +45,7 @@ pub fn open_announcement() -> Announcement
         seq: 0,
         number: 0,
         words: zeros(),
+        fault: false,
     }
 }
 
@@ -99,7 +101,10 @@ pub fn started() -> Simulation
     Simulation {
         counter: 0,
         registers: zeros(),
-        outputs: zeros(),
+        yields: Yield {
+            outputs: zeros(),
+            fault: false,
+        },
     }
 }
 

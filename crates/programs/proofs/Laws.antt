@@ -49,7 +49,7 @@ module _ (n a v : ℕ) where
   unfolding load
   load-there p = rw (lt-ltb _ _ p)
 
-  pub load-none : n ≤ v → Effect.Set a 0 ≡ load n a v
+  pub load-none : n ≤ v → Effect.Fault ≡ load n a v
   unfolding load
   load-none p = rw (le-ltb _ _ p)
 
@@ -58,7 +58,7 @@ module _ (n v x : ℕ) where
   unfolding store
   store-there p = rw (lt-ltb _ _ p)
 
-  pub store-none : n ≤ v → Effect.Skip 0 ≡ store n v x
+  pub store-none : n ≤ v → Effect.Fault ≡ store n v x
   unfolding store
   store-none p = rw (le-ltb _ _ p)
 

@@ -1,6 +1,6 @@
 -- The weight of a program and of a card, instruction by instruction and program by program
 use Prim.Native.Nat.{ℕ, suc, _+_, _-_, _<_, _≤_, max}
-use mathlib.Core.List.{List, [], _∷_}
+use mathlib.Core.List.{List}
 use mathlib.Core.Path.{_≡_, ap, _∙_}
 use native.Mathlib.Omega.{arith}
 use native.Mathlib.Numerals.{add-one}

@@ -7,11 +7,12 @@ use construction::Instruction;
 use construction::Line;
 use construction::Simulation;
 use construction::Words;
+use construction::Yield;
 ghost use mathlib.Core.Path.{_≡_};
 ghost use mathlib.Core.Bool.{cond};
 ghost use Rattle.construction.specs.Instructions.{word, withWord, sum, difference, load, store, effectOf};
 ghost use Rattle.programs.specs.Fetching.{instructionAt};
-ghost use Rattle.construction.specs.Instructions.{forward, withRegister, withOutput, skipped};
+ghost use Rattle.construction.specs.Instructions.{forward, withRegister, withOutput, skipped, faulted};
 
 // Word `place` of four.
 pub fn word(words: Words, place: u8) -> u32
@@ -58,7 +59,7 @@ pub fn difference(x: u32, y: u32) -> u32
     if y < x { x - y } else { 0 }
 }
 
-// A load of a variable, which touches nothing where the variable is not below n.
+// A load of a variable, which is a fault where the variable is not below n.
 pub fn load(n: u8, register: u8, variable: u32) -> Effect
     ensures { λ r. ⌜ r ≡ load n register variable ⌝ }
 {
@@ -68,15 +69,15 @@ pub fn load(n: u8, register: u8, variable: u32) -> Effect
             variable: variable as u8,
         };
     }
-    Effect::Set { register, value: 0 }
+    Effect::Fault
 }
 
-// A store to a variable, which touches nothing where the variable is not below n.
+// A store to a variable, which is a fault where the variable is not below n.
 pub fn store(n: u8, variable: u32, value: u32) -> Effect
     ensures { λ r. ⌜ r ≡ store n variable value ⌝ }
 {
     if n as u32 <= variable {
-        return Effect::Skip { count: 0 };
+        return Effect::Fault;
     }
     Effect::Store {
         variable: variable as u8,
@@ -150,11 +151,11 @@ pub fn with_register(simulation: Simulation, register: u8, value: u32) -> Simula
     ensures { λ r. ⌜ r ≡ withRegister simulation register value ⌝ }
 {
     let registers = simulation.registers;
-    let outputs = simulation.outputs;
+    let yields = simulation.yields;
     Simulation {
         counter: forward(simulation.counter, 0),
         registers: with_word(registers, register, value),
-        outputs,
+        yields,
     }
 }
 
@@ -163,11 +164,15 @@ pub fn with_output(simulation: Simulation, output: u8, value: u32) -> Simulation
     ensures { λ r. ⌜ r ≡ withOutput simulation output value ⌝ }
 {
     let registers = simulation.registers;
-    let outputs = simulation.outputs;
+    let yields = simulation.yields;
+    let outputs = yields.outputs;
     Simulation {
         counter: forward(simulation.counter, 0),
         registers,
-        outputs: with_word(outputs, output, value),
+        yields: Yield {
+            outputs: with_word(outputs, output, value),
+            fault: yields.fault,
+        },
     }
 }
 
@@ -176,11 +181,31 @@ pub fn skipped(simulation: Simulation, count: u8) -> Simulation
     ensures { λ r. ⌜ r ≡ skipped simulation count ⌝ }
 {
     let registers = simulation.registers;
-    let outputs = simulation.outputs;
+    let yields = simulation.yields;
     Simulation {
         counter: forward(simulation.counter, count),
         registers,
-        outputs,
+        yields,
+    }
+}
+
+// The state that a fault leaves: it yields zeros and the mark.
+pub fn faulted(simulation: Simulation) -> Simulation
+    ensures { λ r. ⌜ r ≡ faulted simulation ⌝ }
+{
+    let registers = simulation.registers;
+    Simulation {
+        counter: simulation.counter,
+        registers,
+        yields: Yield {
+            outputs: Words {
+                w0: 0,
+                w1: 0,
+                w2: 0,
+                w3: 0,
+            },
+            fault: true,
+        },
     }
 }
 

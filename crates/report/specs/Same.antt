@@ -14,6 +14,7 @@ use Rattle.construction.specs.declared.Place.{Place}
 use Rattle.construction.specs.declared.Place.the-variants.{Idle, P1, P3, P5, P7, P10, C2, C4, P13, P14, P16, H21, H36, P19, P20, P21, P22, F1, F3}
 use Rattle.construction.specs.declared.Task.{Task}
 use Rattle.construction.specs.declared.Operation.{Operation}
+use Rattle.construction.specs.declared.Yield.{Yield}
 use Rattle.construction.specs.declared.Simulation.{Simulation}
 use Rattle.construction.specs.declared.Card.{Card}
 use Rattle.construction.specs.Cells.{sameBool, sameWords, sameGate, sameAnnouncement, sameRecord, openAnnouncement, openRecord}
@@ -88,10 +89,13 @@ sameTask a b = eqb (placeNumber (a .place)) (placeNumber (b .place)) && eqb (a .
 unfoldable pub sameOperation : Operation → Operation → Bool
 sameOperation a b = eqb (a .program) (b .program) && sameWords (a .inputs) (b .inputs)
 
+unfoldable pub sameYield : Yield → Yield → Bool
+sameYield a b = sameWords (a .outputs) (b .outputs) && sameBool (a .fault) (b .fault)
+
 unfoldable pub sameSimulation : Simulation → Simulation → Bool
 sameSimulation a b =
     eqb (a .counter) (b .counter)
-    && (sameWords (a .registers) (b .registers) && sameWords (a .outputs) (b .outputs))
+    && (sameWords (a .registers) (b .registers) && sameYield (a .yields) (b .yields))
 
 -- program i of a card, and the dictionary of process i
 abbrev pub programAt : Card → ℕ → Program

@@ -104,6 +104,7 @@ fn show_announcement(process: u64, announcement: Announcement) {
     write_flag(flag);
     write_field(b",", announcement.number);
     write_words(words);
+    write_field(b",", announcement.fault as u64);
     write(b"\n");
 }
 

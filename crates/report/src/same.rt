@@ -14,13 +14,14 @@ use construction::Program;
 use construction::Record;
 use construction::Simulation;
 use construction::Task;
+use construction::Yield;
 ghost use mathlib.Core.Path.{_≡_};
 ghost use mathlib.Core.Bool.{_&&_};
 ghost use Prim.Native.Nat.{_<_};
 ghost use lib.Dec.{eqb};
 ghost use Rattle.construction.specs.Cells.{sameBool};
 ghost use Rattle.report.specs.Same.{sameInstruction, sameProgram, sameStarts, sameRecords, sameItem, sameDictionary, placeNumber};
-ghost use Rattle.report.specs.Same.{sameTask, sameOperation, sameSimulation, sameWork, sameCopies, sameAt, sameNumbers, sameCard};
+ghost use Rattle.report.specs.Same.{sameTask, sameOperation, sameYield, sameSimulation, sameWork, sameCopies, sameAt, sameNumbers, sameCard};
 
 pub fn both(a: bool, b: bool) -> bool
     ensures { λ r. ⌜ r ≡ (a && b) ⌝ }
@@ -156,6 +157,15 @@ fn same_operation(a: Operation, b: Operation) -> bool
     )
 }
 
+fn same_yield(a: Yield, b: Yield) -> bool
+    ensures { λ r. ⌜ r ≡ sameYield a b ⌝ }
+{
+    both(
+        same_words(a.outputs, b.outputs),
+        same_bool(a.fault, b.fault),
+    )
+}
+
 fn same_simulation(a: Simulation, b: Simulation) -> bool
     ensures { λ r. ⌜ r ≡ sameSimulation a b ⌝ }
 {
@@ -163,7 +173,7 @@ fn same_simulation(a: Simulation, b: Simulation) -> bool
         same_number(a.counter as u64, b.counter as u64),
         both(
             same_words(a.registers, b.registers),
-            same_words(a.outputs, b.outputs),
+            same_yield(a.yields, b.yields),
         ),
     )
 }

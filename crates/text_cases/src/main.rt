@@ -4,24 +4,14 @@
 // tests/text/make_cases.py makes the cases and, by a judge of its own, the lines that are expected.
 // What is computed and compared equals its definition in specs/; what only prints gives nothing back.
 mod cases; // cases.rt: the texts of the input
-mod comparing; // comparing.rt: what a buffer holds, compared with what it must hold
+mod comparing; // comparing.rt: what the writer does in a buffer, and whether the buffer then holds what it must
+mod lines; // lines.rt: the line of a case
 
 use crate::cases::case_at;
-use crate::comparing::agrees;
-use crate::comparing::bytes_of;
-use answers::put_verdict;
-use answers::put_written;
-use construction::Card;
-use grammar::writing::put_byte;
-use grammar::writing::put_decimal;
-use grammar::writing::put_word;
+use crate::lines::put_case;
+use construction::Written;
 use libc::STDIN_FILENO;
 use libc::STDOUT_FILENO;
-ghost use mathlib.Core.Path.{_≡_};
-ghost use Prim.Native.Nat.{_-_, _≤_, min};
-ghost use lib.ListN.{length};
-ghost use Rattle.grammar.specs.Writing.{Put};
-ghost use Rattle.text_cases.specs.Lines.{agreementText, lentAfter, lentText, bufferText, buffersText, caseText};
 
 // Where a text stands in the input.
 enum Case {
@@ -29,77 +19,18 @@ enum Case {
     Nothing,
 }
 
-fn put_agreement(line: &mut [u8], at: usize, same: bool) -> usize
-    ensures { λ r. ⌜ Put (now (line .entry)) at (agreementText same) r (now (line .exit)) ⌝ }
-{
-    if same {
-        put_word(line, at, b",same")
-    } else {
-        put_word(line, at, b",differs")
-    }
+// What the writer answered, and whether its buffer then holds the text that is wanted.
+struct Outcome {
+    written: Written,
+    same: bool,
 }
 
-// What the writer does in the first bytes of a buffer, and whether the buffer then agrees with the text that is wanted.
-fn put_written_in(
-    line: &mut [u8],
-    at: usize,
-    card: Card,
-    wanted: &[u8],
-    buffer: &mut [u8],
-    room: usize,
-) -> usize
-    requires { ⌜ room ≤ length (now buffer) ⌝ }
-    ensures { λ r. ⌜ Put (now (line .entry)) at (lentText card (now (wanted .entry)) room (now (buffer .entry))) r (now (line .exit)) × (now (buffer .exit) ≡ lentAfter card room (now (buffer .entry))) ⌝ }
-{
-    let written = writer::write(card, &mut buffer[..room]);
-    let same = agrees(buffer, wanted, bytes_of(written));
-    let next = put_written(line, at, written);
-    put_agreement(line, next, same)
-}
-
-fn put_buffer(line: &mut [u8], at: usize, card: Card, wanted: &[u8], room: usize) -> usize
-    requires { ⌜ room ≤ 8192 ⌝ }
-    ensures { λ r. ⌜ Put (now (line .entry)) at (bufferText card (now (wanted .entry)) room) r (now (line .exit)) ⌝ }
-{
-    let mut buffer = [165u8; 8192];
-    put_written_in(line, at, card, wanted, &mut buffer, room)
-}
-
-fn least(a: usize, b: usize) -> usize
-    ensures { λ r. ⌜ r ≡ min a b ⌝ }
-{
-    if a < b { a } else { b }
-}
-
-fn less(a: usize) -> usize
-    ensures { λ r. ⌜ r ≡ a - 1 ⌝ }
-{
-    if 0 < a { a - 1 } else { 0 }
-}
-
-// The four buffers.
-fn put_buffers(line: &mut [u8], at: usize, card: Card, wanted: &[u8], room: usize) -> usize
-    requires { ⌜ room ≤ 8000 ⌝ }
-    ensures { λ r. ⌜ Put (now (line .entry)) at (buffersText card (now (wanted .entry)) room) r (now (line .exit)) ⌝ }
-{
-    let i = put_buffer(line, at, card, wanted, room + 8);
-    let j = put_buffer(line, i, card, wanted, room);
-    let k = put_buffer(line, j, card, wanted, less(room));
-    put_buffer(line, k, card, wanted, 0)
-}
-
-// The line of a text and of the text that the buffers are compared with.
-fn put_case(line: &mut [u8], number: u64, text: &[u8], wanted: &[u8]) -> usize
-    ensures { λ r. ⌜ Put (now (line .entry)) 0 (caseText number (now (text .entry)) (now (wanted .entry))) r (now (line .exit)) ⌝ }
-{
-    let opened = reader::open(text);
-    let card = opened.card;
-    let verdict = opened.verdict;
-    let room = least(text.len(), 8000);
-    let i = put_decimal(line, 0, number);
-    let j = put_verdict(line, i, verdict);
-    let k = put_buffers(line, j, card, wanted, room);
-    put_byte(line, k, b'\n')
+// The same for a buffer of eight bytes more than the text, of its length, of one byte less and of none.
+struct Outcomes {
+    more: Outcome,
+    exact: Outcome,
+    short: Outcome,
+    none: Outcome,
 }
 
 fn show_case(number: u64, text: &[u8], wanted: &[u8]) {
@@ -135,9 +66,13 @@ fn show_cases(input: &[u8]) {
     }
 }
 
+fn show_all(input: &[u8]) {
+    show_other(input);
+    show_cases(input);
+}
+
 fn main() {
     let mut input = [0u8; 131072];
     let length = io::read_full(STDIN_FILENO, &mut input);
-    show_other(&input[..length]);
-    show_cases(&input[..length]);
+    show_all(&input[..length]);
 }

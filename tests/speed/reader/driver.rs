@@ -15,7 +15,7 @@ struct Gate { holder: Holder, seq: u64 }
 #[derive(Clone, Copy)]
 enum Flag { Done, Active, Exit }
 #[derive(Clone, Copy)]
-struct Announcement { program: u8, flag: Flag, seq: u64, number: u64, words: [u32; 4] }
+struct Announcement { program: u8, flag: Flag, seq: u64, number: u64, words: [u32; 4], fault: bool }
 #[derive(Clone, Copy)]
 struct Record { val0: u32, val1: u32, toggle: bool, seq: u64 }
 #[derive(Clone, Copy)]
@@ -25,7 +25,7 @@ struct Item { variable: u8, value: u32, cell: Record }
 #[derive(Clone, Copy)]
 struct Dictionary { length: u8, items: [Item; 32] }
 #[derive(Clone, Copy)]
-struct Simulation { counter: u8, registers: [u32; 4], outputs: [u32; 4] }
+struct Simulation { counter: u8, registers: [u32; 4], outputs: [u32; 4], fault: bool }
 #[derive(Clone, Copy)]
 struct Task { place: u8, target: u8 }
 #[derive(Clone, Copy)]
@@ -118,7 +118,7 @@ fn open(text: &[u8]) -> Result<Card, Refused> {
 }
 
 fn fresh(processes: u8, variables: u8, programs: u8, limit: u64, starts: [u32; 64], code: [Program; 8]) -> Card {
-    let announcement = Announcement { program: 0, flag: Flag::Done, seq: 0, number: 0, words: [0; 4] };
+    let announcement = Announcement { program: 0, flag: Flag::Done, seq: 0, number: 0, words: [0; 4], fault: false };
     let record = |start| Record { val0: start, val1: 0, toggle: false, seq: 0 };
     let gate = Gate { holder: Holder::Nobody, seq: 0 };
     let item = Item { variable: 0, value: 0, cell: record(0) };
@@ -127,7 +127,7 @@ fn fresh(processes: u8, variables: u8, programs: u8, limit: u64, starts: [u32; 6
         gate: Gate { holder: Holder::Nobody, seq: 1 },
         announcements: [announcement; 8], records: starts.map(record), steps: 0,
         tasks: [Task { place: 0, target: 0 }; 8], operations: [Operation { program: 0, inputs: [0; 4] }; 8], exits: [false; 8], counts: [0; 8],
-        gates: [gate; 8], copies: [announcement; 8], simulations: [Simulation { counter: 0, registers: [0; 4], outputs: [0; 4] }; 8],
+        gates: [gate; 8], copies: [announcement; 8], simulations: [Simulation { counter: 0, registers: [0; 4], outputs: [0; 4], fault: false }; 8],
         dictionaries: [Dictionary { length: 0, items: [item; 32] }; 8],
     }
 }

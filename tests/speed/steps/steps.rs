@@ -30,6 +30,7 @@ struct Announcement {
     seq: u64,
     number: u64,
     words: Words,
+    fault: bool,
 }
 
 #[derive(Clone, Copy, PartialEq)]
@@ -100,6 +101,7 @@ struct Process {
     counter: u8,
     registers: Words,
     outputs: Words,
+    fault: bool,
     length: usize,
     items: [Item; 32],
 }
@@ -117,7 +119,7 @@ struct Card {
 enum Answer {
     Taken,
     Run,
-    Done(#[allow(dead_code)] u64, #[allow(dead_code)] Words, #[allow(dead_code)] u64),
+    Done(#[allow(dead_code)] u64, #[allow(dead_code)] Words, #[allow(dead_code)] bool, #[allow(dead_code)] u64),
     Exited(#[allow(dead_code)] u64),
     Refused(#[allow(dead_code)] u8),
 }
@@ -143,7 +145,7 @@ fn by_flag(flag: Flag, done: Place, active: Place, exit: Place) -> Place {
 impl Card {
     fn open(processes: usize, starts: &[u32], programs: Vec<Vec<Instruction>>, limit: u64) -> Card {
         let cell = Record { val: [0, 0], toggle: false, seq: 0 };
-        let announcement = Announcement { program: 0, flag: Flag::Done, seq: 0, number: 0, words: [0; 4] };
+        let announcement = Announcement { program: 0, flag: Flag::Done, seq: 0, number: 0, words: [0; 4], fault: false };
         let process = Process {
             place: Place::Idle,
             target: 0,
@@ -156,6 +158,7 @@ impl Card {
             counter: 0,
             registers: [0; 4],
             outputs: [0; 4],
+            fault: false,
             length: 0,
             items: [Item { variable: 0, value: 0, cell }; 32],
         };
@@ -206,7 +209,7 @@ impl Card {
         process.steps += 1;
         match (process.place, process.copy.flag) {
             (Place::Idle, Flag::Exit) => Answer::Exited(process.steps),
-            (Place::Idle, _) => Answer::Done(process.copy.number, process.copy.words, process.steps),
+            (Place::Idle, _) => Answer::Done(process.copy.number, process.copy.words, process.copy.fault, process.steps),
             _ => Answer::Run,
         }
     }
@@ -269,6 +272,7 @@ impl Card {
             seq: process.gate.seq,
             number: 0,
             words: process.inputs,
+            fault: false,
         };
         self.announcements[i] = process.copy;
         process.place = Place::P5;
@@ -276,7 +280,7 @@ impl Card {
 
     fn withdraw(&mut self, i: usize) {
         let process = &mut self.processes[i];
-        let exit = Announcement { flag: Flag::Exit, number: 0, words: process.inputs, ..process.copy };
+        let exit = Announcement { flag: Flag::Exit, number: 0, words: process.inputs, fault: false, ..process.copy };
         swap(&mut self.announcements[i], process.copy, exit);
         process.place = Place::P7;
     }
@@ -314,6 +318,7 @@ impl Card {
         process.counter = 0;
         process.registers = [0; 4];
         process.outputs = [0; 4];
+        process.fault = false;
         process.length = 0;
         process.simulate(&self.programs[read.program as usize], self.records.len());
     }
@@ -344,8 +349,8 @@ impl Card {
         let holder = self.holder(i);
         let process = &mut self.processes[i];
         let expected = Announcement { flag, ..process.copy };
-        let number = process.gate.seq;
-        let done = Announcement { flag: Flag::Done, number, words: process.outputs, ..process.copy };
+        let (number, words, fault) = (process.gate.seq, process.outputs, process.fault);
+        let done = Announcement { flag: Flag::Done, number, words, fault, ..process.copy };
         swap(&mut self.announcements[holder], expected, done);
         process.place = next;
     }
@@ -370,11 +375,18 @@ impl Process {
         self.target = 0;
     }
 
-    /// The program runs until it ends or the dictionary lacks a variable.
+    /// The program runs until it ends, or ends as a fault, or the dictionary lacks a variable.
     fn simulate(&mut self, program: &[Instruction], variables: usize) {
         while let Some(&instruction) = program.get(self.counter as usize) {
-            let touched = self.touched(instruction, variables);
-            let place = touched.map(|variable| (variable, self.find(variable)));
+            let touched = self.touched(instruction);
+            if touched.is_some_and(|number| variables <= number as usize) {
+                self.outputs = [0; 4];
+                self.fault = true;
+                self.place = Place::P19;
+                self.target = 0;
+                return;
+            }
+            let place = touched.map(|number| (number as u8, self.find(number as u8)));
             if let Some((variable, None)) = place {
                 self.place = Place::H21;
                 self.target = variable;
@@ -387,14 +399,13 @@ impl Process {
         self.write_from(0);
     }
 
-    /// The variable that an instruction reads or writes; a number of n or more touches nothing.
-    fn touched(&self, instruction: Instruction, variables: usize) -> Option<u8> {
-        let number = match instruction {
-            Instruction::Load(_, variable) | Instruction::Store(variable, _) => variable as u32,
-            Instruction::LoadAt(_, address) | Instruction::StoreAt(address, _) => self.registers[address as usize],
-            _ => return None,
-        };
-        ((number as usize) < variables).then_some(number as u8)
+    /// The number of the variable that an instruction reads or writes.
+    fn touched(&self, instruction: Instruction) -> Option<u32> {
+        match instruction {
+            Instruction::Load(_, variable) | Instruction::Store(variable, _) => Some(variable as u32),
+            Instruction::LoadAt(_, address) | Instruction::StoreAt(address, _) => Some(self.registers[address as usize]),
+            _ => None,
+        }
     }
 
     /// One instruction; false at a stop.
@@ -412,8 +423,8 @@ impl Process {
                     self.items[at].value = r[b as usize];
                 }
             }
-            Instruction::Add(a, b) => r[a as usize] = r[a as usize].wrapping_add(r[b as usize]),
-            Instruction::Subtract(a, b) => r[a as usize] = r[a as usize].wrapping_sub(r[b as usize]),
+            Instruction::Add(a, b) => r[a as usize] = r[a as usize].saturating_add(r[b as usize]),
+            Instruction::Subtract(a, b) => r[a as usize] = r[a as usize].saturating_sub(r[b as usize]),
             Instruction::SkipEqual(a, b, c) if r[a as usize] == r[b as usize] => self.counter += c,
             Instruction::SkipLess(a, b, c) if r[a as usize] < r[b as usize] => self.counter += c,
             Instruction::SkipEqual(..) | Instruction::SkipLess(..) => (),
@@ -437,7 +448,7 @@ fn show_cells(card: &Card) {
             Flag::Exit => "exit",
         };
         let words = a.words.map(|word| word.to_string()).join(",");
-        println!("announcement,{process},{},{},{flag},{},{words}", a.program, a.seq, a.number);
+        println!("announcement,{process},{},{},{flag},{},{words},{}", a.program, a.seq, a.number, a.fault as u8);
     }
     let record = card.records[0];
     println!("record,0,{},{},{},{}", record.val[0], record.val[1], record.toggle as u8, record.seq);

@@ -1,3 +1,5 @@
+use mathlib.Core.Path.{sym, _∙_}
+use Rattle.cells.proofs.Laws.{by-words, by-fault}
 use borrow.Author.Tests.{eq-eqb, ne-eqb}
 use Rattle.construction.specs.Cells.{sameAnnouncement}
 use borrow.Author.Needs.{needs}
@@ -5,32 +7,35 @@ use Rattle.cells.proofs.same_announcement.Statement.{statement}
 use Rattle.cells.proofs.same_announcement.Tie as tie
 
 returns : tie.Need-returns
-unfolding sameAnnouncement
 returns c =
-    rw
-    (eq-eqb _ _ (c .before .before .before .before .before .before .before .before .before .if1 .taken), eq-eqb _ _ (c .before .before .before .before .before .before .if2 .taken), ← c .before .before .before .before .before .same-flag .ensures, c .before .before .before .before .if3 .taken, eq-eqb _ _ (c .before .if4 .taken)) (c .same-words .ensures)
+    c .same-words .ensures
+    ∙ by-words _ _ (c .before .before .before .before .before .before .before .before .before .before .before .before .if1 .taken) (c .before .before .before .before .before .before .before .before .before .if2 .taken) (sym (c .before .before .before .before .before .before .before .before .same-flag .ensures) ∙ c .before .before .before .before .before .before .before .if3 .taken) (c .before .before .before .before .if4 .taken) (c .before .if5 .taken)
 
 returns-2 : tie.Need-returns-2
-unfolding sameAnnouncement
 returns-2 c =
-    rw
-    (eq-eqb _ _ (c .before .before .before .before .before .before .before .before .if1 .taken), eq-eqb _ _ (c .before .before .before .before .before .if2 .taken), ← c .before .before .before .before .same-flag .ensures, c .before .before .before .if3 .taken, ne-eqb _ _ (c .if4 .left))
+    by-fault _ _ (c .before .before .before .before .before .before .before .before .before .before .before .if1 .taken) (c .before .before .before .before .before .before .before .before .if2 .taken) (sym (c .before .before .before .before .before .before .before .same-flag .ensures) ∙ c .before .before .before .before .before .before .if3 .taken) (c .before .before .before .if4 .taken) (c .if5 .left)
 
 returns-3 : tie.Need-returns-3
 unfolding sameAnnouncement
 returns-3 c =
     rw
-    (eq-eqb _ _ (c .before .before .before .before .before .if1 .taken), eq-eqb _ _ (c .before .before .if2 .taken), ← c .before .same-flag .ensures, c .if3 .left)
+    (eq-eqb _ _ (c .before .before .before .before .before .before .before .before .if1 .taken), eq-eqb _ _ (c .before .before .before .before .before .if2 .taken), ← c .before .before .before .before .same-flag .ensures, c .before .before .before .if3 .taken, ne-eqb _ _ (c .if4 .left))
 
 returns-4 : tie.Need-returns-4
 unfolding sameAnnouncement
-returns-4 c = rw (eq-eqb _ _ (c .before .before .before .if1 .taken), ne-eqb _ _ (c .if2 .left))
+returns-4 c =
+    rw
+    (eq-eqb _ _ (c .before .before .before .before .before .if1 .taken), eq-eqb _ _ (c .before .before .if2 .taken), ← c .before .same-flag .ensures, c .if3 .left)
 
 returns-5 : tie.Need-returns-5
 unfolding sameAnnouncement
-returns-5 c = rw (ne-eqb _ _ (c .if1 .left))
+returns-5 c = rw (eq-eqb _ _ (c .before .before .before .if1 .taken), ne-eqb _ _ (c .if2 .left))
+
+returns-6 : tie.Need-returns-6
+unfolding sameAnnouncement
+returns-6 c = rw (ne-eqb _ _ (c .if1 .left))
 
 pub same-announcement-spec : {M : Type 1} → statement M
 same-announcement-spec =
     tie.close
-    (tie.spec (λ c κs. search needs) (λ c κs. search needs) returns returns-2 returns-3 returns-4 returns-5)
+    (tie.spec (λ c κs. search needs) (λ c κs. search needs) returns returns-2 returns-3 returns-4 returns-5 returns-6)

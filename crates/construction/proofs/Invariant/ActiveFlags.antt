@@ -17,7 +17,7 @@ use Rattle.construction.specs.Machine.{accessOf, accessAnnouncement, per
 use Rattle.construction.proofs.Basics.{on-test, set-keeps, active-not-done, active-not-exit}
 use Rattle.construction.proofs.Invariant.Stages.{isAnnounced, announces, Stage, stage, isAnnouncing}
 use Rattle.construction.specs.declared.Operation.{Operation}
-use Rattle.construction.specs.declared.Words.{Words}
+use Rattle.construction.specs.declared.Yield.{Yield}
 use Rattle.construction.specs.declared.Task.{Task}
 use Rattle.construction.specs.declared.Gate.{Gate}
 
@@ -39,7 +39,7 @@ swap-active cell expected new ne =
 
 cell-active :
     (a : AnnouncementAccess) → announces a ≡ false → (m : ℕ) (cell : Announcement) (o : Operation) (g : Gate) (r : Announcement)
-    (outputs : Words) (t : Task) → accessAnnouncement a m cell o g r outputs t .cell .flag ≡ Active → cell .flag ≡ Active
+    (outputs : Yield) (t : Task) → accessAnnouncement a m cell o g r outputs t .cell .flag ≡ Active → cell .flag ≡ Active
 unfolding accessAnnouncement
 cell-active AnnouncementAccess.Announce e m cell o g r outputs t = absurd (true≢false e)
 cell-active AnnouncementAccess.Withdraw e m cell o g r outputs t = swap-active cell _ _ (λ z. active-not-exit z refl)

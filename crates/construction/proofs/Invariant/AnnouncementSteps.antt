@@ -11,6 +11,7 @@ use lib.Seq.{getD-set-same, set-getD}
 use borrow.Author.Tests.{lt-ltb}
 use Rattle.construction.specs.declared.Gate.{Gate}
 use Rattle.construction.specs.declared.Announcement.{Announcement}
+use Rattle.construction.specs.declared.Yield.{Yield}
 use Rattle.construction.specs.declared.Operation.{Operation}
 use Rattle.construction.specs.declared.Card.{Card}
 use Rattle.construction.specs.declared.Holder.the-variants.{Process}
@@ -22,7 +23,7 @@ use Rattle.construction.specs.declared.AnnouncementAccess.{AnnouncementA
 use Rattle.construction.specs.Cells.{openAnnouncement, sameAnnouncement, swapAnnouncement}
 use Rattle.construction.specs.Parts.{announcementAt, recordAt, withAnnouncement, localAt, Local, contentsOf, withLocal}
 use Rattle.construction.specs.Machine.{goTo, byFlag, holderOf, firstChoice, whose, announced, flagged, withdrawn, finished, accessAnnouncement, perform, after}
-use Rattle.construction.proofs.Basics.{on-test, announcement-path, sameAnnouncement-true, sameAnnouncement-false, active-not-done, active-not-exit, exit-not-done, else-done}
+use Rattle.construction.proofs.Basics.{on-test, true-or-false, announcement-path, sameAnnouncement-true, sameAnnouncement-false, active-not-done, active-not-exit, exit-not-done, else-done}
 use Rattle.construction.proofs.Invariant.World.{endingIn, World, announcementIn, roundIn, wordAt, operationOf, announcing, leaving, ending, Move}
 use Rattle.construction.proofs.Invariant.World.Move.{announce, leave, end}
 use Rattle.construction.proofs.Invariant.Claims.{viewOf, Change, end-change}
@@ -59,7 +60,7 @@ module _ {c : Card} {w : World} {i : ℕ} (B : Before c w i) where
       set-is i (announced (localAt c i .operation) (localAt c i .gate)) (B .inside) in
       record {
         after = announcing W i a;
-        move = announce a (B .inside) (q .0) refl (q .1) (q .2) (q .3) refl;
+        move = announce a (B .inside) (q .0) refl (q .1) (q .2) (q .3) refl refl;
         gate-is = refl;
         announcements-is = refl;
         records-is = refl;
@@ -169,6 +170,11 @@ module _ {c : Card} {w : World} {i : ℕ} (B : Before c w i) where
   lost : (m : ℕ) (l : Place) → Loc F W i (at l) → Acted c W i (swapped m (announcementAt c m) l)
   lost m l q = goes-on B _ q refl (set-getD (c .announcements) m openAnnouncement) refl
 
+  -- an announcement that is not done carries no mark
+  unmarked : announcementAt c i .flag ≢ Done → announcementAt c i .fault ≡ false
+  unmarked nd =
+      ⊎-elim (λ t. absurd (nd (B .good .marked i t .0))) (λ f. f) (true-or-false (announcementAt c i .fault))
+
   pub at-P6 : L P5 → Acted c W i (perform (Access.Announcement AnnouncementAccess.Withdraw) c i .card)
   unfolding perform accessAnnouncement swapAnnouncement
   at-P6 q =
@@ -188,7 +194,8 @@ module _ {c : Card} {w : World} {i : ℕ} (B : Before c w i) where
             announcements-is =
                 ap {B = List Announcement} (set (c .announcements) i)
                 (announcement-path (ap (λ (r : Announcement). r .program) (sym z)) refl
-                (ap (λ (r : Announcement). r .seq) (sym z)) (sym (B .good .unnumbered i (active-not-done fa))) (sym zw));
+                (ap (λ (r : Announcement). r .seq) (sym z)) (sym (B .good .unnumbered i (active-not-done fa))) (sym zw)
+                (sym (unmarked (active-not-done fa))));
             records-is = refl;
             calls-is = refl;
             local = _;
@@ -210,12 +217,12 @@ module _ {c : Card} {w : World} {i : ℕ} (B : Before c w i) where
 
   -- a helper that swaps the flag to done, from the flag f that it expects
   module _ (l : Place) (f : Flag) (nf : f ≢ Done) (helper : Helper F W i (localAt c i .operation) (localAt c i .gate))
-      (plan : Plan F W (localAt c i .gate) (localAt c i .announcement)) (rd : Ready F W (localAt c i .gate .seq) (localAt c i .simulation .outputs)) where
+      (plan : Plan F W (localAt c i .gate) (localAt c i .announcement)) (rd : Ready F W (localAt c i .gate .seq) (localAt c i .simulation .yields)) where
     ends :
         announcementAt c helped ≡ flagged (localAt c i .announcement) f →
         (Move F i W (ending F W helped) → Change i (viewOf W i) (viewOf (ending F W helped) i) →
         Loc F (ending F W helped) i (at l)) →
-        Acted c W i (swapped helped (finished (localAt c i .announcement) (localAt c i .gate) (localAt c i .simulation .outputs)) l)
+        Acted c W i (swapped helped (finished (localAt c i .announcement) (localAt c i .gate) (localAt c i .simulation .yields)) l)
     ends z loc =
         let nd : announcementAt c helped .flag ≢ Done = λ d. nf (sym (ap (λ (r : Announcement). r .flag) z) ∙ d) in
         let zq : announcementAt c helped .seq ≡ localAt c i .announcement .seq = ap (λ (r : Announcement). r .seq) z in
@@ -225,8 +232,8 @@ module _ {c : Card} {w : World} {i : ℕ} (B : Before c w i) where
         (v : ℕ) → v < c .variables → recordAt c v .seq < c .gate .seq →
         wordAt (endingIn F W (c .gate .seq) .words) v ≡ wordAt (roundIn W (c .gate .seq) .words) v =
         ⊎-elim (λ b. absurd (omega arith)) (λ g. rw zs g) (rd .all) in
-        let outs : localAt c i .simulation .outputs ≡ endingIn F W (c .gate .seq) .outputs =
-        ⊎-elim (λ b. absurd (omega arith)) (λ g. rw zs g) (rd .outs) in
+        let yields : localAt c i .simulation .yields ≡ endingIn F W (c .gate .seq) .yields =
+        ⊎-elim (λ b. absurd (omega arith)) (λ g. rw zs g) (rd .yields) in
         let M : Move F i W (ending F W helped) = end helped (helper .inside) (still .0) nd all in
         record {
           after = ending F W helped;
@@ -234,7 +241,8 @@ module _ {c : Card} {w : World} {i : ℕ} (B : Before c w i) where
           gate-is = refl;
           announcements-is =
               ap {B = List Announcement} (set (c .announcements) helped)
-              (announcement-path (sym (ap (λ (r : Announcement). r .program) z)) refl (sym zq) (sym zs) outs);
+              (announcement-path (sym (ap (λ (r : Announcement). r .program) z)) refl (sym zq) (sym zs)
+              (ap (λ (y : Yield). y .outputs) yields) (ap (λ (y : Yield). y .fault) yields));
           records-is = refl;
           calls-is = refl;
           local = _;
@@ -250,7 +258,7 @@ module _ {c : Card} {w : World} {i : ℕ} (B : Before c w i) where
         c .gate .holder ≡ Process helped → c .gate .seq ≡ localAt c i .gate .seq → announcementAt c helped .flag ≢ f
     missed e h z a =
         let y = plan .working .alike h z (λ d. nf (sym a ∙ d)) in
-        sameAnnouncement-false _ _ e (announcement-path (y .program) a (y .seq) (y .number) (y .words))
+        sameAnnouncement-false _ _ e (announcement-path (y .program) a (y .seq) (y .number) (y .words) (y .fault))
 
   -- afterwards the flag of m is done
   is-done : (m : ℕ) → m < c .processes → announcementIn (ending F W m) m .flag ≡ Done
@@ -264,7 +272,7 @@ module _ {c : Card} {w : World} {i : ℕ} (B : Before c w i) where
       (λ e. ends P20 Active (active-not-done refl) (q .0) (q .1) (q .2) (sameAnnouncement-true _ _ e) (λ M C. (
         helper-stays (B .good) M C (q .0),
         plan-stays (B .good) M (localAt c i .gate) (localAt c i .announcement) (q .0 .seen) (q .1),
-        ready-stays (B .good) M (localAt c i .gate .seq) (q .1 .number) (q .1 .below) (localAt c i .simulation .outputs) (q .2),
+        ready-stays (B .good) M (localAt c i .gate .seq) (q .1 .number) (q .1 .below) (localAt c i .simulation .yields) (q .2),
         record { isnt = λ _ _ a. active-not-done a (is-done helped (q .0 .inside)) },
       )))
       (λ e. lost helped P20

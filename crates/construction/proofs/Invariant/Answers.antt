@@ -64,12 +64,12 @@ module _ (c : Card) (w : World) (I : CardInvariant c w) (v : ℕ) (vl : v < c .v
   unfolding valueOf
   read-is = by-holder (c .gate .holder) (good .phase)
 
--- the answer of an operation that has returned: done with the number and the outputs of the sequential run, or exited
+-- the answer of an operation that has returned: done with the number and what the sequential run yields, or exited
 module _ {c : Card} {w : World} (I : CardInvariant c w) (i : ℕ) (lt : i < c .processes) (b : isBusy c i ≡ false) where
   -- what the announcement says, and the answer
   abbrev pub Returned : Answer → Type 0
   Returned a =
-      ((announcementIn w i .flag ≡ Done) × (a ≡ Answer.Done (resultIn w i .number) (resultIn w i .outputs) (localAt c i .steps)))
+      ((announcementIn w i .flag ≡ Done) × (a ≡ Answer.Done (resultIn w i .number) (resultIn w i .yields) (localAt c i .steps)))
       ⊎ ((announcementIn w i .flag ≡ Exit) × (a ≡ Answer.Exited (localAt c i .steps)))
 
   pub answer-is : Returned (answerOf (localAt c i))
@@ -87,7 +87,7 @@ module _ {c : Card} {w : World} (I : CardInvariant c w) (i : ℕ) (lt : i < c .p
       go :
           (f : Flag) → announcementIn w i .flag ≡ f →
           Returned (cond (isIdle (localAt c i .task .place)) (returned (localAt c i .announcement) f (localAt c i .steps)) Answer.Run)
-      go Done e = inl (e, rw idle (ap (λ (r : Result). Answer.Done (r .number) (r .outputs) (localAt c i .steps)) (result e)))
+      go Done e = inl (e, rw idle (ap (λ (r : Result). Answer.Done (r .number) (r .yields) (localAt c i .steps)) (result e)))
       go Active e = absurd (q .0 .not-active e)
       go Exit e = inr (e, rw idle)
 

@@ -10,7 +10,7 @@ use lib.Seq.{getD-set-other}
 use Rattle.construction.specs.declared.Gate.{Gate}
 use Rattle.construction.specs.declared.Announcement.{Announcement}
 use Rattle.construction.specs.declared.Item.{Item}
-use Rattle.construction.specs.declared.Words.{Words}
+use Rattle.construction.specs.declared.Yield.{Yield}
 use Rattle.construction.specs.declared.Operation.{Operation}
 use Rattle.construction.specs.declared.Program.{Program}
 use Rattle.construction.specs.declared.Simulation.{Simulation}
@@ -64,9 +64,9 @@ pub record ItemNoted (F : Contents) (w : World) (s : ℕ) (e : Item) : Type 0 wh
 pub record NoWriteDue (w : World) (s : ℕ) (e : Item) : Type 0 where
   pub fine : (s ≤ recordIn w (e .variable) .seq) ⊎ (e .value ≡ wordAt (roundIn w s .words) (e .variable))
 
--- a helper of number s with outputs o has nothing more to write, or comes too late
-pub record Ready (F : Contents) (w : World) (s : ℕ) (o : Words) : Type 0 where
-  pub outs : (s < w .gate .seq) ⊎ (o ≡ endingIn F w s .outputs)
+-- a helper of number s whose simulation yields o has nothing more to write, or comes too late
+pub record Ready (F : Contents) (w : World) (s : ℕ) (o : Yield) : Type 0 where
+  pub yields : (s < w .gate .seq) ⊎ (o ≡ endingIn F w s .yields)
   pub all :
       (s < w .gate .seq)
       ⊎ ((v : ℕ) → v < F .variables → recordIn w v .seq < s → wordAt (endingIn F w s .words) v ≡ wordAt (roundIn w s .words) v)
@@ -125,10 +125,10 @@ LocAt H36 F w j t =
     × Writing F w (t .gate .seq) (noted (t .dictionary)) (t .task .target)
 LocAt P19 F w j t =
     Helper F w j (t .operation) (t .gate) × Plan F w (t .gate) (t .announcement)
-    × Ready F w (t .gate .seq) (t .simulation .outputs)
+    × Ready F w (t .gate .seq) (t .simulation .yields)
 LocAt P20 F w j t =
     Helper F w j (t .operation) (t .gate) × Plan F w (t .gate) (t .announcement)
-    × Ready F w (t .gate .seq) (t .simulation .outputs)
+    × Ready F w (t .gate .seq) (t .simulation .yields)
     × Halfway w (holderOf (t .gate .holder)) (t .gate .seq)
 LocAt P21 F w j t = Helper F w j (t .operation) (t .gate) × Over w (holderOf (t .gate .holder)) (t .gate .seq)
 LocAt P22 F w j t = Mine (viewOf w j) (t .operation) × Gone (viewOf w j) j
@@ -158,7 +158,7 @@ module _ {F : Contents} {i : ℕ} {w v : World} (G : WorldInvariant F w) (M : Mo
   left-stays : {u : World} (j n : ℕ) → Move F i w u → Quiet w j → leftIn w j < n → leftIn u j < n
   left-stays j n stay q h = h
   left-stays j n (ask c lt Q) q h = h
-  left-stays j n (announce a lt Q fa op l b z) q h = h
+  left-stays j n (announce a lt Q fa op l b z um) q h = h
   left-stays j n (leave lt fa) q h = h
   left-stays j n (take m lt hn fl op z) q h = h
   left-stays j n (write m v x vl hm fl below ex) q h = h
@@ -202,9 +202,9 @@ module _ {F : Contents} {i : ℕ} {w v : World} (G : WorldInvariant F w) (M : Mo
           (λ z. inl (rw z below)) (record-stays G M (e .variable));
     }
 
-    pub ready-stays : (o : Words) → Ready F w s o → Ready F v s o
+    pub ready-stays : (o : Yield) → Ready F w s o → Ready F v s o
     ready-stays o q = record {
-      outs = ⊎-elim (λ z. inl (below-stays G M z)) (λ z. inr (rw same-round z)) (q .outs);
+      yields = ⊎-elim (λ z. inl (below-stays G M z)) (λ z. inr (rw same-round z)) (q .yields);
       all = ⊎-elim (λ z. inl (below-stays G M z))
           (λ z. inr (λ u ul h. rw same-round (z u ul
           (⊎-elim (λ y. rw y at h) (λ y. absurd (omega arith)) (record-stays G M u)))))
@@ -223,6 +223,7 @@ module _ {F : Contents} {i : ℕ} {w v : World} (G : WorldInvariant F w) (M : Mo
         mem = q .core .mem;
         size = q .core .size;
         agree = rw same-round (q .core .agree);
+        unmarked = q .core .unmarked;
         rest = rw same-round (q .core .rest);
       };
       inside = q .inside;
@@ -239,7 +240,7 @@ module _ {F : Contents} {i : ℕ} {w v : World} (G : WorldInvariant F w) (M : Mo
       booked = all-map (ItemNoted F w s) (ItemNoted F v s) (noted d) noted-stays (q .booked);
       keyed = q .keyed;
       room = q .room;
-      outputs = rw same-round (q .outputs);
+      yields = rw same-round (q .yields);
       agree = rw same-round (q .agree);
     }
 
@@ -279,12 +280,12 @@ module _ {F : Contents} {i : ℕ} {w v : World} (G : WorldInvariant F w) (M : Mo
     loc-at-stays P19 t q = (
       helper-stays C (q .0),
       plan-stays (t .gate) (t .announcement) (q .0 .seen) (q .1),
-      ready-stays (t .gate .seq) (q .1 .number) (q .1 .below) (t .simulation .outputs) (q .2),
+      ready-stays (t .gate .seq) (q .1 .number) (q .1 .below) (t .simulation .yields) (q .2),
     )
     loc-at-stays P20 t q = (
       helper-stays C (q .0),
       plan-stays (t .gate) (t .announcement) (q .0 .seen) (q .1),
-      ready-stays (t .gate .seq) (q .1 .number) (q .1 .below) (t .simulation .outputs) (q .2),
+      ready-stays (t .gate .seq) (q .1 .number) (q .1 .below) (t .simulation .yields) (q .2),
       halfway-stays G M (q .0 .seen) (q .3),
     )
     loc-at-stays P21 t q = (helper-stays C (q .0), over-stays G M (q .0 .seen) (q .1))

@@ -26,7 +26,7 @@ use Rattle.construction.specs.Parts.{idleTask, noOperation, localAt, wit
 use Rattle.construction.specs.Machine.{perform, advance, accessIn}
 use Rattle.construction.specs.Requests.{isBusy, invoked, exiting}
 use Rattle.construction.specs.Opening.{fresh}
-use Rattle.construction.proofs.Basics.{getD-replicate-same, active-not-done, exit-not-done, nobody-process}
+use Rattle.construction.proofs.Basics.{getD-replicate-same, true-false, active-not-done, exit-not-done, nobody-process}
 use Rattle.construction.proofs.Simulating.Sequential.{Short}
 use Rattle.construction.proofs.Invariant.World.{World, noResult, resultOf, WorldInvariant, asking, Quiet, Move}
 use Rattle.construction.proofs.Invariant.World.Move.{ask, stay}
@@ -244,6 +244,8 @@ module _ (x : Contents) (few : x .processes ≤ 8) (narrow : x .variables ≤ 64
     fresh = λ m e. absurd (e (open-flag m));
     number-below = λ m. rw (getD-replicate-same 8 m openAnnouncement) (omega arith);
     unnumbered = λ m e. absurd (e (open-flag m));
+    marked = λ m t.
+        absurd (true-false _ t (ap (λ (a : Announcement). a .fault) (getD-replicate-same 8 m openAnnouncement)));
     inside = λ m e. absurd (nobody-process refl e);
     active-operation = λ m e. absurd (active-not-done e (open-flag m));
     phase = (refl, refl);

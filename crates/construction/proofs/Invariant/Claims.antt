@@ -8,7 +8,7 @@ use lib.ListN.{length, length-append, List·getD-append}
 use lib.Seq.{getD-set-same, getD-set-other}
 use Rattle.construction.specs.declared.Gate.{Gate}
 use Rattle.construction.specs.declared.Announcement.{Announcement}
-use Rattle.construction.specs.declared.Words.{Words}
+use Rattle.construction.specs.declared.Yield.{Yield}
 use Rattle.construction.specs.declared.Operation.{Operation}
 use Rattle.construction.specs.declared.Holder.{Holder}
 use Rattle.construction.specs.declared.Holder.the-variants.{Nobody, Process}
@@ -45,13 +45,13 @@ abbrev pub gated : View → Gate → View
 gated x g =
     record { gate = g; announcement = x .announcement; call = x .call; result = x .result; bound = x .bound }
 
-abbrev completed : View → Words → View
+abbrev completed : View → Yield → View
 completed x o =
     record {
       gate = x .gate;
       announcement = finished (x .announcement) (x .gate) o;
       call = x .call;
-      result = record { number = x .gate .seq; outputs = o };
+      result = record { number = x .gate .seq; yields = o };
       bound = x .bound;
     }
 
@@ -62,7 +62,7 @@ pub data Change (j : ℕ) (x : View) : View → Type 0 where
       (m : ℕ) → x .gate .holder ≡ Nobody →
       (m ≡ j → (x .announcement .flag ≢ Done) × (x .announcement .flag ≡ Exit → x .gate .seq ≤ x .bound)) →
       Change j x (gated x (record { holder = Process m; seq = x .gate .seq }))
-  ended : (o : Words) → x .gate .holder ≡ Process j → x .announcement .flag ≢ Done → Change j x (completed x o)
+  ended : (o : Yield) → x .gate .holder ≡ Process j → x .announcement .flag ≢ Done → Change j x (completed x o)
   freed : x .bound ≤ x .gate .seq → Change j x (gated x (record { holder = Nobody; seq = x .gate .seq + 1 }))
 
 -- the call of j stays
@@ -174,14 +174,14 @@ module _ {F : Contents} {w : World} (G : WorldInvariant F w) where
       go : Dec (j ≡ m) → Change j (viewOf w j) (viewOf (ending F w m) j)
       go (yes e) =
           rw (e, getD-set-same (w .announcements) m _ openAnnouncement (omega arith), getD-set-same (w .results) m _ noResult (omega arith))
-          (ended (endingIn F w (w .gate .seq) .outputs) hm fl)
+          (ended (endingIn F w (w .gate .seq) .yields) hm fl)
       go (no n) =
           rw (getD-set-other (w .announcements) m j _ openAnnouncement n, getD-set-other (w .results) m j _ noResult n) kept
 
   pub change : {i : ℕ} {v : World} {j : ℕ} → j ≢ i → Move F i w v → Change j (viewOf w j) (viewOf v j)
   change ne stay = kept
   change {i} {j = j} ne (ask q lt Q) = rw (getD-set-other (w .calls) i j q noOperation ne) kept
-  change {i} {j = j} ne (announce a lt Q fa op l b n) = rw (getD-set-other (w .announcements) i j a openAnnouncement ne) kept
+  change {i} {j = j} ne (announce a lt Q fa op l b n um) = rw (getD-set-other (w .announcements) i j a openAnnouncement ne) kept
   change {i} {j = j} ne (leave lt fa) =
       rw (getD-set-other (w .announcements) i j _ openAnnouncement ne, getD-set-other (w .bound) i j _ 0 ne) kept
   change ne (take m lt hn fl op z) =
@@ -216,6 +216,7 @@ pub record Alike (r a : Announcement) : Type 0 where
   pub seq : r .seq ≡ a .seq
   pub number : r .number ≡ a .number
   pub words : r .words ≡ a .words
+  pub fault : r .fault ≡ a .fault
 
 -- while the gate is (m, s): m's announcement is a, but for its flag, or done; its flag is not active; its flag is done
 pub record Working (w : World) (m s : ℕ) (a : Announcement) : Type 0 where
@@ -232,7 +233,7 @@ module _ {F : Contents} {i : ℕ} {w : World} (G : WorldInvariant F w) where
   pub seen-stays : {v : World} {m s : ℕ} → Move F i w v → Seen w m s → Seen v m s
   seen-stays stay o = o
   seen-stays (ask c lt Q) o = record { still = o .still }
-  seen-stays (announce a lt Q fa op l b n) o = record { still = o .still }
+  seen-stays (announce a lt Q fa op l b n um) o = record { still = o .still }
   seen-stays (leave lt fa) o = record { still = o .still }
   seen-stays {m = m} (take m′ lt hn fl op z) o = record { still = λ l. absurd (nobody-process hn (o .still l .0)) }
   seen-stays (write m v x vl hm fl below ex) o = record { still = o .still }
@@ -286,7 +287,7 @@ module _ {F : Contents} {i : ℕ} {w : World} (G : WorldInvariant F w) where
   pub nominated-stays : {v : World} {j m n : ℕ} → j ≢ i → Move F i w v → Nominated w j m n → Nominated v j m n
   nominated-stays ne stay o = o
   nominated-stays ne (ask c lt Q) o = record { below = o .below; fit = λ h e. eligible-ask ne (o .fit h e) c lt Q (sym e) }
-  nominated-stays ne (announce a lt Q fa op l b n) o =
+  nominated-stays ne (announce a lt Q fa op l b n um) o =
       record { below = o .below; fit = λ h e. eligible-announce ne (o .fit h e) a lt fa op }
   nominated-stays ne (leave lt fa) o = record { below = o .below; fit = λ h e. eligible-leave ne (o .fit h e) lt (sym e) }
   nominated-stays ne (take m lt hn fl op z) o = record { below = o .below; fit = λ h. absurd (nobody-process h refl) }
@@ -301,12 +302,12 @@ module _ {F : Contents} {i : ℕ} {w : World} (G : WorldInvariant F w) where
 
   -- a claim about m's announcement while the gate is (m, s), which an exit request and the end of the operation keep
   module _ (P : Announcement → Type 0) (m s : ℕ) (exits : (r : Announcement) → r .flag ≡ Active → P r → P (flagged r Exit))
-      (ends : (r : Announcement) (g : Gate) (o : Words) → P (finished r g o)) (seen : Seen w m s)
+      (ends : (r : Announcement) (g : Gate) (o : Yield) → P (finished r g o)) (seen : Seen w m s)
       (f : w .gate .holder ≡ Process m → w .gate .seq ≡ s → P (announcementIn w m)) where
     held-stays : {v : World} → Move F i w v → v .gate .holder ≡ Process m → v .gate .seq ≡ s → P (announcementIn v m)
     held-stays stay h e = f h e
     held-stays (ask c lt Q) h e = f h e
-    held-stays (announce a lt Q fa op l b n) h e =
+    held-stays (announce a lt Q fa op l b n um) h e =
         announcements-set G P i m a lt (λ z. absurd (Q .free-of (h ∙ ap Process z))) (λ _. f h e)
     held-stays (leave lt fa) h e =
         announcements-set G P i m _ lt (λ z. rw (← z) (exits (announcementIn w m) (rw z fa) (f h e))) (λ _. f h e)
@@ -321,7 +322,7 @@ module _ {F : Contents} {i : ℕ} {w : World} (G : WorldInvariant F w) where
       {v : World} {m s : ℕ} {a : Announcement} → Move F i w v → Seen w m s → Working w m s a → Working v m s a
   working-stays {m = m} {s} {a} M seen o = record {
     alike = held-stays (λ r. r .flag ≢ Done → Alike r a) m s
-        (λ r fa q _. let z = q (active-not-done fa) in record { program = z .program; seq = z .seq; number = z .number; words = z .words })
+        (λ r fa q _. let z = q (active-not-done fa) in record { program = z .program; seq = z .seq; number = z .number; words = z .words; fault = z .fault })
         (λ r _ _ q. absurd (q refl)) seen (o .alike) M;
   }
 
@@ -341,7 +342,7 @@ module _ {F : Contents} {i : ℕ} {w : World} (G : WorldInvariant F w) where
   pub below-stays : {v : World} {n : ℕ} → Move F i w v → n ≤ w .gate .seq → n ≤ v .gate .seq
   below-stays stay h = h
   below-stays (ask c lt Q) h = h
-  below-stays (announce a lt Q fa op l b n) h = h
+  below-stays (announce a lt Q fa op l b n um) h = h
   below-stays (leave lt fa) h = h
   below-stays (take m lt hn fl op z) h = h
   below-stays (write m v x vl hm fl below ex) h = h
@@ -353,7 +354,7 @@ module _ {F : Contents} {i : ℕ} {w : World} (G : WorldInvariant F w) where
   unfolding rewritten
   record-stays stay u = inl refl
   record-stays (ask c lt Q) u = inl refl
-  record-stays (announce a lt Q fa op l b n) u = inl refl
+  record-stays (announce a lt Q fa op l b n um) u = inl refl
   record-stays (leave lt fa) u = inl refl
   record-stays (take m lt hn fl op z) u = inl refl
   record-stays (write m v x vl hm fl below ex) u =
@@ -367,7 +368,7 @@ module _ {F : Contents} {i : ℕ} {w : World} (G : WorldInvariant F w) where
       {v : World} → Move F i w v → (s : ℕ) → s < length (w .rounds) → (roundIn v s ≡ roundIn w s) × (s < length (v .rounds))
   round-stays stay s h = (refl, h)
   round-stays (ask c lt Q) s h = (refl, h)
-  round-stays (announce a lt Q fa op l b n) s h = (refl, h)
+  round-stays (announce a lt Q fa op l b n um) s h = (refl, h)
   round-stays (leave lt fa) s h = (refl, h)
   round-stays (take m lt hn fl op z) s h =
       (List·getD-append (w .rounds) _ noRound s h, rw length-append (omega arith))

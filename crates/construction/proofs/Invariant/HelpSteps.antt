@@ -13,7 +13,7 @@ use Rattle.construction.specs.declared.Simulation.{Simulation}
 use Rattle.construction.specs.declared.Simulated.{Simulated}
 use Rattle.construction.specs.declared.Dictionary.{Dictionary}
 use Rattle.construction.specs.declared.Pause.{Pause}
-use Rattle.construction.specs.declared.Pause.the-variants.{Ended, Lacks}
+use Rattle.construction.specs.declared.Pause.the-variants.{Ended, Faulted, Lacks}
 use Rattle.construction.specs.declared.Card.{Card}
 use Rattle.construction.specs.declared.Holder.{Holder}
 use Rattle.construction.specs.declared.Holder.the-variants.{Process}
@@ -55,6 +55,7 @@ paused-tidy :
     PausedAt (F .variables) (programFor F s a) (a .words) (roundIn w s .words) (endingIn F w s) (ItemNoted F w s) p l d →
     WellFormed d
 paused-tidy F w s a Ended l d q = record { short = q .room .small; keyed = q .keyed }
+paused-tidy F w s a Faulted l d q = record { short = q .room .small; keyed = q .keyed }
 paused-tidy F w s a (Lacks v) l d q =
     record { short = q .core .room .small; keyed = q .core .keyed }
 
@@ -133,7 +134,7 @@ module _ {c : Card} {w : World} {i : ℕ} (B : Before c w i) where
       positive = omega (arith, B .good .fresh m nd);
       working =
           subst (λ (k : ℕ). Working W k s (announcementAt c m)) (sym n)
-          (record { alike = λ _ _ _. record { program = refl; seq = refl; number = refl; words = refl } });
+          (record { alike = λ _ _ _. record { program = refl; seq = refl; number = refl; words = refl; fault = refl } });
     }
 
     -- the first simulation touches no dictionary
@@ -189,7 +190,7 @@ module _ {c : Card} {w : World} {i : ℕ} (B : Before c w i) where
       past e =
           let few = rounds-few (c .gate .holder) W (B .good .phase) in
           let z : s < c .gate .seq = omega (arith, ltb-true s (recordAt c v .seq) e, B .good .recorded .below v) in
-          goes-on B _ (q .0, q .1, record { outs = inl z; all = inl z }) refl refl kept
+          goes-on B _ (q .0, q .1, record { yields = inl z; all = inl z }) refl refl kept
 
       base : recordAt c v .seq ≤ s → valueUnder s (recordAt c v) ≡ wordAt (roundIn W s .words) v
       base le =

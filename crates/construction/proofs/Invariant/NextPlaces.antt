@@ -10,7 +10,7 @@ use Rattle.construction.specs.declared.Announcement.{Announcement}
 use Rattle.construction.specs.declared.Task.{Task}
 use Rattle.construction.specs.declared.Dictionary.{Dictionary}
 use Rattle.construction.specs.declared.Pause.{Pause}
-use Rattle.construction.specs.declared.Pause.the-variants.{Ended, Lacks}
+use Rattle.construction.specs.declared.Pause.the-variants.{Ended, Faulted, Lacks}
 use Rattle.construction.specs.declared.Card.{Card}
 use Rattle.construction.specs.declared.Holder.{Holder}
 use Rattle.construction.specs.declared.Holder.the-variants.{Nobody, Process}
@@ -31,6 +31,7 @@ use Rattle.construction.specs.declared.Began.{Began}
 use Rattle.construction.specs.declared.Helped.{Helped}
 use Rattle.construction.specs.declared.Operation.{Operation}
 use Rattle.construction.specs.declared.Words.{Words}
+use Rattle.construction.specs.declared.Yield.{Yield}
 use Rattle.construction.specs.declared.Gate.{Gate}
 use Rattle.construction.specs.declared.Simulated.{Simulated}
 use Rattle.construction.specs.declared.Record.{Record}
@@ -78,6 +79,7 @@ module _ (Q : Place → Type 0) where
 
   by-pause : (seq : ℕ) (d : Dictionary) (p : Pause) → Q H21 → Q H36 → Q P19 → Q (afterPause seq d p .place)
   by-pause seq d Ended a b c = by-write seq d 0 b c
+  by-pause seq d Faulted a b c = c
   by-pause seq d (Lacks v) a b c = a
 
   gate-leads : (a : GateAccess) → GateLeads a → (i : ℕ) (cell g : Gate) (t : Task) → Q (accessGate a i cell g t .task .place)
@@ -89,7 +91,7 @@ module _ (Q : Place → Type 0) where
 
   announcement-leads :
       (a : AnnouncementAccess) → AnnouncementLeads a → (m : ℕ) (cell : Announcement) (o : Operation) (g : Gate) (r : Announcement)
-      (outputs : Words) (t : Task) → Q (accessAnnouncement a m cell o g r outputs t .task .place)
+      (outputs : Yield) (t : Task) → Q (accessAnnouncement a m cell o g r outputs t .task .place)
   unfolding accessAnnouncement
   announcement-leads AnnouncementAccess.Announce q m cell o g r outputs t = q
   announcement-leads AnnouncementAccess.Withdraw q m cell o g r outputs t = q

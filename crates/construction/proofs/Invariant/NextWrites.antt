@@ -1,6 +1,6 @@
 -- From the end of a simulation to the writes (lines H31 and H32): the next place of a helper.
 use Prim.Native.Nat.{ℕ, _<_}
-use mathlib.Core.Path.{_≡_, sym, _∙_}
+use mathlib.Core.Path.{_≡_, sym, ap, _∙_}
 use mathlib.Core.Bool.{true, false, not}
 use mathlib.Core.Logic.{inl, inr, ⊎-elim}
 use native.Mathlib.Omega.{arith}
@@ -13,9 +13,10 @@ use Rattle.construction.specs.declared.Task.{Task}
 use Rattle.construction.specs.declared.Dictionary.{Dictionary}
 use Rattle.construction.specs.declared.Simulation.{Simulation}
 use Rattle.construction.specs.declared.Pause.{Pause}
-use Rattle.construction.specs.declared.Pause.the-variants.{Ended, Lacks}
+use Rattle.construction.specs.declared.Pause.the-variants.{Ended, Faulted, Lacks}
 use Rattle.construction.specs.Cells.{current}
 use Rattle.construction.specs.Dictionary.{noItem, noted, position, valueUnder, altered, nextWrite}
+use Rattle.construction.specs.Sequential.{Ending}
 use Rattle.construction.specs.Machine.{writeFrom, afterPause}
 use Rattle.construction.proofs.Basics.{on-test, true-or-false, and-false}
 use Rattle.construction.proofs.Simulating.Dictionaries.{hasIn, valueIn, all-at, value-none, has-position, at-position, next-before, next-at}
@@ -48,9 +49,9 @@ module _ (F : Contents) (w : World) (i : ℕ) (t : Local) (a : Announcement) (he
   -- no item needs a write: the operation can be finished
   ready :
       (l : Simulation) (d : Dictionary) → FinishedAt F w s a l d →
-      ((q : ℕ) → q < length (noted d) → NoWriteDue w s (getD (noted d) q noItem)) → Ready F w s (l .outputs)
+      ((q : ℕ) → q < length (noted d) → NoWriteDue w s (getD (noted d) q noItem)) → Ready F w s (l .yields)
   ready l d f fine = record {
-    outs = inr (f .outputs);
+    yields = inr (f .yields);
     all = inr (λ v vl h.
         f .agree v vl ∙ ⊎-elim (known v h) (λ z. value-none (noted d) v _ z) (true-or-false (hasIn (noted d) v)));
   }
@@ -101,4 +102,12 @@ module _ (F : Contents) (w : World) (i : ℕ) (t : Local) (a : Announcement) (he
       (ItemNoted F w s) p l d →
       Loc F w i (atSimulation t a (afterPause s d p) l d 0)
   pause-loc Ended l d q = write-loc l d q 0 (λ k h. absurd (omega arith))
+  pause-loc Faulted l d q = (
+    helper,
+    plan,
+    record {
+      yields = inr (ap (λ (r : Ending). r .yields) (q .ends));
+      all = inr (λ v vl h. ap (λ (r : Ending). wordAt (r .words) v) (sym (q .ends)));
+    },
+  )
   pause-loc (Lacks v) l d q = (helper, plan, q)

@@ -1,18 +1,19 @@
 -- The shared cells with the ghost state of the proof, what holds of them after every list of entries, and the moves that an entry makes.
 use Prim.Native.Nat.{ℕ, suc, _+_, _≤_, _<_}
 use mathlib.Core.Path.{_≡_}
+use mathlib.Core.Bool.{true, false}
 use mathlib.Core.Logic.{_≢_, _⊎_}
 use mathlib.Core.List.{List, [], _∷_, _++_}
 use lib.ListN.{length, getD, set}
 use Rattle.construction.specs.declared.Gate.{Gate}
 use Rattle.construction.specs.declared.Announcement.{Announcement}
 use Rattle.construction.specs.declared.Record.{Record}
-use Rattle.construction.specs.declared.Words.{Words}
+use Rattle.construction.specs.declared.Yield.{Yield}
 use Rattle.construction.specs.declared.Operation.{Operation}
 use Rattle.construction.specs.declared.Holder.{Holder}
 use Rattle.construction.specs.declared.Holder.the-variants.{Nobody, Process}
 use Rattle.construction.specs.declared.Flag.the-variants.{Done, Active, Exit}
-use Rattle.construction.specs.Cells.{zeros, openAnnouncement, openRecord, current, previous, rewritten}
+use Rattle.construction.specs.Cells.{zeros, noYield, yieldOf, openAnnouncement, openRecord, current, previous, rewritten}
 use Rattle.construction.specs.Sequential.{Ending, sequential}
 use Rattle.construction.specs.Parts.{noOperation, programOf}
 use Rattle.construction.specs.Machine.{flagged, finished}
@@ -32,13 +33,13 @@ unfoldable pub endingOf : Contents → ℕ → Round → Ending
 endingOf F number r =
     sequential (F .variables) (programOf F (r .call .program) number) (r .call .inputs) (r .words)
 
--- what an operation came to that is done: its gate number and its outputs
+-- what an operation came to that is done: its gate number and what it yields
 pub record Result : Type 0 where
   pub number : ℕ
-  pub outputs : Words
+  pub yields : Yield
 
 abbrev pub noResult : Result
-noResult = record { number = 0; outputs = zeros }
+noResult = record { number = 0; yields = noYield }
 
 -- The shared cells; the words of the sequential run; of each process its latest taken call and the result of its latest finished
 -- operation. `left` is the last number under which a process gave back the gate, `bound` the gate's number at its exit request,
@@ -94,7 +95,7 @@ operationOf a = record { program = a .program; inputs = a .words }
 
 -- what an announcement says that is done
 abbrev pub resultOf : Announcement → Result
-resultOf a = record { number = a .number; outputs = a .words }
+resultOf a = record { number = a .number; yields = yieldOf a }
 
 -- the gate is held for an operation of m that is not done
 pub record Pending (w : World) (m : ℕ) : Type 0 where
@@ -155,6 +156,7 @@ pub record WorldInvariant (F : Contents) (w : World) : Type 0 where
   pub fresh : (m : ℕ) → announcementIn w m .flag ≢ Done → leftIn w m < announcementIn w m .seq
   pub number-below : (m : ℕ) → announcementIn w m .number ≤ w .gate .seq
   pub unnumbered : (m : ℕ) → announcementIn w m .flag ≢ Done → announcementIn w m .number ≡ 0
+  pub marked : (m : ℕ) → announcementIn w m .fault ≡ true → (announcementIn w m .flag ≡ Done) × (announcementIn w m .words ≡ zeros)
   pub inside : (m : ℕ) → w .gate .holder ≡ Process m → m < F .processes
   pub active-operation : (m : ℕ) → announcementIn w m .flag ≡ Active → operationOf (announcementIn w m) ≡ callIn w m
   pub phase : Phase (w .gate .holder) w
@@ -245,11 +247,11 @@ abbrev pub ending : Contents → World → ℕ → World
 ending F w m =
     record {
       gate = w .gate;
-      announcements = set (w .announcements) m (finished (announcementIn w m) (w .gate) (endingIn F w (w .gate .seq) .outputs));
+      announcements = set (w .announcements) m (finished (announcementIn w m) (w .gate) (endingIn F w (w .gate .seq) .yields));
       records = w .records;
       words = endingIn F w (w .gate .seq) .words;
       calls = w .calls;
-      results = set (w .results) m (record { number = w .gate .seq; outputs = endingIn F w (w .gate .seq) .outputs });
+      results = set (w .results) m (record { number = w .gate .seq; yields = endingIn F w (w .gate .seq) .yields });
       left = w .left;
       bound = w .bound;
       rounds = w .rounds;
@@ -284,7 +286,7 @@ pub data Move (F : Contents) (i : ℕ) (w : World) : World → Type 0 where
   ask : (q : Operation) → i < F .processes → Quiet w i → Move F i w (asking w i q)
   announce :
       (a : Announcement) → i < F .processes → Quiet w i → a .flag ≡ Active → operationOf a ≡ callIn w i →
-      leftIn w i < a .seq → a .seq ≤ w .gate .seq → a .number ≡ 0 → Move F i w (announcing w i a)
+      leftIn w i < a .seq → a .seq ≤ w .gate .seq → a .number ≡ 0 → a .fault ≡ false → Move F i w (announcing w i a)
   leave : i < F .processes → announcementIn w i .flag ≡ Active → Move F i w (leaving w i)
   take :
       (m : ℕ) → m < F .processes → w .gate .holder ≡ Nobody → announcementIn w m .flag ≢ Done →

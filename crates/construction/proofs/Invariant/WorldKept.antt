@@ -14,20 +14,28 @@ use Rattle.construction.specs.declared.Operation.{Operation}
 use Rattle.construction.specs.declared.Holder.{Holder}
 use Rattle.construction.specs.declared.Holder.the-variants.{Nobody, Process}
 use Rattle.construction.specs.declared.Flag.the-variants.{Done, Active}
-use Rattle.construction.specs.Cells.{openAnnouncement, openRecord, current, previous, rewritten}
-use Rattle.construction.specs.Instructions.{started}
-use Rattle.construction.specs.Sequential.{sequential}
+use Rattle.construction.specs.Cells.{zeros, openAnnouncement, openRecord, current, previous, rewritten}
+use Rattle.construction.specs.Sequential.{Ending, sequential}
 use Rattle.construction.specs.Parts.{noOperation, programOf}
-use Rattle.construction.proofs.Basics.{on-set, active-not-done, active-not-exit, exit-not-done, nobody-process, process-same, done-or-not}
-use Rattle.construction.proofs.Simulating.Sequential.{run-length}
+use Rattle.construction.proofs.Basics.{on-set, active-not-done, active-not-exit, exit-not-done, nobody-process, process-same, done-or-not, true-false}
+use Rattle.construction.proofs.Simulating.Sequential.{sequential-length, sequential-fault}
 use Rattle.construction.proofs.Invariant.World.{Round, noRound, endingOf, endingIn, World, announcementIn, recordIn, leftIn, callIn, roundIn, wordAt, operationOf, Pending, Phase, Recorded, WorldInvariant, asking, announcing, leaving, taking, storing, ending, freeing, Quiet, Move}
 use Rattle.construction.proofs.Invariant.World.Move.{stay, ask, announce, leave, take, write, end, free}
 use Rattle.construction.specs.declared.Contents.{Contents}
 use Rattle.construction.specs.Machine.{finished}
 
 ending-length : (F : Contents) (s : ℕ) (r : Round) → length (endingOf F s r .words) ≡ length (r .words)
-unfolding endingOf sequential
-ending-length F s r = run-length (F .variables) _ (r .call .inputs) 32 started (r .words)
+unfolding endingOf
+ending-length F s r = sequential-length (F .variables) _ (r .call .inputs) (r .words)
+
+-- an operation that ends as a fault outputs zeros
+ending-fault : (F : Contents) (s : ℕ) (r : Round) → endingOf F s r .yields .fault ≡ true → endingOf F s r .yields .outputs ≡ zeros
+unfolding endingOf
+ending-fault F s r h = ap (λ (e : Ending). e .yields .outputs) (sequential-fault (F .variables) _ (r .call .inputs) (r .words) h)
+
+-- a mark stands with the flag done and outputs 0
+abbrev Marked : Announcement → Type 0
+Marked r = r .fault ≡ true → (r .flag ≡ Done) × (r .words ≡ zeros)
 
 current-rewritten : (r : Record) (x s : ℕ) → current (rewritten r x s) ≡ x
 unfolding current rewritten
@@ -71,6 +79,7 @@ module _ {F : Contents} {w : World} (G : WorldInvariant F w) where
     fresh = G .fresh;
     number-below = G .number-below;
     unnumbered = G .unnumbered;
+    marked = G .marked;
     inside = G .inside;
     active-operation = λ m a.
         on-set (λ r. operationOf (announcementIn w m) ≡ r) (w .calls) i m q noOperation (omega arith)
@@ -92,8 +101,8 @@ module _ {F : Contents} {w : World} (G : WorldInvariant F w) where
 
   good-announce :
       (i : ℕ) (a : Announcement) → i < F .processes → Quiet w i → a .flag ≡ Active → operationOf a ≡ callIn w i →
-      leftIn w i < a .seq → a .seq ≤ w .gate .seq → a .number ≡ 0 → WorldInvariant F (announcing w i a)
-  good-announce i a lt Q fa op l b n = record {
+      leftIn w i < a .seq → a .seq ≤ w .gate .seq → a .number ≡ 0 → a .fault ≡ false → WorldInvariant F (announcing w i a)
+  good-announce i a lt Q fa op l b n um = record {
     fits = G .fits;
     lengths = rw length-set (G .lengths);
     size-words = G .size-words;
@@ -108,6 +117,7 @@ module _ {F : Contents} {w : World} (G : WorldInvariant F w) where
         announcements-set (λ r. r .number ≤ w .gate .seq) i m a lt (λ _. omega (arith, n)) (λ _. G .number-below m);
     unnumbered = λ m.
         announcements-set (λ r. r .flag ≢ Done → r .number ≡ 0) i m a lt (λ _ _. n) (λ _. G .unnumbered m);
+    marked = λ m. announcements-set Marked i m a lt (λ _ t. absurd (true-false _ t um)) (λ _. G .marked m);
     inside = G .inside;
     active-operation = λ m.
         announcements-set (λ r. r .flag ≡ Active → operationOf r ≡ callIn w m) i m a lt
@@ -155,6 +165,7 @@ module _ {F : Contents} {w : World} (G : WorldInvariant F w) where
     unnumbered = λ m.
         announcements-set (λ r. r .flag ≢ Done → r .number ≡ 0) i m _ lt
         (λ _ _. G .unnumbered i (active-not-done fa)) (λ _. G .unnumbered m);
+    marked = λ m. announcements-set Marked i m _ lt (λ _ t. absurd (active-not-done fa (G .marked i t .0))) (λ _. G .marked m);
     inside = G .inside;
     active-operation = λ m.
         announcements-set (λ r. r .flag ≡ Active → operationOf r ≡ callIn w m) i m _ lt
@@ -196,6 +207,7 @@ module _ {F : Contents} {w : World} (G : WorldInvariant F w) where
         fresh = G .fresh;
         number-below = G .number-below;
         unnumbered = G .unnumbered;
+        marked = G .marked;
         inside = λ j e. rw (← process-same e) lt;
         active-operation = G .active-operation;
         phase = (
@@ -280,6 +292,7 @@ module _ {F : Contents} {w : World} (G : WorldInvariant F w) where
         fresh = G .fresh;
         number-below = G .number-below;
         unnumbered = G .unnumbered;
+        marked = G .marked;
         inside = G .inside;
         active-operation = G .active-operation;
         phase = phase-write v x (w .gate .holder) (G .phase);
@@ -309,7 +322,7 @@ module _ {F : Contents} {w : World} (G : WorldInvariant F w) where
 
       good-end : WorldInvariant F (ending F w m)
       good-end =
-          let a : Announcement = finished (announcementIn w m) (w .gate) (endingIn F w (w .gate .seq) .outputs) in
+          let a : Announcement = finished (announcementIn w m) (w .gate) (endingIn F w (w .gate .seq) .yields) in
           record {
             fits = G .fits;
             lengths = simp length-set (G .lengths);
@@ -326,6 +339,9 @@ module _ {F : Contents} {w : World} (G : WorldInvariant F w) where
                 announcements-set (λ r. r .number ≤ w .gate .seq) m j a lt (λ _. omega arith) (λ _. G .number-below j);
             unnumbered = λ j.
                 announcements-set (λ r. r .flag ≢ Done → r .number ≡ 0) m j a lt (λ _ q. absurd (q refl)) (λ _. G .unnumbered j);
+            marked = λ j.
+                announcements-set Marked m j a lt
+                (λ _ t. (refl, ending-fault F (w .gate .seq) (roundIn w (w .gate .seq)) t)) (λ _. G .marked j);
             inside = G .inside;
             active-operation = λ j.
                 announcements-set (λ r. r .flag ≡ Active → operationOf r ≡ callIn w j) m j a lt
@@ -358,6 +374,7 @@ module _ {F : Contents} {w : World} (G : WorldInvariant F w) where
         fresh = λ j q. set-left (λ b. b < announcementIn w j .seq) j (λ e. absurd (q (rw e d))) (λ _. G .fresh j q);
         number-below = λ j. omega (arith, G .number-below j);
         unnumbered = G .unnumbered;
+        marked = G .marked;
         inside = λ j e. absurd (nobody-process refl e);
         active-operation = G .active-operation;
         phase = (omega arith, omega arith);
@@ -367,7 +384,7 @@ module _ {F : Contents} {w : World} (G : WorldInvariant F w) where
 pub good-move : {F : Contents} {i : ℕ} {w v : World} → WorldInvariant F w → Move F i w v → WorldInvariant F v
 good-move G stay = G
 good-move G (ask q lt Q) = good-ask G _ q lt Q
-good-move G (announce a lt Q fa op l b n) = good-announce G _ a lt Q fa op l b n
+good-move G (announce a lt Q fa op l b n um) = good-announce G _ a lt Q fa op l b n um
 good-move G (leave lt fa) = good-leave G _ lt fa
 good-move G (take m lt hn fl op z) = good-take G m lt hn fl op
 good-move G (write m v x vl hm fl below ex) = good-write G m hm fl v x vl below ex
@@ -378,7 +395,7 @@ good-move G (free m lt hm d) = good-free G m lt hm d
 pub seq-move : {F : Contents} {i : ℕ} {w v : World} → Move F i w v → v .gate .seq ≤ suc (w .gate .seq)
 seq-move stay = omega arith
 seq-move (ask c lt Q) = omega arith
-seq-move (announce a lt Q fa op l b n) = omega arith
+seq-move (announce a lt Q fa op l b n um) = omega arith
 seq-move (leave lt fa) = omega arith
 seq-move (take m lt hn fl op z) = omega arith
 seq-move (write m v x vl hm fl below ex) = omega arith

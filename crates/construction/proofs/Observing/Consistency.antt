@@ -257,9 +257,9 @@ module _ (o : Card) (m : Observation) (O : Consistent o m) where
     abbrev Ended : Event → Type 0
     Ended v = Follows o d (S .after) (withResponse noticed i v)
 
-    ended-done : isBusy d i ≡ false → announcementIn (S .after) i .flag ≡ Done → Ended (Event.returned (Return.done (resultIn (S .after) i .number) (resultIn (S .after) i .outputs)))
+    ended-done : isBusy d i ≡ false → announcementIn (S .after) i .flag ≡ Done → Ended (Event.returned (Return.done (resultIn (S .after) i .number) (resultIn (S .after) i .yields)))
     ended-done idle h =
-        tracks-returned i others moved (Return.done (resultIn (S .after) i .number) (resultIn (S .after) i .outputs)) own-moved (own-moved .over (returning idle) (ap isDone h)) idle
+        tracks-returned i others moved (Return.done (resultIn (S .after) i .number) (resultIn (S .after) i .yields)) own-moved (own-moved .over (returning idle) (ap isDone h)) idle
 
     ended-exited : isBusy d i ≡ false → announcementIn (S .after) i .flag ≡ Exit → Ended (Event.returned Return.exited)
     ended-exited idle h = tracks-returned i others moved Return.exited own-moved (own-moved .pending (ap isDone h)) idle

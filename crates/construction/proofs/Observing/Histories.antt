@@ -16,7 +16,7 @@ use Rattle.construction.specs.Cells.{isDone, openAnnouncement}
 use Rattle.construction.specs.History.{Invocation, Finish, Return, Response, hasCalled, latest, turned}
 use Rattle.construction.specs.Numbers.{callerOf, latestNumber}
 use Rattle.construction.proofs.Basics.{on-test}
-use Rattle.construction.specs.Linearizability.{times, rank, finishOf, hasReturned, Numbered, Agrees, AllAgree}
+use Rattle.construction.specs.Linearizability.{times, rank, finishOf, hasReturned, Numbered, Agrees, isFault, returnedFault, AllAgree}
 
 -- a list of notes, newest first, and an earlier one
 pub data Extends {A : Type 0} (old : List A) : List A → Type 0 where
@@ -164,6 +164,29 @@ place-after {old} k Extends.same e h = absurd (omega (arith, no-place k old e))
 place-after {old} k (Extends.more {x = f} {l = l} q) e h =
     on-equal (λ b. 0 < cond b (suc (length l)) (rank k l) → length old < cond b (suc (length l)) (rank k l)) (f .operation) k
     (λ _ _. omega (arith, extends-length q)) (λ _ z. place-after k q e z) h
+
+-- what is noted of an operation that does not stand in the order
+pub finish-none : (k : ℕ) (fs : List Finish) → times k fs ≡ 0 → finishOf k fs .yields .fault ≡ false
+unfolding times finishOf
+finish-none k [] h = refl
+finish-none k (f ∷ fs) h =
+    on-equal (λ b. cond b (suc (times k fs)) (times k fs) ≡ 0 → cond b f (finishOf k fs) .yields .fault ≡ false) (f .operation) k
+    (λ _ z. absurd (omega arith)) (λ _ z. finish-none k fs z) h
+
+-- a returned operation is a fault where the order says so
+fault-of : (k : ℕ) (order : List Finish) (r : Return) → Agrees order k r → isFault r ≡ finishOf k order .yields .fault
+fault-of k order (Return.done n y) q = ap (λ (f : Finish). f .yields .fault) (sym (q .1))
+fault-of k order Return.exited q = sym (finish-none k order q)
+
+pub faults-agree :
+    (order : List Finish) (rs : List Response) → AllAgree order rs → (k : ℕ) → hasReturned k rs ≡ true →
+    returnedFault k rs ≡ finishOf k order .yields .fault
+unfolding hasReturned returnedFault
+faults-agree order [] a k h = absurd (false≢true h)
+faults-agree order (r ∷ rs) a k h =
+    on-equal
+    (λ b. cond b true (hasReturned k rs) ≡ true → cond b (isFault (r .return)) (returnedFault k rs) ≡ finishOf k order .yields .fault)
+    (r .operation) k (λ e _. rw (← e) (fault-of (r .operation) order (r .return) (a .0))) (λ _ z. faults-agree order rs (a .1) k z) h
 
 -- the gate number of an operation is its rank
 pub gate-rank : (k : ℕ) (fs : List Finish) → Numbered fs → finishOf k fs .gate ≡ rank k fs

@@ -40,10 +40,10 @@ requestOf x = record { program = x .program; inputs = x .inputs }
 
 -- what the order has to say of an operation with a result
 abbrev pub finishAs : ℕ → Result → Finish
-finishAs k r = record { operation = k; gate = r .number; outputs = r .outputs }
+finishAs k r = record { operation = k; gate = r .number; yields = r .yields }
 
 -- Process j has an operation under way, its latest taken call. That stands in the order once if it is announced and its flag is done,
--- with its gate number and the outputs of the sequential run, and else not.
+-- with its gate number and what the sequential run yields, and else not.
 pub record Own (announced : Bool) (w : World) (s : History) (j : ℕ) : Type 0 where
   pub asked : hasCalled (s .operations) j ≡ true
   pub request : requestOf (latestCall (s .operations) j) ≡ callIn w j
@@ -110,7 +110,7 @@ module _ {F : Contents} {w : World} (announced : ℕ → Bool) (G : WorldInvaria
       NothingFinishes announced w v ⊎ OneFinishes F w v
   kind-of stay only = inl (calm-same refl refl refl refl)
   kind-of (ask q lt Q) only = inl (calm-same refl refl refl refl)
-  kind-of {i} (announce a lt Q fa op l b n) only =
+  kind-of {i} (announce a lt Q fa op l b n um) only =
       let size : i < length (w .announcements) = omega (arith, G .lengths .announcements, G .fits .few) in
       inl (record {
         none = turned-not 0 (w .announcements) i a (rw fa (turns-active (announcementIn w i .flag)));
@@ -212,7 +212,7 @@ module _
             (passed _ _ _ _ far ∙ q .0, passed _ _ _ _ far ∙ (q .1 ∙ ap (finishAs (latest (s .operations) j)) (sym (getD-set-other (w .results) m j _ noResult ne))));
       }
 
-  finished-is : announcementIn (ending F w m) m ≡ finished (announcementIn w m) (w .gate) (endingIn F w (w .gate .seq) .outputs)
+  finished-is : announcementIn (ending F w m) m ≡ finished (announcementIn w m) (w .gate) (endingIn F w (w .gate .seq) .yields)
   finished-is = getD-set-same (w .announcements) m _ openAnnouncement (omega (arith, size, G .lengths .announcements))
 
   own-finished : Own true (ending F w m) (withFinish o (w .gate .seq) m s) m
@@ -227,12 +227,12 @@ module _
         over = λ t z. (
           chosen (latest (s .operations) m) _ _ (times (latest (s .operations) m) (s .order)) refl ∙ ap suc (O .pending (ne-isDone _ undone)),
           chosen (latest (s .operations) m) _ _ (finishOf (latest (s .operations) m) (s .order)) refl
-              ∙ (ap (λ (e : Ending). record { operation = latest (s .operations) m; gate = w .gate .seq; outputs = e .outputs }) same-run
+              ∙ (ap (λ (e : Ending). record { operation = latest (s .operations) m; gate = w .gate .seq; yields = e .yields }) same-run
               ∙ ap (finishAs (latest (s .operations) m)) (sym out)),
         );
       }
     where
-      out : resultIn (ending F w m) m ≡ record { number = w .gate .seq; outputs = endingIn F w (w .gate .seq) .outputs }
+      out : resultIn (ending F w m) m ≡ record { number = w .gate .seq; yields = endingIn F w (w .gate .seq) .yields }
       out = getD-set-same (w .results) m _ noResult (omega (arith, size, G .lengths .results))
 
   pub tracks-finished : announced m ≡ true → Tracks p busy announced (ending F w m) (withFinish o (w .gate .seq) m s)

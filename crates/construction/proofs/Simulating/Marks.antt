@@ -164,7 +164,7 @@ module _ (n : ℕ) (program : Program) (inputs : Words) where
   unfolding simulateFrom
   simulation-keys zero s d = (λ _. refl, refl)
   simulation-keys (suc fuel) s d =
-      by-effect (λ (x : Simulated). SameKeys d (x .dictionary)) (nextEffect n program inputs s) (λ _. same) (λ a x _. simulation-keys fuel _ d)
+      by-effect (λ (x : Simulated). SameKeys d (x .dictionary)) (nextEffect n program inputs s) (λ _. same) (λ _. same) (λ a x _. simulation-keys fuel _ d)
       (λ a v _. on-test (λ (x : Simulated). SameKeys d (x .dictionary)) (has d v) (λ _. simulation-keys fuel _ d) (λ _. same))
       (λ v x _. on-test (λ (y : Simulated). SameKeys d (y .dictionary)) (has d v)
       (λ h.

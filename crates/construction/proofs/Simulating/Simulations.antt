@@ -14,12 +14,12 @@ use Rattle.construction.specs.declared.Dictionary.{Dictionary}
 use Rattle.construction.specs.declared.Simulation.{Simulation}
 use Rattle.construction.specs.declared.Simulated.{Simulated}
 use Rattle.construction.specs.declared.Pause.{Pause}
-use Rattle.construction.specs.declared.Pause.the-variants.{Ended, Lacks}
-use Rattle.construction.specs.Instructions.{nextEffect, fetch, forward, withRegister, withOutput, skipped, started}
-use Rattle.construction.specs.Sequential.{Ending, runFrom, sequential}
+use Rattle.construction.specs.declared.Pause.the-variants.{Ended, Faulted, Lacks}
+use Rattle.construction.specs.Instructions.{nextEffect, fetch, forward, withRegister, withOutput, skipped, faulted, started}
+use Rattle.construction.specs.Sequential.{Ending, ending, runFrom, committed, sequential}
 use Rattle.construction.specs.Dictionary.{noItem, empty, noted, find, has, valueAt, withValue, assign, insert}
 use Rattle.construction.specs.Helping.{simulateFrom, simulate}
-use Rattle.construction.proofs.Basics.{on-test, on-set, true-false, eqb-refl}
+use Rattle.construction.proofs.Basics.{on-test, on-set, true-false, cond-false, eqb-refl}
 use Rattle.construction.proofs.Simulating.Sequential.{by-effect, stops, Short, past-end, advances, run-step}
 use Rattle.construction.proofs.Simulating.Dictionaries.{hasIn, valueIn, putIn, AllIn, all-put, all-snoc, Keyed, keyed-put, keyed-snoc}
 use Rattle.construction.proofs.Simulating.Dictionaries.{value-none, value-put-same, value-put-other, value-snoc-same, value-snoc-other}
@@ -31,6 +31,7 @@ use borrow.Author.Tests.{le-ltb}
 -- the variable that an effect touches; 0 where it touches none
 abbrev pub variableOf : Effect → ℕ
 variableOf Effect.Stop = 0
+variableOf Effect.Fault = 0
 variableOf (Effect.Set a x) = 0
 variableOf (Effect.Load a v) = v
 variableOf (Effect.Store v x) = v
@@ -45,7 +46,7 @@ pub record Room (program : Program) (d : Dictionary) : Type 0 where
 
 -- the simulation from the words `ws` to the ending `R`; P holds of each item, whatever its value
 module _ (n : ℕ) (program : Program) (inputs : Words) (ws : List ℕ) (R : Ending) (P : Item → Type 0) where
-  -- under way: on words that agree with the dictionary, else with `ws`, the rest of the run ends as R.
+  -- under way, with no mark: on words that agree with the dictionary, else with `ws`, the rest of the run ends as R.
   -- Each item came with an instruction before the counter, or with the one at the counter.
   pub record Core (s : Simulation) (d : Dictionary) : Type 0 where
     pub booked : AllIn P (noted d)
@@ -57,15 +58,22 @@ module _ (n : ℕ) (program : Program) (inputs : Words) (ws : List ℕ) (R : End
     pub mem : List ℕ
     pub size : length mem ≡ n
     pub agree : (v : ℕ) → v < n → getD mem v 0 ≡ valueIn (noted d) v (getD ws v 0)
-    pub rest : runFrom n program inputs 32 s mem ≡ R
+    pub unmarked : s .yields .fault ≡ false
+    pub rest : committed ws (runFrom n program inputs 32 s mem) ≡ R
 
-  -- ended: the outputs are those of R, and its words agree with the dictionary, else with `ws`
+  -- ended: it yields what R does, and the words of R agree with the dictionary, else with `ws`
   pub record Finished (s : Simulation) (d : Dictionary) : Type 0 where
     pub booked : AllIn P (noted d)
     pub keyed : Keyed (noted d)
     pub room : Room program d
-    pub outputs : s .outputs ≡ R .outputs
+    pub yields : s .yields ≡ R .yields
     pub agree : (v : ℕ) → v < n → getD (R .words) v 0 ≡ valueIn (noted d) v (getD ws v 0)
+
+  -- ended as a fault: it yields what R does, and R has the words `ws`
+  pub record Faulty (s : Simulation) (d : Dictionary) : Type 0 where
+    pub keyed : Keyed (noted d)
+    pub room : Room program d
+    pub ends : ending s ws ≡ R
 
   -- the instruction at the counter touches v, which is not noted; there is room for it
   pub record Needing (v : ℕ) (s : Simulation) (d : Dictionary) : Type 0 where
@@ -79,6 +87,7 @@ module _ (n : ℕ) (program : Program) (inputs : Words) (ws : List ℕ) (R : End
 
   abbrev pub PausedAt : Pause → Simulation → Dictionary → Type 0
   PausedAt Ended s d = Finished s d
+  PausedAt Faulted s d = Faulty s d
   PausedAt (Lacks v) s d = Needing v s d
 
   abbrev pub Paused : Simulated → Type 0
@@ -96,6 +105,7 @@ module _ (n : ℕ) (program : Program) (inputs : Words) (ws : List ℕ) (R : End
     mem = ws;
     size = h;
     agree = λ v l. refl;
+    unmarked = refl;
     rest = e;
   }
 
@@ -116,6 +126,7 @@ module _ (n : ℕ) (program : Program) (inputs : Words) (ws : List ℕ) (R : End
     mem = q .core .mem;
     size = q .core .size;
     agree = λ u l. q .core .agree u l ∙ rw list (go u (ℕ-discrete (e .variable) u));
+    unmarked = q .core .unmarked;
     rest = q .core .rest;
   }
     where
@@ -156,8 +167,8 @@ module _ (n : ℕ) (program : Program) (inputs : Words) (ws : List ℕ) (R : End
   -- a later state with the same dictionary, from which the run goes on to R
   later :
       (s s′ : Simulation) (d : Dictionary) (q : Core s d) →
-      s .counter < s′ .counter → runFrom n program inputs 32 s′ (q .mem) ≡ R → Core s′ d
-  later s s′ d q h r = record {
+      s .counter < s′ .counter → s′ .yields .fault ≡ s .yields .fault → committed ws (runFrom n program inputs 32 s′ (q .mem)) ≡ R → Core s′ d
+  later s s′ d q h m r = record {
     booked = q .booked;
     keyed = q .keyed;
     room = q .room;
@@ -166,21 +177,32 @@ module _ (n : ℕ) (program : Program) (inputs : Words) (ws : List ℕ) (R : End
     mem = q .mem;
     size = q .size;
     agree = q .agree;
+    unmarked = m ∙ q .unmarked;
     rest = r;
   }
 
   module _ (short : Short program) (blind : (e : Item) (x : ℕ) → P e → P (withValue e x)) where
     finish : (s : Simulation) (d : Dictionary) → nextEffect n program inputs s ≡ Effect.Stop → Core s d → Finished s d
     finish s d e q =
-        let z : record { words = q .mem; outputs = s .outputs } ≡ R =
-        rw e at (sym (run-step n program inputs short 32 s (q .mem) (omega arith)) ∙ q .rest) in
+        let y : committed ws (ending s (q .mem)) ≡ R =
+        rw e at (ap (committed ws) (sym (run-step n program inputs short 32 s (q .mem) (omega arith))) ∙ q .rest) in
+        let z : ending s (q .mem) ≡ R =
+        ap (λ (l : List ℕ). ending s l) (sym (cond-false (s .yields .fault) ws (q .mem) (q .unmarked))) ∙ y in
         record {
           booked = q .booked;
           keyed = q .keyed;
           room = q .room;
-          outputs = ap (λ (r : Ending). r .outputs) z;
+          yields = ap (λ (r : Ending). r .yields) z;
           agree = λ v l. ap (λ (r : Ending). getD (r .words) v 0) (sym z) ∙ q .agree v l;
         }
+
+    faults-so : (s : Simulation) (d : Dictionary) → nextEffect n program inputs s ≡ Effect.Fault → Core s d → Faulty (faulted s) d
+    unfolding faulted
+    faults-so s d e q = record {
+      keyed = q .keyed;
+      room = q .room;
+      ends = rw e at (ap (committed ws) (sym (run-step n program inputs short 32 s (q .mem) (omega arith))) ∙ q .rest);
+    }
 
     touched : (s : Simulation) (e : Effect) → nextEffect n program inputs s ≡ e → Touches n (fetch program (s .counter)) e
     touched s e q =
@@ -190,11 +212,11 @@ module _ (n : ℕ) (program : Program) (inputs : Words) (ws : List ℕ) (R : End
     loaded :
         (s : Simulation) (d : Dictionary) (a v : ℕ) →
         nextEffect n program inputs s ≡ Effect.Load a v → has d v ≡ true → (q : Core s d) →
-        runFrom n program inputs 32 (withRegister s a (valueAt d (find d v))) (q .mem) ≡ R
+        committed ws (runFrom n program inputs 32 (withRegister s a (valueAt d (find d v))) (q .mem)) ≡ R
     loaded s d a v e t q =
         let same : valueAt d (find d v) ≡ getD (q .mem) v 0 =
         found d v (getD ws v 0) t ∙ sym (q .agree v (touched s (Effect.Load a v) e .0)) in
-        rw same (rw e at (sym (run-step n program inputs short 32 s (q .mem) (omega arith)) ∙ q .rest))
+        rw same (rw e at (ap (committed ws) (sym (run-step n program inputs short 32 s (q .mem) (omega arith))) ∙ q .rest))
 
     -- line H28
     stored :
@@ -214,7 +236,8 @@ module _ (n : ℕ) (program : Program) (inputs : Words) (ws : List ℕ) (R : End
           (rw (q .size) (touched s (Effect.Store v x) e .0))
           (λ z. rw z (sym (value-put-same (noted d) v x (getD ws v 0) (sym (has-position (noted d) v) ∙ t))))
           (λ ne. q .agree u l ∙ sym (value-put-other (noted d) v x u (getD ws u 0) ne)));
-      rest = rw e at (sym (run-step n program inputs short 32 s (q .mem) (omega arith)) ∙ q .rest);
+      unmarked = q .unmarked;
+      rest = rw e at (ap (committed ws) (sym (run-step n program inputs short 32 s (q .mem) (omega arith))) ∙ q .rest);
     }
       where
         list : noted (assign d (find d v) x) ≡ putIn (noted d) v x
@@ -252,22 +275,24 @@ module _ (n : ℕ) (program : Program) (inputs : Words) (ws : List ℕ) (R : End
     simulates-from (suc fuel) s d h q =
         let forth : (c : ℕ) → stops (nextEffect n program inputs s) ≡ false → s .counter < forward (s .counter) c =
         λ c f. advances n program inputs short s c f .1 in
-        let next = sym (run-step n program inputs short 32 s (q .mem) (omega arith)) ∙ q .rest in
-        let go : (s′ : Simulation) → s .counter < s′ .counter → runFrom n program inputs 32 s′ (q .mem) ≡ R →
+        let next = ap (committed ws) (sym (run-step n program inputs short 32 s (q .mem) (omega arith))) ∙ q .rest in
+        let go : (s′ : Simulation) → s .counter < s′ .counter → s′ .yields .fault ≡ s .yields .fault →
+        committed ws (runFrom n program inputs 32 s′ (q .mem)) ≡ R →
         Paused (simulateFrom n program inputs fuel s′ d) =
-        λ s′ l r. simulates-from fuel s′ d (omega arith) (later s s′ d q l r) in
+        λ s′ l m r. simulates-from fuel s′ d (omega arith) (later s s′ d q l m r) in
         by-effect Paused (nextEffect n program inputs s)
         (λ e. finish s d e q)
-        (λ a x e. go (withRegister s a x) (forth 0 (ap stops e)) (rw e at next))
+        (λ e. faults-so s d e q)
+        (λ a x e. go (withRegister s a x) (forth 0 (ap stops e)) refl (rw e at next))
         (λ a v e. on-test Paused (has d v)
-        (λ t. go (withRegister s a (valueAt d (find d v))) (forth 0 (ap stops e)) (loaded s d a v e t q))
+        (λ t. go (withRegister s a (valueAt d (find d v))) (forth 0 (ap stops e)) refl (loaded s d a v e t q))
         (λ f. lacking s d v (ap stops e) (ap variableOf e) (touched s (Effect.Load a v) e) f q))
         (λ v x e. on-test Paused (has d v)
         (λ t. simulates-from fuel (skipped s 0) (assign d (find d v) x) (omega (arith, forth 0 (ap stops e)))
         (stored s d v x e t q))
         (λ f. lacking s d v (ap stops e) (ap variableOf e) (touched s (Effect.Store v x) e) f q))
-        (λ a x e. go (withOutput s a x) (forth 0 (ap stops e)) (rw e at next))
-        (λ c e. go (skipped s c) (forth c (ap stops e)) (rw e at next))
+        (λ a x e. go (withOutput s a x) (forth 0 (ap stops e)) refl (rw e at next))
+        (λ c e. go (skipped s c) (forth c (ap stops e)) refl (rw e at next))
 
     pub simulates : (s : Simulation) (d : Dictionary) → Core s d → Paused (simulate n program inputs s d)
     unfolding simulate
@@ -282,7 +307,7 @@ simulate-empty n program inputs = go 32 started
     go : (fuel : ℕ) (s : Simulation) → simulateFrom n program inputs fuel s empty .dictionary ≡ empty
     go zero s = refl
     go (suc fuel) s =
-        by-effect (λ (x : Simulated). x .dictionary ≡ empty) (nextEffect n program inputs s) (λ _. refl) (λ _ _ _. go fuel _)
+        by-effect (λ (x : Simulated). x .dictionary ≡ empty) (nextEffect n program inputs s) (λ _. refl) (λ _. refl) (λ _ _ _. go fuel _)
         (λ a v _. missing _ _ v refl) (λ v x _. missing _ _ v refl) (λ _ _ _. go fuel _) (λ _ _. go fuel _)
       where
         missing :
@@ -302,7 +327,7 @@ simulate-length n program inputs = go 32
     go : (fuel : ℕ) (s : Simulation) (d : Dictionary) → simulateFrom n program inputs fuel s d .dictionary .length ≡ d .length
     go zero s d = refl
     go (suc fuel) s d =
-        by-effect (Same (d .length)) (nextEffect n program inputs s) (λ _. refl) (λ _ _ _. go fuel _ d)
+        by-effect (Same (d .length)) (nextEffect n program inputs s) (λ _. refl) (λ _. refl) (λ _ _ _. go fuel _ d)
         (λ a v _. on-test (Same (d .length)) (has d v) (λ _. go fuel _ d) (λ _. refl))
         (λ v x _. on-test (Same (d .length)) (has d v) (λ _. go fuel _ (assign d (find d v) x)) (λ _. refl))
         (λ _ _ _. go fuel _ d) (λ _ _. go fuel _ d)

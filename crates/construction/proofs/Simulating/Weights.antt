@@ -54,6 +54,7 @@ weight-suc program k t = omega arith
 -- an effect that touches a variable is that of an instruction with a weight, and the variable is there
 abbrev pub Touches : ℕ → Instruction → Effect → Type 0
 Touches n i Effect.Stop = Unit {0}
+Touches n i Effect.Fault = Unit {0}
 Touches n i (Effect.Set a x) = Unit {0}
 Touches n i (Effect.Load a v) = (v < n) × (0 < weightOf i)
 Touches n i (Effect.Store v x) = (v < n) × (0 < weightOf i)

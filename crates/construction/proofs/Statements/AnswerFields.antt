@@ -3,17 +3,18 @@
 use Prim.Native.Nat.{ℕ}
 use Prim.Native.String.{String}
 use mathlib.Core.Path.{_≡_, refl, sym, ap, _∙_}
-use mathlib.Core.Bool.{Bool, cond}
-use mathlib.Core.List.{[], _∷_}
+use mathlib.Core.Bool.{Bool, true, false, cond}
+use mathlib.Core.List.{[], _∷_, _++_}
 use lib.ListN.{getD}
 use Rattle.grammar.specs.Reading.{hasWord}
+use Rattle.construction.specs.declared.Yield.{Yield}
 use Rattle.construction.specs.declared.Answer.{Answer}
 use Rattle.construction.specs.declared.RowSwap.{RowSwap}
 use Rattle.construction.specs.declared.Verdict.{Verdict}
 use Rattle.construction.specs.declared.Written.{Written}
 use Rattle.construction.specs.declared.Refusal.{Refusal}
 use Rattle.construction.specs.declared.Refusal.the-variants.{TooLong, Malformed, OutOfRange, UnknownCode, NoProcess, NoProgram, Busy, NotBusy, NoPlace, LimitReached, ShortBuffer, OperandOutOfRange, UnusedOperand}
-use Rattle.construction.specs.Answers.{bytes, Fields, numberOf, answerFields, verdictFields, writtenFields, rowFields}
+use Rattle.construction.specs.Answers.{bytes, Fields, fields, numberOf, outputNumbers, doneWord, answerFields, verdictFields, writtenFields, rowFields}
 
 -- what can be read back is known
 known : {A B : Type 0} (tell : A → B) (from : B → A) → ((a : A) → from (tell a) ≡ a) → (a b : A) → tell a ≡ tell b → a ≡ b
@@ -57,13 +58,19 @@ module _ (f : Fields) where
   abbrev pub isRefusal : Bool
   isRefusal = says "refused"
 
+  abbrev doneFrom : Bool → Answer
+  doneFrom fault =
+      Answer.Done (number 0)
+      (record { outputs = record { w0 = number 1; w1 = number 2; w2 = number 3; w3 = number 4 }; fault = fault }) (number 5)
+
   abbrev answerFrom : Answer
   answerFrom =
       cond (says "taken") Answer.Taken
       (cond (says "run") Answer.Run
-      (cond (says "done") (Answer.Done (number 0) (record { w0 = number 1; w1 = number 2; w2 = number 3; w3 = number 4 }) (number 5))
+      (cond (says "done") (doneFrom false)
+      (cond (says "fault") (doneFrom true)
       (cond (says "exited") (Answer.Exited (number 0))
-      (cond isRefusal (Answer.Refused why) (Answer.Value (number 0))))))
+      (cond isRefusal (Answer.Refused why) (Answer.Value (number 0)))))))
 
   abbrev verdictFrom : Verdict
   verdictFrom = cond isRefusal (Verdict.Refused why (number 1)) Verdict.Accepted
@@ -74,11 +81,18 @@ module _ (f : Fields) where
   abbrev rowFrom : RowSwap
   rowFrom = cond (says "won") RowSwap.Won (cond (says "lost") RowSwap.Lost (RowSwap.Refused why))
 
+done-back :
+    (n : ℕ) (y : Yield) (k : ℕ) (b : Bool) → y .fault ≡ b →
+    answerFrom (fields (doneWord b) (n ∷ (outputNumbers (y .outputs) ++ (k ∷ [])))) ≡ Answer.Done n y k
+unfolding hasWord
+done-back n y k true e = ap (λ (b : Bool). Answer.Done n (record { outputs = y .outputs; fault = b }) k) (sym e)
+done-back n y k false e = ap (λ (b : Bool). Answer.Done n (record { outputs = y .outputs; fault = b }) k) (sym e)
+
 answer-back : (a : Answer) → answerFrom (answerFields a) ≡ a
 unfolding answerFields hasWord
 answer-back Answer.Taken = refl
 answer-back Answer.Run = refl
-answer-back (Answer.Done n o k) = refl
+answer-back (Answer.Done n y k) = done-back n y k (y .fault) refl
 answer-back (Answer.Exited k) = refl
 answer-back (Answer.Value x) = refl
 answer-back (Answer.Refused r) = ap Answer.Refused (refusal-back r)

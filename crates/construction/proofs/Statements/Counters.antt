@@ -18,7 +18,7 @@ use Rattle.construction.specs.declared.Helped.{Helped}
 use Rattle.construction.specs.declared.Access.{Access}
 use Rattle.construction.specs.declared.Card.{Card}
 use Rattle.construction.specs.declared.Answered.{Answered}
-use Rattle.construction.specs.Instructions.{nextEffect, forward, withRegister, withOutput, skipped, started}
+use Rattle.construction.specs.Instructions.{nextEffect, forward, withRegister, withOutput, skipped, faulted, started}
 use Rattle.construction.specs.Dictionary.{empty, has, insert, itemOf}
 use Rattle.construction.specs.Helping.{simulate, simulateFrom}
 use Rattle.construction.specs.Parts.{localAt}
@@ -49,11 +49,11 @@ Within x = x .simulation .counter ≤ 32
 module _ (n : ℕ) (program : Program) (inputs : Words) where
   simulation-within :
       (fuel : ℕ) (s : Simulation) (d : Dictionary) → s .counter ≤ 32 → Within (simulateFrom n program inputs fuel s d)
-  unfolding simulateFrom withRegister withOutput skipped
+  unfolding simulateFrom withRegister withOutput skipped faulted
   simulation-within zero s d h = h
   simulation-within (suc fuel) s d h =
       let room : (c : ℕ) → forward (s .counter) c ≤ 32 = forward-room (s .counter) in
-      by-effect Within (nextEffect n program inputs s) (λ _. h) (λ a x _. simulation-within fuel _ d (room 0))
+      by-effect Within (nextEffect n program inputs s) (λ _. h) (λ _. h) (λ a x _. simulation-within fuel _ d (room 0))
       (λ a v _. on-test Within (has d v) (λ _. simulation-within fuel _ d (room 0)) (λ _. h))
       (λ v x _. on-test Within (has d v) (λ _. simulation-within fuel _ _ (room 0)) (λ _. h))
       (λ a x _. simulation-within fuel _ d (room 0)) (λ c _. simulation-within fuel _ d (room c))

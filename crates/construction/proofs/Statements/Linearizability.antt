@@ -17,7 +17,7 @@ use Rattle.construction.specs.Requests.{isIdle}
 use Rattle.construction.specs.Opening.{fresh, readCard, opened}
 use Rattle.construction.specs.History.{Entry, History, Observation, opening, observe, observeAll, run}
 use Rattle.construction.proofs.Basics.{true-false, getD-replicate-same}
-use Rattle.construction.proofs.Observing.Histories.{agree-earlier, gate-rank, returned-times, place-below, place-kept, place-after}
+use Rattle.construction.proofs.Observing.Histories.{agree-earlier, faults-agree, gate-rank, returned-times, place-below, place-kept, place-after}
 use Rattle.construction.proofs.Text.Bounds.{Bounded, opened-bounded}
 use Rattle.construction.proofs.Simulating.Sequential.{Short}
 use Rattle.construction.proofs.Invariant.Cards.{firstWorld, inv-fresh}
@@ -92,6 +92,7 @@ linearizability t es =
       reads = read-shown (opened t .card) (run (opened t .card) es) O;
       returns = O .tracks .agree;
       single = O .tracks .single;
+      faults = faults-agree (run (opened t .card) es .history .order) (run (opened t .card) es .history .returns) (O .tracks .agree);
       numbers = O .tracks .numbers;
       ranks = λ k. gate-rank k (run (opened t .card) es .history .order) (O .tracks .numbers);
       finishes = finishes-one (opened t .card) (run (opened t .card) es) O;

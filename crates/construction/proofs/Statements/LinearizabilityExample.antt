@@ -1,24 +1,26 @@
 -- Demand 3 is not empty: card K with two processes, one exited and one done, and with one process that calls twice; notes and log by computation.
 use Prim.Native.Nat.{_<_}
 use mathlib.Core.Path.{_≡_, refl}
-use mathlib.Core.Bool.{true}
+use mathlib.Core.Bool.{true, false}
 use mathlib.Core.List.{List, [], _∷_, _++_}
 use native.Mathlib.Omega.{arith}
 use lib.ListN.{length, replicate}
 use Rattle.grammar.specs.Reading.{four, field, number, digits, hasWord}
+use Rattle.construction.specs.declared.Words.{Words}
+use Rattle.construction.specs.declared.Yield.{Yield}
 use Rattle.construction.specs.declared.Card.{Card}
 use Rattle.construction.specs.Opening.{opened, readCard, varsFrom, programsFrom, readProgram, insFrom, fresh}
 use Rattle.construction.specs.Lines.{cardLine, judgeCard, varLine, judgeVar, sheetLine, judgeSheet, insLine, judgeIns}
-use Rattle.construction.specs.Instructions.{decode, effectOf, fetch, word, withWord, load, store, forward, withRegister, withOutput, skipped}
+use Rattle.construction.specs.Instructions.{decode, effectOf, fetch, word, withWord, load, store, forward, withRegister, withOutput, skipped, faulted}
 use Rattle.construction.specs.Sequential.{sequential, runFrom}
 use Rattle.construction.specs.Requests.{call, requestExit, step, read, valueOf}
 use Rattle.construction.specs.Machine.{advance, perform, accessOf, accessGate, accessAnnouncement, firstChoice, beginHelp, note, writing}
 use Rattle.construction.specs.Helping.{simulate, simulateFrom}
 use Rattle.construction.specs.Dictionary.{position, assign, valueUnder, insert, altered, unaltered, nextWrite}
-use Rattle.construction.specs.Cells.{sameWords, sameGate, sameAnnouncement, sameRecord, swapGate, swapAnnouncement, swapRecord, released, current, previous, rewritten}
+use Rattle.construction.specs.Cells.{faultYield, sameWords, sameGate, sameAnnouncement, sameRecord, swapGate, swapAnnouncement, swapRecord, released, current, previous, rewritten}
 use Rattle.construction.specs.History.{Entry, Finish, Return, run, observe, observeAll, withFinishes, latest, latestCall, turned}
 use Rattle.construction.specs.Log.{logOf, insertByNumber, sorted}
-use Rattle.construction.specs.Examples.{one, cardK, twoProcesses}
+use Rattle.construction.specs.Examples.{one, cardK, twoProcesses, unwritten}
 use Rattle.construction.proofs.Statements.Linearizability.{linearizability}
 use Rattle.construction.specs.Linearizability.{Linearizable, hasReturned, rank}
 
@@ -36,14 +38,19 @@ first = Entry.Call 0 0 (one 9) ∷ replicate 14 (Entry.Step 0)
 abbrev second : List Entry
 second = Entry.Call 0 0 (one 5) ∷ replicate 14 (Entry.Step 0)
 
+-- what an operation yields that is no fault
+abbrev plain : Words → Yield
+plain o = record { outputs = o; fault = false }
+
 -- the lines of the single one's log
 abbrev former : Finish
-former = record { operation = 0; gate = 1; outputs = one 7 }
+former = record { operation = 0; gate = 1; yields = plain (one 7) }
 
 abbrev latter : Finish
-latter = record { operation = 1; gate = 2; outputs = one 9 }
+latter = record { operation = 1; gate = 2; yields = plain (one 9) }
 
 -- Of the two, operation 1 alone finishes, under number 1 with output 7; operation 0 returned exited and operation 1 done; the bench has 9.
+-- The operation of the card with a fault finishes and returns as one, and the bench keeps 7.
 -- The single one has returned before its second call, and both its operations stand in the order; its log, taken in the other sequence, sorts to it.
 pub record Computed : Type 0 where
   pub notes-two :
@@ -51,22 +58,30 @@ pub record Computed : Type 0 where
       ≡ record {
         operations =
             record { process = 1; program = 0; inputs = one 9 } ∷ record { process = 0; program = 0; inputs = one 5 } ∷ [];
-        order = record { operation = 1; gate = 1; outputs = one 7 } ∷ [];
+        order = record { operation = 1; gate = 1; yields = plain (one 7) } ∷ [];
         returns =
-            record { operation = 1; return = Return.done 1 (one 7) } ∷ record { operation = 0; return = Return.exited } ∷ [];
+            record { operation = 1; return = Return.done 1 (plain (one 7)) } ∷ record { operation = 0; return = Return.exited } ∷ [];
         words = 9 ∷ [];
+      }
+  pub notes-fault :
+      run (opened (unwritten .text) .card) (unwritten .entries) .history
+      ≡ record {
+        operations = record { process = 0; program = 0; inputs = one 9 } ∷ [];
+        order = record { operation = 0; gate = 1; yields = faultYield } ∷ [];
+        returns = record { operation = 0; return = Return.done 1 faultYield } ∷ [];
+        words = 7 ∷ [];
       }
   pub returned-first : hasReturned 0 (run single first .history .returns) ≡ true
   pub called-first : length (run single first .history .operations) ≡ 1
   pub order-both :
       run single (first ++ second) .history .order
-      ≡ record { operation = 1; gate = 2; outputs = one 9 } ∷ record { operation = 0; gate = 1; outputs = one 7 } ∷ []
+      ≡ record { operation = 1; gate = 2; yields = plain (one 9) } ∷ record { operation = 0; gate = 1; yields = plain (one 7) } ∷ []
   pub log-both : logOf (run single (first ++ second) .history .returns) ≡ latter ∷ former ∷ []
   pub sorted-both : sorted (former ∷ latter ∷ []) ≡ latter ∷ former ∷ []
 
 pub computed : Computed
-unfolding opened readCard cardLine judgeCard four field number digits hasWord varsFrom varLine judgeVar programsFrom readProgram sheetLine judgeSheet insFrom insLine judgeIns decode fresh call requestExit step read valueOf advance perform accessOf accessGate accessAnnouncement firstChoice beginHelp note writing simulate simulateFrom effectOf fetch word withWord load store forward withRegister withOutput skipped position assign valueUnder insert altered unaltered nextWrite sameWords sameGate sameAnnouncement sameRecord swapGate swapAnnouncement swapRecord released current previous rewritten observe observeAll withFinishes latest latestCall turned sequential runFrom hasReturned logOf insertByNumber sorted
-computed = record { notes-two = refl; returned-first = refl; called-first = refl; order-both = refl; log-both = refl; sorted-both = refl }
+unfolding opened readCard cardLine judgeCard four field number digits hasWord varsFrom varLine judgeVar programsFrom readProgram sheetLine judgeSheet insFrom insLine judgeIns decode fresh call requestExit step read valueOf advance perform accessOf accessGate accessAnnouncement firstChoice beginHelp note writing simulate simulateFrom effectOf fetch word withWord load store forward withRegister withOutput skipped faulted position assign valueUnder insert altered unaltered nextWrite sameWords sameGate sameAnnouncement sameRecord swapGate swapAnnouncement swapRecord released current previous rewritten observe observeAll withFinishes latest latestCall turned sequential runFrom hasReturned logOf insertByNumber sorted
+computed = record { notes-two = refl; notes-fault = refl; returned-first = refl; called-first = refl; order-both = refl; log-both = refl; sorted-both = refl }
 
 -- the theorem of both
 pub linearizable-two : Linearizable two (twoProcesses .entries)

@@ -21,7 +21,7 @@ use Rattle.construction.specs.declared.Dictionary.{Dictionary}
 use Rattle.construction.specs.declared.Began.{Began}
 use Rattle.construction.specs.declared.Helped.{Helped}
 use Rattle.construction.specs.declared.Pause.{Pause}
-use Rattle.construction.specs.declared.Pause.the-variants.{Ended, Lacks}
+use Rattle.construction.specs.declared.Pause.the-variants.{Ended, Faulted, Lacks}
 use Rattle.construction.specs.declared.Holder.{Holder}
 use Rattle.construction.specs.declared.Holder.the-variants.{Nobody, Process}
 use Rattle.construction.specs.declared.Flag.{Flag}
@@ -120,11 +120,13 @@ module _ (Q : Place → Type 0) where
 
   on-pause : (seq : ℕ) (d : Dictionary) (p : Pause) → Q H21 → Q H36 → Q P19 → Q (afterPause seq d p .place)
   on-pause seq d Ended a b c = on-write seq d 0 b c
+  on-pause seq d Faulted a b c = c
   on-pause seq d (Lacks v) a b c = a
 
   -- a program that begins has noted nothing, so it has nothing to write
   on-beginning : (seq : ℕ) (d : Dictionary) → d ≡ empty → (p : Pause) → Q H21 → Q P19 → Q (afterPause seq d p .place)
   on-beginning seq d e Ended a b = rw (e, le-ltb (nextWrite seq empty 0) 0 (omega arith)) b
+  on-beginning seq d e Faulted a b = b
   on-beginning seq d e (Lacks v) a b = a
 
   on-help :

@@ -2,7 +2,7 @@
 -- holds and no lower one of the same request does; otherwise the request is taken. Rows 1 and 11 likewise, for a text and for a lent buffer.
 use Prim.Native.Nat.{ℕ, _<_, _≤_}
 use mathlib.Core.Path.{_≡_, refl, ap}
-use mathlib.Core.Bool.{true, false}
+use mathlib.Core.Bool.{Bool, true, false}
 use mathlib.Core.List.{List, [], _∷_}
 use lib.ListN.{length}
 use borrow.Author.Tests.{lt-ltb, le-ltb, le-leb, lt-leb}
@@ -16,7 +16,7 @@ use Rattle.construction.specs.declared.Answer.{Answer}
 use Rattle.construction.specs.declared.Answered.{Answered}
 use Rattle.construction.specs.declared.Refusal.{Refusal}
 use Rattle.construction.specs.declared.Refusal.the-variants.{NoProcess, NoProgram, Busy, NotBusy, NoPlace, LimitReached}
-use Rattle.construction.specs.Answers.{numberOf, fields, refusedWith, answerFields, verdictFields, writtenFields, Refuses}
+use Rattle.construction.specs.Answers.{numberOf, fields, doneWord, refusedWith, answerFields, verdictFields, writtenFields, Refuses}
 use Rattle.construction.specs.Machine.{advance}
 use Rattle.construction.specs.Parts.{localAt, withLocal, Local}
 use Rattle.construction.specs.Requests.{isProcess, isProgram, isVariable, isBusy, refused, call, requestExit, returned, answerOf, step, valueOf, read, invoked, exiting, isIdle}
@@ -132,10 +132,15 @@ taken : Accepts Answer.Taken
 unfolding answerFields hasWord
 taken = refl
 
+done-accepts : (fault : Bool) → isRefusal (fields (doneWord fault) []) ≡ false
+unfolding hasWord
+done-accepts true = refl
+done-accepts false = refl
+
 returns : (a : Announcement) (f : Flag) (k : ℕ) → Accepts (returned a f k)
 unfolding answerFields hasWord
-returns a Done k = refl
-returns a Active k = refl
+returns a Done k = done-accepts (a .fault)
+returns a Active k = done-accepts (a .fault)
 returns a Exit k = refl
 
 running : Accepts Answer.Run

@@ -1,13 +1,12 @@
 -- The steps whose access is of an announcement, but for P16, on the course of the process: P3, P6, P7, C2, C4, P19, P20, P22.
-use Prim.Native.Nat.{ℕ, suc, _+_, _*_, _≤_, _<_}
+use Prim.Native.Nat.{ℕ, suc, _≤_}
 use mathlib.Core.Path.{_≡_, refl, sym, subst, ap, _∙_}
-use mathlib.Core.Bool.{true, false}
+use mathlib.Core.Bool.{true}
 use mathlib.Core.Logic.{_≢_}
 use mathlib.Core.List.{List}
 use native.Mathlib.Omega.{arith}
 use lib.ListN.{getD, set}
 use lib.Seq.{getD-set-same, set-getD}
-use Rattle.construction.specs.declared.Gate.{Gate}
 use Rattle.construction.specs.declared.Announcement.{Announcement}
 use Rattle.construction.specs.declared.Card.{Card}
 use Rattle.construction.specs.declared.Access.{Access}
@@ -18,7 +17,7 @@ use Rattle.construction.specs.declared.Place.{Place}
 use Rattle.construction.specs.declared.Place.the-variants.{Idle, P3, P5, P7, P10, C2, C4, P13, P19, P20, P21, P22, F1}
 use Rattle.construction.specs.Cells.{openAnnouncement, sameAnnouncement, swapAnnouncement}
 use Rattle.construction.specs.Parts.{Local, localAt, contentsOf, announcementAt, withAnnouncement, withLocal}
-use Rattle.construction.specs.Machine.{goTo, byFlag, holderOf, whose, announced, withdrawn, flagged, finished, accessAnnouncement, perform}
+use Rattle.construction.specs.Machine.{goTo, byFlag, whose, announced, withdrawn, accessAnnouncement, perform}
 use Rattle.construction.specs.Weight.{cardWeight}
 use Rattle.construction.proofs.Basics.{on-test, sameAnnouncement-false, active-not-exit}
 use Rattle.construction.proofs.Invariant.World.{World}

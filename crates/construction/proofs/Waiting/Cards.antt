@@ -1,5 +1,5 @@
 -- The invariant of waiting, of a card that has that of safety: fresh cards have it, and every taken call, exit request and step keeps it.
-use Prim.Native.Nat.{ℕ, _≤_, _<_}
+use Prim.Native.Nat.{ℕ, _<_}
 use mathlib.Core.Path.{_≡_, refl, sym, subst, ap, _∙_}
 use mathlib.Core.Bool.{true, false}
 use mathlib.Core.Logic.{_≢_, inl, inr}
@@ -26,7 +26,6 @@ use Rattle.construction.proofs.Invariant.World.{World, announcementIn}
 use Rattle.construction.proofs.Invariant.Claims.{View, viewOf, Change, change}
 use Rattle.construction.proofs.Invariant.Claims.Change.{kept, took, ended, freed}
 use Rattle.construction.proofs.Invariant.Locals.{local-same, local-other}
-use Rattle.construction.proofs.Invariant.Acting.{worldOf}
 use Rattle.construction.proofs.Invariant.Assertions.{Loc}
 use Rattle.construction.proofs.Invariant.Cards.{CardInvariant, Stepped, gate-is, announcements-is, before-step, at-rest, inv-step}
 use Rattle.construction.proofs.Invariant.ActiveFlags.{access-active}

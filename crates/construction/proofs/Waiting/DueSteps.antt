@@ -1,10 +1,10 @@
 -- A step keeps the turn of every operation that stays active.
-use Prim.Native.Nat.{ℕ, suc, _+_, _≤_, _<_}
+use Prim.Native.Nat.{ℕ, _+_, _<_}
 use mathlib.Core.Path.{_≡_, refl, sym, subst, ap, _∙_}
 use mathlib.Core.Bool.{true}
 use mathlib.Core.List.{List}
 use lib.ListN.{getD}
-use mathlib.Core.Logic.{_≢_, _⊎_, inl, inr, ⊎-elim}
+use mathlib.Core.Logic.{inl, inr, ⊎-elim}
 use native.Mathlib.Omega.{arith}
 use native.Mathlib.Decide.{ℕ-discrete}
 use native.Mathlib.Nat.{eq-or-lt-of-le}
@@ -16,7 +16,7 @@ use Rattle.construction.specs.declared.Flag.the-variants.{Done, Active}
 use Rattle.construction.specs.declared.Place.{Place}
 use Rattle.construction.specs.declared.Announcement.{Announcement}
 use Rattle.construction.specs.Cells.{openAnnouncement}
-use Rattle.construction.specs.Parts.{Local, localAt, contentsOf, announcementAt}
+use Rattle.construction.specs.Parts.{localAt, contentsOf, announcementAt}
 use Rattle.construction.specs.Machine.{advance}
 use Rattle.construction.specs.Requests.{isBusy}
 use Rattle.construction.proofs.Basics.{nobody-process, process-same, active-not-done}
@@ -122,7 +122,7 @@ module _ {c : Card} {w : World} {i : ℕ} (I : CardInvariant c w) (lt : i < c .p
   by-move : {v : World} → Move (contentsOf c) i w v → next .gate ≡ v .gate → Due (c .processes) (next .gate) (localAt next) j turn
   by-move stay z = due-kept z
   by-move (ask q l Q) z = due-kept z
-  by-move (announce a l Q fa op b e nu) z = due-kept z
+  by-move (announce a l Q fa op b e nu unmarked) z = due-kept z
   by-move (leave l fa) z = due-kept z
   by-move (take m l hn fl op x) z = due-taken m hn z
   by-move (write m v x vl hm fl below ex) z = due-kept z

@@ -1,19 +1,17 @@
 -- The steps whose access is of the gate, on the course of the process: P1, P10, P13, P14, P21, F1, F3.
-use Prim.Native.Nat.{ℕ, suc, _+_, _≤_, _<_}
+use Prim.Native.Nat.{ℕ, _≤_}
 use mathlib.Core.Path.{_≡_, refl, sym, ap, _∙_}
-use mathlib.Core.Bool.{true, false}
+use mathlib.Core.Bool.{false}
 use mathlib.Core.Logic.{_≢_}
 use native.Mathlib.Omega.{arith}
 use Rattle.construction.specs.declared.Gate.{Gate}
-use Rattle.construction.specs.declared.Announcement.{Announcement}
 use Rattle.construction.specs.declared.Card.{Card}
-use Rattle.construction.specs.declared.Contents.{Contents}
 use Rattle.construction.specs.declared.Access.{Access}
 use Rattle.construction.specs.declared.GateAccess.{GateAccess}
 use Rattle.construction.specs.declared.Holder.{Holder}
 use Rattle.construction.specs.declared.Holder.the-variants.{Nobody, Process}
 use Rattle.construction.specs.declared.Place.{Place}
-use Rattle.construction.specs.declared.Place.the-variants.{Idle, P1, P3, P5, P10, C2, P13, P14, P16, P21, P22, F1, F3}
+use Rattle.construction.specs.declared.Place.the-variants.{Idle, P1, P3, P10, C2, P13, P14, P16, P21, P22, F1, F3}
 use Rattle.construction.specs.Cells.{sameHolder, sameGate, swapGate, released}
 use Rattle.construction.specs.Parts.{Local, localAt, contentsOf, announcementAt, withGate, withLocal}
 use Rattle.construction.specs.Machine.{goTo, byHolder, nominated, accessGate, perform}
@@ -23,7 +21,7 @@ use Rattle.construction.proofs.Invariant.World.{World}
 use Rattle.construction.proofs.Invariant.Assertions.{LocAt}
 use Rattle.construction.proofs.Invariant.Acting.{worldOf, Before, atTask, atGate}
 use Rattle.construction.proofs.Invariant.GateSteps.{released-since}
-use Rattle.construction.proofs.Waiting.Courses.{Tally, Loop, Ahead, CourseAt}
+use Rattle.construction.proofs.Waiting.Courses.{Tally, Ahead, CourseAt}
 use Rattle.construction.proofs.Waiting.Going.{CourseIn, Went, one-more, put-course}
 
 module _ {c : Card} {w : World} {i : ℕ} (B : Before c w i) (small : localAt c i .steps ≤ 1000000000000000000) (x : Tally) where

@@ -1,5 +1,5 @@
 -- A step of process i: what is to be shown of its course after the access, and how a step within an iteration adds to it.
-use Prim.Native.Nat.{ℕ, _+_, _%_, _≤_, _<_}
+use Prim.Native.Nat.{ℕ, _≤_, _<_}
 use mathlib.Core.Path.{_≡_, sym, subst}
 use mathlib.Core.Bool.{false}
 use mathlib.Core.Logic.{_≢_}

@@ -17,9 +17,8 @@ use Rattle.construction.specs.declared.Dictionary.{Dictionary}
 use Rattle.construction.specs.declared.Began.{Began}
 use Rattle.construction.specs.declared.Helped.{Helped}
 use Rattle.construction.specs.declared.Pause.{Pause}
-use Rattle.construction.specs.declared.Pause.the-variants.{Ended, Lacks}
+use Rattle.construction.specs.declared.Pause.the-variants.{Ended, Faulted, Lacks}
 use Rattle.construction.specs.declared.Card.{Card}
-use Rattle.construction.specs.declared.Contents.{Contents}
 use Rattle.construction.specs.declared.Access.{Access}
 use Rattle.construction.specs.declared.Place.{Place}
 use Rattle.construction.specs.declared.Place.the-variants.{P16, H21, H36, P19, P21}
@@ -29,8 +28,8 @@ use Rattle.construction.specs.Dictionary.{empty, noted, nextWrite, itemO
 use Rattle.construction.specs.Marks.{withBit}
 use Rattle.construction.specs.Helping.{simulate}
 use Rattle.construction.specs.Parts.{Local, localAt, contentsOf, announcementAt, recordAt, programOf, withAnnouncement, withRecord, withLocal}
-use Rattle.construction.specs.Machine.{goTo, holderOf, writeFrom, afterPause, helped, helps, beginHelp, note, writing, after, perform}
-use Rattle.construction.specs.Weight.{weight, cardWeight}
+use Rattle.construction.specs.Machine.{goTo, holderOf, writeFrom, afterPause, helps, beginHelp, note, writing, after, perform}
+use Rattle.construction.specs.Weight.{cardWeight}
 use Rattle.construction.proofs.Basics.{on-test}
 use Rattle.construction.proofs.Simulating.Dictionaries.{insert-length}
 use Rattle.construction.proofs.Simulating.Weights.{weight-card}
@@ -76,6 +75,7 @@ module _ {c : Card} {w : World} {i : ℕ} (B : Before c w i) (small : localAt c 
       {n : ℕ} (d : Dictionary) (r : Pause) (a : Announcement) (z : Simulation) (e : Dictionary) (mask : ℕ) → Loop (c .processes) heavy s n x (localAt c i) →
       n < 7 + e .length → e .length ≤ heavy → At (afterPause s d r .place) (on (afterPause s d r) a z e mask)
   resumes d Ended a z e mask q h l b = writes d 0 a z e mask q (omega arith) (omega arith) b
+  resumes d Faulted a z e mask q h l b = one-more small q s _ (omega arith) (omega arith) _ _ _ _ _ _
   resumes d (Lacks v) a z e mask q h l b = one-more small q s _ (omega arith) h _ _ _ _ _ _
 
   pub at-P16 : Now P16 → Went c i x Access.Help

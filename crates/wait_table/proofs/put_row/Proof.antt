@@ -1,6 +1,4 @@
-use Rattle.grammar.specs.Writing.{fieldText}
 use Prim.Native.Nat.{_+_, _-_, _≤_, _<_}
-use mathlib.Core.Path.{_≡_}
 use native.Mathlib.Omega.{arith}
 use borrow.Author.Needs.{needs}
 use Rattle.grammar.proofs.Puts as puts

@@ -40,14 +40,17 @@ loop-holds c = (refl, λ d h. (laws.simulate-start _ _ _ _ _ ∙ rw (laws.own-va
 returns : tie.Need-returns Inv-loop μ-loop
 returns c = record { long = c .before .before .before .before .before .before .loop .inv .0; left = λ d h. sym (laws.stops (here (c .before .before) d h) (c .enum-told .given .1)) }
 
+returns-2 : tie.Need-returns-2 Inv-loop μ-loop
+returns-2 c = record { long = c .before .before .before .before .before .before .before .loop .inv .0; left = λ d h. sym (rw (c .faulted .ensures) (laws.faulted-at (here (c .before .before .before) d h) (c .before .enum-told2 .given .1))) }
+
 loop-again : tie.Need-loop-again Inv-loop μ-loop
 loop-again c = ((c .before .before .before .before .before .before .before .before .loop .inv .0), λ d h. laws.sets (here (c .before .before .before .before) d h) _ _ _ (c .before .before .effect .given .1) (c .with-register .ensures))
 
 find-requires : tie.Need-find-requires Inv-loop μ-loop
 find-requires c κs = c .before .before .before .before .before .before .before .before .pre
 
-returns-2 : tie.Need-returns-2 Inv-loop μ-loop
-returns-2 c = record { long = c .before .before .before .before .before .before .before .before .before .loop .inv .0; left = λ d h. sym (laws.load-lacks (here (c .before .before .before .before .before) d h) _ _ (c .before .find .ensures) _ (c .before .before .before .effect2 .given .1) (c .if1 .taken)) }
+returns-3 : tie.Need-returns-3 Inv-loop μ-loop
+returns-3 c = record { long = c .before .before .before .before .before .before .before .before .before .loop .inv .0; left = λ d h. sym (laws.load-lacks (here (c .before .before .before .before .before) d h) _ _ (c .before .find .ensures) _ (c .before .before .before .effect2 .given .1) (c .if1 .taken)) }
 
 loop-again-2 : tie.Need-loop-again-2 Inv-loop μ-loop
 loop-again-2 c = ((c .before .before .before .before .before .before .before .before .before .before .before .loop .inv .0), λ d h. laws.loads (here (c .before .before .before .before .before .before .before) d h) _ _ (c .before .before .before .find .ensures) _ _ _ (c .before .before .before .before .before .effect2 .given .1) (c .before .before .if1 .left) (laws.value-is h _ (c .before .before .before .before .before .before .before .before .before .before .before .loop .inv .0) _ (c .before .before .if1 .left)) (c .with-register2 .ensures))
@@ -55,8 +58,8 @@ loop-again-2 c = ((c .before .before .before .before .before .before .before .be
 find-requires-2 : tie.Need-find-requires-2 Inv-loop μ-loop
 find-requires-2 c κs = c .before .before .before .before .before .before .before .before .pre
 
-returns-3 : tie.Need-returns-3 Inv-loop μ-loop
-returns-3 c = record { long = c .before .before .before .before .before .before .before .before .before .loop .inv .0; left = λ d h. sym (laws.store-lacks (here (c .before .before .before .before .before) d h) _ _ (c .before .find2 .ensures) _ (c .before .before .before .effect3 .given .1) (c .if2 .taken)) }
+returns-4 : tie.Need-returns-4 Inv-loop μ-loop
+returns-4 c = record { long = c .before .before .before .before .before .before .before .before .before .loop .inv .0; left = λ d h. sym (laws.store-lacks (here (c .before .before .before .before .before) d h) _ _ (c .before .find2 .ensures) _ (c .before .before .before .effect3 .given .1) (c .if2 .taken)) }
 
 loop-again-3 : tie.Need-loop-again-3 Inv-loop μ-loop
 loop-again-3 c = (simp length-set (c .before .before .before .before .before .before .before .before .before .before .loop .inv .0), λ d h. laws.stores (here (c .before .before .before .before .before .before) d h) _ _ (c .before .before .find2 .ensures) _ _ _ (c .before .before .before .before .effect3 .given .1) (c .before .if2 .left) (laws.assigned h _ (c .before .before .before .before .before .before .before .before .before .before .loop .inv .0) _ (c .before .if2 .left) _) (c .skipped .ensures))
@@ -67,8 +70,8 @@ loop-again-4 c = ((c .before .before .before .before .before .before .before .be
 loop-again-5 : tie.Need-loop-again-5 Inv-loop μ-loop
 loop-again-5 c = ((c .before .before .before .before .before .before .before .before .loop .inv .0), λ d h. laws.skips (here (c .before .before .before .before) d h) _ _ (c .before .before .effect5 .given .1) (c .skipped2 .ensures))
 
-returns-4 : tie.Need-returns-4 Inv-loop μ-loop
-returns-4 c = record { long = c .before .loop .inv .0; left = λ d h. sym (laws.simulate-end _ _ _ _ _ _ _ ((c .before .loop .inv .1) d h .0) (c .loop-test .left)) }
+returns-5 : tie.Need-returns-5 Inv-loop μ-loop
+returns-5 c = record { long = c .before .loop .inv .0; left = λ d h. sym (laws.simulate-end _ _ _ _ _ _ _ ((c .before .loop .inv .1) d h .0) (c .loop-test .left)) }
 
 pub simulate-spec : {M : Type 1} → statement M
 simulate-spec =
@@ -86,11 +89,14 @@ simulate-spec =
     returns
     (λ c. search needs)
     (λ c κs. search needs)
+    returns-2
+    (λ c. search needs)
+    (λ c κs. search needs)
     (λ c. omega arith)
     loop-again
     (λ c. search needs)
     find-requires
-    returns-2
+    returns-3
     (λ c. omega arith)
     (λ c. omega arith)
     (λ c. omega arith)
@@ -99,7 +105,7 @@ simulate-spec =
     loop-again-2
     (λ c. search needs)
     find-requires-2
-    returns-3
+    returns-4
     (λ c. omega arith)
     (λ c. omega arith)
     (λ c. omega arith)
@@ -114,4 +120,4 @@ simulate-spec =
     (λ c κs. search needs)
     (λ c. omega arith)
     loop-again-5
-    returns-4)
+    returns-5)

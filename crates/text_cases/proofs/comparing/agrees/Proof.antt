@@ -19,7 +19,7 @@ loop-holds : tie.Need-loop-holds Inv-loop μ-loop
 loop-holds c = (laws.starts _, search needs)
 
 loop-again : tie.Need-loop-again Inv-loop μ-loop
-loop-again c = (laws.goes-on _ _ (c .before .before .before .before .before .loop .inv .0) (cc) (c .both .ensures), search needs)
+loop-again c = (laws.goes-on _ _ (c .before .before .before .before .before .loop .inv .0) (rw (← c .before .before .before .expected .ensures) (c .before .same-byte .ensures)) (c .both .ensures), search needs)
 
 returns : tie.Need-returns Inv-loop μ-loop
 unfolding agreesWith

@@ -1,6 +1,6 @@
 use borrow.Author.Needs.{needs}
-use Rattle.text_cases.proofs.put_agreement.Statement.{statement}
-use Rattle.text_cases.proofs.put_agreement.Tie as tie
+use Rattle.text_cases.proofs.lines.put_agreement.Statement.{statement}
+use Rattle.text_cases.proofs.lines.put_agreement.Tie as tie
 
 returns : tie.Need-returns
 returns c = rw (c .before .before .before .before .before .if1 .taken) (c .before .before .put-word .ensures)

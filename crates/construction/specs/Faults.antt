@@ -1,0 +1,39 @@
+-- Faults (document 02, order 6): 'In codes 5 and 6 a number of n or more ends the operation as a fault: none of its writes is made, its outputs are 0,
+-- and a done announcement carries a fault mark.' What is said of the bench is over any words, what is said of a card after any list of entries.
+use Prim.Native.Nat.{ℕ, _≤_, _<_}
+use mathlib.Core.Path.{_≡_}
+use mathlib.Core.Bool.{true, false}
+use mathlib.Core.List.{List}
+use Rattle.construction.specs.declared.Words.{Words}
+use Rattle.construction.specs.declared.Instruction.{Instruction}
+use Rattle.construction.specs.declared.Program.{Program}
+use Rattle.construction.specs.declared.Effect.{Effect}
+use Rattle.construction.specs.declared.Card.{Card}
+use Rattle.construction.specs.declared.Flag.the-variants.{Done}
+use Rattle.construction.specs.declared.Place.the-variants.{H21}
+use Rattle.construction.specs.Cells.{zeros, faultYield}
+use Rattle.construction.specs.Instructions.{word, effectOf}
+use Rattle.construction.specs.Sequential.{sequential}
+use Rattle.construction.specs.Parts.{announcementAt, localAt}
+
+-- codes 5 and 6 with a number of n or more
+pub record PastFaults (n : ℕ) (inputs r : Words) : Type 0 where
+  pub loads : (a b : ℕ) → n ≤ word r b → effectOf n inputs r (Instruction.LoadAt a b) ≡ Effect.Fault
+  pub stores : (a b : ℕ) → n ≤ word r a → effectOf n inputs r (Instruction.StoreAt a b) ≡ Effect.Fault
+
+-- 'the single-user bench makes the same nothing of it': a run that ends as a fault leaves its words, outputs 0 and the mark
+abbrev pub FaultLeavesAll : ℕ → Program → Words → List ℕ → Type 0
+FaultLeavesAll n program inputs words =
+    sequential n program inputs words .yields .fault ≡ true →
+    sequential n program inputs words ≡ record { words = words; yields = faultYield }
+
+-- a mark stands only in an announcement that is done, with outputs 0
+abbrev pub MarkedDone : Card → Type 0
+MarkedDone c =
+    (i : ℕ) → announcementAt c i .fault ≡ true →
+    (announcementAt c i .flag ≡ Done) × (announcementAt c i .words ≡ zeros)
+
+-- a helper that still reads has no mark, so that one that meets a greater seq goes to P19 without it
+abbrev pub UnmarkedReading : Card → Type 0
+UnmarkedReading c =
+    (i : ℕ) → i < c .processes → localAt c i .task .place ≡ H21 → localAt c i .simulation .yields .fault ≡ false

@@ -67,7 +67,7 @@ swap-is :
     let x = cellOf a (contentsOf c) i l in
     perform a c i .swap
     ≡ swapBy a i (announcementIn x) (c .gate) (announcementAt c (announcementIn x)) (recordAt c (recordIn x)) (l .gate) (l .announcement) (l .operation)
-    (l .simulation .outputs) (l .task) (writing (l .gate .seq) (l .task) (l .dictionary) .item)
+    (l .simulation .yields) (l .task) (writing (l .gate .seq) (l .task) (l .dictionary) .item)
 unfolding perform
 swap-is c i Access.None = refl
 swap-is c i (Access.Gate a) = refl
@@ -88,7 +88,7 @@ pub record Pieces (c : Card) (i : ℕ) (label : Label) (a : Access) (w : Writing
   pub recorded : r ≡ cond (ltb v 64) (getD (c .records) (v % 64) (openRecord 0)) (openRecord 0)
   pub swaps :
       s
-      ≡ swapBy a i m (c .gate) b r (localAt c i .gate) (localAt c i .announcement) (localAt c i .operation) (localAt c i .simulation .outputs)
+      ≡ swapBy a i m (c .gate) b r (localAt c i .gate) (localAt c i .announcement) (localAt c i .operation) (localAt c i .simulation .yields)
       (localAt c i .task) (w .item)
 
 module _ {c : Card} {i : ℕ} {label : Label} {a : Access} {w : Writing} {x : Cell} {m v : ℕ} {b : Announcement} {r : Record} {s : Swap}

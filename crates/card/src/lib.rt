@@ -232,7 +232,7 @@ pub fn trace(card: Card, process: u32) -> Traced
     let dictionary = card.dictionaries[i];
     let exit = card.exits[i];
     let place = task.place;
-    let outputs = simulation.outputs;
+    let yields = simulation.yields;
     let label = label_of(place, exit);
     let access = access_of(place, exit);
     let written = writing(gate.seq, task, dictionary);
@@ -255,7 +255,7 @@ pub fn trace(card: Card, process: u32) -> Traced
         gate,
         last,
         operation,
-        outputs,
+        yields,
         task,
         item,
     );

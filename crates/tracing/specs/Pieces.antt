@@ -9,7 +9,7 @@ use Rattle.construction.specs.declared.Operation.{Operation}
 use Rattle.construction.specs.declared.Record.{Record}
 use Rattle.construction.specs.declared.Swap.{Swap}
 use Rattle.construction.specs.declared.Task.{Task}
-use Rattle.construction.specs.declared.Words.{Words}
+use Rattle.construction.specs.declared.Yield.{Yield}
 use Rattle.construction.specs.Machine.{accessGate, accessAnnouncement, holderOf, outcome, whose, write}
 
 -- `cellOf` of construction: p processes, process i that last read the gate g, the variables of H21 and H36
@@ -36,12 +36,12 @@ recordIn (Cell.Record v) = v
 
 -- `swapOf` of construction: the gate, the announcement of process m and the record as they stand, and what process i goes by
 abbrev pub swapBy :
-    Access → ℕ → ℕ → Gate → Announcement → Record → Gate → Announcement → Operation → Words → Task → Item → Swap
-swapBy Access.None i m held announced recorded g last operation outputs task item = Swap.None
-swapBy (Access.Gate a) i m held announced recorded g last operation outputs task item = accessGate a i held g task .swap
-swapBy (Access.Announcement a) i m held announced recorded g last operation outputs task item =
-    accessAnnouncement a m announced operation g last outputs task .swap
-swapBy Access.Help i m held announced recorded g last operation outputs task item = Swap.None
-swapBy Access.Note i m held announced recorded g last operation outputs task item = Swap.None
-swapBy Access.Write i m held announced recorded g last operation outputs task item =
+    Access → ℕ → ℕ → Gate → Announcement → Record → Gate → Announcement → Operation → Yield → Task → Item → Swap
+swapBy Access.None i m held announced recorded g last operation yields task item = Swap.None
+swapBy (Access.Gate a) i m held announced recorded g last operation yields task item = accessGate a i held g task .swap
+swapBy (Access.Announcement a) i m held announced recorded g last operation yields task item =
+    accessAnnouncement a m announced operation g last yields task .swap
+swapBy Access.Help i m held announced recorded g last operation yields task item = Swap.None
+swapBy Access.Note i m held announced recorded g last operation yields task item = Swap.None
+swapBy Access.Write i m held announced recorded g last operation yields task item =
     outcome (write recorded item (g .seq) .won)

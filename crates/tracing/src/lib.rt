@@ -13,7 +13,7 @@ use construction::Record;
 use construction::Report;
 use construction::Swap;
 use construction::Task;
-use construction::Words;
+use construction::Yield;
 use machine::announcement::access_announcement;
 use machine::announcement::whose;
 use machine::gate::access_gate;
@@ -150,11 +150,11 @@ pub fn swap_of(
     gate: Gate,
     last: Announcement,
     operation: Operation,
-    outputs: Words,
+    yields: Yield,
     task: Task,
     item: Item,
 ) -> Swap
-    ensures { λ r. ⌜ r ≡ swapBy access process m held announced recorded gate last operation outputs task item ⌝ }
+    ensures { λ r. ⌜ r ≡ swapBy access process m held announced recorded gate last operation yields task item ⌝ }
 {
     match access {
         Access::None => Swap::None,
@@ -170,7 +170,7 @@ pub fn swap_of(
                 operation,
                 gate,
                 last,
-                outputs,
+                yields,
                 task,
             );
             after.swap
@@ -221,7 +221,7 @@ pub fn is_refused(answer: Answer) -> bool
         Answer::Run => false,
         Answer::Done {
             number: _,
-            outputs: _,
+            yields: _,
             steps: _,
         } => false,
         Answer::Exited { steps: _ } => false,

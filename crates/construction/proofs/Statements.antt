@@ -15,3 +15,4 @@ pub mod Sums
 pub mod Counters
 pub mod Examples
 pub mod LinearizabilityExample
+pub mod AllocationExample

@@ -20,8 +20,8 @@ const OUTCOMES: [(Label, &[&str]); 18] = [
 
 /// Every refusal the bench program can print, by what was refused (document 01, 'Turned back').
 #[rustfmt::skip]
-const REFUSALS: [(&str, u8); 20] = [
-    ("card", 1), ("card", 2), ("card", 3), ("card", 4), ("card", 12), ("card", 13), ("calls", 1), ("line", 2),
+const REFUSALS: [(&str, u8); 21] = [
+    ("card", 1), ("card", 2), ("card", 3), ("card", 4), ("card", 12), ("card", 13), ("card", 14), ("calls", 1), ("line", 2),
     ("call", 5), ("call", 6), ("call", 7), ("wish", 5), ("wish", 8),
     ("step", 5), ("step", 8), ("step", 10), ("trace", 5), ("trace", 8), ("trace", 10), ("look", 9),
 ];

@@ -50,8 +50,9 @@ impl Random {
 pub fn case(seed: u64) -> Case {
     let random = &mut Random::new(seed);
     match random.below(100) {
-        0..=43 => valid(random, CONTENDED, false),
-        44..=53 => valid(random, WIDE, false),
+        0..=37 => valid(random, CONTENDED, false),
+        38..=45 => allocating(random),
+        46..=53 => valid(random, WIDE, false),
         54..=57 => valid(random, ALONE, false),
         58..=62 => valid(random, CONTENDED, true),
         63..=72 => damaged_card(random),
@@ -135,7 +136,7 @@ fn fragment(random: &mut Random, variables: usize) -> Vec<Instruction> {
 
 fn any_instruction(random: &mut Random, variables: usize) -> Instruction {
     let (a, b) = (random.below(4), random.below(4));
-    match random.between(1, 13) as u64 {
+    match random.between(1, 16) as u64 {
         2 => make(2, a, value(random, variables) as usize, 0),
         3 => make(3, a, random.below(variables), 0),
         4 => make(4, random.below(variables), b, 0),
@@ -143,9 +144,69 @@ fn any_instruction(random: &mut Random, variables: usize) -> Instruction {
             make(code, a, b, if random.chance(80) { random.between(1, 3) } else { random.between(1, 31) })
         }
         12 if random.chance(30) => make(12, 0, 0, 0),
-        12 | 13 => make(11, a, b, 0),
+        12 | 15 | 16 => make(11, a, b, 0),
+        code @ (13 | 14) => make(code, a, 0, 0),
         code => make(code, a, b, 0),
     }
+}
+
+// ---------------------------------------------------------------- cells taken and given back
+
+/// A card with a chain of free cells from variable 0, whole or broken, and programs that take cells and give them back.
+fn allocating(random: &mut Random) -> Case {
+    let mut card = make_card(random, CONTENDED, false);
+    let variables = random.between(2, 7);
+    card.starting = make_chain(random, variables);
+    let count = random.between(1, 4);
+    card.programs = (0..count).map(|_| allocating_program(random, variables)).collect();
+    let commands = random.between(60, 700);
+    let calls = make_calls(random, &card, commands);
+    Case { card: Some(card_text(&card)), calls: Some(calls) }
+}
+
+/// Variable 0 holds the first of some cells, each the next; the last holds 0, or a number that is none or one met before.
+fn make_chain(random: &mut Random, variables: usize) -> Vec<u32> {
+    let mut starting: Vec<u32> = (0..variables).map(|_| value(random, variables)).collect();
+    let mut cells: Vec<usize> = (1..variables).collect();
+    cells.truncate(random.between(0, variables - 1));
+    if random.chance(50) {
+        cells.reverse();
+    }
+    let mut from = 0;
+    for &cell in &cells {
+        starting[from] = cell as u32;
+        from = cell;
+    }
+    starting[from] = match random.below(10) {
+        0 => variables as u32,
+        1 => value(random, variables),
+        2 => cells.first().map_or(0, |&cell| cell as u32),
+        _ => 0,
+    };
+    starting
+}
+
+/// Takes, uses and gives back, in one operation or in several: the cell's number is told, and one is given back that an input names.
+fn allocating_program(random: &mut Random, variables: usize) -> Vec<Instruction> {
+    let (i, o, r) = (random.below(4), random.below(4), random.below(4));
+    let mut program = match random.below(8) {
+        0 => vec![make(13, r, 0, 0), make(11, o, r, 0)],
+        1 => vec![make(1, r, i, 0), make(14, r, 0, 0), make(11, o, r, 0)],
+        2 => vec![make(13, 0, 0, 0), make(1, 1, i, 0), make(6, 0, 1, 0), make(5, 2, 0, 0), make(11, o, 2, 0), make(14, 0, 0, 0)],
+        3 => vec![make(13, 0, 0, 0), make(13, 1, 0, 0), make(14, 0, 0, 0), make(14, 1, 0, 0), make(11, o, 0, 0)],
+        4 => vec![make(13, 0, 0, 0), make(9, 0, 1, 2), make(1, 2, i, 0), make(6, 0, 2, 0), make(11, o, 0, 0)],
+        5 => vec![make(3, 0, 0, 0), make(14, 0, 0, 0), make(13, 1, 0, 0), make(11, o, 1, 0)],
+        6 => vec![make(13, r, 0, 0); random.between(1, 9)],
+        _ => Vec::new(),
+    };
+    while program.len() < 8 && random.chance(40) {
+        let place = random.below(program.len() + 1);
+        program.insert(place, any_instruction(random, variables));
+    }
+    if program.is_empty() {
+        program.push(make(13, r, 0, 0));
+    }
+    program
 }
 
 /// The card text of a card ('The card text').
@@ -526,7 +587,8 @@ fn damaged_card(random: &mut Random) -> Case {
     Case { card: Some(text), calls: Some(calls) }
 }
 
-/// A card with one instruction whose code or operands stand at or past an edge: 4, 12 or 13, or just not.
+/// A card with one instruction whose code or operands stand at or past an edge: 4, 12 or 13, or just not; or with one program at the edge of its
+/// weight, at or past 14.
 fn odd_instruction(random: &mut Random) -> Case {
     let mut card = make_card(random, CONTENDED, false);
     let calls = make_calls(random, &card, 40);
@@ -535,7 +597,7 @@ fn odd_instruction(random: &mut Random) -> Case {
     let edge = random.pick(&[0, 1, 3, 4, variables - 1, variables, 31, 32, WORD_END as usize - 1, WORD_END as usize]);
     for _ in 0..random.pick(&[1, 1, 1, 2, 3]) {
         match random.below(7) {
-            0 => odd.code = random.pick(&[0, 13, 255, 257, WORD_END + 1]),
+            0 => odd.code = random.pick(&[0, 15, 255, 257, WORD_END + 1]),
             1 | 2 => odd.a = edge,
             3 | 4 => odd.b = edge,
             _ => odd.c = edge,
@@ -544,7 +606,20 @@ fn odd_instruction(random: &mut Random) -> Case {
     let program = random.below(card.programs.len());
     let place = random.below(card.programs[program].len());
     card.programs[program][place] = odd;
+    if random.chance(20) {
+        card.programs[program] = heavy_program(random, variables);
+    }
     Case { card: Some(card_text(&card)), calls: Some(calls) }
+}
+
+/// A program that counts 31 to 34.
+fn heavy_program(random: &mut Random, variables: usize) -> Vec<Instruction> {
+    let weight = random.between(31, 34);
+    let twice = random.between(weight.saturating_sub(32), weight / 2);
+    let mut program: Vec<Instruction> = (0..twice).map(|_| make(random.pick(&[13, 14]), random.below(4), 0, 0)).collect();
+    let single = |random: &mut Random| make(random.pick(&[3, 5]), random.below(4), random.below(variables.min(4)), 0);
+    program.extend((0..weight - 2 * twice).map(|_| single(random)));
+    program
 }
 
 fn damaged_calls(random: &mut Random) -> Case {

@@ -71,16 +71,25 @@ pub struct Card {
 }
 
 impl Card {
-    /// Document 02, order 3, 'w': the largest number of instructions of codes 3 to 6 in any program.
+    /// Document 02, order 3, 'w': the largest weight of any program.
     pub fn weight(&self) -> u64 {
-        let touching = |program: &Vec<Instruction>| program.iter().filter(|ins| (3..=6).contains(&ins.code)).count();
-        self.programs.iter().map(touching).max().unwrap_or(0) as u64
+        self.programs.iter().map(|program| weight(program)).max().unwrap_or(0)
     }
 
     /// Document 02, order 3: the own steps within which an operation returns if no exit request was taken.
     pub fn longest_wait(&self) -> u64 {
         4 + (self.processes as u64 + 1) * (10 + 2 * self.weight())
     }
+}
+
+/// How much the instructions of a program count towards w: codes 3 to 6 count 1 (document 02, order 3), codes 13 and 14 count 2 (order 9).
+pub fn weight(program: &[Instruction]) -> u64 {
+    let counts = |ins: &Instruction| match ins.code {
+        3..=6 => 1,
+        13 | 14 => 2,
+        _ => 0,
+    };
+    program.iter().map(counts).sum()
 }
 
 /// 'Turned back': a refused text gives its number and its line.
@@ -121,7 +130,11 @@ impl Reader<'_> {
     fn program(&mut self, variables: u64) -> Result<Vec<Instruction>, Refusal> {
         let length = self.take("sheet", 1)?[0];
         let length = self.in_range(length, 1, 32)?;
-        (0..length).map(|_| self.instruction(variables)).collect()
+        let program: Vec<Instruction> = (0..length).map(|_| self.instruction(variables)).collect::<Result<_, _>>()?;
+        if weight(&program) > 32 {
+            return Err(self.refuse(14));
+        }
+        Ok(program)
     }
 
     fn instruction(&mut self, variables: u64) -> Result<Instruction, Refusal> {
@@ -142,6 +155,7 @@ fn judge_instruction(numbers: &[u64], variables: u64) -> Result<Instruction, u8>
         4 => [variable, register, None],
         9 | 10 => [register.clone(), register, Some(1..32)],
         12 => [None, None, None],
+        13 | 14 => [register, None, None],
         _ => return Err(4),
     };
     let operands = || ranges.iter().zip(&numbers[1..]);
@@ -155,7 +169,7 @@ fn judge_instruction(numbers: &[u64], variables: u64) -> Result<Instruction, u8>
     Ok(Instruction { code: numbers[0], a, b, c })
 }
 
-/// 'The card text', rows 1 to 4 of 'Turned back', and order 8's 12 and 13: judged by 1, then line by line.
+/// 'The card text', rows 1 to 4 of 'Turned back', order 8's 12 and 13, and order 9's 14: judged by 1, then line by line.
 pub fn open(text: &[u8]) -> Result<Card, Refusal> {
     if text.len() > TEXT_LIMIT {
         return Err(Refusal { number: 1, line: 0 });
@@ -268,26 +282,52 @@ struct Helping {
     considered: usize,
 }
 
-/// What an instruction touches: nothing, a variable, or a number of n or more.
-enum Touch {
+/// What comes before an instruction is executed: nothing more, the H21 of a variable, or its end as a fault.
+enum Before {
     Nothing,
-    Variable(usize),
-    Off,
+    Note(usize),
+    Fault,
 }
 
 impl Helping {
-    fn touched(&self, instruction: &Instruction, variables: usize) -> Touch {
-        let variable = match instruction.code {
-            3 => instruction.b,
-            4 => instruction.a,
-            5 => self.registers[instruction.b] as usize,
-            6 => self.registers[instruction.a] as usize,
-            _ => return Touch::Nothing,
-        };
+    /// What an instruction touches, in sequence, as far as it is known: the first variable that is not in the dictionary is noted.
+    fn before(&mut self, instruction: &Instruction, variables: usize) -> Before {
+        let Instruction { code, a, b, .. } = *instruction;
+        match code {
+            3 => self.first_touch(&[b]),
+            4 => self.first_touch(&[a]),
+            5 => self.numbered(self.registers[b] as usize, variables),
+            6 => self.numbered(self.registers[a] as usize, variables),
+            13 => self.before_taking(variables),
+            14 => match self.registers[a] as usize {
+                cell if cell == 0 || cell >= variables => Before::Fault,
+                cell => self.first_touch(&[0, cell]),
+            },
+            _ => Before::Nothing,
+        }
+    }
+
+    fn first_touch(&mut self, variables: &[usize]) -> Before {
+        let missing = variables.iter().find(|&&variable| self.entry(variable).is_none());
+        missing.map_or(Before::Nothing, |&variable| Before::Note(variable))
+    }
+
+    /// Codes 5 and 6 (document 02, order 6).
+    fn numbered(&mut self, variable: usize, variables: usize) -> Before {
         if variable < variables {
-            Touch::Variable(variable)
+            self.first_touch(&[variable])
         } else {
-            Touch::Off
+            Before::Fault
+        }
+    }
+
+    /// Code 13 (document 02, order 9): variable 0, then the cell whose number it holds.
+    fn before_taking(&mut self, variables: usize) -> Before {
+        match self.entry(0).map(|noted| noted.value as usize) {
+            None => Before::Note(0),
+            Some(0) => Before::Nothing,
+            Some(cell) if cell >= variables => Before::Fault,
+            Some(cell) => self.first_touch(&[cell]),
         }
     }
 
@@ -299,16 +339,14 @@ impl Helping {
     /// H7 to H30: runs on to a first touch (then H21 is next), to the stop (then H31), or to a fault (then P19).
     fn run(&mut self, program: &[Instruction], inputs: &[u32; 4], gate_seq: u64, variables: usize) -> Label {
         while let Some(instruction) = program.get(self.at).filter(|instruction| instruction.code != 12) {
-            let touched = match self.touched(instruction, variables) {
-                Touch::Off => return self.end_as_fault(),
-                Touch::Variable(variable) if self.entry(variable).is_none() => {
+            match self.before(instruction, variables) {
+                Before::Fault => return self.end_as_fault(),
+                Before::Note(variable) => {
                     self.touching = variable;
                     return Label::H21;
                 }
-                Touch::Variable(variable) => Some(variable),
-                Touch::Nothing => None,
-            };
-            self.execute(instruction, touched, inputs);
+                Before::Nothing => self.execute(instruction, inputs),
+            }
         }
         self.next_write(gate_seq)
     }
@@ -320,34 +358,57 @@ impl Helping {
         Label::P19
     }
 
-    /// The instruction table; a touched variable is in the dictionary.
-    fn execute(&mut self, instruction: &Instruction, touched: Option<usize>, inputs: &[u32; 4]) {
+    /// The instruction table; what it touches is in the dictionary.
+    fn execute(&mut self, instruction: &Instruction, inputs: &[u32; 4]) {
         let Instruction { code, a, b, c } = *instruction;
+        let (left, right) = (self.registers[a % 4], self.registers[b % 4]);
         self.at += 1;
         match code {
             1 => self.registers[a] = inputs[b],
             2 => self.registers[a] = b as u32,
-            3 | 5 => self.registers[a] = self.load(touched),
-            4 | 6 => self.store(touched, self.registers[b]),
-            7 => self.registers[a] = self.registers[a].saturating_add(self.registers[b]),
-            8 => self.registers[a] = self.registers[a].saturating_sub(self.registers[b]),
-            9 if self.registers[a] == self.registers[b] => self.at += c,
-            10 if self.registers[a] < self.registers[b] => self.at += c,
-            11 => self.outputs[a] = self.registers[b],
+            3 => self.registers[a] = self.load(b),
+            4 => self.store(a, right),
+            5 => self.registers[a] = self.load(right as usize),
+            6 => self.store(left as usize, right),
+            7 => self.registers[a] = left.saturating_add(right),
+            8 => self.registers[a] = left.saturating_sub(right),
+            9 if left == right => self.at += c,
+            10 if left < right => self.at += c,
+            11 => self.outputs[a] = right,
+            13 => self.registers[a] = self.take_cell(),
+            14 => self.give_cell(left),
             _ => (),
         }
     }
 
     /// H27.
-    fn load(&mut self, touched: Option<usize>) -> u32 {
-        touched.and_then(|variable| self.entry(variable)).map_or(0, |noted| noted.value)
+    fn load(&mut self, variable: usize) -> u32 {
+        self.entry(variable).map_or(0, |noted| noted.value)
     }
 
     /// H28.
-    fn store(&mut self, touched: Option<usize>, value: u32) {
-        if let Some(noted) = touched.and_then(|variable| self.entry(variable)) {
+    fn store(&mut self, variable: usize, value: u32) {
+        if let Some(noted) = self.entry(variable) {
             noted.value = value;
         }
+    }
+
+    /// Code 13: the first free cell leaves the chain and becomes 0; without one there is nothing to take.
+    fn take_cell(&mut self) -> u32 {
+        let cell = self.load(0);
+        if cell != 0 {
+            let next = self.load(cell as usize);
+            self.store(0, next);
+            self.store(cell as usize, 0);
+        }
+        cell
+    }
+
+    /// Code 14: the cell becomes the first of the chain.
+    fn give_cell(&mut self, cell: u32) {
+        let first = self.load(0);
+        self.store(cell as usize, first);
+        self.store(0, cell);
     }
 
     /// H31 and H32: the next entry with lower seq and altered value is written at H36; after the last comes P19.

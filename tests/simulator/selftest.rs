@@ -177,6 +177,16 @@ fn program_pieces(checks: &mut Checks) {
     alone("stop", &[0], &["1,0,3,0", "11,2,0,0", "12,0,0,0", "11,0,0,0"], "0,0,14,0", 12);
     alone("write without read", &[7], &["2,0,9,0", "4,0,0,0"], "0,0,0,0", 14);
     alone("altered and altered back", &[7], &["3,0,0,0", "4,0,1,0", "4,0,0,0"], "0,0,0,0", 13);
+    // order 9: two first touches, and a write for each of the two that is altered
+    alone("taking a cell", &[1, 2, 0], &["13,0,0,0", "11,0,0,0"], "1,0,0,0", 16);
+    alone("taking the last cell", &[1, 0], &["13,0,0,0", "11,0,0,0"], "1,0,0,0", 15);
+    alone("taking from an empty chain", &[0, 5], &["2,0,9,0", "13,0,0,0", "11,0,0,0"], "0,0,0,0", 13);
+    alone("a chain with a number past n", &[2, 5], &["13,0,0,0"], "fault", 13);
+    alone("giving back", &[2, 5, 0], &["2,1,1,0", "14,1,0,0"], "0,0,0,0", 16);
+    alone("giving back 0", &[0, 5], &["14,0,0,0", "11,0,0,0"], "fault", 12);
+    alone("giving back n", &[0, 5], &["2,0,2,0", "14,0,0,0"], "fault", 12);
+    alone("taken and given back", &[1, 0], &["13,0,0,0", "14,0,0,0", "11,0,0,0"], "1,0,0,0", 14);
+    alone("taken twice, given back in turn", &[1, 2, 0], &["13,0,0,0", "13,1,0,0", "14,0,0,0", "14,1,0,0"], "0,0,0,0", 18);
 }
 
 /// Rows 1 to 4 of 'Turned back', with their lines.
@@ -199,7 +209,7 @@ fn card_refusals(checks: &mut Checks) {
     refused("card,1,1,1,100\nvar,4294967296\n", 3, 2);
     refused("card,1,1,1,100\nvar,7\nsheet,33\n", 3, 3);
     refused("card,1,1,1,100\nvar,7\nsheet,0\n", 3, 3);
-    refused("card,1,1,1,100\nvar,7\nsheet,1\nins,13,0,0,0\n", 4, 4);
+    refused("card,1,1,1,100\nvar,7\nsheet,1\nins,15,0,0,0\n", 4, 4);
     refused("card,1,1,1,100\nvar,7\nsheet,1\nins,13,0,0\n", 2, 4);
     refused("card,1,1,1,100\nvar,7\nsheet,1\nins,9,0,0,0\n", 12, 4);
     refused("card,1,1,1,100\nvar,7\nsheet,1\nins,12,0,0,1\n", 13, 4);
@@ -210,6 +220,12 @@ fn card_refusals(checks: &mut Checks) {
     refused("card,1,1,1,100\nvar,7\nsheet,2\nins,1,0,0,7\nins,0,9,9,9\n", 13, 4);
     refused("card,1,1,1,100\nvar,7\nsheet,1\nins,18446744073709551617,0,0,0\n", 4, 4);
     refused("card,1,1,1,100\nvar,7\nsheet,1\nins,12,0,0,0", 2, 4);
+    let takes = "ins,13,0,0,0\n".repeat(16);
+    refused(&format!("card,1,1,1,100\nvar,7\nsheet,17\n{takes}ins,3,0,0,0\n"), 14, 20);
+    refused(&format!("card,1,1,1,100\nvar,7\nsheet,17\n{takes}ins,14,3,0,0\n"), 14, 20);
+    refused(&format!("card,1,1,1,100\nvar,7\nsheet,17\n{takes}ins,14,0,0,1\n"), 13, 20);
+    refused(&format!("card,1,1,1,100\nvar,7\nsheet,16\n{takes}ins,3,0,0,0\n"), 2, 20);
+    refused(&format!("card,1,1,2,100\nvar,7\nsheet,17\n{takes}ins,3,0,0,0\nsheet,33\n"), 14, 20);
     refused(&format!("{k}\n"), 2, 8);
     refused(&format!("{k}x"), 2, 8);
     refused(&k.replace("var,7\n", "var,7\r\n"), 2, 2);
@@ -342,6 +358,17 @@ fn run_alone(words: &mut Vec<u32>, program: &[Instruction], inputs: [u32; 4]) ->
             9 => at += if r[a] == r[b] { c } else { 0 },
             10 => at += if r[a] < r[b] { c } else { 0 },
             11 => outputs[a] = r[b],
+            13 => {
+                let cell = left[0] as usize;
+                r[a] = left[0];
+                left[0] = *left.get(cell)?;
+                left[cell] = 0;
+            }
+            14 => {
+                let cell = (r[a] > 0).then_some(r[a] as usize)?;
+                *left.get_mut(cell)? = left[0];
+                left[0] = r[a];
+            }
             _ => break,
         }
     }

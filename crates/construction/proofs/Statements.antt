@@ -18,3 +18,4 @@ pub mod NotedSets
 pub mod Paths
 pub mod Examples
 pub mod LinearizabilityExample
+pub mod AllocationExample

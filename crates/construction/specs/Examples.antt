@@ -2,6 +2,7 @@
 -- as a table: a card text, entries, and what is to be seen. A second table has the small examples of 'Turned back'.
 -- The theorems over the tables are in proofs/Examples.
 use Prim.Native.Nat.{ℕ, zero, suc}
+use Prim.Native.String.{String}
 use mathlib.Core.Path.{_≡_}
 use mathlib.Core.Bool.{true, false}
 use mathlib.Core.List.{List, [], _∷_, _++_}
@@ -23,6 +24,7 @@ use Rattle.construction.specs.declared.Refusal.{Refusal}
 use Rattle.construction.specs.declared.Refusal.the-variants.{NotBusy, LimitReached}
 use Rattle.construction.specs.Cells.{zeros, faultYield, openRecord}
 use Rattle.construction.specs.Answers.{bytes, Fields, fields, refusedWith, verdictFields, writtenFields, cardLineFields, varLineFields, sheetLineFields, insLineFields, Refuses}
+use Rattle.grammar.specs.Writing.{decimal}
 use Rattle.construction.specs.Lines.{cardLine, varLine, sheetLine, insLine}
 use Rattle.construction.specs.Opening.{opened}
 use Rattle.construction.specs.Tracing.{noReport, trace}
@@ -237,6 +239,10 @@ abbrev pub zeroLines : ℕ → List ℕ
 zeroLines zero = []
 zeroLines (suc n) = bytes "var,0\n" ++ zeroLines n
 
+abbrev pub takeLines : ℕ → List ℕ
+takeLines zero = []
+takeLines (suc n) = bytes "ins,13,0,0,0\n" ++ takeLines n
+
 abbrev pub card64 : List ℕ
 card64 =
     bytes "card,1,64,1,100\n"
@@ -405,9 +411,120 @@ lateSwap =
       cell = flipped 3;
     }
 
+-- Cells taken and given back (document 02, order 9). Two variables, the free cells from variable 0; a program that takes a cell and tells its number
+abbrev pub cardTake : ℕ → ℕ → List ℕ
+cardTake first second = bytes "card,1,2,1,100\nvar," ++ (decimal first ++ (bytes "\nvar," ++ (decimal second ++ bytes "\nsheet,3\nins,2,0,9,0\nins,13,0,0,0\nins,11,0,0,0\n")))
+
+-- one that gives back the cell that its input names
+abbrev pub cardGive : List ℕ
+cardGive = bytes "card,1,2,1,100\nvar,0\nvar,5\nsheet,2\nins,1,0,0,0\nins,14,0,0,0\n"
+
+-- taking the last cell: two first touches, one write
+abbrev pub takenLast : Row
+takenLast =
+    record {
+      text = cardTake 1 0;
+      entries = call 0 (one 0) ++ (steps 0 15 ++ readFirst);
+      answers = taken ++ (runs 14 ++ (done 1 (one 1) 15 ++ shown 0));
+      gate = record { holder = Nobody; seq = 2 };
+      announcements = announced Done 1 1 1 ∷ [];
+      variable = 0;
+      cell = record { val0 = 1; val1 = 0; toggle = true; seq = 1 };
+    }
+
+-- taking from an empty chain: 0, and no further access
+abbrev pub takenNone : Row
+takenNone =
+    record {
+      text = cardTake 0 5;
+      entries = call 0 (one 0) ++ steps 0 13;
+      answers = taken ++ (runs 12 ++ done 1 (one 0) 13);
+      gate = record { holder = Nobody; seq = 2 };
+      announcements = announced Done 1 1 0 ∷ [];
+      variable = 1;
+      cell = openRecord 5;
+    }
+
+-- a chain with a number past the variables: variable 0 is touched, then a fault
+abbrev pub takenPast : Row
+takenPast =
+    record {
+      text = cardTake 2 5;
+      entries = call 0 (one 0) ++ steps 0 13;
+      answers = taken ++ (runs 12 ++ fault 1 13);
+      gate = record { holder = Nobody; seq = 2 };
+      announcements = announcedFault 1 1 ∷ [];
+      variable = 0;
+      cell = openRecord 2;
+    }
+
+-- giving back 0, and n: a fault before any touch
+abbrev pub givenZero : Row
+givenZero =
+    record {
+      text = cardGive;
+      entries = call 0 (one 0) ++ steps 0 12;
+      answers = taken ++ (runs 11 ++ fault 1 12);
+      gate = record { holder = Nobody; seq = 2 };
+      announcements = announcedFault 1 1 ∷ [];
+      variable = 0;
+      cell = openRecord 0;
+    }
+
+abbrev pub givenPast : Row
+givenPast =
+    record {
+      text = cardGive;
+      entries = call 0 (one 2) ++ steps 0 12;
+      answers = taken ++ (runs 11 ++ fault 1 12);
+      gate = record { holder = Nobody; seq = 2 };
+      announcements = announcedFault 1 1 ∷ [];
+      variable = 1;
+      cell = openRecord 5;
+    }
+
+-- 'Both codes touch variable 0, then the cell': so the first write, after nine steps, is that of variable 0; given back cell 1, which holds 0 then
+abbrev pub givenFirst : Row
+givenFirst =
+    record {
+      text = cardGive;
+      entries = call 0 (one 1) ++ steps 0 10;
+      answers = taken ++ runs 10;
+      gate = record { holder = Process 0; seq = 1 };
+      announcements = announced Active 1 0 1 ∷ [];
+      variable = 0;
+      cell = record { val0 = 0; val1 = 1; toggle = true; seq = 1 };
+    }
+
+-- 'the cell becomes 0'
+abbrev pub takenCleared : Row
+takenCleared =
+    record {
+      text = bytes "card,1,3,1,100\nvar,1\nvar,2\nvar,0\nsheet,2\nins,13,0,0,0\nins,11,0,0,0\n";
+      entries = call 0 (one 0) ++ (steps 0 16 ++ (Entry.Read 0 ∷ Entry.Read 1 ∷ Entry.Read 2 ∷ []));
+      answers = taken ++ (runs 15 ++ (done 1 (one 1) 16 ++ (shown 2 ++ (shown 0 ++ shown 0))));
+      gate = record { holder = Nobody; seq = 2 };
+      announcements = announced Done 1 1 1 ∷ [];
+      variable = 1;
+      cell = record { val0 = 2; val1 = 0; toggle = true; seq = 1 };
+    }
+
+-- both codes in one operation: a cell is taken and given back, so that nothing is altered
+abbrev pub takenGiven : Row
+takenGiven =
+    record {
+      text = bytes "card,1,2,1,100\nvar,1\nvar,0\nsheet,3\nins,13,0,0,0\nins,14,0,0,0\nins,11,0,0,0\n";
+      entries = call 0 (one 0) ++ steps 0 14;
+      answers = taken ++ (runs 13 ++ done 1 (one 1) 14);
+      gate = record { holder = Nobody; seq = 2 };
+      announcements = announced Done 1 1 1 ∷ [];
+      variable = 0;
+      cell = openRecord 1;
+    }
+
 abbrev pub rows : List Row
 rows =
-    listing ∷ afterNine ∷ afterTen ∷ sameInput ∷ exitRequested ∷ twoProcesses ∷ limited ∷ stopped ∷ indirect ∷ indirectPast ∷ storedPast ∷ unwritten ∷ lateFault ∷ skipPast ∷ turnOfOther ∷ equalSeq ∷ earlyExit ∷ lateMark ∷ lateSwap ∷ []
+    listing ∷ afterNine ∷ afterTen ∷ sameInput ∷ exitRequested ∷ twoProcesses ∷ limited ∷ stopped ∷ indirect ∷ indirectPast ∷ storedPast ∷ unwritten ∷ lateFault ∷ skipPast ∷ turnOfOther ∷ equalSeq ∷ earlyExit ∷ lateMark ∷ lateSwap ∷ takenLast ∷ takenNone ∷ takenPast ∷ givenZero ∷ givenPast ∷ givenFirst ∷ takenCleared ∷ takenGiven ∷ []
 
 -- The pieces that speak of lines, by what `trace` tells (document 02, order 1): the reports of the traced steps of a list, in their order
 abbrev pub reportsTo : Card → List Entry → List Report
@@ -505,7 +622,11 @@ refusedTold =
 abbrev pub tracedRows : List TracedRow
 tracedRows = listingTold ∷ sameInputTold ∷ exitRequestedTold ∷ refusedTold ∷ []
 
--- 'Turned back', column 'small example'. Rows 2 to 4, 12 and 13 (document 02, order 8): a text, and the number and line that it is refused with
+-- sixteen lines of code 13, which count 32, and one more (document 02, order 9)
+abbrev pub heavy : ℕ → String → List ℕ
+heavy length last = bytes "card,1,1,1,5\nvar,0\nsheet," ++ (decimal length ++ (bytes "\n" ++ (takeLines 16 ++ bytes last)))
+
+-- 'Turned back', column 'small example'. Rows 2 to 4, 12 and 13 (document 02, order 8) and 14 (order 9): a text, and the number and line that it is refused with
 pub record RefusedText : Type 0 where
   pub text : List ℕ
   pub number : ℕ
@@ -524,7 +645,14 @@ refusedTexts =
     ∷ record { text = bytes "card,1,1,1,5\nvar,7\nsheet,2\nins,3,0,1,0\nins,15,0,0,0\n"; number = 12; line = 4 }
     ∷ record { text = bytes "card,1,1,1,5\nvar,7\nsheet,1\nins,1,4,0,7\n"; number = 12; line = 4 }
     ∷ record { text = bytes "card,1,1,1,5\nvar,7\nsheet,1\nins,12,0,0,1\n"; number = 13; line = 4 }
+    ∷ record { text = heavy 17 "ins,3,0,0,0\n"; number = 14; line = 20 }
+    ∷ record { text = heavy 17 "ins,14,0,0,0\n"; number = 14; line = 20 }
+    ∷ record { text = heavy 17 "ins,14,0,0,1\n"; number = 13; line = 20 }
     ∷ []
+
+-- a program that counts 32 opens
+abbrev pub FullOpens : Type 0
+FullOpens = verdictFields (opened (heavy 16 "") .verdict) ≡ fields "accepted" []
 
 -- 'each line yields either its fields or a refusal number': a line, and what it yields
 pub record Yielded : Type 0 where

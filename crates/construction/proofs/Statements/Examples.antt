@@ -17,12 +17,12 @@ use Rattle.construction.specs.Cells.{sameWords, sameGate, sameAnnounceme
 use Rattle.construction.specs.Answers.{numberOf, answerFields, verdictFields, writtenFields, cardLineFields, varLineFields, sheetLineFields, decodedFields, insLineFields}
 use Rattle.construction.specs.Writing.{written, textOf, varsText, programsText, linesText}
 use Rattle.grammar.specs.Writing.{decimal, decimals}
-use Rattle.construction.specs.Examples.{AllHold, rows, AllTold, tracedRows, AllTextsRefused, refusedTexts, AllYielded, yieldedLines, AllEntriesRefused, refusedEntries, BufferRefused}
+use Rattle.construction.specs.Examples.{AllHold, rows, AllTold, tracedRows, AllTextsRefused, refusedTexts, FullOpens, AllYielded, yieldedLines, AllEntriesRefused, refusedEntries, BufferRefused}
 
 pub rows-hold : AllHold rows
-unfolding opened readCard cardLine judgeCard four field number digits hasWord varsFrom varLine judgeVar programsFrom readProgram sheetLine judgeSheet insFrom insLine judgeIns decode weightBefore fresh call requestExit step read valueOf advance perform accessOf accessGate accessAnnouncement firstChoice beginHelp note writing simulate simulateFrom allocated effectOf fetch word withWord sum difference load store free forward withRegister withOutput skipped faulted position assign valueUnder insert altered unaltered nextWrite sameWords sameGate sameAnnouncement sameRecord swapGate swapAnnouncement swapRecord released current previous rewritten
+unfolding opened readCard cardLine judgeCard four field number digits hasWord varsFrom varLine judgeVar programsFrom readProgram sheetLine judgeSheet insFrom insLine judgeIns decode weightBefore fresh call requestExit step read valueOf advance perform accessOf accessGate accessAnnouncement firstChoice beginHelp note writing simulate simulateFrom allocated effectOf fetch word withWord sum difference load store free forward withRegister withOutput skipped faulted position assign valueUnder insert altered unaltered nextWrite sameWords sameGate sameAnnouncement sameRecord swapGate swapAnnouncement swapRecord released current previous rewritten decimal decimals
 rows-hold =
-    ((refl, (refl, refl, refl)), ((refl, (refl, refl, refl)), ((refl, (refl, refl, refl)), ((refl, (refl, refl, refl)), ((refl, (refl, refl, refl)), ((refl, (refl, refl, refl)), ((refl, (refl, refl, refl)), ((refl, (refl, refl, refl)), ((refl, (refl, refl, refl)), ((refl, (refl, refl, refl)), ((refl, (refl, refl, refl)), ((refl, (refl, refl, refl)), ((refl, (refl, refl, refl)), ((refl, (refl, refl, refl)), ((refl, (refl, refl, refl)), ((refl, (refl, refl, refl)), ((refl, (refl, refl, refl)), ((refl, (refl, refl, refl)), ((refl, (refl, refl, refl)), tt)))))))))))))))))))
+    ((refl, (refl, refl, refl)), ((refl, (refl, refl, refl)), ((refl, (refl, refl, refl)), ((refl, (refl, refl, refl)), ((refl, (refl, refl, refl)), ((refl, (refl, refl, refl)), ((refl, (refl, refl, refl)), ((refl, (refl, refl, refl)), ((refl, (refl, refl, refl)), ((refl, (refl, refl, refl)), ((refl, (refl, refl, refl)), ((refl, (refl, refl, refl)), ((refl, (refl, refl, refl)), ((refl, (refl, refl, refl)), ((refl, (refl, refl, refl)), ((refl, (refl, refl, refl)), ((refl, (refl, refl, refl)), ((refl, (refl, refl, refl)), ((refl, (refl, refl, refl)), ((refl, (refl, refl, refl)), ((refl, (refl, refl, refl)), ((refl, (refl, refl, refl)), ((refl, (refl, refl, refl)), ((refl, (refl, refl, refl)), ((refl, (refl, refl, refl)), ((refl, (refl, refl, refl)), ((refl, (refl, refl, refl)), tt)))))))))))))))))))))))))))
 
 -- the pieces that speak of lines
 pub rows-told : AllTold tracedRows
@@ -30,8 +30,12 @@ unfolding opened readCard cardLine judgeCard four field number digits hasWord va
 rows-told = (refl, (refl, (refl, (refl, tt))))
 
 pub texts-refused : AllTextsRefused refusedTexts
-unfolding opened readCard cardLine judgeCard four field number digits hasWord varsFrom varLine judgeVar programsFrom readProgram sheetLine judgeSheet insFrom insLine judgeIns decode weightBefore fetch fresh verdictFields numberOf
-texts-refused = (refl, (refl, (refl, (refl, (refl, (refl, (refl, tt)))))))
+unfolding opened readCard cardLine judgeCard four field number digits hasWord varsFrom varLine judgeVar programsFrom readProgram sheetLine judgeSheet insFrom insLine judgeIns decode weightBefore fetch fresh verdictFields numberOf decimal decimals
+texts-refused = (refl, (refl, (refl, (refl, (refl, (refl, (refl, (refl, (refl, (refl, tt))))))))))
+
+pub full-opens : FullOpens
+unfolding opened readCard cardLine judgeCard four field number digits hasWord varsFrom varLine judgeVar programsFrom readProgram sheetLine judgeSheet insFrom insLine judgeIns decode weightBefore fetch fresh verdictFields numberOf decimal decimals
+full-opens = refl
 
 pub lines-yield : AllYielded yieldedLines
 unfolding cardLine judgeCard four field number digits hasWord varLine judgeVar sheetLine judgeSheet insLine judgeIns decode encode cardLineFields varLineFields sheetLineFields decodedFields insLineFields numberOf

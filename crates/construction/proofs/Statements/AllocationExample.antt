@@ -1,0 +1,127 @@
+-- The theorem on hands is not empty (document 02, order 9): a card on which one process helps the other to take a cell, its premises proved and its
+-- conclusions computed; and for each premise a card that breaks it alone, on which a cell comes into two hands.
+use Prim.Native.Nat.{ℕ}
+use mathlib.Core.Path.{_≡_, refl}
+use mathlib.Core.Bool.{true, false}
+use mathlib.Core.List.{List, [], _∷_, _++_}
+use lib.ListN.{getD, replicate}
+use Rattle.construction.specs.declared.Words.{Words}
+use Rattle.construction.specs.declared.Card.{Card}
+use Rattle.grammar.specs.Reading.{four, field, number, digits, hasWord}
+use Rattle.construction.specs.Opening.{opened, readCard, varsFrom, programsFrom, readProgram, insFrom, fresh}
+use Rattle.construction.specs.Lines.{cardLine, judgeCard, varLine, judgeVar, sheetLine, judgeSheet, insLine, judgeIns}
+use Rattle.construction.specs.Instructions.{decode, effectOf, fetch, word, withWord, load, store, free, forward, withRegister, withOutput, skipped, faulted}
+use Rattle.construction.specs.Sequential.{sequential, runFrom}
+use Rattle.construction.specs.Requests.{call, requestExit, step, read, valueOf}
+use Rattle.construction.specs.Machine.{advance, perform, accessOf, accessGate, accessAnnouncement, firstChoice, beginHelp, note, writing}
+use Rattle.construction.specs.Helping.{simulate, simulateFrom}
+use Rattle.construction.specs.Effects.{allocated}
+use Rattle.construction.specs.Weight.{weightBefore}
+use Rattle.construction.specs.Dictionary.{position, assign, valueUnder, insert, altered, unaltered, nextWrite}
+use Rattle.construction.specs.Cells.{sameWords, sameGate, sameAnnouncement, sameRecord, swapGate, swapAnnouncement, swapRecord, released, current, previous, rewritten}
+use Rattle.construction.specs.Answers.{bytes}
+use Rattle.construction.specs.Examples.{one}
+use Rattle.construction.specs.History.{Entry, run, observe, observeAll, withFinishes, latest, latestCall, turned}
+use Rattle.construction.specs.Allocation.{among, without, Action, Performed, wordsAfter, chainFrom, chain, hand, givenBack, performedFrom, operationAt, performedAll, startWords, performed}
+use Rattle.construction.specs.Allocation.{ChainWithoutRepeats, OnlyByCodes, OnlyFromHands, Disciplined, Allocating}
+use Rattle.construction.proofs.Statements.Allocation.{allocation}
+
+-- three programs: take a cell, give back the one that the input names, store the input in variable 0
+abbrev body : List ℕ
+body = bytes "sheet,2\nins,13,0,0,0\nins,11,0,0,0\nsheet,2\nins,1,0,0,0\nins,14,0,0,0\nsheet,2\nins,1,0,0,0\nins,4,0,0,0\n"
+
+abbrev takes : ℕ → Entry
+takes i = Entry.Call i 0 (one 0)
+
+abbrev gives : ℕ → ℕ → Entry
+gives i c = Entry.Call i 1 (one c)
+
+abbrev stores : ℕ → ℕ → Entry
+stores i x = Entry.Call i 2 (one x)
+
+abbrev steps : ℕ → ℕ → List Entry
+steps i n = replicate n (Entry.Step i)
+
+abbrev by : ℕ → Action → Performed
+by i a = record { process = i; action = a }
+
+-- two free cells, 1 and then 2
+abbrev text : List ℕ
+text = bytes "card,2,3,3,200\nvar,1\nvar,2\nvar,0\n" ++ body
+
+-- process 1 announces its operation; process 0 helps it to finish before its own; then process 1 gives its cell back
+abbrev entries : List Entry
+entries = takes 1 ∷ takes 0 ∷ (steps 1 2 ++ (steps 0 28 ++ (steps 1 4 ++ (gives 1 1 ∷ steps 1 15))))
+
+abbrev card : Card
+card = opened text .card
+
+-- a chain that comes back to its first cell
+abbrev looped : List ℕ
+looped = bytes "card,2,2,3,200\nvar,1\nvar,1\n" ++ body
+
+-- each process takes a cell, one after the other
+abbrev takeBoth : List Entry
+takeBoth = takes 0 ∷ (steps 0 20 ++ (takes 1 ∷ steps 1 20))
+
+-- between, variable 0 is stored to, other than by the two codes
+abbrev takeStored : List Entry
+takeStored = takes 0 ∷ (steps 0 20 ++ (stores 0 1 ∷ (steps 0 20 ++ (takes 1 ∷ steps 1 20))))
+
+-- between, process 1 gives back the cell that process 0 has
+abbrev takeForeign : List Entry
+takeForeign = takes 0 ∷ (steps 0 20 ++ (gives 1 1 ∷ (steps 1 20 ++ (takes 1 ∷ steps 1 20))))
+
+-- cell 1 is in the hands of both processes
+pub record InBoth (t : List ℕ) (es : List Entry) : Type 0 where
+  pub first : among 1 (hand (performed (opened t .card) es) 0) ≡ true
+  pub second : among 1 (hand (performed (opened t .card) es) 1) ≡ true
+
+pub record Computed : Type 0 where
+  pub actions : performed card entries ≡ by 1 (Action.Gave 1) ∷ by 0 (Action.Took 2) ∷ by 1 (Action.Took 1) ∷ []
+  -- what is in hand, what is free, and what was given back
+  pub own : hand (performed card entries) 0 ≡ 2 ∷ []
+  pub other : hand (performed card entries) 1 ≡ []
+  pub free : chain (wordsAfter (startWords card) (performed card entries)) ≡ 1 ∷ []
+  pub back : givenBack (performed card entries) ≡ 1 ∷ []
+  -- the chain with a repeat, the store to variable 0, the cell of another's hand: each leaves the other two premises
+  pub repeated : chain (startWords (opened looped .card)) ≡ 1 ∷ 1 ∷ []
+  pub stored : performed card takeStored ≡ by 1 (Action.Took 1) ∷ by 0 (Action.Stored 0 1) ∷ by 0 (Action.Took 1) ∷ []
+  pub foreign : performed card takeForeign ≡ by 1 (Action.Took 1) ∷ by 1 (Action.Gave 1) ∷ by 0 (Action.Took 1) ∷ []
+
+pub computed : Computed
+unfolding opened readCard cardLine judgeCard four field number digits hasWord varsFrom varLine judgeVar programsFrom readProgram sheetLine judgeSheet insFrom insLine judgeIns decode weightBefore fresh call requestExit step read valueOf advance perform accessOf accessGate accessAnnouncement firstChoice beginHelp note writing simulate simulateFrom allocated effectOf fetch word withWord load store free forward withRegister withOutput skipped faulted position assign valueUnder insert altered unaltered nextWrite sameWords sameGate sameAnnouncement sameRecord swapGate swapAnnouncement swapRecord released current previous rewritten observe observeAll withFinishes latest latestCall turned sequential runFrom performedFrom performedAll operationAt wordsAfter chainFrom hand among without givenBack
+computed =
+    record { actions = refl; own = refl; other = refl; free = refl; back = refl; repeated = refl; stored = refl; foreign = refl }
+
+pub disciplined : Disciplined card entries
+unfolding opened readCard cardLine judgeCard four field number digits hasWord varsFrom varLine judgeVar programsFrom readProgram sheetLine judgeSheet insFrom insLine judgeIns decode weightBefore fresh call requestExit step read valueOf advance perform accessOf accessGate accessAnnouncement firstChoice beginHelp note writing simulate simulateFrom allocated effectOf fetch word withWord load store free forward withRegister withOutput skipped faulted position assign valueUnder insert altered unaltered nextWrite sameWords sameGate sameAnnouncement sameRecord swapGate swapAnnouncement swapRecord released current previous rewritten observe observeAll withFinishes latest latestCall turned sequential runFrom performedFrom performedAll operationAt wordsAfter chainFrom hand among without givenBack
+disciplined = record { chain = (refl, (refl, tt)); touches = (tt, (tt, (tt, tt))); gives = (refl, (tt, (tt, tt))) }
+
+pub allocating : Allocating card entries
+allocating = allocation text entries disciplined
+
+-- each premise broken alone
+pub loop-breaks : InBoth looped takeBoth
+unfolding opened readCard cardLine judgeCard four field number digits hasWord varsFrom varLine judgeVar programsFrom readProgram sheetLine judgeSheet insFrom insLine judgeIns decode weightBefore fresh call requestExit step read valueOf advance perform accessOf accessGate accessAnnouncement firstChoice beginHelp note writing simulate simulateFrom allocated effectOf fetch word withWord load store free forward withRegister withOutput skipped faulted position assign valueUnder insert altered unaltered nextWrite sameWords sameGate sameAnnouncement sameRecord swapGate swapAnnouncement swapRecord released current previous rewritten observe observeAll withFinishes latest latestCall turned sequential runFrom performedFrom performedAll operationAt wordsAfter chainFrom hand among without givenBack
+loop-breaks = record { first = refl; second = refl }
+
+pub loop-keeps : OnlyByCodes (startWords (opened looped .card)) (performed (opened looped .card) takeBoth) × OnlyFromHands (performed (opened looped .card) takeBoth)
+unfolding opened readCard cardLine judgeCard four field number digits hasWord varsFrom varLine judgeVar programsFrom readProgram sheetLine judgeSheet insFrom insLine judgeIns decode weightBefore fresh call requestExit step read valueOf advance perform accessOf accessGate accessAnnouncement firstChoice beginHelp note writing simulate simulateFrom allocated effectOf fetch word withWord load store free forward withRegister withOutput skipped faulted position assign valueUnder insert altered unaltered nextWrite sameWords sameGate sameAnnouncement sameRecord swapGate swapAnnouncement swapRecord released current previous rewritten observe observeAll withFinishes latest latestCall turned sequential runFrom performedFrom performedAll operationAt wordsAfter chainFrom hand among without givenBack
+loop-keeps = ((tt, (tt, tt)), (tt, (tt, tt)))
+
+pub store-breaks : InBoth text takeStored
+unfolding opened readCard cardLine judgeCard four field number digits hasWord varsFrom varLine judgeVar programsFrom readProgram sheetLine judgeSheet insFrom insLine judgeIns decode weightBefore fresh call requestExit step read valueOf advance perform accessOf accessGate accessAnnouncement firstChoice beginHelp note writing simulate simulateFrom allocated effectOf fetch word withWord load store free forward withRegister withOutput skipped faulted position assign valueUnder insert altered unaltered nextWrite sameWords sameGate sameAnnouncement sameRecord swapGate swapAnnouncement swapRecord released current previous rewritten observe observeAll withFinishes latest latestCall turned sequential runFrom performedFrom performedAll operationAt wordsAfter chainFrom hand among without givenBack
+store-breaks = record { first = refl; second = refl }
+
+pub store-keeps : ChainWithoutRepeats (startWords card) × OnlyFromHands (performed card takeStored)
+unfolding opened readCard cardLine judgeCard four field number digits hasWord varsFrom varLine judgeVar programsFrom readProgram sheetLine judgeSheet insFrom insLine judgeIns decode weightBefore fresh call requestExit step read valueOf advance perform accessOf accessGate accessAnnouncement firstChoice beginHelp note writing simulate simulateFrom allocated effectOf fetch word withWord load store free forward withRegister withOutput skipped faulted position assign valueUnder insert altered unaltered nextWrite sameWords sameGate sameAnnouncement sameRecord swapGate swapAnnouncement swapRecord released current previous rewritten observe observeAll withFinishes latest latestCall turned sequential runFrom performedFrom performedAll operationAt wordsAfter chainFrom hand among without givenBack
+store-keeps = ((refl, (refl, tt)), (tt, (tt, (tt, tt))))
+
+pub foreign-breaks : InBoth text takeForeign
+unfolding opened readCard cardLine judgeCard four field number digits hasWord varsFrom varLine judgeVar programsFrom readProgram sheetLine judgeSheet insFrom insLine judgeIns decode weightBefore fresh call requestExit step read valueOf advance perform accessOf accessGate accessAnnouncement firstChoice beginHelp note writing simulate simulateFrom allocated effectOf fetch word withWord load store free forward withRegister withOutput skipped faulted position assign valueUnder insert altered unaltered nextWrite sameWords sameGate sameAnnouncement sameRecord swapGate swapAnnouncement swapRecord released current previous rewritten observe observeAll withFinishes latest latestCall turned sequential runFrom performedFrom performedAll operationAt wordsAfter chainFrom hand among without givenBack
+foreign-breaks = record { first = refl; second = refl }
+
+pub foreign-keeps : ChainWithoutRepeats (startWords card) × OnlyByCodes (startWords card) (performed card takeForeign)
+unfolding opened readCard cardLine judgeCard four field number digits hasWord varsFrom varLine judgeVar programsFrom readProgram sheetLine judgeSheet insFrom insLine judgeIns decode weightBefore fresh call requestExit step read valueOf advance perform accessOf accessGate accessAnnouncement firstChoice beginHelp note writing simulate simulateFrom allocated effectOf fetch word withWord load store free forward withRegister withOutput skipped faulted position assign valueUnder insert altered unaltered nextWrite sameWords sameGate sameAnnouncement sameRecord swapGate swapAnnouncement swapRecord released current previous rewritten observe observeAll withFinishes latest latestCall turned sequential runFrom performedFrom performedAll operationAt wordsAfter chainFrom hand among without givenBack
+foreign-keeps = ((refl, (refl, tt)), (tt, (tt, (tt, tt))))

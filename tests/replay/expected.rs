@@ -54,10 +54,10 @@ fn act(machine: &mut Machine, request: impl Fn(&mut Machine) -> Result<String, u
     format!("{told},{change}")
 }
 
-/// So many steps; those that run on are told together.
-fn steps(machine: &mut Machine, process: u32, count: u32) {
+/// So many steps, traced or not; those that run on are told together.
+fn steps(machine: &mut Machine, verb: &str, process: u32, count: u32) {
     let mut runs = 0;
-    let tell = |runs: u32| if runs > 0 { println!("{runs} x step,{process},run,changed") };
+    let tell = |runs: u32| if runs > 0 { println!("{runs} x {verb},{process},run,changed") };
     for _ in 0..count {
         let told = act(machine, |m| m.step(process).map(|stepped| answer(stepped.answer)));
         if told == "run,changed" {
@@ -65,7 +65,7 @@ fn steps(machine: &mut Machine, process: u32, count: u32) {
         } else {
             tell(runs);
             runs = 0;
-            println!("step,{process},{told}");
+            println!("{verb},{process},{told}");
         }
     }
     tell(runs);
@@ -81,7 +81,8 @@ fn play(machine: &mut Machine, entry: &str) {
         "c" => println!("call,{first},{}", act(machine, |m| m.call(first, x[1], [x[2], x[3], x[4], x[5]]).map(taken))),
         "w" => println!("wish,{first},{}", act(machine, |m| m.request_exit(first).map(taken))),
         "r" => println!("look,{first},{}", act(machine, |m| m.read(first).map(|value| value.to_string()))),
-        "s" => steps(machine, first, x[1]),
+        "s" => steps(machine, "step", first, x[1]),
+        "t" => steps(machine, "trace", first, x[1]),
         "p" => cells(machine, first as usize),
         _ => panic!("no such entry: {entry}"),
     }

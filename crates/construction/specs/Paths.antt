@@ -82,8 +82,8 @@ pub data Edge (i number : ℕ) : Label → Swap → Found → Bool → Label →
   -- P15: somebody holds the gate, so P16; else P22
   P14-P16 : {g : Gate} {wish : Bool} → g .holder ≢ Nobody → Edge i number Label.P14 Swap.None (Found.gate g) wish Label.P16
   P14-P22 : {g : Gate} {wish : Bool} → g .holder ≡ Nobody → Edge i number Label.P14 Swap.None (Found.gate g) wish Label.P22
-  -- P17: done or newer than the number, so P21; else P18 and Help (H1): its first access is H21 (H20), or it has none and P19 follows, as an
-  -- empty dictionary has nothing to write (H31)
+  -- P17: done or newer than the number, so P21; else P18 and Help (H1): its first access is H21 (H20), or it has none (a fault is one way, document
+  -- 02, order 6) and P19 follows, as an empty dictionary has nothing to write (H31)
   P16-P21 :
       {a : Announcement} {wish : Bool} → (a .flag ≡ Done) ⊎ (number < a .seq) →
       Edge i number Label.P16 Swap.None (Found.announcement a) wish Label.P21
@@ -95,7 +95,7 @@ pub data Edge (i number : ℕ) : Label → Swap → Found → Bool → Label →
       Edge i number Label.P16 Swap.None (Found.announcement a) wish Label.P19
   -- H22: newer than the number, so Help is left and P19 follows
   H21-P19-late : {r : Record} {wish : Bool} → number < r .seq → Edge i number Label.H21 Swap.None (Found.cell r) wish Label.P19
-  -- H23 to H30: else the next first touch (H20), or the first write (H31, H32), or none and P19
+  -- H23 to H30: else the next first touch (H20), or the first write (H31, H32), or none, as nothing is altered or the program faulted, and P19
   H21-H21 : {r : Record} {wish : Bool} → r .seq ≤ number → Edge i number Label.H21 Swap.None (Found.cell r) wish Label.H21
   H21-H36 : {r : Record} {wish : Bool} → r .seq ≤ number → Edge i number Label.H21 Swap.None (Found.cell r) wish Label.H36
   H21-P19 : {r : Record} {wish : Bool} → r .seq ≤ number → Edge i number Label.H21 Swap.None (Found.cell r) wish Label.P19
@@ -190,15 +190,15 @@ lastNumber [] = 0
 lastNumber (m ∷ ms) = cond (readsGate (m .report .label)) (numberIn (m .found) (lastNumber ms)) (lastNumber ms)
 
 -- 'the gate number it last read in that operation, this step included'
-abbrev pub Numbered : List Made → Type 0
-Numbered [] = Unit
-Numbered (m ∷ ms) = (m .report .number ≡ lastNumber (m ∷ ms)) × Numbered ms
+abbrev pub NumbersRead : List Made → Type 0
+NumbersRead [] = Unit
+NumbersRead (m ∷ ms) = (m .report .number ≡ lastNumber (m ∷ ms)) × NumbersRead ms
 
 -- the accesses of an operation follow the lines
 pub record Follows (i : ℕ) (ms : List Made) : Type 0 where
   pub path : Path i ms
   pub whole : Whole i ms
-  pub numbers : Numbered ms
+  pub numbers : NumbersRead ms
 
 -- THE ACCESSES OF AN OPERATION, by the run itself: those of the accepted steps of process i, asked by `step` or by `trace`, since its latest taken
 -- call, newest first.

@@ -26,14 +26,15 @@ operandOf t at Number.Malformed = record { value = 0; next = at }
 unfoldable pub operandAt : List ℕ → ℕ → Operand
 operandAt t at = operandOf t at (number t at)
 
--- `c` call, `w` exit request, `s` steps, `r` read, `p` the shared cells
+-- `c` call, `w` exit request, `s` steps, `t` traced steps, `r` read, `p` the shared cells
 unfoldable pub entryOf : ℕ → ℕ → ℕ → Words → Entry
 entryOf verb n m inputs =
     cond (eqb verb 99) (Entry.Requests (Request.Call n m inputs) 1)
     (cond (eqb verb 119) (Entry.Requests (Request.Exit n) 1)
     (cond (eqb verb 115) (Entry.Requests (Request.Step n) m)
+    (cond (eqb verb 116) (Entry.Requests (Request.Trace n) m)
     (cond (eqb verb 114) (Entry.Requests (Request.Read n) 1)
-    (cond (eqb verb 112) (Entry.Cells n) Entry.Nothing))))
+    (cond (eqb verb 112) (Entry.Cells n) Entry.Nothing)))))
 
 -- a verb with its numbers, zeros where there are fewer
 abbrev pub withOperands : List ℕ → ℕ → Operand → Entry

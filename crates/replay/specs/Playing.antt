@@ -8,6 +8,7 @@ use Rattle.construction.specs.declared.Answer.{Answer}
 use Rattle.construction.specs.declared.Answered.{Answered}
 use Rattle.construction.specs.Answers.{bytes, answerFields}
 use Rattle.construction.specs.Requests.{call, requestExit, step, read}
+use Rattle.construction.specs.Tracing.{trace, untold}
 use Rattle.report.specs.Same.{sameCard}
 use Rattle.replay.specs.declared.Request.{Request}
 use Rattle.replay.specs.declared.Entry.{Entry}
@@ -18,6 +19,7 @@ unfoldable pub asked : Card → Request → Answered
 asked c (Request.Call i k inputs) = call c i k inputs
 asked c (Request.Exit i) = requestExit c i
 asked c (Request.Step i) = step c i
+asked c (Request.Trace i) = untold (trace c i)
 asked c (Request.Read v) = read c v
 
 -- a request: its answer, the card after it, and whether that is the card before it in every part

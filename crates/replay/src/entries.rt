@@ -60,6 +60,13 @@ fn entry_of(verb: u8, number: u32, second: u32, inputs: Words) -> Entry
             times: second,
         };
     }
+    if verb == b't' {
+        let request = Request::Trace { process: number };
+        return Entry::Requests {
+            request,
+            times: second,
+        };
+    }
     if verb == b'r' {
         let request = Request::Read { variable: number };
         return Entry::Requests { request, times: 1 };

@@ -1,7 +1,7 @@
-// Plays schedules on cards through the public functions of the crates reader (`open`) and card (`call`, `request_exit`, `step`, `read`),
+// Plays schedules on cards through the public functions of the crates reader (`open`) and card (`call`, `request_exit`, `step`, `trace`, `read`),
 // and prints every answer and whether the card changed. Standard input holds card texts, each after a line that starts with `#`, and
 // below each the schedules that are played on it from its opening, in lines that start with `>`: a title, a colon and entries
-// (c call: process, program, inputs; w exit request: process; s steps: process, how many; r read: variable; p prints the shared cells and
+// (c call: process, program, inputs; w exit request: process; s steps: process, how many; t traced steps, in the same way; r read: variable; p prints the shared cells and
 // the record of a variable). The expected output is worked out by tests/replay/expected.rs, on the simulator of tests/simulator.
 // What is computed, compared and played equals its definition in specs/; what only prints gives nothing back.
 mod entries; // entries.rt: the entries of a schedule, read from its line
@@ -40,6 +40,9 @@ enum Request {
         process: u32,
     },
     Step {
+        process: u32,
+    },
+    Trace {
         process: u32,
     },
     Read {

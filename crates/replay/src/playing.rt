@@ -8,6 +8,7 @@ use crate::lines::find;
 use construction::Answer;
 use construction::Answered;
 use construction::Card;
+use construction::Traced;
 use construction::Verdict;
 use libc::STDOUT_FILENO;
 use report::same::same_card;
@@ -17,7 +18,17 @@ use report::show_refused_text;
 use report::show_runs;
 ghost use mathlib.Core.Path.{_≡_};
 ghost use lib.ListN.{length};
+ghost use Rattle.construction.specs.Tracing.{untold};
 ghost use Rattle.replay.specs.Playing.{asked, played, isRun, runsOn, counted, after, afterEntry, afterEntries};
+
+// A traced step without what is told of it.
+fn untold(traced: Traced) -> Answered
+    ensures { λ r. ⌜ r ≡ untold traced ⌝ }
+{
+    let card = traced.card;
+    let answer = traced.answer;
+    Answered { card, answer }
+}
 
 // The answer of the card to a request.
 fn ask(card: Card, request: Request) -> Answered
@@ -31,6 +42,7 @@ fn ask(card: Card, request: Request) -> Answered
         } => card::call(card, process, program, inputs),
         Request::Exit { process } => card::request_exit(card, process),
         Request::Step { process } => card::step(card, process),
+        Request::Trace { process } => untold(card::trace(card, process)),
         Request::Read { variable } => card::read(card, variable),
     }
 }
@@ -78,7 +90,10 @@ fn count(runs: u64, running: bool) -> u64
 
 fn tell_runs(request: Request, runs: u64) {
     if let Request::Step { process } = request {
-        show_runs(process, runs);
+        show_runs(b" x step,", process, runs);
+    }
+    if let Request::Trace { process } = request {
+        show_runs(b" x trace,", process, runs);
     }
 }
 
@@ -91,6 +106,7 @@ fn tell_answer(request: Request, answer: Answer, same: bool) {
         } => show_answer(b"call,", process, answer, same),
         Request::Exit { process } => show_answer(b"wish,", process, answer, same),
         Request::Step { process } => show_answer(b"step,", process, answer, same),
+        Request::Trace { process } => show_answer(b"trace,", process, answer, same),
         Request::Read { variable } => show_answer(b"look,", variable, answer, same),
     }
 }

@@ -61,10 +61,10 @@ pub fn show_answer(verb: &[u8], number: u32, answer: Answer, same: bool) {
 }
 
 // So many steps that ran on and changed the card.
-pub fn show_runs(process: u32, runs: u64) {
+pub fn show_runs(verb: &[u8], process: u32, runs: u64) {
     if 0 < runs {
         write_number(runs);
-        write_field(b" x step,", process as u64);
+        write_field(verb, process as u64);
         write(b",run,changed\n");
     }
 }

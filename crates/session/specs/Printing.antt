@@ -32,7 +32,7 @@ lineWith start f = start ++ (fieldsText f ++ (10 ∷ []))
 unfoldable pub lineText : ℕ → Command → Report → Answer → List ℕ
 lineText line m r a = lineWith (headText line m ++ reportText r) (answerFields a)
 
--- no line is longer: a verb, `done` and seven numbers of at most 20 digits with their separators
+-- no line is longer: a verb, the six fields of a report, `fault` and seven numbers of at most 20 digits with their separators
 abbrev pub longest : ℕ
 longest = 268
 

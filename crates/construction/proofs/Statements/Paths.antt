@@ -47,7 +47,7 @@ use Rattle.construction.specs.Requests.{isIdle, isBusy, invoked, exiting
 use Rattle.construction.specs.Tracing.{labelOf, reportOf, isRefused}
 use Rattle.construction.specs.Opening.{fresh, opened}
 use Rattle.construction.specs.History.{Entry, act, Steps, Observation, observe, observeAll, opening, run}
-use Rattle.construction.specs.Paths.{Found, foundIn, Made, made, Edge, Course, courseOf, End, Leads, Ends, Path, Whole, readsGate, numberIn, lastNumber, Numbered, Follows, noticed, accessesFrom, accesses}
+use Rattle.construction.specs.Paths.{Found, foundIn, Made, made, Edge, Course, courseOf, End, Leads, Ends, Path, Whole, readsGate, numberIn, lastNumber, NumbersRead, Follows, noticed, accessesFrom, accesses}
 use Rattle.construction.proofs.Basics.{on-test, cond-true, cond-false, true-or-false, and-true, and-false, clash, nobody-process, active-not-done, exit-not-done, active-not-exit, isDone-true, isDone-false, sameHolder-true, sameHolder-refl, true-false, getD-replicate-same}
 use Rattle.construction.proofs.Simulating.Simulations.{simulate-empty}
 use Rattle.construction.proofs.Invariant.World.{World}

@@ -17,7 +17,11 @@ returns-3 c = rw (c .before .before .request3 .given .1) ((c .step .ensures))
 
 returns-4 : tie.Need-returns-4
 unfolding asked
-returns-4 c = rw (c .before .before .request4 .given .1) ((c .read .ensures))
+returns-4 c = rw (c .before .before .before .request4 .given .1, ← c .before .trace .ensures) (c .untold .ensures)
+
+returns-5 : tie.Need-returns-5
+unfolding asked
+returns-5 c = rw (c .before .before .request5 .given .1) ((c .read .ensures))
 
 pub ask-spec : {M : Type 1} → statement M
 ask-spec =
@@ -31,7 +35,11 @@ ask-spec =
     (λ c κs. search needs)
     (λ c. search needs)
     (λ c κs. search needs)
+    (λ c κs. search needs)
+    (λ c. search needs)
+    (λ c κs. search needs)
     returns
     returns-2
     returns-3
-    returns-4)
+    returns-4
+    returns-5)

@@ -27,6 +27,7 @@ def judge_instruction(n, code, *operands):
     kinds = {2: (register, range(WORD), unused), 3: (register, range(n), unused), 4: (range(n), register, unused), 12: (unused,) * 3}
     kinds.update({code: (register, register, unused) for code in (1, 5, 6, 7, 8, 11)})
     kinds.update({code: (register, register, range(1, 32)) for code in (9, 10)})
+    kinds.update({code: (register, unused, unused) for code in (13, 14)})
     if code not in kinds:
         return 4
     if any(kind is not unused and x not in kind for kind, x in zip(kinds[code], operands)):
@@ -68,8 +69,10 @@ def judge(text):
         for _ in range(n):
             take(b"var", 1, unless(lambda v: v < WORD))
         for _ in range(card[2]):
-            for _ in range(take(b"sheet", 1, unless(lambda m: 1 <= m <= 32))[0]):
-                take(b"ins", 4, lambda *numbers: judge_instruction(n, *numbers))
+            length = take(b"sheet", 1, unless(lambda m: 1 <= m <= 32))[0]
+            codes = [take(b"ins", 4, lambda *numbers: judge_instruction(n, *numbers))[0] for _ in range(length)]
+            if sum(1 if code in (3, 4, 5, 6) else 2 if code in (13, 14) else 0 for code in codes) > 32:
+                raise Refused(14)
         number += 1
         if number <= len(lines) or rest:
             raise Refused(2)
@@ -146,9 +149,11 @@ def cases():
     for line, new in ((1, b"card,9,3,2,9"), (2, b"var,4294967296"), (3, b"var,4294967296"), (4, b"var,4294967296"), (5, b"sheet,33"), (7, b"sheet,0")):
         yield edited(three, line, new)
     # refusals 4, 12 and 13: every code with an operand out of range or not 0 where unused, and codes that are none
-    bad = [b"0,0,0,0", b"13,0,0,0", b"4294967297,0,0,0", b"1,4,0,0", b"1,0,4,0", b"1,0,0,1", b"2,4,0,0", b"2,0,4294967296,0", b"2,0,0,1", b"3,4,0,0", b"3,0,1,0", b"3,0,0,1", b"4,1,0,0", b"4,0,4,0", b"4,0,0,1"]
+    bad = [b"0,0,0,0", b"15,0,0,0", b"4294967297,0,0,0", b"1,4,0,0", b"1,0,4,0", b"1,0,0,1", b"2,4,0,0", b"2,0,4294967296,0", b"2,0,0,1", b"3,4,0,0", b"3,0,1,0", b"3,0,0,1", b"4,1,0,0", b"4,0,4,0", b"4,0,0,1"]
     for code in (5, 6, 7, 8, 11):
         bad += [b"%d,4,0,0" % code, b"%d,0,4,0" % code, b"%d,0,0,1" % code]
+    for code in (13, 14):
+        bad += [b"%d,4,0,0" % code, b"%d,0,1,0" % code, b"%d,0,0,1" % code, b"%d,3,0,0" % code]
     for code in (9, 10):
         bad += [b"%d,4,0,1" % code, b"%d,0,4,1" % code, b"%d,0,0,0" % code, b"%d,0,0,32" % code]
     bad += [b"12,1,0,0", b"12,0,1,0", b"12,0,0,1", b"1,256,0,0", b"3,0,256,0", b"9,0,0,257"]
@@ -157,13 +162,20 @@ def cases():
     for operands in bad:
         yield edited(k, 6, b"ins," + operands)
     for line in (4, count):
-        for operands in (b"13,0,0,0", b"1,4,0,7", b"1,0,0,7"):
+        for operands in (b"15,0,0,0", b"1,4,0,7", b"1,0,0,7"):
             yield edited(k, line, b"ins," + operands)
     # a lower refusal does not wait for a later line, and a later line is not judged before an earlier one
     yield edited(edited(k, 2, b"var,4294967296"), 3, b"sheet,x")
     yield edited(edited(k, 2, b"var,x"), 1, b"card,9,1,1,100")
-    yield edited(edited(k, 4, b"ins,1,0,0,7"), 5, b"ins,13,0,0,0")
-    yield edited(edited(k, 4, b"ins,1,4,0,0"), 5, b"ins,13,0,0,0")
+    yield edited(edited(k, 4, b"ins,1,0,0,7"), 5, b"ins,15,0,0,0")
+    yield edited(edited(k, 4, b"ins,1,4,0,0"), 5, b"ins,15,0,0,0")
+    # refusal 14 (document 02, order 9) at the last line of a program that counts more than 32, after 4, 12 and 13, before any later line
+    for heavy in (["13,0,0,0"] * 16, ["14,3,0,0"] * 8 + ["3,0,0,0"] * 16, ["13,0,0,0", "14,0,0,0"] * 8, ["4,0,0,0"] * 32):
+        for more in ([], ["12,0,0,0"], ["3,0,0,0"], ["13,0,0,0"], ["14,0,0,0", "12,0,0,0"], ["14,0,0,1"], ["15,0,0,0"], ["14,4,0,0"]):
+            if len(heavy + more) <= 32:
+                yield card(1, 1, 1, 9, ["7"], [heavy + more])
+                yield card(1, 1, 2, 9, ["7"], [["12,0,0,0"], heavy + more])
+                yield edited(card(1, 1, 2, 9, ["7"], [heavy + more, ["12,0,0,0"]]), 4 + len(heavy + more), b"sheet,x")
 
 
 def agreement(wanted, told, written):

@@ -1,5 +1,5 @@
 -- What the table says, by the numbers of its answers; and that it has the longest wait of every card that opens.
-use Prim.Native.Nat.{ℕ, _≤_, _<_}
+use Prim.Native.Nat.{ℕ, suc, _≤_, _<_}
 use mathlib.Core.Path.{_≡_, refl, sym, ap}
 use mathlib.Core.Logic.{_⊎_, inl, inr}
 use mathlib.Core.List.{List, [], _∷_}
@@ -11,9 +11,9 @@ use Rattle.construction.specs.declared.Program.{Program}
 use Rattle.construction.specs.Answers.{Fields, fields}
 use Rattle.construction.specs.Parts.{contentsOf}
 use Rattle.construction.specs.Opening.{fresh, readCard, opened}
-use Rattle.construction.specs.Weight.{heaviest, cardWeight}
+use Rattle.construction.specs.Instructions.{noProgram}
+use Rattle.construction.specs.Weight.{weight, heaviest, cardWeight}
 use Rattle.construction.specs.Waits.{longestWait, waitOf}
-use Rattle.construction.proofs.Simulating.Weights.{weight-places}
 use Rattle.construction.proofs.Text.Bounds.{opened-bounded}
 use Rattle.wait_table.specs.declared.Wait.{Wait}
 use Rattle.wait_table.specs.Table.{waitFor, waitFields}
@@ -56,11 +56,11 @@ wait-known (Wait.Steps m) Wait.Outside e = absurd (omega (arith, ap (λ (f : Fie
 wait-known Wait.Outside (Wait.Steps n) e = absurd (omega (arith, ap (λ (f : Fields). length (f .numbers)) e))
 wait-known Wait.Outside Wait.Outside e = refl
 
--- no program weighs more than 32, and so no card does
-heaviest-most : (l : List Program) → heaviest l ≤ 32
+-- where no program weighs more than 32 (document 02, order 9: refusal 14), no card does
+heaviest-most : (l : List Program) → ((k : ℕ) → weight (getD l k noProgram) ≤ 32) → heaviest l ≤ 32
 unfolding heaviest
-heaviest-most [] = omega arith
-heaviest-most (x ∷ l) = max-le (weight-places x 32) (heaviest-most l)
+heaviest-most [] h = omega arith
+heaviest-most (x ∷ l) h = max-le (h 0) (heaviest-most l (λ k. h (suc k)))
 
 -- every card that opens has its longest wait in the table
 pub wait-of-opened :
@@ -68,4 +68,4 @@ pub wait-of-opened :
     waitFor (opened t .card .processes) (cardWeight (contentsOf (opened t .card))) ≡ Wait.Steps (waitOf (contentsOf (opened t .card)))
 unfolding opened fresh
 wait-of-opened t some =
-    wait-there (readCard t .contents .processes) (cardWeight (readCard t .contents)) some (opened-bounded t .processes) (heaviest-most (readCard t .contents .code))
+    wait-there (readCard t .contents .processes) (cardWeight (readCard t .contents)) some (opened-bounded t .processes) (heaviest-most (readCard t .contents .code) (opened-bounded t .weights))

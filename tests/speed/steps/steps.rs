@@ -55,6 +55,15 @@ enum Instruction {
     SkipLess(u8, u8, u8),
     Output(u8, u8),
     Stop,
+    Allocate(u8),
+    Free(u8),
+}
+
+/// What an instruction waits for: a variable that is not noted, its end as a fault, or nothing, with the items that it touches.
+enum Touch {
+    Lacks(u8),
+    Fault,
+    Items(usize, usize),
 }
 
 #[derive(Clone, Copy, PartialEq)]
@@ -378,51 +387,71 @@ impl Process {
     /// The program runs until it ends, or ends as a fault, or the dictionary lacks a variable.
     fn simulate(&mut self, program: &[Instruction], variables: usize) {
         while let Some(&instruction) = program.get(self.counter as usize) {
-            let touched = self.touched(instruction);
-            if touched.is_some_and(|number| variables <= number as usize) {
-                self.outputs = [0; 4];
-                self.fault = true;
-                self.place = Place::P19;
-                self.target = 0;
-                return;
-            }
-            let place = touched.map(|number| (number as u8, self.find(number as u8)));
-            if let Some((variable, None)) = place {
-                self.place = Place::H21;
-                self.target = variable;
-                return;
-            }
-            if !self.execute(instruction, place.and_then(|(_, at)| at)) {
-                break;
+            match self.touched(instruction, variables) {
+                Touch::Fault => {
+                    self.outputs = [0; 4];
+                    self.fault = true;
+                    self.place = Place::P19;
+                    self.target = 0;
+                    return;
+                }
+                Touch::Lacks(variable) => {
+                    self.place = Place::H21;
+                    self.target = variable;
+                    return;
+                }
+                Touch::Items(first, second) => {
+                    if !self.execute(instruction, first, second) {
+                        break;
+                    }
+                }
             }
         }
         self.write_from(0);
     }
 
-    /// The number of the variable that an instruction reads or writes.
-    fn touched(&self, instruction: Instruction) -> Option<u32> {
+    /// The variables that an instruction reads or writes, in sequence; where it is one, twice the same.
+    fn touched(&self, instruction: Instruction, variables: usize) -> Touch {
         match instruction {
-            Instruction::Load(_, variable) | Instruction::Store(variable, _) => Some(variable as u32),
-            Instruction::LoadAt(_, address) | Instruction::StoreAt(address, _) => Some(self.registers[address as usize]),
-            _ => None,
+            Instruction::Load(_, variable) | Instruction::Store(variable, _) => {
+                self.items(variable as u32, variable as u32, variables)
+            }
+            Instruction::LoadAt(_, address) | Instruction::StoreAt(address, _) => {
+                let number = self.registers[address as usize];
+                self.items(number, number, variables)
+            }
+            Instruction::Allocate(_) => match self.find(0) {
+                None => Touch::Lacks(0),
+                Some(first) => self.items(0, self.items[first].value, variables),
+            },
+            Instruction::Free(a) => match self.registers[a as usize] {
+                0 => Touch::Fault,
+                number => self.items(0, number, variables),
+            },
+            _ => Touch::Items(0, 0),
+        }
+    }
+
+    fn items(&self, first: u32, second: u32, variables: usize) -> Touch {
+        if variables <= first.max(second) as usize {
+            return Touch::Fault;
+        }
+        match (self.find(first as u8), self.find(second as u8)) {
+            (None, _) => Touch::Lacks(first as u8),
+            (_, None) => Touch::Lacks(second as u8),
+            (Some(first), Some(second)) => Touch::Items(first, second),
         }
     }
 
     /// One instruction; false at a stop.
-    fn execute(&mut self, instruction: Instruction, place: Option<usize>) -> bool {
+    fn execute(&mut self, instruction: Instruction, first: usize, second: usize) -> bool {
         self.counter += 1;
         let r = &mut self.registers;
         match instruction {
             Instruction::Input(a, b) => r[a as usize] = self.copy.words[b as usize],
             Instruction::Constant(a, b) => r[a as usize] = b,
-            Instruction::Load(a, _) | Instruction::LoadAt(a, _) => {
-                r[a as usize] = place.map_or(0, |at| self.items[at].value)
-            }
-            Instruction::Store(_, b) | Instruction::StoreAt(_, b) => {
-                if let Some(at) = place {
-                    self.items[at].value = r[b as usize];
-                }
-            }
+            Instruction::Load(a, _) | Instruction::LoadAt(a, _) => r[a as usize] = self.items[first].value,
+            Instruction::Store(_, b) | Instruction::StoreAt(_, b) => self.items[first].value = r[b as usize],
             Instruction::Add(a, b) => r[a as usize] = r[a as usize].saturating_add(r[b as usize]),
             Instruction::Subtract(a, b) => r[a as usize] = r[a as usize].saturating_sub(r[b as usize]),
             Instruction::SkipEqual(a, b, c) if r[a as usize] == r[b as usize] => self.counter += c,
@@ -430,6 +459,16 @@ impl Process {
             Instruction::SkipEqual(..) | Instruction::SkipLess(..) => (),
             Instruction::Output(a, b) => self.outputs[a as usize] = r[b as usize],
             Instruction::Stop => return false,
+            // without a free cell, variable 0 is its own: it is 0 and stays so
+            Instruction::Allocate(a) => {
+                r[a as usize] = self.items[first].value;
+                self.items[first].value = self.items[second].value;
+                self.items[second].value = 0;
+            }
+            Instruction::Free(a) => {
+                self.items[second].value = self.items[first].value;
+                self.items[first].value = r[a as usize];
+            }
         }
         true
     }

@@ -1,5 +1,5 @@
 #!/bin/sh
-# Compares a bench program with the simulator on 2,000 generated cases, and prints the largest waits that schedules come to beside the longest wait.
+# Tests the simulator itself, compares a bench program with it on 2,000 generated cases, and looks for waits past the longest.
 # usage: run.sh PROGRAM
 set -eu
 if [ $# -ne 1 ]; then
@@ -14,5 +14,6 @@ here=$(cd "$(dirname "$0")" && pwd)
 build=$(mktemp -d)
 trap 'rm -rf "$build"' EXIT
 rustc --edition 2021 -O -o "$build/simulator" "$here/main.rs"
+"$build/simulator" selftest
 "$build/simulator" compare "$1" 1 2000
 "$build/simulator" waits

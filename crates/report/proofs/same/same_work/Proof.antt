@@ -1,3 +1,4 @@
+use mathlib.Core.Path.{_∙_}
 use Rattle.report.specs.Same.{sameWork}
 use borrow.Author.Needs.{needs}
 use Rattle.report.proofs.same.same_work.Statement.{statement}
@@ -5,7 +6,9 @@ use Rattle.report.proofs.same.same_work.Tie as tie
 
 returns : tie.Need-returns
 unfolding sameWork
-returns c = cc
+returns c =
+    c .both4 .ensures
+    ∙ rw (c .before .both3 .ensures, c .before .before .both2 .ensures, c .before .before .before .both .ensures, c .before .before .before .before .same-number2 .ensures, c .before .before .before .before .before .before .before .same-number .ensures, c .before .before .before .before .before .before .before .before .before .before .same-bool .ensures, c .before .before .before .before .before .before .before .before .before .before .before .before .before .same-operation .ensures, c .before .before .before .before .before .before .before .before .before .before .before .before .before .before .before .before .same-task .ensures)
 
 pub same-work-spec : {M : Type 1} → statement M
 same-work-spec =

@@ -16,16 +16,16 @@ loop-holds : tie.Need-loop-holds Inv-loop μ-loop
 loop-holds c = laws.going _ _ _ (omega arith)
 
 same-length : tie.Need-same-length Inv-loop μ-loop
-same-length c = laws.stopped-length (c .before .before .before .before .before .before .before .before .before .before .loop .inv) (c .before .before .before .before .before .before .before .before .if1 .taken) (c .before .before .before .before .before .before .before .command-at .ensures) (c .before .before .before .before .before .execute .ensures) (c .before .before .before .put-line .ensures)
+same-length c = laws.stopped-length (c .before .before .before .before .before .before .before .before .before .before .before .loop .inv) (c .before .before .before .before .before .before .before .before .before .if1 .taken) (c .before .before .before .before .before .before .before .before .command-at .ensures) (c .before .before .before .before .before .before .execute .ensures) (c .before .before .before .put-line .ensures)
 
 returns : tie.Need-returns Inv-loop μ-loop
-returns c = laws.stopped (c .before .before .before .before .before .before .before .before .before .before .loop .inv) (c .before .before .before .before .before .before .before .before .if1 .taken) (c .before .before .before .before .before .before .before .command-at .ensures) (c .before .before .before .before .before .execute .ensures) (c .before .before .before .put-line .ensures) (c .if2 .taken)
+returns c = laws.stopped (c .before .before .before .before .before .before .before .before .before .before .before .loop .inv) (c .before .before .before .before .before .before .before .before .before .if1 .taken) (c .before .before .before .before .before .before .before .before .command-at .ensures) (c .before .before .before .before .before .before .execute .ensures) (c .before .before .before .put-line .ensures) (c .if2 .taken)
 
 loop-less : tie.Need-loop-less Inv-loop μ-loop
-loop-less c = laws.less (c .before .before .before .before .before .before .before .before .before .before .before .before .loop .inv) (c .before .before .before .before .before .before .before .before .before .before .if1 .taken) (c .before .before .before .before .before .before .before .before .before .command-at .ensures) (c .before .before .before .before .before .before .before .execute .ensures) (c .before .before .before .before .before .put-line .ensures)
+loop-less c = laws.less (c .before .before .before .before .before .before .before .before .before .before .before .before .before .loop .inv) (c .before .before .before .before .before .before .before .before .before .before .before .if1 .taken) (c .before .before .before .before .before .before .before .before .before .before .command-at .ensures) (c .before .before .before .before .before .before .before .before .execute .ensures) (c .before .before .before .before .before .put-line .ensures)
 
 loop-again : tie.Need-loop-again Inv-loop μ-loop
-loop-again c = laws.again (c .before .before .before .before .before .before .before .before .before .before .before .before .loop .inv) (c .before .before .before .before .before .before .before .before .before .before .if1 .taken) (c .before .before .before .before .before .before .before .before .before .command-at .ensures) (c .before .before .before .before .before .before .before .execute .ensures) (c .before .before .before .before .before .put-line .ensures) (c .next-line .ensures) (c .before .before .if2 .left)
+loop-again c = laws.again (c .before .before .before .before .before .before .before .before .before .before .before .before .before .loop .inv) (c .before .before .before .before .before .before .before .before .before .before .before .if1 .taken) (c .before .before .before .before .before .before .before .before .before .before .command-at .ensures) (c .before .before .before .before .before .before .before .before .execute .ensures) (c .before .before .before .before .before .put-line .ensures) (c .next-line .ensures) (c .before .before .if2 .left)
 
 same-length-2 : tie.Need-same-length-2 Inv-loop μ-loop
 same-length-2 c = laws.same (c .before .before .loop .inv)

@@ -6,8 +6,7 @@ use native.Mathlib.Omega.{arith}
 use borrow.Author.Tests.{ne-eqb}
 use Rattle.grammar.specs.Writing.{decimal, largest, Put}
 use Rattle.grammar.proofs.Puts.{Room, rest-all, rest-step, rest-last, put-both}
-use Rattle.construction.specs.declared.Label.{Label}
-use Rattle.construction.specs.declared.Report.{Report}
+use Rattle.construction.specs.declared.{Label.Label, Report.Report}
 use Rattle.construction.specs.Answers.{numbersText}
 use Rattle.construction.specs.Reports.{letterOf, lineNumber, labelText, cellText, swapByte, reportText}
 use Rattle.answers.proofs.Texts.{PutWithin, put-short, put-word-number}

@@ -10,11 +10,7 @@ use borrow.Author.Tests.{ltb-true, ltb-false}
 use Rattle.grammar.specs.Writing.{decimal, largest, Put}
 use Rattle.grammar.proofs.Decimals.{decimal-one, decimal-more}
 use Rattle.grammar.proofs.Puts.{Room, rest-all, rest-step, rest-last, put-both}
-use Rattle.construction.specs.declared.Words.{Words}
-use Rattle.construction.specs.declared.Yield.{Yield}
-use Rattle.construction.specs.declared.Answer.{Answer}
-use Rattle.construction.specs.declared.Verdict.{Verdict}
-use Rattle.construction.specs.declared.Refusal.{Refusal}
+use Rattle.construction.specs.declared.{Words.Words, Yield.Yield, Refusal.Refusal, Answer.Answer, Verdict.Verdict}
 use Rattle.construction.specs.Answers.{bytes, numberOf, refusedWith, wordText, doneWord, outputNumbers, answerFields, verdictFields, numbersText, fieldsText}
 
 -- ---- how long a number is: below `tens k` it has at most k + 1 digits

@@ -9,28 +9,8 @@ use native.Mathlib.Nat.{mod-eq-of-lt}
 use lib.ListN.{length, getD, set}
 use lib.Seq.{set-getD, getD-set-same}
 use Rattle.opening.proofs.Laws.{inside}
-use Rattle.construction.specs.declared.Gate.{Gate}
-use Rattle.construction.specs.declared.Announcement.{Announcement}
-use Rattle.construction.specs.declared.Record.{Record}
-use Rattle.construction.specs.declared.Task.{Task}
-use Rattle.construction.specs.declared.Operation.{Operation}
-use Rattle.construction.specs.declared.Program.{Program}
-use Rattle.construction.specs.declared.Simulation.{Simulation}
-use Rattle.construction.specs.declared.Dictionary.{Dictionary}
-use Rattle.construction.specs.declared.Words.{Words}
+use Rattle.construction.specs.declared.{Gate.Gate, Words.Words, Announcement.Announcement, Record.Record, Program.Program, Dictionary.Dictionary, Simulation.Simulation, GateAccess.GateAccess, AnnouncementAccess.AnnouncementAccess, Access.Access, Task.Task, GateAccessed.GateAccessed, AnnouncementAccessed.AnnouncementAccessed, Began.Began, Helped.Helped, Writing.Writing, Operation.Operation, Card.Card, Answer.Answer, Answered.Answered, SwappedRecord.SwappedRecord}
 use Rattle.construction.specs.declared.Place.the-variants.{P1}
-use Rattle.construction.specs.declared.Card.{Card}
-use Rattle.construction.specs.declared.Answer.{Answer}
-use Rattle.construction.specs.declared.Answered.{Answered}
-use Rattle.construction.specs.declared.Access.{Access}
-use Rattle.construction.specs.declared.GateAccess.{GateAccess}
-use Rattle.construction.specs.declared.AnnouncementAccess.{AnnouncementAccess}
-use Rattle.construction.specs.declared.GateAccessed.{GateAccessed}
-use Rattle.construction.specs.declared.AnnouncementAccessed.{AnnouncementAccessed}
-use Rattle.construction.specs.declared.Began.{Began}
-use Rattle.construction.specs.declared.Helped.{Helped}
-use Rattle.construction.specs.declared.Writing.{Writing}
-use Rattle.construction.specs.declared.SwappedRecord.{SwappedRecord}
 use Rattle.construction.specs.Cells.{openAnnouncement, openRecord}
 use Rattle.construction.specs.Instructions.{started, noProgram}
 use Rattle.construction.specs.Dictionary.{empty}

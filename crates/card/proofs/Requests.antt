@@ -7,15 +7,8 @@ use native.Mathlib.Omega.{arith}
 use lib.Dec.{ltb}
 use lib.ListN.{length, getD}
 use borrow.Author.Tests.{ltb-true, not-false}
-use Rattle.construction.specs.declared.Words.{Words}
-use Rattle.construction.specs.declared.Holder.{Holder}
+use Rattle.construction.specs.declared.{Holder.Holder, Words.Words, Announcement.Announcement, Task.Task, Card.Card, Refusal.Refusal, Answer.Answer, Answered.Answered}
 use Rattle.construction.specs.declared.Holder.the-variants.{Nobody, Process}
-use Rattle.construction.specs.declared.Announcement.{Announcement}
-use Rattle.construction.specs.declared.Task.{Task}
-use Rattle.construction.specs.declared.Card.{Card}
-use Rattle.construction.specs.declared.Answer.{Answer}
-use Rattle.construction.specs.declared.Answered.{Answered}
-use Rattle.construction.specs.declared.Refusal.{Refusal}
 use Rattle.construction.specs.declared.Refusal.the-variants.{NoProcess, NoProgram, Busy, NotBusy, NoPlace, LimitReached}
 use Rattle.construction.specs.Cells.{openAnnouncement}
 use Rattle.construction.specs.Parts.{idleTask, announcementAt, recordAt, localAt, withLocal}

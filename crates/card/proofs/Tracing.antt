@@ -8,21 +8,8 @@ use native.Mathlib.Omega.{arith}
 use lib.Dec.{ltb}
 use lib.ListN.{getD}
 use Rattle.opening.proofs.Laws.{inside}
-use Rattle.construction.specs.declared.Access.{Access}
-use Rattle.construction.specs.declared.Announcement.{Announcement}
-use Rattle.construction.specs.declared.Answered.{Answered}
-use Rattle.construction.specs.declared.Card.{Card}
-use Rattle.construction.specs.declared.Cell.{Cell}
-use Rattle.construction.specs.declared.Contents.{Contents}
-use Rattle.construction.specs.declared.Dictionary.{Dictionary}
-use Rattle.construction.specs.declared.Label.{Label}
-use Rattle.construction.specs.declared.Record.{Record}
-use Rattle.construction.specs.declared.Refusal.{Refusal}
+use Rattle.construction.specs.declared.{Announcement.Announcement, Record.Record, Dictionary.Dictionary, Access.Access, Cell.Cell, Swap.Swap, Writing.Writing, Card.Card, Refusal.Refusal, Answered.Answered, Label.Label, Report.Report, Traced.Traced, Contents.Contents}
 use Rattle.construction.specs.declared.Refusal.the-variants.{NoProcess, NotBusy, LimitReached}
-use Rattle.construction.specs.declared.Report.{Report}
-use Rattle.construction.specs.declared.Swap.{Swap}
-use Rattle.construction.specs.declared.Traced.{Traced}
-use Rattle.construction.specs.declared.Writing.{Writing}
 use Rattle.construction.specs.Cells.{openAnnouncement, openRecord}
 use Rattle.construction.specs.Dictionary.{empty}
 use Rattle.construction.specs.Parts.{noGate, contentsOf, announcementAt, recordAt, Local, localAt}

@@ -2,10 +2,7 @@
 use Prim.Native.Nat.{ℕ}
 use mathlib.Core.Bool.{Bool, true, false, cond, not, _&&_}
 use lib.Dec.{ltb}
-use Rattle.construction.specs.declared.Announcement.{Announcement}
-use Rattle.construction.specs.declared.Place.{Place}
-use Rattle.construction.specs.declared.Answer.{Answer}
-use Rattle.construction.specs.declared.Refusal.{Refusal}
+use Rattle.construction.specs.declared.{Announcement.Announcement, Place.Place, Refusal.Refusal, Answer.Answer}
 use Rattle.construction.specs.declared.Refusal.the-variants.{NoProcess, NoProgram, Busy, NotBusy, LimitReached}
 use Rattle.construction.specs.Requests.{isIdle, returned}
 

@@ -2,10 +2,7 @@
 use Prim.Native.Nat.{ℕ}
 use mathlib.Core.Bool.{Bool, false, cond, not, _&&_}
 use lib.Dec.{eqb}
-use Rattle.construction.specs.declared.Announcement.{Announcement}
-use Rattle.construction.specs.declared.Gate.{Gate}
-use Rattle.construction.specs.declared.Record.{Record}
-use Rattle.construction.specs.declared.Holder.{Holder}
+use Rattle.construction.specs.declared.{Holder.Holder, Gate.Gate, Announcement.Announcement, Record.Record}
 use Rattle.construction.specs.declared.Holder.the-variants.{Nobody, Process}
 use Rattle.construction.specs.Cells.{isDone, current, previous}
 

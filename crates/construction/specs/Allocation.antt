@@ -5,12 +5,7 @@ use mathlib.Core.Bool.{Bool, true, false, cond, not, _&&_}
 use mathlib.Core.List.{List, [], _∷_, _++_}
 use lib.Dec.{eqb, ltb}
 use lib.ListN.{length, getD, set, take, drop}
-use Rattle.construction.specs.declared.Words.{Words}
-use Rattle.construction.specs.declared.Program.{Program}
-use Rattle.construction.specs.declared.Effect.{Effect}
-use Rattle.construction.specs.declared.Simulation.{Simulation}
-use Rattle.construction.specs.declared.Card.{Card}
-use Rattle.construction.specs.declared.Answer.{Answer}
+use Rattle.construction.specs.Types.{Words, Program, Effect, Simulation, Card, Answer}
 use Rattle.construction.specs.Cells.{zeros}
 use Rattle.construction.specs.Instructions.{isCell, nextEffect, started}
 use Rattle.construction.specs.Effects.{onExecuted}

@@ -7,21 +7,7 @@ use mathlib.Core.Path.{_≡_}
 use mathlib.Core.Bool.{Bool, true, false}
 use mathlib.Core.List.{List, [], _∷_, _++_}
 use Rattle.grammar.specs.Writing.{decimal}
-use Rattle.construction.specs.declared.Words.{Words}
-use Rattle.construction.specs.declared.Card.{Card}
-use Rattle.construction.specs.declared.Answer.{Answer}
-use Rattle.construction.specs.declared.Answered.{Answered}
-use Rattle.construction.specs.declared.RowSwap.{RowSwap}
-use Rattle.construction.specs.declared.Verdict.{Verdict}
-use Rattle.construction.specs.declared.Written.{Written}
-use Rattle.construction.specs.declared.CardLine.{CardLine}
-use Rattle.construction.specs.declared.VarLine.{VarLine}
-use Rattle.construction.specs.declared.SheetLine.{SheetLine}
-use Rattle.construction.specs.declared.InsLine.{InsLine}
-use Rattle.construction.specs.declared.Decoded.{Decoded}
-use Rattle.construction.specs.declared.Encoded.{Encoded}
-use Rattle.construction.specs.declared.Refusal.{Refusal}
-use Rattle.construction.specs.declared.Refusal.the-variants.{TooLong, Malformed, OutOfRange, UnknownCode, NoProcess, NoProgram, Busy, NotBusy, NoPlace, LimitReached, ShortBuffer, OperandOutOfRange, UnusedOperand, TooHeavy}
+use Rattle.construction.specs.Types.{Words, Decoded, Encoded, Card, Refusal, TooLong, Malformed, OutOfRange, UnknownCode, NoProcess, NoProgram, Busy, NotBusy, NoPlace, LimitReached, ShortBuffer, OperandOutOfRange, UnusedOperand, TooHeavy, Answer, Answered, RowSwap, CardLine, VarLine, SheetLine, InsLine, Verdict, Written}
 use Rattle.construction.specs.Instructions.{encode}
 
 -- the bytes of a text

@@ -2,18 +2,7 @@
 use Prim.Native.Nat.{ℕ, _+_, _%_}
 use mathlib.Core.Bool.{Bool, true, false, cond, not, _&&_}
 use lib.Dec.{eqb}
-use Rattle.construction.specs.declared.Holder.{Holder}
-use Rattle.construction.specs.declared.Holder.the-variants.{Nobody, Process}
-use Rattle.construction.specs.declared.Flag.{Flag}
-use Rattle.construction.specs.declared.Flag.the-variants.{Done, Active, Exit}
-use Rattle.construction.specs.declared.Words.{Words}
-use Rattle.construction.specs.declared.Yield.{Yield}
-use Rattle.construction.specs.declared.Gate.{Gate}
-use Rattle.construction.specs.declared.Announcement.{Announcement}
-use Rattle.construction.specs.declared.Record.{Record}
-use Rattle.construction.specs.declared.SwappedGate.{SwappedGate}
-use Rattle.construction.specs.declared.SwappedAnnouncement.{SwappedAnnouncement}
-use Rattle.construction.specs.declared.SwappedRecord.{SwappedRecord}
+use Rattle.construction.specs.Types.{Holder, Nobody, Process, Gate, Flag, Done, Active, Exit, Words, Yield, Announcement, Record, SwappedGate, SwappedAnnouncement, SwappedRecord}
 
 -- four zeros
 abbrev pub zeros : Words

@@ -4,9 +4,7 @@ use mathlib.Core.Bool.{Bool, cond, not, _&&_}
 use mathlib.Core.List.{List, [], _∷_}
 use lib.Dec.{eqb, ltb}
 use lib.ListN.{length, getD, set, take, drop, replicate}
-use Rattle.construction.specs.declared.Record.{Record}
-use Rattle.construction.specs.declared.Item.{Item}
-use Rattle.construction.specs.declared.Dictionary.{Dictionary}
+use Rattle.construction.specs.Types.{Record, Item, Dictionary}
 use Rattle.construction.specs.Cells.{openRecord, current, previous}
 
 abbrev pub noItem : Item

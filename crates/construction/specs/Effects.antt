@@ -3,8 +3,7 @@ use Prim.Native.Nat.{ℕ}
 use mathlib.Core.Bool.{cond}
 use mathlib.Core.List.{List, [], _∷_}
 use lib.Dec.{eqb}
-use Rattle.construction.specs.declared.Effect.{Effect}
-use Rattle.construction.specs.declared.Simulation.{Simulation}
+use Rattle.construction.specs.Types.{Effect, Simulation}
 use Rattle.construction.specs.Instructions.{isCell, withRegister, withOutput, skipped}
 
 -- a variable and the value that it takes

@@ -7,21 +7,7 @@ use mathlib.Core.Path.{_≡_}
 use mathlib.Core.Bool.{true, false}
 use mathlib.Core.List.{List, [], _∷_, _++_}
 use lib.ListN.{take, getD, replicate}
-use Rattle.construction.specs.declared.Words.{Words}
-use Rattle.construction.specs.declared.Gate.{Gate}
-use Rattle.construction.specs.declared.Announcement.{Announcement}
-use Rattle.construction.specs.declared.Record.{Record}
-use Rattle.construction.specs.declared.Card.{Card}
-use Rattle.construction.specs.declared.Answer.{Answer}
-use Rattle.construction.specs.declared.Flag.{Flag}
-use Rattle.construction.specs.declared.Flag.the-variants.{Done, Active, Exit}
-use Rattle.construction.specs.declared.Holder.the-variants.{Nobody, Process}
-use Rattle.construction.specs.declared.Cell.{Cell}
-use Rattle.construction.specs.declared.Swap.{Swap}
-use Rattle.construction.specs.declared.Label.{Label}
-use Rattle.construction.specs.declared.Report.{Report}
-use Rattle.construction.specs.declared.Refusal.{Refusal}
-use Rattle.construction.specs.declared.Refusal.the-variants.{NotBusy, LimitReached}
+use Rattle.construction.specs.Types.{Nobody, Process, Gate, Flag, Done, Active, Exit, Words, Announcement, Record, Cell, Swap, Card, Refusal, NotBusy, LimitReached, Answer, Label, Report}
 use Rattle.construction.specs.Cells.{zeros, faultYield, openRecord}
 use Rattle.construction.specs.Answers.{bytes, Fields, fields, refusedWith, verdictFields, writtenFields, cardLineFields, varLineFields, sheetLineFields, insLineFields, Refuses}
 use Rattle.grammar.specs.Writing.{decimal}

@@ -4,13 +4,7 @@ use Prim.Native.Nat.{ℕ, _≤_, _<_}
 use mathlib.Core.Path.{_≡_}
 use mathlib.Core.Bool.{true, false}
 use mathlib.Core.List.{List}
-use Rattle.construction.specs.declared.Words.{Words}
-use Rattle.construction.specs.declared.Instruction.{Instruction}
-use Rattle.construction.specs.declared.Program.{Program}
-use Rattle.construction.specs.declared.Effect.{Effect}
-use Rattle.construction.specs.declared.Card.{Card}
-use Rattle.construction.specs.declared.Flag.the-variants.{Done}
-use Rattle.construction.specs.declared.Place.the-variants.{H21}
+use Rattle.construction.specs.Types.{Done, Words, Instruction, Program, Effect, H21, Card}
 use Rattle.construction.specs.Cells.{zeros, faultYield}
 use Rattle.construction.specs.Instructions.{word, effectOf}
 use Rattle.construction.specs.Sequential.{sequential}

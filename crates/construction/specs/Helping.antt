@@ -2,12 +2,7 @@
 use Prim.Native.Nat.{ℕ, zero, suc}
 use mathlib.Core.Bool.{cond}
 use mathlib.Core.List.{List, [], _∷_}
-use Rattle.construction.specs.declared.Words.{Words}
-use Rattle.construction.specs.declared.Program.{Program}
-use Rattle.construction.specs.declared.Dictionary.{Dictionary}
-use Rattle.construction.specs.declared.Simulation.{Simulation}
-use Rattle.construction.specs.declared.Simulated.{Simulated}
-use Rattle.construction.specs.declared.Pause.the-variants.{Ended, Faulted, Lacks}
+use Rattle.construction.specs.Types.{Words, Program, Dictionary, Simulation, Ended, Faulted, Lacks, Simulated}
 use Rattle.construction.specs.Instructions.{nextEffect, faulted}
 use Rattle.construction.specs.Effects.{Store, touched, execute, onExecuted}
 use Rattle.construction.specs.Dictionary.{find, has, valueAt, assign}

@@ -4,19 +4,7 @@ use mathlib.Core.Bool.{Bool, true, cond, not, _&&_}
 use mathlib.Core.List.{List, [], _∷_}
 use lib.Dec.{eqb, leb, ltb}
 use lib.ListN.{getD, replicate}
-use Rattle.construction.specs.declared.Words.{Words}
-use Rattle.construction.specs.declared.Instruction.{Instruction}
-use Rattle.construction.specs.declared.Line.{Line}
-use Rattle.construction.specs.declared.Program.{Program}
-use Rattle.construction.specs.declared.Effect.{Effect}
-use Rattle.construction.specs.declared.Simulation.{Simulation}
-use Rattle.construction.specs.declared.OperandKind.{OperandKind}
-use Rattle.construction.specs.declared.OperandKind.the-variants.{Unused, Register, Word, Variable, Skip}
-use Rattle.construction.specs.declared.Format.{Format}
-use Rattle.construction.specs.declared.Format.the-variants.{Unknown, Known}
-use Rattle.construction.specs.declared.Decoded.{Decoded}
-use Rattle.construction.specs.declared.Encoded.{Encoded}
-use Rattle.construction.specs.declared.Refusal.the-variants.{UnknownCode, OperandOutOfRange, UnusedOperand}
+use Rattle.construction.specs.Types.{Words, Instruction, OperandKind, Unused, Register, Word, Variable, Skip, Format, Unknown, Known, Decoded, Encoded, Line, Program, Effect, Simulation, UnknownCode, OperandOutOfRange, UnusedOperand}
 use Rattle.construction.specs.Cells.{zeros, noYield, faultYield}
 
 -- word k of four

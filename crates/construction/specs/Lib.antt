@@ -1,3 +1,4 @@
+pub mod Types
 pub mod Cells
 pub mod Instructions
 pub mod Effects

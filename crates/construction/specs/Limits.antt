@@ -3,9 +3,7 @@ use Prim.Native.Nat.{ℕ, _≤_, _<_}
 use mathlib.Core.Path.{_≡_}
 use mathlib.Core.List.{List}
 use lib.ListN.{length, getD}
-use Rattle.construction.specs.declared.Item.{Item}
-use Rattle.construction.specs.declared.Card.{Card}
-use Rattle.construction.specs.declared.Place.the-variants.{H21, H36}
+use Rattle.construction.specs.Types.{Item, H21, H36, Card}
 use Rattle.construction.specs.Weight.{weight}
 use Rattle.construction.specs.Dictionary.{noItem, noted}
 use Rattle.construction.specs.Parts.{contentsOf, announcementAt, recordAt, programOf, localAt}

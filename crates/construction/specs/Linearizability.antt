@@ -7,9 +7,7 @@ use mathlib.Core.Logic.{_⊎_}
 use mathlib.Core.List.{List, [], _∷_, _++_}
 use lib.ListN.{length, getD}
 use lib.Dec.{eqb}
-use Rattle.construction.specs.declared.Words.{Words}
-use Rattle.construction.specs.declared.Card.{Card}
-use Rattle.construction.specs.declared.Answer.{Answer}
+use Rattle.construction.specs.Types.{Words, Card, Answer}
 use Rattle.construction.specs.Cells.{noYield}
 use Rattle.construction.specs.Requests.{read}
 use Rattle.construction.specs.History.{Entry, act, Steps, Finish, Return, Response, History, hasCalled, latest, finishing, Observation, run}

@@ -3,39 +3,7 @@ use Prim.Native.Nat.{ℕ, suc, _+_, _%_}
 use mathlib.Core.Bool.{Bool, true, false, cond, not, _&&_}
 use lib.Dec.{leb, ltb}
 use lib.ListN.{length, getD}
-use Rattle.construction.specs.declared.Gate.{Gate}
-use Rattle.construction.specs.declared.Announcement.{Announcement}
-use Rattle.construction.specs.declared.Task.{Task}
-use Rattle.construction.specs.declared.Operation.{Operation}
-use Rattle.construction.specs.declared.Item.{Item}
-use Rattle.construction.specs.declared.Dictionary.{Dictionary}
-use Rattle.construction.specs.declared.Simulation.{Simulation}
-use Rattle.construction.specs.declared.Simulated.{Simulated}
-use Rattle.construction.specs.declared.Card.{Card}
-use Rattle.construction.specs.declared.Holder.{Holder}
-use Rattle.construction.specs.declared.Holder.the-variants.{Nobody, Process}
-use Rattle.construction.specs.declared.Flag.{Flag}
-use Rattle.construction.specs.declared.Flag.the-variants.{Done, Active, Exit}
-use Rattle.construction.specs.declared.Pause.{Pause}
-use Rattle.construction.specs.declared.Pause.the-variants.{Ended, Faulted, Lacks}
-use Rattle.construction.specs.declared.Place.{Place}
-use Rattle.construction.specs.declared.Place.the-variants.{Idle, P1, P3, P5, P7, P10, C2, C4, P13, P14, P16, H21, H36, P19, P20, P21, P22, F1, F3}
-use Rattle.construction.specs.declared.Access.{Access}
-use Rattle.construction.specs.declared.GateAccess.{GateAccess}
-use Rattle.construction.specs.declared.AnnouncementAccess.{AnnouncementAccess}
-use Rattle.construction.specs.declared.Cell.{Cell}
-use Rattle.construction.specs.declared.Swap.{Swap}
-use Rattle.construction.specs.declared.GateAccessed.{GateAccessed}
-use Rattle.construction.specs.declared.AnnouncementAccessed.{AnnouncementAccessed}
-use Rattle.construction.specs.declared.Began.{Began}
-use Rattle.construction.specs.declared.Helped.{Helped}
-use Rattle.construction.specs.declared.Writing.{Writing}
-use Rattle.construction.specs.declared.Words.{Words}
-use Rattle.construction.specs.declared.Yield.{Yield}
-use Rattle.construction.specs.declared.Record.{Record}
-use Rattle.construction.specs.declared.Program.{Program}
-use Rattle.construction.specs.declared.SwappedRecord.{SwappedRecord}
-use Rattle.construction.specs.declared.Contents.{Contents}
+use Rattle.construction.specs.Types.{Holder, Nobody, Process, Gate, Flag, Done, Active, Exit, Words, Yield, Announcement, Record, Program, Item, Dictionary, Simulation, Pause, Ended, Faulted, Lacks, Simulated, Place, Idle, P1, P3, P5, P7, P10, C2, C4, P13, P14, P16, H21, H36, P19, P20, P21, P22, F1, F3, GateAccess, AnnouncementAccess, Access, Cell, Swap, Task, GateAccessed, AnnouncementAccessed, Began, Helped, Writing, Operation, Card, SwappedRecord, Contents}
 use Rattle.construction.specs.Cells.{isDone, sameHolder, swapGate, swapAnnouncement, swapRecord, released, rewritten}
 use Rattle.construction.specs.Instructions.{started}
 use Rattle.construction.specs.Dictionary.{noItem, empty, noted, itemOf, insert, nextWrite}

@@ -5,7 +5,7 @@ use mathlib.Core.Bool.{true, false, cond}
 use lib.Dec.{ltb}
 use lib.Bits.{bitOr}
 use lib.Count.{ones}
-use Rattle.construction.specs.declared.Dictionary.{Dictionary}
+use Rattle.construction.specs.Types.{Dictionary}
 use Rattle.construction.specs.Dictionary.{has}
 
 -- one variable more: `mask | 1 << v`; a word has no bit for a variable past 63

@@ -7,7 +7,7 @@ use mathlib.Core.Logic.{_≢_}
 use mathlib.Core.List.{List, [], _∷_}
 use lib.ListN.{length}
 use lib.Dec.{eqb}
-use Rattle.construction.specs.declared.Flag.the-variants.{Done}
+use Rattle.construction.specs.Types.{Done}
 use Rattle.construction.specs.Parts.{announcementAt}
 use Rattle.construction.specs.History.{Invocation, Finish, Observation}
 

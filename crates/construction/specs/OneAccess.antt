@@ -5,8 +5,7 @@ use mathlib.Core.Bool.{false}
 use mathlib.Core.Logic.{_≢_}
 use mathlib.Core.List.{List}
 use lib.ListN.{length, getD}
-use Rattle.construction.specs.declared.Card.{Card}
-use Rattle.construction.specs.declared.Cell.{Cell}
+use Rattle.construction.specs.Types.{Cell, Card}
 use Rattle.construction.specs.Cells.{openAnnouncement, openRecord}
 use Rattle.construction.specs.Instructions.{started}
 use Rattle.construction.specs.Dictionary.{empty}

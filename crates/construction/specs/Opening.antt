@@ -4,19 +4,7 @@ use mathlib.Core.Bool.{false, cond}
 use mathlib.Core.List.{List, map}
 use lib.ListN.{length, set, replicate}
 use lib.Dec.{eqb, ltb}
-use Rattle.construction.specs.declared.CardLine.{CardLine}
-use Rattle.construction.specs.declared.VarLine.{VarLine}
-use Rattle.construction.specs.declared.SheetLine.{SheetLine}
-use Rattle.construction.specs.declared.InsLine.{InsLine}
-use Rattle.construction.specs.declared.Contents.{Contents}
-use Rattle.construction.specs.declared.Verdict.{Verdict}
-use Rattle.construction.specs.declared.ProgramReading.{ProgramReading}
-use Rattle.construction.specs.declared.Reading.{Reading}
-use Rattle.construction.specs.declared.Card.{Card}
-use Rattle.construction.specs.declared.Opened.{Opened}
-use Rattle.construction.specs.declared.Instruction.{Instruction}
-use Rattle.construction.specs.declared.Refusal.{Refusal}
-use Rattle.construction.specs.declared.Refusal.the-variants.{TooLong, Malformed, TooHeavy}
+use Rattle.construction.specs.Types.{Instruction, Card, Refusal, TooLong, Malformed, TooHeavy, CardLine, VarLine, SheetLine, InsLine, Contents, Verdict, ProgramReading, Reading, Opened}
 use Rattle.construction.specs.Cells.{openGate, openAnnouncement, openRecord}
 use Rattle.construction.specs.Instructions.{noLine, noProgram, started}
 use Rattle.construction.specs.Weight.{weight}

@@ -3,18 +3,7 @@ use Prim.Native.Nat.{ℕ}
 use mathlib.Core.Bool.{Bool, false}
 use mathlib.Core.List.{List}
 use lib.ListN.{getD, set}
-use Rattle.construction.specs.declared.Gate.{Gate}
-use Rattle.construction.specs.declared.Announcement.{Announcement}
-use Rattle.construction.specs.declared.Record.{Record}
-use Rattle.construction.specs.declared.Task.{Task}
-use Rattle.construction.specs.declared.Operation.{Operation}
-use Rattle.construction.specs.declared.Simulation.{Simulation}
-use Rattle.construction.specs.declared.Dictionary.{Dictionary}
-use Rattle.construction.specs.declared.Program.{Program}
-use Rattle.construction.specs.declared.Card.{Card}
-use Rattle.construction.specs.declared.Contents.{Contents}
-use Rattle.construction.specs.declared.Holder.the-variants.{Nobody}
-use Rattle.construction.specs.declared.Place.the-variants.{Idle}
+use Rattle.construction.specs.Types.{Nobody, Gate, Announcement, Record, Program, Dictionary, Simulation, Idle, Task, Operation, Card, Contents}
 use Rattle.construction.specs.Cells.{zeros, openAnnouncement, openRecord}
 use Rattle.construction.specs.Instructions.{started, noProgram}
 use Rattle.construction.specs.Dictionary.{empty}

@@ -7,10 +7,7 @@ use mathlib.Core.Path.{_≡_}
 use mathlib.Core.List.{List, [], _∷_, _++_}
 use lib.Dec.{eqb}
 use Rattle.grammar.specs.Writing.{decimal}
-use Rattle.construction.specs.declared.Label.{Label}
-use Rattle.construction.specs.declared.Cell.{Cell}
-use Rattle.construction.specs.declared.Swap.{Swap}
-use Rattle.construction.specs.declared.Report.{Report}
+use Rattle.construction.specs.Types.{Cell, Swap, Label, Report}
 use Rattle.construction.specs.Answers.{bytes, numbersText}
 
 -- a label is the letter of its procedure (P, C, H or F) and the number of its line; 0 and 0 where there is none

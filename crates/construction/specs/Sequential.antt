@@ -3,10 +3,7 @@ use Prim.Native.Nat.{ℕ, zero, suc}
 use mathlib.Core.Bool.{cond}
 use mathlib.Core.List.{List, [], _∷_}
 use lib.ListN.{getD, set}
-use Rattle.construction.specs.declared.Words.{Words}
-use Rattle.construction.specs.declared.Yield.{Yield}
-use Rattle.construction.specs.declared.Program.{Program}
-use Rattle.construction.specs.declared.Simulation.{Simulation}
+use Rattle.construction.specs.Types.{Words, Yield, Program, Simulation}
 use Rattle.construction.specs.Instructions.{nextEffect, faulted, started}
 use Rattle.construction.specs.Effects.{Store, Executed, execute, onExecuted}
 

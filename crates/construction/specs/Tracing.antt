@@ -3,16 +3,7 @@ use Prim.Native.Nat.{ℕ}
 use mathlib.Core.Path.{_≡_}
 use mathlib.Core.Bool.{Bool, true, false, cond}
 use lib.Count.{ones}
-use Rattle.construction.specs.declared.Card.{Card}
-use Rattle.construction.specs.declared.Answer.{Answer}
-use Rattle.construction.specs.declared.Answered.{Answered}
-use Rattle.construction.specs.declared.Cell.{Cell}
-use Rattle.construction.specs.declared.Swap.{Swap}
-use Rattle.construction.specs.declared.Label.{Label}
-use Rattle.construction.specs.declared.Report.{Report}
-use Rattle.construction.specs.declared.Traced.{Traced}
-use Rattle.construction.specs.declared.Place.{Place}
-use Rattle.construction.specs.declared.Place.the-variants.{Idle, P1, P3, P5, P7, P10, C2, C4, P13, P14, P16, H21, H36, P19, P20, P21, P22, F1, F3}
+use Rattle.construction.specs.Types.{Place, Idle, P1, P3, P5, P7, P10, C2, C4, P13, P14, P16, H21, H36, P19, P20, P21, P22, F1, F3, Cell, Swap, Card, Answer, Answered, Label, Report, Traced}
 use Rattle.construction.specs.Marks.{Marks}
 use Rattle.construction.specs.Parts.{localAt}
 use Rattle.construction.specs.Machine.{advance, swapOf}

@@ -4,11 +4,7 @@ use Prim.Native.Nat.{ℕ, suc, _+_, _*_, _≤_, _<_}
 use mathlib.Core.Path.{_≡_}
 use mathlib.Core.Bool.{Bool, true, cond}
 use mathlib.Core.List.{List}
-use Rattle.construction.specs.declared.Card.{Card}
-use Rattle.construction.specs.declared.Contents.{Contents}
-use Rattle.construction.specs.declared.Answer.{Answer}
-use Rattle.construction.specs.declared.Refusal.{Refusal}
-use Rattle.construction.specs.declared.Refusal.the-variants.{LimitReached}
+use Rattle.construction.specs.Types.{Card, Refusal, LimitReached, Answer, Contents}
 use Rattle.construction.specs.Weight.{cardWeight}
 use Rattle.construction.specs.Parts.{Local, contentsOf, localAt}
 use Rattle.construction.specs.Requests.{isBusy, step}

@@ -2,9 +2,7 @@
 -- and 14 count 2).
 use Prim.Native.Nat.{ℕ, zero, suc, _+_, max}
 use mathlib.Core.List.{List, [], _∷_}
-use Rattle.construction.specs.declared.Instruction.{Instruction}
-use Rattle.construction.specs.declared.Program.{Program}
-use Rattle.construction.specs.declared.Contents.{Contents}
+use Rattle.construction.specs.Types.{Instruction, Program, Contents}
 use Rattle.construction.specs.Instructions.{fetch}
 
 abbrev pub weightOf : Instruction → ℕ

@@ -4,11 +4,7 @@ use mathlib.Core.Bool.{cond}
 use mathlib.Core.List.{List, [], _++_}
 use lib.ListN.{length, getD, drop}
 use lib.Dec.{eqb, leb}
-use Rattle.construction.specs.declared.Line.{Line}
-use Rattle.construction.specs.declared.Program.{Program}
-use Rattle.construction.specs.declared.Card.{Card}
-use Rattle.construction.specs.declared.Written.{Written}
-use Rattle.construction.specs.declared.Refusal.the-variants.{ShortBuffer}
+use Rattle.construction.specs.Types.{Line, Program, Card, ShortBuffer, Written}
 use Rattle.construction.specs.Instructions.{noLine, noProgram}
 use Rattle.construction.specs.Lines.{cardText, varText, sheetText, insText}
 

@@ -4,9 +4,8 @@ use mathlib.Core.Bool.{Bool, true, cond, _&&_}
 use mathlib.Core.List.{List, [], _∷_}
 use lib.ListN.{length, getD, drop}
 use lib.Dec.{eqb, leb, ltb}
-use Rattle.grammar.specs.declared.Number.{Number}
+use Rattle.grammar.specs.declared.{Number.Number, Numbers.Numbers}
 use Rattle.grammar.specs.declared.Number.the-variants.{Value, Malformed}
-use Rattle.grammar.specs.declared.Numbers.{Numbers}
 use Rattle.grammar.specs.declared.Numbers.the-variants.{Values, Malformed as Malformed-four}
 
 -- One more than the largest number of document 01 ("The card and its edges": a step limit of at most

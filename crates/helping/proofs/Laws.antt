@@ -13,14 +13,7 @@ use lib.Dec.{eqb, leb, ltb}
 use lib.ListN.{length, getD, set, take, drop, length-take, length-set, length-map, drop-of-length-le}
 use lib.Seq.{set-getD, drop-cons, getD-take, map-set-same, length-take-le, take-set-lt}
 use borrow.Author.Tests.{eq-eqb, ne-eqb, lt-ltb, le-ltb, eqb-true, leb-true, leb-false, not-true}
-use Rattle.construction.specs.declared.Words.{Words}
-use Rattle.construction.specs.declared.Program.{Program}
-use Rattle.construction.specs.declared.Record.{Record}
-use Rattle.construction.specs.declared.Effect.{Effect}
-use Rattle.construction.specs.declared.Item.{Item}
-use Rattle.construction.specs.declared.Dictionary.{Dictionary}
-use Rattle.construction.specs.declared.Simulation.{Simulation}
-use Rattle.construction.specs.declared.Simulated.{Simulated}
+use Rattle.construction.specs.declared.{Words.Words, Record.Record, Program.Program, Effect.Effect, Item.Item, Dictionary.Dictionary, Simulation.Simulation, Simulated.Simulated}
 use Rattle.construction.specs.Cells.{current, previous}
 use Rattle.construction.specs.Instructions.{isCell, effectOf, noLine, nextEffect, withRegister, withOutput, skipped, faulted}
 use Rattle.programs.specs.Fetching.{instructionAt}

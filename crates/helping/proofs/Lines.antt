@@ -7,18 +7,7 @@ use native.Mathlib.Numerals.{add-one}
 use native.Mathlib.Omega.{arith}
 use lib.ListN.{length, getD, take, length-take, List·getD-eq-default}
 use borrow.Author.Tests.{lt-ltb, le-ltb}
-use Rattle.construction.specs.declared.Words.{Words}
-use Rattle.construction.specs.declared.Announcement.{Announcement}
-use Rattle.construction.specs.declared.Record.{Record}
-use Rattle.construction.specs.declared.Program.{Program}
-use Rattle.construction.specs.declared.Item.{Item}
-use Rattle.construction.specs.declared.Dictionary.{Dictionary}
-use Rattle.construction.specs.declared.Simulation.{Simulation}
-use Rattle.construction.specs.declared.Task.{Task}
-use Rattle.construction.specs.declared.Began.{Began}
-use Rattle.construction.specs.declared.Helped.{Helped}
-use Rattle.construction.specs.declared.Writing.{Writing}
-use Rattle.construction.specs.declared.Pause.{Pause}
+use Rattle.construction.specs.declared.{Words.Words, Announcement.Announcement, Record.Record, Program.Program, Item.Item, Dictionary.Dictionary, Simulation.Simulation, Pause.Pause, Task.Task, Began.Began, Helped.Helped, Writing.Writing}
 use Rattle.construction.specs.declared.Pause.the-variants.{Ended, Faulted, Lacks}
 use Rattle.construction.specs.declared.Place.the-variants.{P19, P21}
 use Rattle.construction.specs.Instructions.{started}

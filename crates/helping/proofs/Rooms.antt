@@ -8,8 +8,7 @@ use denote.Laws.{Is}
 use denote.Struct.Declared.{row}
 use Rattle.construction.proofs.Dictionary as dictionary-type
 use Rattle.construction.proofs.Program as program-type
-use Rattle.construction.specs.declared.Dictionary.{Dictionary}
-use Rattle.construction.specs.declared.Program.{Program}
+use Rattle.construction.specs.declared.{Program.Program, Dictionary.Dictionary}
 use Rattle.construction.specs.Dictionary.{noted}
 
 pub items : (d : Dictionary) (vs : List Val) → Is (row dictionary-type.the-type) d vs → length (d .items) ≡ 32

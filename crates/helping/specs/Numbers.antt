@@ -5,12 +5,7 @@ use mathlib.Core.List.{List, [], _∷_, map}
 use mathlib.Core.Path.{_≡_}
 use lib.Dec.{eqb}
 use lib.ListN.{length, take}
-use Rattle.construction.specs.declared.Words.{Words}
-use Rattle.construction.specs.declared.Program.{Program}
-use Rattle.construction.specs.declared.Item.{Item}
-use Rattle.construction.specs.declared.Dictionary.{Dictionary}
-use Rattle.construction.specs.declared.Simulation.{Simulation}
-use Rattle.construction.specs.declared.Simulated.{Simulated}
+use Rattle.construction.specs.declared.{Words.Words, Program.Program, Item.Item, Dictionary.Dictionary, Simulation.Simulation, Simulated.Simulated}
 use Rattle.construction.specs.Dictionary.{noted, withValue}
 use Rattle.construction.specs.Helping.{simulate}
 use Rattle.helping.specs.declared.simulation.Paused.{Paused}

@@ -2,8 +2,7 @@
 use Prim.Native.Nat.{ℕ}
 use mathlib.Core.Bool.{cond}
 use lib.Dec.{ltb}
-use Rattle.construction.specs.declared.Task.{Task}
-use Rattle.construction.specs.declared.Pause.{Pause}
+use Rattle.construction.specs.declared.{Pause.Pause, Task.Task}
 use Rattle.construction.specs.declared.Pause.the-variants.{Ended, Faulted, Lacks}
 use Rattle.construction.specs.declared.Place.the-variants.{H21, H36, P19}
 

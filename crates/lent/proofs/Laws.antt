@@ -8,9 +8,7 @@ use lib.Dec.{leb}
 use lib.ListN.{length, getD, set, length-set}
 use lib.Seq.{getD-set-same, getD-set-other, set-getD}
 use borrow.Author.Tests.{le-leb, lt-leb, leb-false}
-use Rattle.construction.specs.declared.Record.{Record}
-use Rattle.construction.specs.declared.SwappedRecord.{SwappedRecord}
-use Rattle.construction.specs.declared.RowSwap.{RowSwap}
+use Rattle.construction.specs.declared.{Record.Record, SwappedRecord.SwappedRecord, RowSwap.RowSwap}
 use Rattle.construction.specs.declared.RowSwap.the-variants.{Won, Refused}
 use Rattle.construction.specs.declared.Refusal.the-variants.{NoPlace}
 use Rattle.construction.specs.Cells.{openRecord, sameRecord, swapRecord}

@@ -5,9 +5,7 @@ use mathlib.Core.Bool.{Bool, cond}
 use mathlib.Core.List.{List, []}
 use lib.Dec.{leb}
 use lib.ListN.{length, getD, set}
-use Rattle.construction.specs.declared.Record.{Record}
-use Rattle.construction.specs.declared.SwappedRecord.{SwappedRecord}
-use Rattle.construction.specs.declared.RowSwap.{RowSwap}
+use Rattle.construction.specs.declared.{Record.Record, SwappedRecord.SwappedRecord, RowSwap.RowSwap}
 use Rattle.construction.specs.declared.RowSwap.the-variants.{Won, Lost, Refused}
 use Rattle.construction.specs.declared.Refusal.the-variants.{NoPlace}
 use Rattle.construction.specs.Cells.{openRecord, swapRecord}

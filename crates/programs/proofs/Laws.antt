@@ -6,11 +6,7 @@ use native.Mathlib.Omega.{arith}
 use lib.Dec.{eqb, leb, ltb}
 use lib.ListN.{length, getD, List·getD-eq-default}
 use borrow.Author.Tests.{ne-eqb, lt-ltb, le-ltb, ltb-true, ltb-false}
-use Rattle.construction.specs.declared.Words.{Words}
-use Rattle.construction.specs.declared.Effect.{Effect}
-use Rattle.construction.specs.declared.Instruction.{Instruction}
-use Rattle.construction.specs.declared.Line.{Line}
-use Rattle.construction.specs.declared.Program.{Program}
+use Rattle.construction.specs.declared.{Words.Words, Instruction.Instruction, Line.Line, Program.Program, Effect.Effect}
 use Rattle.construction.specs.Instructions.{withWord, load, store, isCell, free, noLine, fetch}
 use Rattle.construction.proofs.Basics.{and-true}
 use Rattle.programs.specs.Fetching.{instructionAt}

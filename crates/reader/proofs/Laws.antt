@@ -5,12 +5,9 @@ use Prim.Native.Nat.{ℕ, zero, suc, _+_, _-_, _<_, _≤_}
 use lib.ListN.{length}
 use native.Mathlib.Omega.{arith}
 use borrow.Author.Tests.{eq-eqb, ne-eqb, lt-ltb, le-ltb}
-use Rattle.construction.specs.declared.Refusal.{Refusal}
+use Rattle.construction.specs.declared.{Refusal.Refusal, Verdict.Verdict, ProgramReading.ProgramReading, Reading.Reading}
 use Rattle.construction.specs.declared.Refusal.the-variants.{Malformed, TooHeavy}
 use Rattle.construction.specs.Weight.{weight}
-use Rattle.construction.specs.declared.Verdict.{Verdict}
-use Rattle.construction.specs.declared.ProgramReading.{ProgramReading}
-use Rattle.construction.specs.declared.Reading.{Reading}
 use Rattle.construction.specs.Lines.{varLine, sheetLine, insLine}
 use Rattle.construction.specs.Opening.{refusedAt, programRefusedAt, weighed, withLine, insFrom, readProgram, programsFrom, withStart, varsFrom, ifAccepted, atEnd, thenEnd, thenPrograms}
 use Rattle.construction.proofs.Text.Lines.{sheet-read}

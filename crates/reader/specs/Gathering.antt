@@ -2,18 +2,8 @@
 use Prim.Native.Nat.{ℕ}
 use mathlib.Core.List.{List}
 use lib.ListN.{replicate}
-use Rattle.construction.specs.declared.CardLine.{CardLine}
-use Rattle.construction.specs.declared.VarLine.{VarLine}
-use Rattle.construction.specs.declared.SheetLine.{SheetLine}
-use Rattle.construction.specs.declared.InsLine.{InsLine}
-use Rattle.construction.specs.declared.Refusal.{Refusal}
+use Rattle.construction.specs.declared.{Line.Line, Program.Program, Refusal.Refusal, CardLine.CardLine, VarLine.VarLine, SheetLine.SheetLine, InsLine.InsLine, Contents.Contents, Verdict.Verdict, ProgramReading.ProgramReading, Reading.Reading}
 use Rattle.construction.specs.declared.Refusal.the-variants.{Malformed}
-use Rattle.construction.specs.declared.Verdict.{Verdict}
-use Rattle.construction.specs.declared.Line.{Line}
-use Rattle.construction.specs.declared.Program.{Program}
-use Rattle.construction.specs.declared.Contents.{Contents}
-use Rattle.construction.specs.declared.ProgramReading.{ProgramReading}
-use Rattle.construction.specs.declared.Reading.{Reading}
 use Rattle.construction.specs.Instructions.{noProgram}
 
 -- the refusal of a `card` line ('each line yields either its fields or a refusal number'); a line with fields has none to ask for

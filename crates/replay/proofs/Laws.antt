@@ -7,9 +7,8 @@ use native.Mathlib.Numerals.{add-one}
 use types.Run.{OneOf, miss}
 use denote.Enum.Declared.{tagOf}
 use Rattle.grammar.specs.Reading.{hasWord}
-use Rattle.construction.specs.declared.Card.{Card}
+use Rattle.construction.specs.declared.{Card.Card, Answer.Answer}
 use Rattle.construction.proofs.Answer.{the-type}
-use Rattle.construction.specs.declared.Answer.{Answer}
 use Rattle.construction.specs.Answers.{bytes, doneWord, answerFields}
 use Rattle.replay.specs.declared.Request.{Request}
 use Rattle.replay.specs.Entries.{entryAt}

@@ -7,9 +7,7 @@ use lib.Dec.{eqb}
 use Rattle.grammar.specs.declared.Number.{Number}
 use Rattle.grammar.specs.Reading.{hasByte, number}
 use Rattle.construction.specs.declared.Words.{Words}
-use Rattle.replay.specs.declared.Operand.{Operand}
-use Rattle.replay.specs.declared.Request.{Request}
-use Rattle.replay.specs.declared.Entry.{Entry}
+use Rattle.replay.specs.declared.{Operand.Operand, Request.Request, Entry.Entry}
 
 -- the requests take words
 abbrev pub word : ℕ → ℕ

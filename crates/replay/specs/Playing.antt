@@ -3,16 +3,12 @@ use Prim.Native.Nat.{ℕ, zero, suc, _+_, _%_, _^_}
 use mathlib.Core.Bool.{Bool, cond, not, _&&_}
 use mathlib.Core.List.{List}
 use Rattle.grammar.specs.Reading.{hasWord}
-use Rattle.construction.specs.declared.Card.{Card}
-use Rattle.construction.specs.declared.Answer.{Answer}
-use Rattle.construction.specs.declared.Answered.{Answered}
+use Rattle.construction.specs.declared.{Card.Card, Answer.Answer, Answered.Answered}
 use Rattle.construction.specs.Answers.{bytes, answerFields}
 use Rattle.construction.specs.Requests.{call, requestExit, step, read}
 use Rattle.construction.specs.Tracing.{trace, untold}
 use Rattle.report.specs.Same.{sameCard}
-use Rattle.replay.specs.declared.Request.{Request}
-use Rattle.replay.specs.declared.Entry.{Entry}
-use Rattle.replay.specs.declared.Played.{Played}
+use Rattle.replay.specs.declared.{Request.Request, Entry.Entry, Played.Played}
 use Rattle.replay.specs.Entries.{entryAt}
 
 unfoldable pub asked : Card → Request → Answered

@@ -4,19 +4,8 @@ use mathlib.Core.Bool.{Bool, true, false, _&&_}
 use mathlib.Core.List.{List, []}
 use lib.Dec.{eqb}
 use lib.ListN.{getD}
-use Rattle.construction.specs.declared.Record.{Record}
-use Rattle.construction.specs.declared.Instruction.{Instruction}
-use Rattle.construction.specs.declared.Encoded.{Encoded}
-use Rattle.construction.specs.declared.Program.{Program}
-use Rattle.construction.specs.declared.Item.{Item}
-use Rattle.construction.specs.declared.Dictionary.{Dictionary}
-use Rattle.construction.specs.declared.Place.{Place}
+use Rattle.construction.specs.declared.{Yield.Yield, Record.Record, Instruction.Instruction, Encoded.Encoded, Program.Program, Item.Item, Dictionary.Dictionary, Simulation.Simulation, Place.Place, Task.Task, Operation.Operation, Card.Card}
 use Rattle.construction.specs.declared.Place.the-variants.{Idle, P1, P3, P5, P7, P10, C2, C4, P13, P14, P16, H21, H36, P19, P20, P21, P22, F1, F3}
-use Rattle.construction.specs.declared.Task.{Task}
-use Rattle.construction.specs.declared.Operation.{Operation}
-use Rattle.construction.specs.declared.Yield.{Yield}
-use Rattle.construction.specs.declared.Simulation.{Simulation}
-use Rattle.construction.specs.declared.Card.{Card}
 use Rattle.construction.specs.Cells.{sameBool, sameWords, sameGate, sameAnnouncement, sameRecord, openAnnouncement, openRecord}
 use Rattle.construction.specs.Instructions.{encode, noLine, started}
 use Rattle.construction.specs.Dictionary.{noItem}

@@ -6,10 +6,7 @@ use lib.ListN.{length}
 use native.Mathlib.Omega.{arith}
 use Rattle.grammar.specs.Writing.{largest, Put}
 use Rattle.grammar.proofs.Puts.{Room, rest-all, rest-step, rest-last, put-both}
-use Rattle.construction.specs.declared.Card.{Card}
-use Rattle.construction.specs.declared.Answer.{Answer}
-use Rattle.construction.specs.declared.Report.{Report}
-use Rattle.construction.specs.declared.Verdict.{Verdict}
+use Rattle.construction.specs.declared.{Card.Card, Answer.Answer, Report.Report, Verdict.Verdict}
 use Rattle.construction.specs.declared.Refusal.the-variants.{TooLong}
 use Rattle.construction.specs.Answers.{bytes, Fields, numberOf, refusedWith, answerFields, verdictFields, fieldsText}
 use Rattle.construction.specs.Reports.{reportText}

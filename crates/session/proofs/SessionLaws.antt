@@ -14,16 +14,9 @@ use Rattle.grammar.specs.Writing.{placeAfter, largest, Put}
 use Rattle.grammar.proofs.Cases.{on-test}
 use Rattle.grammar.proofs.Fields.{field-within}
 use Rattle.grammar.proofs.Puts.{put-both, put-front, put-fits}
-use Rattle.construction.specs.declared.Traced.{Traced}
-use Rattle.construction.specs.declared.Card.{Card}
-use Rattle.construction.specs.declared.Opened.{Opened}
-use Rattle.construction.specs.declared.Refusal.{Refusal}
-use Rattle.construction.specs.declared.Verdict.{Verdict}
+use Rattle.construction.specs.declared.{Card.Card, Refusal.Refusal, Traced.Traced, Verdict.Verdict, Opened.Opened}
 use Rattle.construction.specs.Opening.{opened}
-use Rattle.session.specs.declared.Command.{Command}
-use Rattle.session.specs.declared.Parsed.{Parsed}
-use Rattle.session.specs.declared.State.{State}
-use Rattle.session.specs.declared.Printed.{Printed}
+use Rattle.session.specs.declared.{Command.Command, Parsed.Parsed, State.State, Printed.Printed}
 use Rattle.session.specs.Commands.{callWord, wishWord, stepWord, lookWord, traceWord, lineEnd, malformed, limited, word, withWord, callAt, numbered, command, commandsFrom, commands}
 use Rattle.session.specs.Printing.{lineText, longest, cardRefusal, callsRefusal}
 use Rattle.session.specs.Session.{execute, lineOf, afterLine, linesOf, linesText, gather, fitting, firstLine, printed, printedInto, Prints, overState, verdictBeginning, beginning, session, Starts}

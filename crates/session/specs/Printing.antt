@@ -3,9 +3,7 @@
 use Prim.Native.Nat.{ℕ}
 use mathlib.Core.List.{List, [], _∷_, _++_}
 use lib.ListN.{take}
-use Rattle.construction.specs.declared.Answer.{Answer}
-use Rattle.construction.specs.declared.Report.{Report}
-use Rattle.construction.specs.declared.Verdict.{Verdict}
+use Rattle.construction.specs.declared.{Answer.Answer, Report.Report, Verdict.Verdict}
 use Rattle.construction.specs.Answers.{bytes, Fields, fields, refusedWith, answerFields, verdictFields, numbersText, fieldsText}
 use Rattle.construction.specs.Reports.{reportText}
 use Rattle.session.specs.declared.Command.{Command}

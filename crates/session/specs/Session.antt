@@ -7,20 +7,13 @@ use lib.ListN.{length, take}
 use lib.Seq.{sets}
 use lib.Dec.{ltb, leb}
 use Rattle.grammar.specs.Writing.{placeAfter, Put}
-use Rattle.construction.specs.declared.Card.{Card}
-use Rattle.construction.specs.declared.Answered.{Answered}
-use Rattle.construction.specs.declared.Report.{Report}
-use Rattle.construction.specs.declared.Traced.{Traced}
-use Rattle.construction.specs.declared.Verdict.{Verdict}
+use Rattle.construction.specs.declared.{Card.Card, Answered.Answered, Report.Report, Traced.Traced, Verdict.Verdict}
 use Rattle.construction.specs.declared.Refusal.the-variants.{Malformed}
 use Rattle.construction.specs.Requests.{refused}
 use Rattle.construction.specs.Tracing.{noReport, trace}
 use Rattle.construction.specs.History.{Entry, act}
 use Rattle.construction.specs.Opening.{opened}
-use Rattle.session.specs.declared.Command.{Command}
-use Rattle.session.specs.declared.Parsed.{Parsed}
-use Rattle.session.specs.declared.State.{State}
-use Rattle.session.specs.declared.Printed.{Printed}
+use Rattle.session.specs.declared.{Command.Command, Parsed.Parsed, State.State, Printed.Printed}
 use Rattle.session.specs.Commands.{commands}
 use Rattle.session.specs.Printing.{lineText, longest, cardRefusal, callsRefusal}
 

@@ -4,8 +4,7 @@ use mathlib.Core.Bool.{Bool, true, false, not}
 use mathlib.Core.Path.{_≡_, refl}
 use native.Mathlib.Omega.{arith}
 use borrow.Author.Tests.{not-true, not-false}
-use Rattle.construction.specs.declared.Words.{Words}
-use Rattle.construction.specs.declared.Answered.{Answered}
+use Rattle.construction.specs.declared.{Words.Words, Answered.Answered}
 use Rattle.construction.specs.Requests.{call, step}
 use Rattle.steps_speed.specs.Runs.{nextRandom, inputsOf, isRun, calledFrom, again, runFrom}
 

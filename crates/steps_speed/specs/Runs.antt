@@ -2,11 +2,8 @@
 use Prim.Native.Nat.{ℕ, zero, suc, _+_, _*_, _/_, _%_}
 use mathlib.Core.Bool.{Bool, true, false, cond}
 use lib.Bits.{bitXor}
-use Rattle.construction.specs.declared.Words.{Words}
-use Rattle.construction.specs.declared.Card.{Card}
-use Rattle.construction.specs.declared.Answer.{Answer}
+use Rattle.construction.specs.declared.{Words.Words, Card.Card, Answer.Answer, Answered.Answered}
 use Rattle.construction.specs.declared.Answer.the-variants.{Taken, Run, Done, Exited, Value, Refused}
-use Rattle.construction.specs.declared.Answered.{Answered}
 use Rattle.construction.specs.Requests.{call, step}
 
 -- Marsaglia's xorshift on 64 bits: left by 13, right by 7, left by 17

@@ -4,12 +4,10 @@ use mathlib.Core.Bool.{Bool, cond}
 use mathlib.Core.List.{List, _++_}
 use lib.ListN.{length, getD, take, drop, replicate}
 use lib.Dec.{eqb, ltb}
-use Rattle.construction.specs.declared.Card.{Card}
-use Rattle.construction.specs.declared.Written.{Written}
+use Rattle.construction.specs.declared.{Card.Card, Written.Written}
 use Rattle.construction.specs.Writing.{written, writtenInto}
 use Rattle.report.specs.Same.{allBelow}
-use Rattle.text_cases.specs.declared.Outcome.{Outcome}
-use Rattle.text_cases.specs.declared.Outcomes.{Outcomes}
+use Rattle.text_cases.specs.declared.{Outcome.Outcome, Outcomes.Outcomes}
 
 -- the byte that stands in a buffer before it is lent
 abbrev pub filler : ℕ

@@ -8,8 +8,7 @@ use Rattle.grammar.specs.Writing.{decimal}
 use Rattle.construction.specs.declared.Opened.{Opened}
 use Rattle.construction.specs.Answers.{bytes, verdictFields, writtenFields, fieldsText}
 use Rattle.construction.specs.Opening.{opened}
-use Rattle.text_cases.specs.declared.Outcome.{Outcome}
-use Rattle.text_cases.specs.declared.Outcomes.{Outcomes}
+use Rattle.text_cases.specs.declared.{Outcome.Outcome, Outcomes.Outcomes}
 use Rattle.text_cases.specs.Comparing.{outcomesOf}
 
 abbrev pub agreementText : Bool → List ℕ

@@ -1,15 +1,6 @@
 -- The cell that an access touches and its swap, by the pieces of a card and of its process that decide them
 use Prim.Native.Nat.{ℕ}
-use Rattle.construction.specs.declared.Access.{Access}
-use Rattle.construction.specs.declared.Announcement.{Announcement}
-use Rattle.construction.specs.declared.Cell.{Cell}
-use Rattle.construction.specs.declared.Gate.{Gate}
-use Rattle.construction.specs.declared.Item.{Item}
-use Rattle.construction.specs.declared.Operation.{Operation}
-use Rattle.construction.specs.declared.Record.{Record}
-use Rattle.construction.specs.declared.Swap.{Swap}
-use Rattle.construction.specs.declared.Task.{Task}
-use Rattle.construction.specs.declared.Yield.{Yield}
+use Rattle.construction.specs.declared.{Gate.Gate, Yield.Yield, Announcement.Announcement, Record.Record, Item.Item, Access.Access, Cell.Cell, Swap.Swap, Task.Task, Operation.Operation}
 use Rattle.construction.specs.Machine.{accessGate, accessAnnouncement, holderOf, outcome, whose, write}
 
 -- `cellOf` of construction: p processes, process i that last read the gate g, the variables of H21 and H36

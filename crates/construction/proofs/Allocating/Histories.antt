@@ -7,8 +7,7 @@ use mathlib.Core.List.{List, [], _∷_, _++_}
 use native.Mathlib.Omega.{arith}
 use lib.Dec.{eqb}
 use lib.ListN.{length, take}
-use Rattle.construction.specs.declared.Card.{Card}
-use Rattle.construction.specs.declared.Answer.{Answer}
+use Rattle.construction.specs.Types.{Card, Answer}
 use Rattle.construction.specs.Sequential.{sequential}
 use Rattle.construction.specs.History.{Entry, act, Invocation, Finish, Event, eventOf, History, hasCalled, latest, latestCall, finishing, benchRun, withFinish, withFinishes, withEntry, Observation, opening, observe, observeAll, run}
 use Rattle.construction.specs.Linearizability.{FinishesOne, FinishesAtMostOne}

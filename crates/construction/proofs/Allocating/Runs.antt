@@ -9,11 +9,7 @@ use native.Mathlib.Omega.{arith}
 use lib.Dec.{eqb, ltb}
 use lib.ListN.{length, getD, set, length-set}
 use borrow.Author.Tests.{eqb-true}
-use Rattle.construction.specs.declared.Words.{Words}
-use Rattle.construction.specs.declared.Program.{Program}
-use Rattle.construction.specs.declared.Instruction.{Instruction}
-use Rattle.construction.specs.declared.Effect.{Effect}
-use Rattle.construction.specs.declared.Simulation.{Simulation}
+use Rattle.construction.specs.Types.{Words, Instruction, Program, Effect, Simulation}
 use Rattle.construction.specs.Instructions.{word, isCell, load, store, free, effectOf, nextEffect, fetch, faulted, withRegister, started}
 use Rattle.construction.specs.Effects.{Store, put, Executed, allocated, execute, onExecuted}
 use Rattle.construction.specs.Sequential.{ending, wordAt, withStores, nextExecuted, runFrom, sequential}

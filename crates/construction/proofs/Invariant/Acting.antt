@@ -3,13 +3,7 @@ use Prim.Native.Nat.{ℕ, _+_, _%_, _≤_, _<_}
 use mathlib.Core.Path.{_≡_, refl}
 use mathlib.Core.List.{List}
 use native.Mathlib.Omega.{arith}
-use Rattle.construction.specs.declared.Gate.{Gate}
-use Rattle.construction.specs.declared.Announcement.{Announcement}
-use Rattle.construction.specs.declared.Record.{Record}
-use Rattle.construction.specs.declared.Task.{Task}
-use Rattle.construction.specs.declared.Simulation.{Simulation}
-use Rattle.construction.specs.declared.Dictionary.{Dictionary}
-use Rattle.construction.specs.declared.Card.{Card}
+use Rattle.construction.specs.Types.{Gate, Announcement, Record, Dictionary, Simulation, Task, Card}
 use Rattle.construction.specs.Dictionary.{noted}
 use Rattle.construction.specs.Parts.{Local, localAt, contentsOf, withCells, withLocal}
 use Rattle.construction.specs.Machine.{after}

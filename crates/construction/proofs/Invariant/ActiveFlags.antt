@@ -5,21 +5,12 @@ use mathlib.Core.Bool.{Bool, true, false, true≢false, false≢true}
 use mathlib.Core.Logic.{_≢_}
 use mathlib.Core.List.{List}
 use lib.ListN.{getD, set}
-use Rattle.construction.specs.declared.Flag.the-variants.{Active}
-use Rattle.construction.specs.declared.Announcement.{Announcement}
-use Rattle.construction.specs.declared.Card.{Card}
-use Rattle.construction.specs.declared.Place.{Place}
-use Rattle.construction.specs.declared.Access.{Access}
-use Rattle.construction.specs.declared.AnnouncementAccess.{AnnouncementAccess}
+use Rattle.construction.specs.Types.{Gate, Active, Yield, Announcement, Place, AnnouncementAccess, Access, Task, Operation, Card}
 use Rattle.construction.specs.Cells.{openAnnouncement, sameAnnouncement, swapAnnouncement}
 use Rattle.construction.specs.Parts.{announcementAt, localAt}
 use Rattle.construction.specs.Machine.{accessOf, accessAnnouncement, perform, advance}
 use Rattle.construction.proofs.Basics.{on-test, set-keeps, active-not-done, active-not-exit}
 use Rattle.construction.proofs.Invariant.Stages.{isAnnounced, announces, Stage, stage, isAnnouncing}
-use Rattle.construction.specs.declared.Operation.{Operation}
-use Rattle.construction.specs.declared.Yield.{Yield}
-use Rattle.construction.specs.declared.Task.{Task}
-use Rattle.construction.specs.declared.Gate.{Gate}
 
 -- a flag that is active after was active before
 abbrev pub ActiveBefore : Card → ℕ → Card → Type 0

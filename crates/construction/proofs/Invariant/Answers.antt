@@ -6,15 +6,7 @@ use mathlib.Core.Logic.{_≢_, _⊎_, inl, inr, ⊎-elim}
 use native.Mathlib.Omega.{arith}
 use lib.Dec.{eqb}
 use borrow.Author.Tests.{eqb-true, eqb-false, not-false}
-use Rattle.construction.specs.declared.Announcement.{Announcement}
-use Rattle.construction.specs.declared.Card.{Card}
-use Rattle.construction.specs.declared.Holder.{Holder}
-use Rattle.construction.specs.declared.Holder.the-variants.{Nobody, Process}
-use Rattle.construction.specs.declared.Flag.{Flag}
-use Rattle.construction.specs.declared.Flag.the-variants.{Done, Active, Exit}
-use Rattle.construction.specs.declared.Place.{Place}
-use Rattle.construction.specs.declared.Place.the-variants.{Idle}
-use Rattle.construction.specs.declared.Answer.{Answer}
+use Rattle.construction.specs.Types.{Holder, Nobody, Process, Flag, Done, Active, Exit, Announcement, Place, Idle, Card, Answer, Contents}
 use Rattle.construction.specs.Cells.{isDone, current, previous}
 use Rattle.construction.specs.Parts.{announcementAt, recordAt, localAt, Local, contentsOf}
 use Rattle.construction.specs.Requests.{isBusy, isPending, valueOf, returned, answerOf, isIdle}
@@ -24,7 +16,6 @@ use Rattle.construction.proofs.Invariant.Assertions.{LocAt, known}
 use Rattle.construction.proofs.Invariant.Stages.{isAnnounced, Stage, stage}
 use Rattle.construction.proofs.Invariant.Acting.{worldOf}
 use Rattle.construction.proofs.Invariant.Cards.{CardInvariant, good-is, at-rest}
-use Rattle.construction.specs.declared.Contents.{Contents}
 
 -- a read shows the word of the sequential run
 module _ (c : Card) (w : World) (I : CardInvariant c w) (v : ℕ) (vl : v < c .variables) where

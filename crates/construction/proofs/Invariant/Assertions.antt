@@ -7,18 +7,7 @@ use mathlib.Core.List.{List}
 use native.Mathlib.Omega.{arith}
 use lib.ListN.{length, getD}
 use lib.Seq.{getD-set-other}
-use Rattle.construction.specs.declared.Gate.{Gate}
-use Rattle.construction.specs.declared.Announcement.{Announcement}
-use Rattle.construction.specs.declared.Item.{Item}
-use Rattle.construction.specs.declared.Yield.{Yield}
-use Rattle.construction.specs.declared.Operation.{Operation}
-use Rattle.construction.specs.declared.Program.{Program}
-use Rattle.construction.specs.declared.Simulation.{Simulation}
-use Rattle.construction.specs.declared.Dictionary.{Dictionary}
-use Rattle.construction.specs.declared.Holder.the-variants.{Nobody, Process}
-use Rattle.construction.specs.declared.Flag.the-variants.{Active}
-use Rattle.construction.specs.declared.Place.{Place}
-use Rattle.construction.specs.declared.Place.the-variants.{Idle, P1, P3, P5, P7, P10, C2, C4, P13, P14, P16, H21, H36, P19, P20, P21, P22, F1, F3}
+use Rattle.construction.specs.Types.{Nobody, Process, Gate, Active, Yield, Announcement, Program, Item, Dictionary, Simulation, Place, Idle, P1, P3, P5, P7, P10, C2, C4, P13, P14, P16, H21, H36, P19, P20, P21, P22, F1, F3, Operation, Contents}
 use Rattle.construction.specs.Dictionary.{noItem, noted, valueUnder, altered}
 use Rattle.construction.specs.Machine.{holderOf}
 use Rattle.construction.proofs.Simulating.Dictionaries.{all-map}
@@ -27,7 +16,6 @@ use Rattle.construction.proofs.Invariant.World.{endingIn, World, record
 use Rattle.construction.proofs.Invariant.World.Move.{stay, ask, announce, leave, take, write, end, free}
 use Rattle.construction.proofs.Invariant.Claims.{View, viewOf, Change, Owned, Limit, Past, Gone, Returning, Rested, Last, Seen, Nominated, Working, Halfway, Over}
 use Rattle.construction.proofs.Invariant.Claims.{change, call-change, owned-change, limit-change, past-change, gone-change, returning-change, rested-change, last-change, quiet-stays, seen-stays, nominated-stays, working-stays, halfway-stays, over-stays, below-stays, record-stays, round-stays}
-use Rattle.construction.specs.declared.Contents.{Contents}
 use Rattle.construction.specs.Parts.{programOf, Local}
 
 -- the operation o of a process is under way and announced

@@ -9,16 +9,7 @@ use native.Mathlib.Decide.{ℕ-discrete}
 use lib.ListN.{length, getD, take, replicate, length-map, List·getD-map}
 use lib.Seq.{getD-set-same, getD-take, length-take-le}
 use borrow.Author.Tests.{not-true, not-false}
-use Rattle.construction.specs.declared.Gate.{Gate}
-use Rattle.construction.specs.declared.Announcement.{Announcement}
-use Rattle.construction.specs.declared.Words.{Words}
-use Rattle.construction.specs.declared.Task.{Task}
-use Rattle.construction.specs.declared.Operation.{Operation}
-use Rattle.construction.specs.declared.Card.{Card}
-use Rattle.construction.specs.declared.Contents.{Contents}
-use Rattle.construction.specs.declared.Flag.the-variants.{Done}
-use Rattle.construction.specs.declared.Place.{Place}
-use Rattle.construction.specs.declared.Place.the-variants.{Idle}
+use Rattle.construction.specs.Types.{Gate, Done, Words, Announcement, Record, Place, Idle, Task, Operation, Card, Contents}
 use Rattle.construction.specs.Cells.{openAnnouncement, openRecord, current}
 use Rattle.construction.specs.Instructions.{noProgram}
 use Rattle.construction.specs.Dictionary.{empty}
@@ -36,7 +27,6 @@ use Rattle.construction.proofs.Invariant.Assertions.{LocAt, Loc, loc-st
 use Rattle.construction.proofs.Invariant.Stages.{stage, is-idle}
 use Rattle.construction.proofs.Invariant.Acting.{worldOf, WellFormed, Acted, Before}
 use Rattle.construction.proofs.Invariant.Steps.{at-place}
-use Rattle.construction.specs.declared.Record.{Record}
 
 -- the cells of the card are those of a good world, every process knows what its place asks for, and the numbers keep their bounds
 pub record CardInvariant (c : Card) (w : World) : Type 0 where

@@ -6,13 +6,7 @@ use native.Mathlib.Omega.{arith}
 use native.Mathlib.Decide.{ℕ-discrete}
 use lib.ListN.{length, length-append, List·getD-append}
 use lib.Seq.{getD-set-same, getD-set-other}
-use Rattle.construction.specs.declared.Gate.{Gate}
-use Rattle.construction.specs.declared.Announcement.{Announcement}
-use Rattle.construction.specs.declared.Yield.{Yield}
-use Rattle.construction.specs.declared.Operation.{Operation}
-use Rattle.construction.specs.declared.Holder.{Holder}
-use Rattle.construction.specs.declared.Holder.the-variants.{Nobody, Process}
-use Rattle.construction.specs.declared.Flag.the-variants.{Done, Active, Exit}
+use Rattle.construction.specs.Types.{Holder, Nobody, Process, Gate, Done, Active, Exit, Yield, Announcement, Operation, Contents}
 use Rattle.construction.specs.Cells.{openAnnouncement, openRecord, rewritten}
 use Rattle.construction.specs.Parts.{noOperation}
 use Rattle.construction.specs.Machine.{flagged, finished}
@@ -20,7 +14,6 @@ use Rattle.construction.proofs.Basics.{on-set, active-not-done, active-
 use Rattle.construction.proofs.Invariant.World.{noRound, endingIn, World, announcementIn, recordIn, leftIn, boundIn, callIn, Result, noResult, resultIn, resultOf, roundIn, operationOf, WorldInvariant, asking, announcing, leaving, ending, Quiet, Move}
 use Rattle.construction.proofs.Invariant.World.Move.{stay, ask, announce, leave, take, write, end, free}
 use Rattle.construction.proofs.Invariant.WorldKept.{announcements-set}
-use Rattle.construction.specs.declared.Contents.{Contents}
 
 -- what a process sees: the gate, and its own announcement, call, result and bound
 pub record View : Type 0 where

@@ -5,16 +5,7 @@ use mathlib.Core.Bool.{true, false}
 use mathlib.Core.Logic.{_≢_, inl, inr, ⊎-elim}
 use native.Mathlib.Omega.{arith}
 use native.Mathlib.Decide.{decLt}
-use Rattle.construction.specs.declared.Gate.{Gate}
-use Rattle.construction.specs.declared.Announcement.{Announcement}
-use Rattle.construction.specs.declared.Operation.{Operation}
-use Rattle.construction.specs.declared.Card.{Card}
-use Rattle.construction.specs.declared.Flag.the-variants.{Done}
-use Rattle.construction.specs.declared.Holder.{Holder}
-use Rattle.construction.specs.declared.Holder.the-variants.{Nobody, Process}
-use Rattle.construction.specs.declared.Place.{Place}
-use Rattle.construction.specs.declared.Place.the-variants.{Idle, P1, P3, C2, P13, P14, P16, P21, P22, F1, F3}
-use Rattle.construction.specs.declared.GateAccess.{GateAccess}
+use Rattle.construction.specs.Types.{Holder, Nobody, Process, Gate, Done, Announcement, Place, Idle, P1, P3, C2, P13, P14, P16, P21, P22, F1, F3, GateAccess, Access, Operation, Card, Contents}
 use Rattle.construction.specs.Cells.{sameHolder, sameGate, swapGate, released}
 use Rattle.construction.specs.Parts.{announcementAt, withGate, localAt, Local, contentsOf, withLocal}
 use Rattle.construction.specs.Machine.{goTo, byHolder, holderOf, accessGate, perform, after}
@@ -24,8 +15,6 @@ use Rattle.construction.proofs.Invariant.World.Move.{take, free}
 use Rattle.construction.proofs.Invariant.Claims.{View, viewOf, gated, Limit, Returning, Rested, Eligible}
 use Rattle.construction.proofs.Invariant.Assertions.{Mine, Helper, LocAt, Loc}
 use Rattle.construction.proofs.Invariant.Acting.{worldOf, Before, Acted, keeps, atTask, atGate, goes-on}
-use Rattle.construction.specs.declared.Contents.{Contents}
-use Rattle.construction.specs.declared.Access.{Access}
 
 -- what is known of an operation at its return
 rests :

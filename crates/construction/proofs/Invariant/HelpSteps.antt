@@ -7,19 +7,7 @@ use native.Mathlib.Omega.{arith}
 use lib.ListN.{length, set}
 use lib.Dec.{ltb, leb}
 use borrow.Author.Tests.{ltb-true, ltb-false, leb-true, leb-false, not-true, not-false}
-use Rattle.construction.specs.declared.Announcement.{Announcement}
-use Rattle.construction.specs.declared.Operation.{Operation}
-use Rattle.construction.specs.declared.Simulation.{Simulation}
-use Rattle.construction.specs.declared.Simulated.{Simulated}
-use Rattle.construction.specs.declared.Dictionary.{Dictionary}
-use Rattle.construction.specs.declared.Pause.{Pause}
-use Rattle.construction.specs.declared.Pause.the-variants.{Ended, Faulted, Lacks}
-use Rattle.construction.specs.declared.Card.{Card}
-use Rattle.construction.specs.declared.Holder.{Holder}
-use Rattle.construction.specs.declared.Holder.the-variants.{Process}
-use Rattle.construction.specs.declared.Flag.the-variants.{Done}
-use Rattle.construction.specs.declared.Place.{Place}
-use Rattle.construction.specs.declared.Place.the-variants.{P16, H21, P19, P21}
+use Rattle.construction.specs.Types.{Holder, Process, Done, Announcement, Dictionary, Simulation, Pause, Ended, Faulted, Lacks, Simulated, Place, P16, H21, P19, P21, Access, Began, Helped, Operation, Card, Contents}
 use Rattle.construction.specs.Cells.{openAnnouncement, isDone, previous, openRecord}
 use Rattle.construction.specs.Instructions.{started}
 use Rattle.construction.specs.Dictionary.{empty, valueUnder, itemOf, insert}
@@ -36,10 +24,6 @@ use Rattle.construction.proofs.Invariant.Claims.{Seen, Working}
 use Rattle.construction.proofs.Invariant.Assertions.{Helper, Plan, ItemNoted, programFor, CoreAt, LocAt, Loc}
 use Rattle.construction.proofs.Invariant.NextWrites.{pause-loc}
 use Rattle.construction.proofs.Invariant.Acting.{worldOf, WellFormed, Before, Acted, keeps, goes-on, atTask, atSimulation}
-use Rattle.construction.specs.declared.Contents.{Contents}
-use Rattle.construction.specs.declared.Access.{Access}
-use Rattle.construction.specs.declared.Began.{Began}
-use Rattle.construction.specs.declared.Helped.{Helped}
 use lib.Seq.{set-getD}
 
 -- the ending of a round is the run of its call

@@ -6,37 +6,13 @@ use mathlib.Core.Logic.{_⊎_, inl, inr}
 use lib.ListN.{length, getD, set}
 use lib.Seq.{getD-set-same}
 use lib.Dec.{ltb}
-use Rattle.construction.specs.declared.Announcement.{Announcement}
-use Rattle.construction.specs.declared.Task.{Task}
-use Rattle.construction.specs.declared.Dictionary.{Dictionary}
-use Rattle.construction.specs.declared.Pause.{Pause}
-use Rattle.construction.specs.declared.Pause.the-variants.{Ended, Faulted, Lacks}
-use Rattle.construction.specs.declared.Card.{Card}
-use Rattle.construction.specs.declared.Holder.{Holder}
-use Rattle.construction.specs.declared.Holder.the-variants.{Nobody, Process}
-use Rattle.construction.specs.declared.Flag.{Flag}
-use Rattle.construction.specs.declared.Flag.the-variants.{Done, Active, Exit}
-use Rattle.construction.specs.declared.Place.{Place}
-use Rattle.construction.specs.declared.Place.the-variants.{Idle, P1, P3, P5, P7, P10, C2, C4, P13, P14, P16, H21, H36, P19, P20, P21, P22, F1, F3}
-use Rattle.construction.specs.declared.Access.{Access}
-use Rattle.construction.specs.declared.GateAccess.{GateAccess}
-use Rattle.construction.specs.declared.AnnouncementAccess.{AnnouncementAccess}
+use Rattle.construction.specs.Types.{Holder, Nobody, Process, Gate, Flag, Done, Active, Exit, Words, Yield, Announcement, Record, Program, Dictionary, Simulation, Pause, Ended, Faulted, Lacks, Simulated, Place, Idle, P1, P3, P5, P7, P10, C2, C4, P13, P14, P16, H21, H36, P19, P20, P21, P22, F1, F3, GateAccess, AnnouncementAccess, Access, Task, Began, Helped, Operation, Card}
 use Rattle.construction.specs.Cells.{openAnnouncement, sameHolder}
 use Rattle.construction.specs.Dictionary.{noted, nextWrite, insert, itemOf, empty}
 use Rattle.construction.specs.Parts.{idleTask, announcementAt, localAt}
 use Rattle.construction.specs.Machine.{byHolder, byFlag, writeFrom, afterPause, announced, accessOf, accessGate, accessAnnouncement, perform, advance, beginHelp, note, writing, helps, helped}
 use Rattle.construction.proofs.Basics.{on-test}
 use Rattle.construction.proofs.Invariant.Stages.{isAnnounced}
-use Rattle.construction.specs.declared.Began.{Began}
-use Rattle.construction.specs.declared.Helped.{Helped}
-use Rattle.construction.specs.declared.Operation.{Operation}
-use Rattle.construction.specs.declared.Words.{Words}
-use Rattle.construction.specs.declared.Yield.{Yield}
-use Rattle.construction.specs.declared.Gate.{Gate}
-use Rattle.construction.specs.declared.Simulated.{Simulated}
-use Rattle.construction.specs.declared.Record.{Record}
-use Rattle.construction.specs.declared.Program.{Program}
-use Rattle.construction.specs.declared.Simulation.{Simulation}
 use Rattle.construction.specs.Marks.{withBit}
 use Rattle.construction.specs.Helping.{simulate}
 use Rattle.construction.specs.Instructions.{started}

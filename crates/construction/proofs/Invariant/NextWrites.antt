@@ -8,12 +8,7 @@ use native.Mathlib.Decide.{decLt}
 use lib.ListN.{length, getD}
 use lib.Dec.{ltb, eqb}
 use borrow.Author.Tests.{ltb-true, ltb-false, eqb-true, not-false}
-use Rattle.construction.specs.declared.Item.{Item}
-use Rattle.construction.specs.declared.Task.{Task}
-use Rattle.construction.specs.declared.Dictionary.{Dictionary}
-use Rattle.construction.specs.declared.Simulation.{Simulation}
-use Rattle.construction.specs.declared.Pause.{Pause}
-use Rattle.construction.specs.declared.Pause.the-variants.{Ended, Faulted, Lacks}
+use Rattle.construction.specs.Types.{Announcement, Item, Dictionary, Simulation, Pause, Ended, Faulted, Lacks, Task, Contents}
 use Rattle.construction.specs.Cells.{current}
 use Rattle.construction.specs.Dictionary.{noItem, noted, position, valueUnder, altered, nextWrite}
 use Rattle.construction.specs.Sequential.{Ending}
@@ -24,9 +19,7 @@ use Rattle.construction.proofs.Simulating.Simulations.{PausedAt}
 use Rattle.construction.proofs.Invariant.World.{endingIn, World, recordIn, roundIn, wordAt}
 use Rattle.construction.proofs.Invariant.Acting.{atSimulation}
 use Rattle.construction.proofs.Invariant.Assertions.{Helper, Plan, ItemNoted, NoWriteDue, Ready, programFor, FinishedAt, Loc}
-use Rattle.construction.specs.declared.Contents.{Contents}
 use Rattle.construction.specs.Parts.{Local}
-use Rattle.construction.specs.declared.Announcement.{Announcement}
 
 -- an item that is not altered needs no write
 unaltered-fine : (F : Contents) (w : World) (s : ℕ) (e : Item) → ItemNoted F w s e → altered s e ≡ false → NoWriteDue w s e

@@ -2,15 +2,10 @@
 use mathlib.Core.Path.{_≡_, refl, ap}
 use mathlib.Core.Bool.{Bool, true, false, not, false≢true}
 use mathlib.Core.Logic.{_⊎_, inl, inr}
-use Rattle.construction.specs.declared.Place.{Place}
-use Rattle.construction.specs.declared.Place.the-variants.{Idle, P1, P3, P5, P7, P10, C2, C4, P13, P14, P16, H21, H36, P19, P20, P21, P22, F1, F3}
-use Rattle.construction.specs.declared.Access.{Access}
-use Rattle.construction.specs.declared.AnnouncementAccess.{AnnouncementAccess}
+use Rattle.construction.specs.Types.{Gate, Announcement, Place, Idle, P1, P3, P5, P7, P10, C2, C4, P13, P14, P16, H21, H36, P19, P20, P21, P22, F1, F3, AnnouncementAccess, Access}
 use Rattle.construction.specs.Machine.{accessOf}
 use Rattle.construction.specs.Requests.{isIdle}
 use Rattle.construction.proofs.Basics.{on-test, true-false}
-use Rattle.construction.specs.declared.Gate.{Gate}
-use Rattle.construction.specs.declared.Announcement.{Announcement}
 
 -- the places of an announced operation: after P3 until it returns
 abbrev pub isAnnounced : Place → Bool

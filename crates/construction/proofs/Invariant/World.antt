@@ -5,20 +5,12 @@ use mathlib.Core.Bool.{true, false}
 use mathlib.Core.Logic.{_≢_, _⊎_}
 use mathlib.Core.List.{List, [], _∷_, _++_}
 use lib.ListN.{length, getD, set}
-use Rattle.construction.specs.declared.Gate.{Gate}
-use Rattle.construction.specs.declared.Announcement.{Announcement}
-use Rattle.construction.specs.declared.Record.{Record}
-use Rattle.construction.specs.declared.Yield.{Yield}
-use Rattle.construction.specs.declared.Operation.{Operation}
-use Rattle.construction.specs.declared.Holder.{Holder}
-use Rattle.construction.specs.declared.Holder.the-variants.{Nobody, Process}
-use Rattle.construction.specs.declared.Flag.the-variants.{Done, Active, Exit}
+use Rattle.construction.specs.Types.{Holder, Nobody, Process, Gate, Done, Active, Exit, Yield, Announcement, Record, Operation, Contents}
 use Rattle.construction.specs.Cells.{zeros, noYield, yieldOf, openAnnouncement, openRecord, current, previous, rewritten}
 use Rattle.construction.specs.Sequential.{Ending, sequential}
 use Rattle.construction.specs.Parts.{noOperation, programOf}
 use Rattle.construction.specs.Machine.{flagged, finished}
 use Rattle.construction.proofs.Simulating.Sequential.{Short}
-use Rattle.construction.specs.declared.Contents.{Contents}
 
 -- one number of the gate: the words before its operation, and what that was called with
 pub record Round : Type 0 where

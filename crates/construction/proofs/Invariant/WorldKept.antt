@@ -8,12 +8,7 @@ use native.Mathlib.Omega.{arith}
 use native.Mathlib.Nat.{eq-or-lt-of-le}
 use lib.ListN.{length, getD, set, length-set, length-append, List·getD-append}
 use lib.Seq.{getD-set-other, getD-at}
-use Rattle.construction.specs.declared.Announcement.{Announcement}
-use Rattle.construction.specs.declared.Record.{Record}
-use Rattle.construction.specs.declared.Operation.{Operation}
-use Rattle.construction.specs.declared.Holder.{Holder}
-use Rattle.construction.specs.declared.Holder.the-variants.{Nobody, Process}
-use Rattle.construction.specs.declared.Flag.the-variants.{Done, Active}
+use Rattle.construction.specs.Types.{Holder, Nobody, Process, Done, Active, Announcement, Record, Operation, Contents}
 use Rattle.construction.specs.Cells.{zeros, openAnnouncement, openRecord, current, previous, rewritten}
 use Rattle.construction.specs.Sequential.{Ending, sequential}
 use Rattle.construction.specs.Parts.{noOperation, programOf}
@@ -21,7 +16,6 @@ use Rattle.construction.proofs.Basics.{on-set, active-not-done, active-
 use Rattle.construction.proofs.Simulating.Sequential.{sequential-length, sequential-fault}
 use Rattle.construction.proofs.Invariant.World.{Round, noRound, endingOf, endingIn, World, announcementIn, recordIn, leftIn, callIn, roundIn, wordAt, operationOf, Pending, Phase, Recorded, WorldInvariant, asking, announcing, leaving, taking, storing, ending, freeing, Quiet, Move}
 use Rattle.construction.proofs.Invariant.World.Move.{stay, ask, announce, leave, take, write, end, free}
-use Rattle.construction.specs.declared.Contents.{Contents}
 use Rattle.construction.specs.Machine.{finished}
 
 ending-length : (F : Contents) (s : ℕ) (r : Round) → length (endingOf F s r .words) ≡ length (r .words)

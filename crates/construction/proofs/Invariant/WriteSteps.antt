@@ -11,14 +11,7 @@ use lib.ListN.{length, getD, set, length-take}
 use lib.Seq.{getD-set-same, set-getD, getD-take}
 use lib.Dec.{ltb, eqb}
 use borrow.Author.Tests.{ltb-true, eq-eqb}
-use Rattle.construction.specs.declared.Record.{Record}
-use Rattle.construction.specs.declared.Item.{Item}
-use Rattle.construction.specs.declared.Dictionary.{Dictionary}
-use Rattle.construction.specs.declared.Card.{Card}
-use Rattle.construction.specs.declared.Holder.{Holder}
-use Rattle.construction.specs.declared.Holder.the-variants.{Process}
-use Rattle.construction.specs.declared.Flag.the-variants.{Done}
-use Rattle.construction.specs.declared.Place.the-variants.{H36}
+use Rattle.construction.specs.Types.{Holder, Process, Done, Record, Item, Dictionary, H36, Access, Card, Contents}
 use Rattle.construction.specs.Cells.{openRecord, sameRecord, swapRecord, current, rewritten}
 use Rattle.construction.specs.Dictionary.{noItem, noted, valueUnder, altered}
 use Rattle.construction.specs.Parts.{announcementAt, recordAt, withRecord, localAt, contentsOf, withLocal}
@@ -32,8 +25,6 @@ use Rattle.construction.proofs.Invariant.Assertions.{ItemNoted, NoWrite
 use Rattle.construction.proofs.Invariant.Claims.Change.{kept}
 use Rattle.construction.proofs.Invariant.NextWrites.{write-loc}
 use Rattle.construction.proofs.Invariant.Acting.{worldOf, Before, Acted, atTask, goes-on}
-use Rattle.construction.specs.declared.Contents.{Contents}
-use Rattle.construction.specs.declared.Access.{Access}
 
 -- the item that is due
 module _ {c : Card} {w : World} {i : ℕ} (B : Before c w i) (q : LocAt H36 (contentsOf c) (worldOf c w) i (localAt c i)) where

@@ -4,12 +4,7 @@ use mathlib.Core.Path.{_≡_, refl}
 use mathlib.Core.Bool.{Bool, true, false, cond, not}
 use lib.Dec.{ltb}
 use borrow.Author.Tests.{ltb-true}
-use Rattle.construction.specs.declared.Words.{Words}
-use Rattle.construction.specs.declared.Card.{Card}
-use Rattle.construction.specs.declared.Answer.{Answer}
-use Rattle.construction.specs.declared.Answered.{Answered}
-use Rattle.construction.specs.declared.Refusal.{Refusal}
-use Rattle.construction.specs.declared.Refusal.the-variants.{NoProcess, NoProgram, Busy, NotBusy, NoPlace, LimitReached}
+use Rattle.construction.specs.Types.{Words, Card, Refusal, NoProcess, NoProgram, Busy, NotBusy, NoPlace, LimitReached, Answer, Answered}
 use Rattle.construction.specs.Machine.{advance}
 use Rattle.construction.specs.Requests.{isProcess, isProgram, isVariable, isBusy, refused, call, requestExit, answerOf, step, valueOf, read, invoked, exiting}
 use Rattle.construction.proofs.Basics.{on-test, and-true}

@@ -2,7 +2,7 @@
 use Prim.Native.Nat.{ℕ}
 use mathlib.Core.Path.{_≡_, refl, sym, subst}
 use mathlib.Core.List.{List, [], _∷_, _++_}
-use Rattle.construction.specs.declared.Card.{Card}
+use Rattle.construction.specs.Types.{Card}
 use Rattle.construction.specs.History.{Entry, act, Response, Event, eventOf, History, finishing, withFinish, withFinishes, withResponse, withEntry, Observation, observe, observeAll}
 use Rattle.construction.proofs.Observing.Histories.{Extends, extends-trans}
 

@@ -9,9 +9,7 @@ use native.Mathlib.Nat.{add-zero, suc-add, add-suc}
 use lib.ListN.{length, getD, set}
 use lib.Dec.{eqb}
 use borrow.Author.Tests.{eqb-true, eqb-false, eq-eqb, ne-eqb}
-use Rattle.construction.specs.declared.Flag.{Flag}
-use Rattle.construction.specs.declared.Flag.the-variants.{Done, Active, Exit}
-use Rattle.construction.specs.declared.Announcement.{Announcement}
+use Rattle.construction.specs.Types.{Flag, Done, Active, Exit, Announcement}
 use Rattle.construction.specs.Cells.{isDone, openAnnouncement}
 use Rattle.construction.specs.History.{Invocation, Finish, Return, Response, hasCalled, latest, turned}
 use Rattle.construction.specs.Numbers.{callerOf, latestNumber}

@@ -2,11 +2,7 @@
 use Prim.Native.Nat.{ℕ, _<_}
 use mathlib.Core.Path.{_≡_}
 use mathlib.Core.Bool.{true, false}
-use Rattle.construction.specs.declared.Words.{Words}
-use Rattle.construction.specs.declared.Card.{Card}
-use Rattle.construction.specs.declared.Answer.{Answer}
-use Rattle.construction.specs.declared.Answered.{Answered}
-use Rattle.construction.specs.declared.Refusal.{Refusal}
+use Rattle.construction.specs.Types.{Words, Card, Refusal, Answer, Answered}
 use Rattle.construction.specs.Machine.{advance}
 use Rattle.construction.specs.Requests.{isBusy, refused, answerOf, valueOf, invoked, exiting}
 use Rattle.construction.specs.Tracing.{trace}

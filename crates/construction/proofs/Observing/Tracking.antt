@@ -9,12 +9,7 @@ use native.Mathlib.Nat.{zero-add}
 use native.Mathlib.Decide.{ℕ-discrete}
 use lib.ListN.{length, getD}
 use lib.Seq.{getD-set-same, getD-set-other}
-use Rattle.construction.specs.declared.Flag.{Flag}
-use Rattle.construction.specs.declared.Flag.the-variants.{Done, Active, Exit}
-use Rattle.construction.specs.declared.Holder.the-variants.{Process}
-use Rattle.construction.specs.declared.Announcement.{Announcement}
-use Rattle.construction.specs.declared.Operation.{Operation}
-use Rattle.construction.specs.declared.Card.{Card}
+use Rattle.construction.specs.Types.{Process, Flag, Done, Active, Exit, Announcement, Operation, Card, Contents}
 use Rattle.construction.specs.Cells.{isDone, openAnnouncement}
 use Rattle.construction.specs.Sequential.{Ending, sequential}
 use Rattle.construction.specs.Instructions.{noProgram}
@@ -25,7 +20,6 @@ use Rattle.construction.proofs.Observing.Histories.{on-equal, chosen, p
 use Rattle.construction.proofs.Invariant.World.{World, announcementIn, callIn, Result, noResult, resultIn, endingIn, WorldInvariant, asking, ending, Move}
 use Rattle.construction.proofs.Invariant.World.Move.{stay, ask, announce, leave, take, write, end, free}
 use Rattle.construction.proofs.Invariant.WorldKept.{ends-now}
-use Rattle.construction.specs.declared.Contents.{Contents}
 use Rattle.construction.specs.Machine.{finished}
 use Rattle.construction.specs.Linearizability.{times, finishOf, hasReturned, Numbered, Agrees, AllAgree, ReturnedOnce, UnderWay}
 use Rattle.construction.specs.Numbers.{callerOf, latestNumber}

@@ -9,8 +9,7 @@ use lib.Dec.{eqb, ltb, leb·suc-suc}
 use lib.ListN.{length, getD, set, drop, length-take, length-drop, length-set}
 use lib.Seq.{getD-take, getD-drop, take-set-lt, take-suc-set}
 use borrow.Author.Tests.{eqb-true, eqb-false, ne-eqb, ltb-true, lt-ltb}
-use Rattle.construction.specs.declared.Item.{Item}
-use Rattle.construction.specs.declared.Dictionary.{Dictionary}
+use Rattle.construction.specs.Types.{Item, Dictionary}
 use Rattle.construction.specs.Dictionary.{noItem, noted, position, find, has, valueAt, withValue, assign, insert, altered, unaltered, nextWrite}
 use Rattle.construction.proofs.Basics.{on-test, true-or-false, true-false, cond-true, cond-false, eqb-refl}
 

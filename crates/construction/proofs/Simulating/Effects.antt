@@ -9,10 +9,7 @@ use native.Mathlib.Omega.{arith}
 use lib.Dec.{eqb, ltb}
 use lib.ListN.{length}
 use borrow.Author.Tests.{ltb-true}
-use Rattle.construction.specs.declared.Words.{Words}
-use Rattle.construction.specs.declared.Instruction.{Instruction}
-use Rattle.construction.specs.declared.Effect.{Effect}
-use Rattle.construction.specs.declared.Simulation.{Simulation}
+use Rattle.construction.specs.Types.{Words, Instruction, Effect, Simulation}
 use Rattle.construction.specs.Instructions.{word, load, store, free, isCell, effectOf, forward, withRegister, withOutput, skipped}
 use Rattle.construction.specs.Effects.{Store, Executed, touched, allocated, execute, onExecuted}
 use Rattle.construction.specs.Weight.{weightOf}

@@ -13,12 +13,7 @@ use lib.Count.{ones, ones-step}
 use lib.ListN.{length}
 use lib.Pow.{shr-shr}
 use borrow.Author.Tests.{lt-ltb, eqb-true}
-use Rattle.construction.specs.declared.Words.{Words}
-use Rattle.construction.specs.declared.Program.{Program}
-use Rattle.construction.specs.declared.Item.{Item}
-use Rattle.construction.specs.declared.Dictionary.{Dictionary}
-use Rattle.construction.specs.declared.Simulation.{Simulation}
-use Rattle.construction.specs.declared.Simulated.{Simulated}
+use Rattle.construction.specs.Types.{Words, Program, Item, Dictionary, Simulation, Simulated}
 use Rattle.construction.specs.Instructions.{nextEffect}
 use Rattle.construction.specs.Effects.{Store, touched, execute}
 use Rattle.construction.specs.Dictionary.{noted, find, has, assign, insert}

@@ -8,12 +8,7 @@ use native.Mathlib.Omega.{arith}
 use lib.Dec.{ltb}
 use lib.ListN.{length, getD, set, length-set, List·getD-eq-default}
 use borrow.Author.Tests.{ltb-true, ltb-false}
-use Rattle.construction.specs.declared.Words.{Words}
-use Rattle.construction.specs.declared.Instruction.{Instruction}
-use Rattle.construction.specs.declared.Line.{Line}
-use Rattle.construction.specs.declared.Program.{Program}
-use Rattle.construction.specs.declared.Effect.{Effect}
-use Rattle.construction.specs.declared.Simulation.{Simulation}
+use Rattle.construction.specs.Types.{Words, Instruction, Line, Program, Effect, Simulation}
 use Rattle.construction.specs.Instructions.{effectOf, nextEffect, fetch, noLine, faulted, started}
 use Rattle.construction.specs.Effects.{Store, Executed, execute, onExecuted}
 use Rattle.construction.specs.Weight.{weight}

@@ -6,9 +6,7 @@ use native.Mathlib.Omega.{arith}
 use native.Mathlib.Nat.{eq-or-lt-of-le, le-of-eq, le-trans, le-max-left, le-max-right}
 use mathlib.Core.Logic.{⊎-elim}
 use lib.ListN.{getD}
-use Rattle.construction.specs.declared.Instruction.{Instruction}
-use Rattle.construction.specs.declared.Program.{Program}
-use Rattle.construction.specs.declared.Contents.{Contents}
+use Rattle.construction.specs.Types.{Instruction, Program, Contents}
 use Rattle.construction.specs.Instructions.{fetch, noProgram}
 use Rattle.construction.specs.Parts.{programOf}
 use Rattle.construction.specs.Weight.{weightOf, weightBefore, weight, heaviest, cardWeight}

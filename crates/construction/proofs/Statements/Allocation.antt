@@ -4,7 +4,7 @@ use mathlib.Core.Path.{_≡_, refl, sym, subst, ap, _∙_}
 use mathlib.Core.List.{List, [], _∷_, _++_, append-assoc}
 use native.Mathlib.Omega.{arith}
 use lib.ListN.{length, take, length-take}
-use Rattle.construction.specs.declared.Card.{Card}
+use Rattle.construction.specs.Types.{Card}
 use Rattle.construction.specs.Opening.{opened, fresh}
 use Rattle.construction.specs.History.{Entry, observeAll, run}
 use Rattle.construction.specs.Allocation.{Action, Performed, wordsAfter, startWords, performed, OnlyByCodes, OnlyFromHands, InHands, Disciplined, Allocating}

@@ -5,8 +5,7 @@ use mathlib.Core.Path.{_≡_, refl}
 use mathlib.Core.Bool.{true, false}
 use mathlib.Core.List.{List, [], _∷_, _++_}
 use lib.ListN.{getD, replicate}
-use Rattle.construction.specs.declared.Words.{Words}
-use Rattle.construction.specs.declared.Card.{Card}
+use Rattle.construction.specs.Types.{Words, Card}
 use Rattle.grammar.specs.Reading.{four, field, number, digits, hasWord}
 use Rattle.construction.specs.Opening.{opened, readCard, varsFrom, programsFrom, readProgram, insFrom, fresh}
 use Rattle.construction.specs.Lines.{cardLine, judgeCard, varLine, judgeVar, sheetLine, judgeSheet, insLine, judgeIns}

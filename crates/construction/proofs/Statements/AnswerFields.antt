@@ -7,13 +7,7 @@ use mathlib.Core.Bool.{Bool, true, false, cond}
 use mathlib.Core.List.{[], _∷_, _++_}
 use lib.ListN.{getD}
 use Rattle.grammar.specs.Reading.{hasWord}
-use Rattle.construction.specs.declared.Yield.{Yield}
-use Rattle.construction.specs.declared.Answer.{Answer}
-use Rattle.construction.specs.declared.RowSwap.{RowSwap}
-use Rattle.construction.specs.declared.Verdict.{Verdict}
-use Rattle.construction.specs.declared.Written.{Written}
-use Rattle.construction.specs.declared.Refusal.{Refusal}
-use Rattle.construction.specs.declared.Refusal.the-variants.{TooLong, Malformed, OutOfRange, UnknownCode, NoProcess, NoProgram, Busy, NotBusy, NoPlace, LimitReached, ShortBuffer, OperandOutOfRange, UnusedOperand, TooHeavy}
+use Rattle.construction.specs.Types.{Yield, Refusal, TooLong, Malformed, OutOfRange, UnknownCode, NoProcess, NoProgram, Busy, NotBusy, NoPlace, LimitReached, ShortBuffer, OperandOutOfRange, UnusedOperand, TooHeavy, Answer, RowSwap, Verdict, Written}
 use Rattle.construction.specs.Answers.{bytes, Fields, fields, numberOf, outputNumbers, doneWord, answerFields, verdictFields, writtenFields, rowFields}
 
 -- what can be read back is known

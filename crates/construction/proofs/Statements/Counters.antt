@@ -5,22 +5,9 @@ use mathlib.Core.List.{List, [], _∷_}
 use native.Mathlib.Omega.{arith}
 use lib.Dec.{eqb, ltb}
 use lib.ListN.{getD, set}
-use Rattle.construction.specs.declared.Words.{Words}
-use Rattle.construction.specs.declared.Program.{Program}
-use Rattle.construction.specs.declared.Dictionary.{Dictionary}
-use Rattle.construction.specs.declared.Simulation.{Simulation}
-use Rattle.construction.specs.declared.Simulated.{Simulated}
-use Rattle.construction.specs.declared.Announcement.{Announcement}
-use Rattle.construction.specs.declared.Record.{Record}
-use Rattle.construction.specs.declared.Task.{Task}
-use Rattle.construction.specs.declared.Began.{Began}
-use Rattle.construction.specs.declared.Helped.{Helped}
-use Rattle.construction.specs.declared.Access.{Access}
-use Rattle.construction.specs.declared.Card.{Card}
-use Rattle.construction.specs.declared.Answered.{Answered}
+use Rattle.construction.specs.Types.{Words, Announcement, Record, Program, Effect, Dictionary, Simulation, Simulated, Access, Task, Began, Helped, Card, Answered}
 use Rattle.construction.specs.Instructions.{isCell, nextEffect, forward, withRegister, withOutput, skipped, faulted, started}
 use Rattle.construction.specs.Effects.{Executed, touched, allocated, execute}
-use Rattle.construction.specs.declared.Effect.{Effect}
 use Rattle.construction.specs.Dictionary.{empty, insert, itemOf}
 use Rattle.construction.specs.Helping.{noteOf, withNotes, simulate, simulateFrom}
 use Rattle.construction.specs.Parts.{localAt}

@@ -7,13 +7,7 @@ use mathlib.Core.Logic.{⊎-elim}
 use native.Mathlib.Decide.{ℕ-discrete}
 use lib.ListN.{getD, set}
 use lib.Seq.{set-getD, set-set}
-use Rattle.construction.specs.declared.Words.{Words}
-use Rattle.construction.specs.declared.Task.{Task}
-use Rattle.construction.specs.declared.Place.the-variants.{P1}
-use Rattle.construction.specs.declared.Card.{Card}
-use Rattle.construction.specs.declared.Answer.{Answer}
-use Rattle.construction.specs.declared.Answered.{Answered}
-use Rattle.construction.specs.declared.Access.{Access}
+use Rattle.construction.specs.Types.{Words, P1, Access, Task, Card, Answer, Answered}
 use Rattle.construction.specs.Cells.{openAnnouncement}
 use Rattle.construction.specs.Instructions.{started}
 use Rattle.construction.specs.Dictionary.{empty}

@@ -3,10 +3,8 @@ use Prim.Native.Nat.{ℕ}
 use mathlib.Core.Path.{subst}
 use mathlib.Core.List.{List}
 use borrow.Author.Tests.{le-ltb}
-use Rattle.construction.specs.declared.Words.{Words}
-use Rattle.construction.specs.declared.Program.{Program}
+use Rattle.construction.specs.Types.{Words, Program, Place}
 use Rattle.construction.specs.Instructions.{word, load, store, effectOf}
-use Rattle.construction.specs.declared.Place.{Place}
 use Rattle.construction.specs.Parts.{localAt, contentsOf}
 use Rattle.construction.specs.Opening.{opened}
 use Rattle.construction.specs.History.{Entry, run}

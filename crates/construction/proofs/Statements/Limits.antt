@@ -5,8 +5,7 @@ use mathlib.Core.Bool.{false}
 use mathlib.Core.List.{List, [], _∷_}
 use native.Mathlib.Omega.{arith}
 use lib.ListN.{length, getD}
-use Rattle.construction.specs.declared.Item.{Item}
-use Rattle.construction.specs.declared.Place.{Place}
+use Rattle.construction.specs.Types.{Item, Place}
 use Rattle.construction.specs.Dictionary.{noItem, noted}
 use Rattle.construction.specs.Parts.{localAt, contentsOf}
 use Rattle.construction.specs.Opening.{opened}

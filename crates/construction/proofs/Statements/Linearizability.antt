@@ -5,10 +5,7 @@ use mathlib.Core.Bool.{true, not}
 use mathlib.Core.List.{List, [], _∷_, _++_}
 use native.Mathlib.Omega.{arith}
 use lib.ListN.{length, getD}
-use Rattle.construction.specs.declared.Card.{Card}
-use Rattle.construction.specs.declared.Contents.{Contents}
-use Rattle.construction.specs.declared.Task.{Task}
-use Rattle.construction.specs.declared.Announcement.{Announcement}
+use Rattle.construction.specs.Types.{Announcement, Task, Card, Contents}
 use Rattle.construction.specs.Cells.{openAnnouncement}
 use Rattle.construction.specs.Numbers.{latestNumber}
 use Rattle.construction.specs.Instructions.{noProgram}

@@ -5,9 +5,7 @@ use mathlib.Core.Bool.{true, false, cond, true≢false}
 use mathlib.Core.List.{List, [], _∷_}
 use native.Mathlib.Omega.{arith}
 use lib.ListN.{getD}
-use Rattle.construction.specs.declared.Announcement.{Announcement}
-use Rattle.construction.specs.declared.Contents.{Contents}
-use Rattle.construction.specs.declared.Flag.the-variants.{Done}
+use Rattle.construction.specs.Types.{Done, Announcement, Contents}
 use Rattle.construction.specs.Cells.{isDone, openAnnouncement}
 use Rattle.construction.specs.Parts.{announcementAt}
 use Rattle.construction.specs.Opening.{opened}

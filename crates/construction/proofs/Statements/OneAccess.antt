@@ -7,12 +7,7 @@ use native.Mathlib.Omega.{arith}
 use native.Mathlib.Decide.{decLt}
 use lib.ListN.{length, getD, set, length-set}
 use lib.Seq.{set-out, getD-set-same, getD-set-other}
-use Rattle.construction.specs.declared.Card.{Card}
-use Rattle.construction.specs.declared.Gate.{Gate}
-use Rattle.construction.specs.declared.Announcement.{Announcement}
-use Rattle.construction.specs.declared.Record.{Record}
-use Rattle.construction.specs.declared.Access.{Access}
-use Rattle.construction.specs.declared.Cell.{Cell}
+use Rattle.construction.specs.Types.{Gate, Announcement, Record, Access, Cell, Card}
 use Rattle.construction.specs.Parts.{Local, localAt, contentsOf, announcementAt, recordAt, withGate, withAnnouncement, withRecord, withLocal, withSteps}
 use Rattle.construction.specs.Machine.{whose, holderOf, writtenVariable, accessIn, cellOf, stepGate, stepAnnouncement, stepHelp, stepNote, stepWrite, Performed, Accessed, after, perform, advance, swapOf}
 use Rattle.construction.specs.Requests.{answerOf}

@@ -7,15 +7,7 @@ use mathlib.Core.List.{List, [], _∷_}
 use lib.ListN.{length}
 use borrow.Author.Tests.{lt-ltb, le-ltb, le-leb, lt-leb}
 use Rattle.grammar.specs.Reading.{hasWord}
-use Rattle.construction.specs.declared.Words.{Words}
-use Rattle.construction.specs.declared.Announcement.{Announcement}
-use Rattle.construction.specs.declared.Flag.{Flag}
-use Rattle.construction.specs.declared.Flag.the-variants.{Done, Active, Exit}
-use Rattle.construction.specs.declared.Card.{Card}
-use Rattle.construction.specs.declared.Answer.{Answer}
-use Rattle.construction.specs.declared.Answered.{Answered}
-use Rattle.construction.specs.declared.Refusal.{Refusal}
-use Rattle.construction.specs.declared.Refusal.the-variants.{NoProcess, NoProgram, Busy, NotBusy, NoPlace, LimitReached}
+use Rattle.construction.specs.Types.{Flag, Done, Active, Exit, Words, Announcement, Card, Refusal, NoProcess, NoProgram, Busy, NotBusy, NoPlace, LimitReached, Answer, Answered}
 use Rattle.construction.specs.Answers.{numberOf, fields, doneWord, refusedWith, answerFields, verdictFields, writtenFields, Refuses}
 use Rattle.construction.specs.Machine.{advance}
 use Rattle.construction.specs.Parts.{localAt, withLocal, Local}

@@ -2,10 +2,7 @@
 use Prim.Native.Nat.{ℕ}
 use mathlib.Core.Path.{_≡_, refl, sym, ap, _∙_}
 use mathlib.Core.List.{List, [], _∷_}
-use Rattle.construction.specs.declared.Card.{Card}
-use Rattle.construction.specs.declared.Verdict.{Verdict}
-use Rattle.construction.specs.declared.Contents.{Contents}
-use Rattle.construction.specs.declared.Answered.{Answered}
+use Rattle.construction.specs.Types.{Card, Answered, Contents, Verdict}
 use Rattle.construction.specs.Parts.{contentsOf}
 use Rattle.construction.specs.Opening.{fresh, opened}
 use Rattle.construction.specs.Writing.{textOf}

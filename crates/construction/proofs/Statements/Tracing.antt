@@ -3,13 +3,7 @@ use Prim.Native.Nat.{ℕ, _<_}
 use mathlib.Core.Path.{_≡_, refl, ap, _∙_}
 use Rattle.grammar.specs.Writing.{decimal, decimals}
 use mathlib.Core.Bool.{true, false, cond}
-use Rattle.construction.specs.declared.Announcement.{Announcement}
-use Rattle.construction.specs.declared.Flag.{Flag}
-use Rattle.construction.specs.declared.Flag.the-variants.{Done, Active, Exit}
-use Rattle.construction.specs.declared.Answer.{Answer}
-use Rattle.construction.specs.declared.Report.{Report}
-use Rattle.construction.specs.declared.Card.{Card}
-use Rattle.construction.specs.declared.Answered.{Answered}
+use Rattle.construction.specs.Types.{Flag, Done, Active, Exit, Announcement, Card, Answer, Answered, Report}
 use Rattle.construction.specs.Parts.{Local, localAt}
 use Rattle.construction.specs.Machine.{advance}
 use Rattle.construction.specs.Requests.{isProcess, isBusy, isIdle, returned, answerOf, step}

@@ -9,17 +9,7 @@ use native.Mathlib.Decide.{decLt}
 use lib.ListN.{getD, set}
 use lib.Seq.{getD-set-same}
 use borrow.Author.Tests.{lt-ltb, le-ltb, not-true}
-use Rattle.construction.specs.declared.Flag.{Flag}
-use Rattle.construction.specs.declared.Flag.the-variants.{Done, Active, Exit}
-use Rattle.construction.specs.declared.Announcement.{Announcement}
-use Rattle.construction.specs.declared.Place.{Place}
-use Rattle.construction.specs.declared.Access.{Access}
-use Rattle.construction.specs.declared.Card.{Card}
-use Rattle.construction.specs.declared.Contents.{Contents}
-use Rattle.construction.specs.declared.Answer.{Answer}
-use Rattle.construction.specs.declared.Answered.{Answered}
-use Rattle.construction.specs.declared.Refusal.{Refusal}
-use Rattle.construction.specs.declared.Refusal.the-variants.{LimitReached}
+use Rattle.construction.specs.Types.{Flag, Done, Active, Exit, Announcement, Place, Access, Card, Refusal, LimitReached, Answer, Answered, Contents}
 use Rattle.construction.specs.Parts.{Local, localAt, contentsOf, announcementAt}
 use Rattle.construction.specs.Machine.{accessIn, perform, advance}
 use Rattle.construction.specs.Requests.{isProcess, isIdle, isBusy, returned, answerOf, step}

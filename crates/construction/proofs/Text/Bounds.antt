@@ -5,14 +5,7 @@ use mathlib.Core.List.{List}
 use native.Mathlib.Omega.{arith}
 use lib.ListN.{length, getD, length-set}
 use lib.Dec.{ltb, eqb}
-use Rattle.construction.specs.declared.CardLine.{CardLine}
-use Rattle.construction.specs.declared.Contents.{Contents}
-use Rattle.construction.specs.declared.Reading.{Reading}
-use Rattle.construction.specs.declared.ProgramReading.{ProgramReading}
-use Rattle.construction.specs.declared.Verdict.{Verdict}
-use Rattle.construction.specs.declared.Refusal.{Refusal}
-use Rattle.construction.specs.declared.Refusal.the-variants.{TooLong, Malformed}
-use Rattle.construction.specs.declared.Program.{Program}
+use Rattle.construction.specs.Types.{Program, Refusal, TooLong, Malformed, CardLine, Contents, Verdict, ProgramReading, Reading}
 use Rattle.construction.specs.Instructions.{noProgram, fetch}
 use Rattle.construction.specs.Weight.{weightBefore, weight}
 use Rattle.construction.specs.Lines.{cardLine, varLine, sheetLine, insLine}

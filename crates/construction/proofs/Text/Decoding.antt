@@ -8,14 +8,7 @@ use lib.ListN.{length, getD, List·getD-eq-default}
 use native.Mathlib.Omega.{arith}
 use borrow.Author.Tests.{eqb-true, ltb-true, eq-eqb, ne-eqb, not-false}
 use Rattle.grammar.proofs.RoundTrip.{Small}
-use Rattle.construction.specs.declared.Instruction.{Instruction}
-use Rattle.construction.specs.declared.OperandKind.{OperandKind}
-use Rattle.construction.specs.declared.OperandKind.the-variants.{Unused, Register, Word, Variable, Skip}
-use Rattle.construction.specs.declared.Format.{Format}
-use Rattle.construction.specs.declared.Format.the-variants.{Unknown, Known}
-use Rattle.construction.specs.declared.Encoded.{Encoded}
-use Rattle.construction.specs.declared.Decoded.{Decoded}
-use Rattle.construction.specs.declared.Refusal.the-variants.{UnknownCode, OperandOutOfRange, UnusedOperand}
+use Rattle.construction.specs.Types.{Instruction, OperandKind, Unused, Register, Word, Variable, Skip, Format, Unknown, Known, Decoded, Encoded, UnknownCode, OperandOutOfRange, UnusedOperand}
 use Rattle.construction.specs.Instructions.{CodeRow, noRow, codes, rowOf, instructionOf, ranged, unusedZero, eachOperand, decode, decodeAs, encoded, encode}
 use Rattle.construction.proofs.Basics.{on-test, and-true, clash}
 use Rattle.construction.proofs.Text.Lines.{range-true}

@@ -10,14 +10,7 @@ use Rattle.grammar.specs.declared.Number.{Number}
 use Rattle.grammar.specs.declared.Numbers.{Numbers}
 use Rattle.grammar.specs.Reading.{field, four, hasWord}
 use Rattle.construction.proofs.Basics.{on-test, and-true, clash}
-use Rattle.construction.specs.declared.CardLine.{CardLine}
-use Rattle.construction.specs.declared.VarLine.{VarLine}
-use Rattle.construction.specs.declared.SheetLine.{SheetLine}
-use Rattle.construction.specs.declared.InsLine.{InsLine}
-use Rattle.construction.specs.declared.Instruction.{Instruction}
-use Rattle.construction.specs.declared.Encoded.{Encoded}
-use Rattle.construction.specs.declared.Decoded.{Decoded}
-use Rattle.construction.specs.declared.Refusal.the-variants.{Malformed, OutOfRange}
+use Rattle.construction.specs.Types.{Instruction, Decoded, Encoded, Malformed, OutOfRange, CardLine, VarLine, SheetLine, InsLine}
 use Rattle.construction.specs.Instructions.{inRange, decode, encoded}
 use Rattle.construction.specs.Lines.{cardWord, varWord, sheetWord, insWord, cardFits, cardLine, judgeCard, varLine, judgeVar, sheetLine, judgeSheet, insOf, insLine, judgeIns}
 

@@ -6,18 +6,9 @@ use lib.Dec.{ltb}
 use Prim.Native.Nat.{ℕ, suc, _+_, _≤_}
 use lib.ListN.{replicate}
 use borrow.Author.Tests.{ltb-false}
-use Rattle.construction.specs.declared.CardLine.{CardLine}
-use Rattle.construction.specs.declared.VarLine.{VarLine}
-use Rattle.construction.specs.declared.SheetLine.{SheetLine}
-use Rattle.construction.specs.declared.InsLine.{InsLine}
-use Rattle.construction.specs.declared.Instruction.{Instruction}
-use Rattle.construction.specs.declared.Refusal.{Refusal}
-use Rattle.construction.specs.declared.Verdict.{Verdict}
-use Rattle.construction.specs.declared.ProgramReading.{ProgramReading}
-use Rattle.construction.specs.declared.Reading.{Reading}
+use Rattle.construction.specs.Types.{Instruction, Refusal, TooHeavy, CardLine, VarLine, SheetLine, InsLine, Verdict, ProgramReading, Reading}
 use Rattle.construction.specs.Instructions.{noLine, noProgram}
 use Rattle.construction.specs.Weight.{weight}
-use Rattle.construction.specs.declared.Refusal.the-variants.{TooHeavy}
 use Rattle.construction.specs.Opening.{
   refusedAt,
   programRefusedAt,

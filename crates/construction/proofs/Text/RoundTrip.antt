@@ -12,17 +12,7 @@ use borrow.Author.Tests.{ne-eqb, eqb-true}
 use Rattle.construction.proofs.Basics.{on-test, clash}
 use Rattle.grammar.proofs.Bytes.{word-text}
 use Rattle.grammar.proofs.RoundTrip.{Small, field-text, four-text}
-use Rattle.construction.specs.declared.CardLine.{CardLine}
-use Rattle.construction.specs.declared.VarLine.{VarLine}
-use Rattle.construction.specs.declared.SheetLine.{SheetLine}
-use Rattle.construction.specs.declared.InsLine.{InsLine}
-use Rattle.construction.specs.declared.Instruction.{Instruction}
-use Rattle.construction.specs.declared.Encoded.{Encoded}
-use Rattle.construction.specs.declared.Contents.{Contents}
-use Rattle.construction.specs.declared.Verdict.{Verdict}
-use Rattle.construction.specs.declared.Line.{Line}
-use Rattle.construction.specs.declared.ProgramReading.{ProgramReading}
-use Rattle.construction.specs.declared.Reading.{Reading}
+use Rattle.construction.specs.Types.{Instruction, Encoded, Line, CardLine, VarLine, SheetLine, InsLine, Contents, Verdict, ProgramReading, Reading}
 use Rattle.construction.specs.Instructions.{noLine, noProgram}
 use Rattle.construction.specs.Lines.{
   cardWord,

@@ -8,13 +8,7 @@ use native.Mathlib.Numerals.{add-one}
 use borrow.Author.Tests.{eq-eqb, ne-eqb, le-leb, lt-leb}
 use Rattle.grammar.specs.Writing.{Put, fieldText, fourText, largest}
 use Rattle.grammar.proofs.Puts.{Room, Rest, rest-all, rest-step, rest-last, rest-none, put-both, put-front, put-fits}
-use Rattle.construction.specs.declared.Instruction.{Instruction}
-use Rattle.construction.specs.declared.Encoded.{Encoded}
-use Rattle.construction.specs.declared.Line.{Line}
-use Rattle.construction.specs.declared.Program.{Program}
-use Rattle.construction.specs.declared.Card.{Card}
-use Rattle.construction.specs.declared.Written.{Written}
-use Rattle.construction.specs.declared.Refusal.the-variants.{ShortBuffer}
+use Rattle.construction.specs.Types.{Instruction, Encoded, Line, Program, Card, ShortBuffer, Written}
 use Rattle.construction.specs.Instructions.{encode, noLine, noProgram}
 use Rattle.construction.specs.Lines.{cardWord, varWord, sheetWord, insWord, cardText, varText, sheetText, encodedText, insText}
 use Rattle.construction.specs.Writing.{varsText, linesText, programText, programsText, textOf, written, writtenInto}

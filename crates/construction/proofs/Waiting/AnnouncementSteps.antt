@@ -7,14 +7,7 @@ use mathlib.Core.List.{List}
 use native.Mathlib.Omega.{arith}
 use lib.ListN.{getD, set}
 use lib.Seq.{getD-set-same, set-getD}
-use Rattle.construction.specs.declared.Announcement.{Announcement}
-use Rattle.construction.specs.declared.Card.{Card}
-use Rattle.construction.specs.declared.Access.{Access}
-use Rattle.construction.specs.declared.AnnouncementAccess.{AnnouncementAccess}
-use Rattle.construction.specs.declared.Flag.{Flag}
-use Rattle.construction.specs.declared.Flag.the-variants.{Done, Active, Exit}
-use Rattle.construction.specs.declared.Place.{Place}
-use Rattle.construction.specs.declared.Place.the-variants.{Idle, P3, P5, P7, P10, C2, C4, P13, P19, P20, P21, P22, F1}
+use Rattle.construction.specs.Types.{Flag, Done, Active, Exit, Announcement, Place, Idle, P3, P5, P7, P10, C2, C4, P13, P19, P20, P21, P22, F1, AnnouncementAccess, Access, Card}
 use Rattle.construction.specs.Cells.{openAnnouncement, sameAnnouncement, swapAnnouncement}
 use Rattle.construction.specs.Parts.{Local, localAt, contentsOf, announcementAt, withAnnouncement, withLocal}
 use Rattle.construction.specs.Machine.{goTo, byFlag, whose, announced, withdrawn, accessAnnouncement, perform}

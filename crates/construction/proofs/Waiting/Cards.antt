@@ -8,14 +8,7 @@ use native.Mathlib.Omega.{arith}
 use native.Mathlib.Decide.{ℕ-discrete}
 use lib.ListN.{getD}
 use borrow.Author.Tests.{not-true}
-use Rattle.construction.specs.declared.Gate.{Gate}
-use Rattle.construction.specs.declared.Announcement.{Announcement}
-use Rattle.construction.specs.declared.Words.{Words}
-use Rattle.construction.specs.declared.Card.{Card}
-use Rattle.construction.specs.declared.Contents.{Contents}
-use Rattle.construction.specs.declared.Task.{Task}
-use Rattle.construction.specs.declared.Flag.the-variants.{Active}
-use Rattle.construction.specs.declared.Place.{Place}
+use Rattle.construction.specs.Types.{Gate, Active, Words, Announcement, Place, Task, Card, Contents}
 use Rattle.construction.specs.Cells.{openAnnouncement}
 use Rattle.construction.specs.Parts.{idleTask, Local, localAt, contentsOf, announcementAt, withLocal}
 use Rattle.construction.specs.Machine.{accessIn, advance}

@@ -4,16 +4,7 @@ use mathlib.Core.Path.{_≡_, refl, sym, subst, ap, _∙_}
 use mathlib.Core.Bool.{Bool, true, false, true≢false}
 use mathlib.Core.Logic.{_≢_, _⊎_}
 use native.Mathlib.Omega.{arith}
-use Rattle.construction.specs.declared.Gate.{Gate}
-use Rattle.construction.specs.declared.Card.{Card}
-use Rattle.construction.specs.declared.Contents.{Contents}
-use Rattle.construction.specs.declared.Access.{Access}
-use Rattle.construction.specs.declared.AnnouncementAccess.{AnnouncementAccess}
-use Rattle.construction.specs.declared.Holder.the-variants.{Nobody, Process}
-use Rattle.construction.specs.declared.Flag.{Flag}
-use Rattle.construction.specs.declared.Flag.the-variants.{Done, Active, Exit}
-use Rattle.construction.specs.declared.Place.{Place}
-use Rattle.construction.specs.declared.Place.the-variants.{Idle, P1, P3, P5, P7, P10, C2, C4, P13, P14, P16, H21, H36, P19, P20, P21, P22, F1, F3}
+use Rattle.construction.specs.Types.{Nobody, Process, Gate, Flag, Done, Active, Exit, Place, Idle, P1, P3, P5, P7, P10, C2, C4, P13, P14, P16, H21, H36, P19, P20, P21, P22, F1, F3, AnnouncementAccess, Access, Card, Contents}
 use Rattle.construction.specs.Parts.{Local, localAt, announcementAt, withAnnouncement, withLocal}
 use Rattle.construction.specs.Machine.{byFlag, firstChoice, whose, accessOf, accessAnnouncement, perform}
 use Rattle.construction.specs.Requests.{isIdle}

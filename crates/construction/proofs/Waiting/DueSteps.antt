@@ -9,12 +9,7 @@ use native.Mathlib.Omega.{arith}
 use native.Mathlib.Decide.{ℕ-discrete}
 use native.Mathlib.Nat.{eq-or-lt-of-le}
 use borrow.Author.Tests.{not-true}
-use Rattle.construction.specs.declared.Gate.{Gate}
-use Rattle.construction.specs.declared.Card.{Card}
-use Rattle.construction.specs.declared.Holder.the-variants.{Nobody, Process}
-use Rattle.construction.specs.declared.Flag.the-variants.{Done, Active}
-use Rattle.construction.specs.declared.Place.{Place}
-use Rattle.construction.specs.declared.Announcement.{Announcement}
+use Rattle.construction.specs.Types.{Nobody, Process, Gate, Done, Active, Announcement, Place, Card}
 use Rattle.construction.specs.Cells.{openAnnouncement}
 use Rattle.construction.specs.Parts.{localAt, contentsOf, announcementAt}
 use Rattle.construction.specs.Machine.{advance}

@@ -2,9 +2,7 @@
 use Prim.Native.Nat.{ℕ}
 use mathlib.Core.Path.{sym, subst}
 use mathlib.Core.List.{List, [], _∷_}
-use Rattle.construction.specs.declared.Card.{Card}
-use Rattle.construction.specs.declared.Contents.{Contents}
-use Rattle.construction.specs.declared.Answered.{Answered}
+use Rattle.construction.specs.Types.{Card, Answered, Contents}
 use Rattle.construction.specs.Parts.{contentsOf}
 use Rattle.construction.specs.Opening.{fresh, readCard, opened}
 use Rattle.construction.specs.History.{Entry, act, Observation, observe, observeAll, opening, run}

@@ -6,15 +6,7 @@ use mathlib.Core.Logic.{_≢_}
 use mathlib.Core.List.{List}
 use native.Mathlib.Omega.{arith}
 use lib.ListN.{getD}
-use Rattle.construction.specs.declared.Gate.{Gate}
-use Rattle.construction.specs.declared.Announcement.{Announcement}
-use Rattle.construction.specs.declared.Record.{Record}
-use Rattle.construction.specs.declared.Task.{Task}
-use Rattle.construction.specs.declared.Simulation.{Simulation}
-use Rattle.construction.specs.declared.Dictionary.{Dictionary}
-use Rattle.construction.specs.declared.Card.{Card}
-use Rattle.construction.specs.declared.Access.{Access}
-use Rattle.construction.specs.declared.Flag.the-variants.{Active}
+use Rattle.construction.specs.Types.{Gate, Active, Announcement, Record, Dictionary, Simulation, Access, Task, Card}
 use Rattle.construction.specs.Cells.{openAnnouncement}
 use Rattle.construction.specs.Parts.{Local, localAt, contentsOf, announcementAt, withCells, withLocal}
 use Rattle.construction.specs.Machine.{after, firstChoice, perform}

@@ -7,21 +7,7 @@ use native.Mathlib.Omega.{arith}
 use native.Mathlib.Nat.{le-trans}
 use lib.ListN.{length, getD, set, length-take}
 use lib.Dec.{ltb}
-use Rattle.construction.specs.declared.Announcement.{Announcement}
-use Rattle.construction.specs.declared.Record.{Record}
-use Rattle.construction.specs.declared.Program.{Program}
-use Rattle.construction.specs.declared.Task.{Task}
-use Rattle.construction.specs.declared.Simulation.{Simulation}
-use Rattle.construction.specs.declared.Simulated.{Simulated}
-use Rattle.construction.specs.declared.Dictionary.{Dictionary}
-use Rattle.construction.specs.declared.Began.{Began}
-use Rattle.construction.specs.declared.Helped.{Helped}
-use Rattle.construction.specs.declared.Pause.{Pause}
-use Rattle.construction.specs.declared.Pause.the-variants.{Ended, Faulted, Lacks}
-use Rattle.construction.specs.declared.Card.{Card}
-use Rattle.construction.specs.declared.Access.{Access}
-use Rattle.construction.specs.declared.Place.{Place}
-use Rattle.construction.specs.declared.Place.the-variants.{P16, H21, H36, P19, P21}
+use Rattle.construction.specs.Types.{Announcement, Record, Program, Dictionary, Simulation, Pause, Ended, Faulted, Lacks, Simulated, Place, P16, H21, H36, P19, P21, Access, Task, Began, Helped, Card}
 use Rattle.construction.specs.Cells.{openAnnouncement}
 use Rattle.construction.specs.Instructions.{started}
 use Rattle.construction.specs.Dictionary.{empty, noted, nextWrite, itemOf, insert}

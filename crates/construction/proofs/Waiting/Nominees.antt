@@ -2,13 +2,7 @@
 use Prim.Native.Nat.{ℕ}
 use mathlib.Core.Path.{_≡_, refl, sym}
 use mathlib.Core.Bool.{Bool, true, false}
-use Rattle.construction.specs.declared.Gate.{Gate}
-use Rattle.construction.specs.declared.Card.{Card}
-use Rattle.construction.specs.declared.Access.{Access}
-use Rattle.construction.specs.declared.GateAccess.{GateAccess}
-use Rattle.construction.specs.declared.Holder.the-variants.{Nobody, Process}
-use Rattle.construction.specs.declared.Place.{Place}
-use Rattle.construction.specs.declared.Place.the-variants.{Idle, P1, P3, P5, P7, P10, C2, C4, P13, P14, P16, H21, H36, P19, P20, P21, P22, F1, F3}
+use Rattle.construction.specs.Types.{Nobody, Process, Gate, Place, Idle, P1, P3, P5, P7, P10, C2, C4, P13, P14, P16, H21, H36, P19, P20, P21, P22, F1, F3, GateAccess, Access, Card}
 use Rattle.construction.specs.Cells.{sameGate, swapGate, released}
 use Rattle.construction.specs.Parts.{localAt}
 use Rattle.construction.specs.Machine.{accessOf, accessGate, perform}

@@ -43,10 +43,7 @@ use denote.Triple.Table.{entered, cited}
 use denote.Triple.Walked.{says, Stays, stay-slice, stay-none, walkOf, AllGo, goes-none, goes-slice, Walks, ends-at, walked, walk-meets}
 use denote.Triple.Clauses.{ensured, lasts}
 use denote.Exit.{yes}
-use Rattle.construction.specs.declared.Record.{Record}
-use Rattle.construction.specs.declared.SwappedRecord.{SwappedRecord}
-use Rattle.construction.specs.declared.RowSwap.{RowSwap}
-use Rattle.construction.specs.declared.Refusal.{Refusal}
+use Rattle.construction.specs.declared.{Record.Record, Refusal.Refusal, SwappedRecord.SwappedRecord, RowSwap.RowSwap}
 use Rattle.construction.specs.Cells.{openRecord, swapRecord}
 use Rattle.construction.proofs.Record as T
 use Rattle.construction.proofs.Record.Laws as T′

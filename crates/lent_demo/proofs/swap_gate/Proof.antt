@@ -38,8 +38,7 @@ use denote.Triple.Table.{entered, cited}
 use denote.Triple.Walked.{says, Stays, stay-none, walkOf, AllGo, goes-none, Walks, ends-at, walked, walk-meets}
 use denote.Triple.Clauses.{ensured, lasts}
 use denote.Exit.{yes}
-use Rattle.construction.specs.declared.Gate.{Gate}
-use Rattle.construction.specs.declared.SwappedGate.{SwappedGate}
+use Rattle.construction.specs.declared.{Gate.Gate, SwappedGate.SwappedGate}
 use Rattle.construction.specs.Cells.{swapGate}
 use Rattle.construction.proofs.Gate as T
 use Rattle.construction.proofs.Gate.Laws as T′

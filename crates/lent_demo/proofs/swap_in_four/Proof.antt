@@ -39,8 +39,7 @@ use denote.Triple.Table.{entered, cited}
 use denote.Triple.Walked.{says, Stays, stay-none, walkOf, AllGo, goes-none, Walks, ends-at, walked, walk-meets}
 use denote.Triple.Clauses.{ensured, lasts}
 use denote.Exit.{yes}
-use Rattle.construction.specs.declared.Record.{Record}
-use Rattle.construction.specs.declared.RowSwap.{RowSwap}
+use Rattle.construction.specs.declared.{Record.Record, RowSwap.RowSwap}
 use Rattle.construction.proofs.Record as T
 use Rattle.construction.proofs.Record.Laws as T′
 use Rattle.construction.proofs.RowSwap as Q

@@ -14,44 +14,18 @@ use Rattle.construction.specs.declared.Place.the-variants.{P1}
 use Rattle.construction.specs.Cells.{openAnnouncement, openRecord}
 use Rattle.construction.specs.Instructions.{started, noProgram}
 use Rattle.construction.specs.Dictionary.{empty}
-use Rattle.construction.specs.Parts.{Local, idleTask, noOperation, noGate, announcementAt, recordAt, localAt, withCells, withGate, withAnnouncement, withRecord, withLocal, withSteps}
+use Rattle.construction.specs.Parts.{Local, idleTask, noOperation, noGate, announcementAt, recordAt, localAt, withCells, withGate, withAnnouncement, withRecord, withOwn, withLocal, withSteps}
 use Rattle.construction.specs.Machine.{accessOf, accessIn, after, accessGate, accessAnnouncement, whose, holderOf, beginHelp, note, writing, write, writtenVariable, perform, advance}
 use Rattle.construction.specs.Requests.{invoked, exiting, answerOf}
 use Rattle.card.specs.Judging.{stepAnswer}
 use Rattle.card.proofs.Arrays.{Rooms, found}
 use Rattle.card.proofs.Requests.{steppedAt}
 
--- a card with other arrays of what the processes keep
-abbrev withArrays :
-    Card → List Task → List Operation → List Bool → List ℕ → List Gate → List Announcement → List Simulation → List Dictionary → List ℕ → Card
-withArrays c tasks operations exits counts gates copies simulations dictionaries masks =
-    record {
-      processes = c .processes;
-      variables = c .variables;
-      programs = c .programs;
-      limit = c .limit;
-      starts = c .starts;
-      code = c .code;
-      gate = c .gate;
-      announcements = c .announcements;
-      records = c .records;
-      steps = c .steps;
-      tasks = tasks;
-      operations = operations;
-      exits = exits;
-      counts = counts;
-      gates = gates;
-      copies = copies;
-      simulations = simulations;
-      dictionaries = dictionaries;
-      masks = masks;
-    }
-
 -- a call and an exit request leave the rest of a process as it was
 module _ (c : Card) (i : ℕ) where
   pub called :
       (k : ℕ) (inputs : Words) → i < 8 →
-      withArrays c (set (c .tasks) (i % 8) (record { place = P1; target = 0 })) (set (c .operations) (i % 8) (record { program = k; inputs = inputs }))
+      withOwn c (set (c .tasks) (i % 8) (record { place = P1; target = 0 })) (set (c .operations) (i % 8) (record { program = k; inputs = inputs }))
       (set (c .exits) (i % 8) false) (set (c .counts) (i % 8) 0) (c .gates) (c .copies) (c .simulations) (c .dictionaries) (c .masks)
       ≡ withLocal c i (invoked (localAt c i) k inputs)
   called k inputs p =
@@ -66,7 +40,7 @@ module _ (c : Card) (i : ℕ) where
 
   pub asked :
       i < 8 →
-      withArrays c (c .tasks) (c .operations) (set (c .exits) (i % 8) true) (c .counts) (c .gates) (c .copies) (c .simulations) (c .dictionaries) (c .masks)
+      withOwn c (c .tasks) (c .operations) (set (c .exits) (i % 8) true) (c .counts) (c .gates) (c .copies) (c .simulations) (c .dictionaries) (c .masks)
       ≡ withLocal c i (exiting (localAt c i))
   asked p =
       rw (
@@ -120,7 +94,7 @@ module _ {c : Card} {i n m : ℕ} {a : Access} (h : Accepted c i n m a) where
     abbrev left : Card → List Task → List Gate → List Announcement → List Simulation → List Dictionary → List ℕ → Type 0
     left d tasks gates copies simulations dictionaries masks =
         record {
-          card = withSteps (withArrays d tasks (c .operations) (c .exits) (set (c .counts) i m) gates copies simulations dictionaries masks) n;
+          card = withSteps (withOwn d tasks (c .operations) (c .exits) (set (c .counts) i m) gates copies simulations dictionaries masks) n;
           answer = t;
         }
         ≡ steppedAt c i
@@ -163,7 +137,7 @@ module _ {c : Card} {i n m : ℕ} {a : Access} (h : Accepted c i n m a) where
         (rw (← h .chosen, e, ← er)) t told)
 
     pub at-announcement :
-        (b : AnnouncementAccess) → a ≡ Access.Announcement b → (k : ℕ) → k ≡ whose b (c .processes) i (localAt c i .gate) →
+        (b : AnnouncementAccess) → a ≡ Access.Announcement b → (k : ℕ) → k ≡ whose b (c .processCount) i (localAt c i .gate) →
         (cell : Announcement) → cell ≡ cond (ltb k 8) (getD (c .announcements) (k % 8) openAnnouncement) openAnnouncement →
         (r : AnnouncementAccessed) → r ≡ accessAnnouncement b k cell (localAt c i .operation) (localAt c i .gate) (localAt c i .announcement) (localAt c i .simulation .yields) (localAt c i .task) →
         t ≡ stepAnswer (r .task .place) (r .read) m → (row : List Announcement) → row ≡ set (c .announcements) k (r .cell) →
@@ -186,15 +160,15 @@ module _ {c : Card} {i n m : ℕ} {a : Access} (h : Accepted c i n m a) where
     pub at-help :
         a ≡ Access.Help → (k : ℕ) → k ≡ holderOf (localAt c i .gate .holder) →
         (cell : Announcement) → cell ≡ cond (ltb k 8) (getD (c .announcements) (k % 8) openAnnouncement) openAnnouncement →
-        (program : Program) → program ≡ cond (ltb (cell .program) 8) (getD (c .code) (cell .program % 8) (record { length = 0; lines = [] })) noProgram →
-        (r : Began) → r ≡ beginHelp (c .variables) program cell (localAt c i .gate .seq) (localAt c i .task) (localAt c i .simulation) →
+        (program : Program) → program ≡ cond (ltb (cell .program) 8) (getD (c .programs) (cell .program % 8) (record { length = 0; lines = [] })) noProgram →
+        (r : Began) → r ≡ beginHelp (c .variableCount) program cell (localAt c i .gate .seq) (localAt c i .task) (localAt c i .simulation) →
         t ≡ stepAnswer (r .task .place) cell m → (ds : List Dictionary) → ds ≡ set (c .dictionaries) i (cond (r .helps) empty (localAt c i .dictionary)) →
         (masks : List ℕ) → masks ≡ set (c .masks) i (cond (r .helps) 0 (localAt c i .mask)) →
         left c (set (c .tasks) i (r .task)) (c .gates) (set (c .copies) i cell) (set (c .simulations) i (r .simulation)) ds masks
     unfolding perform
     at-help e k ek cell ec program ep r er told ds stored masks marked =
         let announced = found (c .announcements) 8 (h .rooms .announcements) k openAnnouncement openAnnouncement cell ec in
-        let helped = found (c .code) 8 (h .rooms .code) (cell .program) (record { length = 0; lines = [] }) noProgram program ep in
+        let helped = found (c .programs) 8 (h .rooms .programs) (cell .program) (record { length = 0; lines = [] }) noProgram program ep in
         rw (
           ← stored,
           ← marked,
@@ -209,15 +183,15 @@ module _ {c : Card} {i n m : ℕ} {a : Access} (h : Accepted c i n m a) where
     pub at-note :
         a ≡ Access.Note →
         (cell : Record) → cell ≡ cond (ltb (localAt c i .task .target) 64) (getD (c .records) (localAt c i .task .target % 64) (openRecord 0)) (openRecord 0) →
-        (program : Program) → program ≡ cond (ltb (localAt c i .announcement .program) 8) (getD (c .code) (localAt c i .announcement .program % 8) (record { length = 0; lines = [] })) noProgram →
-        (r : Helped) → r ≡ note (c .variables) program (localAt c i .announcement .words) cell (localAt c i .gate .seq) (localAt c i .task) (localAt c i .simulation) (getD (c .dictionaries) i (record { length = 0; items = [] })) (localAt c i .mask) →
+        (program : Program) → program ≡ cond (ltb (localAt c i .announcement .program) 8) (getD (c .programs) (localAt c i .announcement .program % 8) (record { length = 0; lines = [] })) noProgram →
+        (r : Helped) → r ≡ note (c .variableCount) program (localAt c i .announcement .words) cell (localAt c i .gate .seq) (localAt c i .task) (localAt c i .simulation) (getD (c .dictionaries) i (record { length = 0; items = [] })) (localAt c i .mask) →
         t ≡ stepAnswer (r .task .place) (localAt c i .announcement) m →
         left c (set (c .tasks) i (r .task)) (c .gates) (c .copies) (set (c .simulations) i (r .simulation)) (set (c .dictionaries) i (r .dictionary)) (set (c .masks) i (r .mask))
     unfolding perform
     at-note e cell ec program ep r er told =
         let v = localAt c i .task .target in
         let read = found (c .records) 64 (h .rooms .records) v (openRecord 0) (openRecord 0) cell ec in
-        let helped = found (c .code) 8 (h .rooms .code) (localAt c i .announcement .program) (record { length = 0; lines = [] }) noProgram program ep in
+        let helped = found (c .programs) 8 (h .rooms .programs) (localAt c i .announcement .program) (record { length = 0; lines = [] }) noProgram program ep in
         let noted = rw own-dictionary at er in
         rw (
           ← h .own,

@@ -17,7 +17,7 @@ use Rattle.construction.proofs.Card.{the-type}
 use Rattle.construction.specs.declared.Card.{Card}
 
 pub record Rooms (c : Card) : Type 0 where
-  pub code : length (c .code) ≡ 8
+  pub programs : length (c .programs) ≡ 8
   pub announcements : length (c .announcements) ≡ 8
   pub records : length (c .records) ≡ 64
   pub tasks : length (c .tasks) ≡ 8
@@ -40,7 +40,7 @@ rooms c vs p =
     let gates = counts .1 in
     let masks = dictionaries .1 in
     record {
-      code = simp length-map at (code .0 .1 .0 .1);
+      programs = simp length-map at (code .0 .1 .0 .1);
       announcements = simp length-map at (announcements .0 .1 .0 .1);
       records = simp length-map at (records .0 .1 .0 .1);
       tasks = simp length-map at (tasks .0 .1 .0 .1);

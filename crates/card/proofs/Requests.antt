@@ -77,10 +77,10 @@ module _ (c : Card) (i : ℕ) where
     where
       go : (b : Bool) → ltb i 8 ≡ b → cond (not (isProcess c i)) none (f judgedTask) ≡ cond (not (isProcess c i)) none (f (localAt c i .task))
       go true q = rw (mod-eq-of-lt (ltb-true i 8 q))
-      go false q = rw (q, none-right (ltb i (c .processes)))
+      go false q = rw (q, none-right (ltb i (c .processCount)))
 
-  module _ (k : ℕ) (x : Answer) (told : x ≡ callJudged i (c .processes) k (c .programs) (judgedTask .place)) where
-    call-told : x ≡ callJudged i (c .processes) k (c .programs) (localAt c i .task .place)
+  module _ (k : ℕ) (x : Answer) (told : x ≡ callJudged i (c .processCount) k (c .programCount) (judgedTask .place)) where
+    call-told : x ≡ callJudged i (c .processCount) k (c .programCount) (localAt c i .task .place)
     call-told = told ∙ same-task (Answer.Refused NoProcess) (λ (t : Task). cond (not (isProgram c k)) (Answer.Refused NoProgram) (cond (not (isIdle (t .place))) (Answer.Refused Busy) Answer.Taken))
 
     pub call-refused : (inputs : Words) → isTaken x ≡ false → record { card = c; answer = x } ≡ call c i k inputs
@@ -93,15 +93,15 @@ module _ (c : Card) (i : ℕ) where
     unfolding call
     call-taken inputs h d e =
         let p = passes c NoProcess NoProgram Busy (isProcess c i) (isProgram c k) (isIdle (localAt c i .task .place)) x call-told h in
-        rw (p .first, p .next, p .last, p .taken, e (in-room i (c .processes) 8 (p .first)))
+        rw (p .first, p .next, p .last, p .taken, e (in-room i (c .processCount) 8 (p .first)))
 
     pub small-program : isTaken x ≡ true → k < 8
     small-program h =
         let p = passes c NoProcess NoProgram Busy (isProcess c i) (isProgram c k) (isIdle (localAt c i .task .place)) x call-told h in
-        in-room k (c .programs) 8 (p .next)
+        in-room k (c .programCount) 8 (p .next)
 
-  module _ (x : Answer) (told : x ≡ exitJudged i (c .processes) (judgedTask .place)) where
-    exit-told : x ≡ exitJudged i (c .processes) (localAt c i .task .place)
+  module _ (x : Answer) (told : x ≡ exitJudged i (c .processCount) (judgedTask .place)) where
+    exit-told : x ≡ exitJudged i (c .processCount) (localAt c i .task .place)
     exit-told = told ∙ same-task (Answer.Refused NoProcess) (λ (t : Task). cond (not (not (isIdle (t .place)))) (Answer.Refused NotBusy) Answer.Taken)
 
     pub exit-refused : isTaken x ≡ false → record { card = c; answer = x } ≡ requestExit c i
@@ -114,10 +114,10 @@ module _ (c : Card) (i : ℕ) where
     unfolding requestExit
     exit-taken h d e =
         let p = passes c NoProcess NotBusy NotBusy (isProcess c i) (not (isIdle (localAt c i .task .place))) true x exit-told h in
-        rw (p .first, p .next, p .taken, e (in-room i (c .processes) 8 (p .first)))
+        rw (p .first, p .next, p .taken, e (in-room i (c .processCount) 8 (p .first)))
 
-  module _ (x : Answer) (told : x ≡ stepJudged i (c .processes) (judgedTask .place) (c .steps) (c .limit)) where
-    step-told : x ≡ stepJudged i (c .processes) (localAt c i .task .place) (c .steps) (c .limit)
+  module _ (x : Answer) (told : x ≡ stepJudged i (c .processCount) (judgedTask .place) (c .steps) (c .limit)) where
+    step-told : x ≡ stepJudged i (c .processCount) (localAt c i .task .place) (c .steps) (c .limit)
     step-told = told ∙ same-task (Answer.Refused NoProcess) (λ (t : Task). cond (not (not (isIdle (t .place)))) (Answer.Refused NotBusy) (cond (not (ltb (c .steps) (c .limit))) (Answer.Refused LimitReached) Answer.Taken))
 
     pub step-refused : isTaken x ≡ false → record { card = c; answer = x } ≡ step c i
@@ -128,7 +128,7 @@ module _ (c : Card) (i : ℕ) where
     unfolding step
     step-taken h y e =
         let p = passes c NoProcess NotBusy LimitReached (isProcess c i) (not (isIdle (localAt c i .task .place))) (ltb (c .steps) (c .limit)) x step-told h in
-        e ∙ rw (p .first, p .next, p .last, mod-eq-of-lt (in-room i (c .processes) 8 (p .first)))
+        e ∙ rw (p .first, p .next, p .last, mod-eq-of-lt (in-room i (c .processCount) 8 (p .first)))
 
 -- a read by the pieces that it looks at
 holder-pends : (c : Card) (h : Holder) → pending h (announcementAt c (holderOf h)) ≡ isPending c h
@@ -141,7 +141,7 @@ module _ (c : Card) (v : ℕ) (b : Bool) (told : b ≡ isVariable c v) where
   read-refused h = rw (← told, h)
 
   pub variable-room : not b ≡ false → v < 64
-  variable-room h = in-room v (c .variables) 64 (sym told ∙ not-false b h)
+  variable-room h = in-room v (c .variableCount) 64 (sym told ∙ not-false b h)
 
   pub read-shown :
       not b ≡ false → length (c .announcements) ≡ 8 → (m : ℕ) → m ≡ holderOf (c .gate .holder) →

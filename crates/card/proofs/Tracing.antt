@@ -36,12 +36,12 @@ accepted : (c : Card) (i : ℕ) → isRefused (step c i .answer) ≡ false → (
 unfolding step
 accepted c i h =
     let p = unrefused c NoProcess NotBusy LimitReached (isProcess c i) (not (isIdle (localAt c i .task .place))) (ltb (c .steps) (c .limit)) (steppedAt c i) h in
-    (in-room i (c .processes) 8 (p .0), p .1)
+    (in-room i (c .processCount) 8 (p .0), p .1)
 
 -- the cell and the swap of an access, by pieces
 cell-is :
     (a : Access) (t : Contents) (i : ℕ) (l : Local) →
-    cellOf a t i l ≡ cellBy a (t .processes) i (l .gate) (l .task .target) (writtenVariable l)
+    cellOf a t i l ≡ cellBy a (t .processCount) i (l .gate) (l .task .target) (writtenVariable l)
 cell-is Access.None t i l = refl
 cell-is (Access.Gate a) t i l = refl
 cell-is (Access.Announcement a) t i l = refl
@@ -68,7 +68,7 @@ pub record Pieces (c : Card) (i : ℕ) (label : Label) (a : Access) (w : Writing
   pub labelled : label ≡ labelOf (localAt c i .task .place) (localAt c i .exit)
   pub chosen : a ≡ accessOf (localAt c i .task .place) (localAt c i .exit)
   pub writes : w ≡ writing (localAt c i .gate .seq) (localAt c i .task) (getD (c .dictionaries) i (record { length = 0; items = [] }))
-  pub touches : x ≡ cellBy a (c .processes) i (localAt c i .gate) (localAt c i .task .target) (w .item .variable)
+  pub touches : x ≡ cellBy a (c .processCount) i (localAt c i .gate) (localAt c i .task .target) (w .item .variable)
   pub process : m ≡ announcementIn x
   pub variable : v ≡ recordIn x
   pub announced : b ≡ cond (ltb m 8) (getD (c .announcements) (m % 8) openAnnouncement) openAnnouncement

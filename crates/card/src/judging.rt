@@ -21,17 +21,17 @@ pub(crate) fn is_below(number: u32, count: u8, room: u32) -> bool
 // A call: refusals 5, 6 and 7, or taken.
 pub(crate) fn judge_call(
     process: u32,
-    processes: u8,
+    processCount: u8,
     program: u32,
-    programs: u8,
+    programCount: u8,
     place: Place,
 ) -> Answer
-    ensures { λ r. ⌜ r ≡ callJudged process processes program programs place ⌝ }
+    ensures { λ r. ⌜ r ≡ callJudged process processCount program programCount place ⌝ }
 {
-    if !is_below(process, processes, 8) {
+    if !is_below(process, processCount, 8) {
         return Answer::Refused(Refusal::NoProcess);
     }
-    if !is_below(program, programs, 8) {
+    if !is_below(program, programCount, 8) {
         return Answer::Refused(Refusal::NoProgram);
     }
     if !is_idle(place) {
@@ -41,10 +41,10 @@ pub(crate) fn judge_call(
 }
 
 // An exit request: refusals 5 and 8, or taken.
-pub(crate) fn judge_exit(process: u32, processes: u8, place: Place) -> Answer
-    ensures { λ r. ⌜ r ≡ exitJudged process processes place ⌝ }
+pub(crate) fn judge_exit(process: u32, processCount: u8, place: Place) -> Answer
+    ensures { λ r. ⌜ r ≡ exitJudged process processCount place ⌝ }
 {
-    if !is_below(process, processes, 8) {
+    if !is_below(process, processCount, 8) {
         return Answer::Refused(Refusal::NoProcess);
     }
     if is_idle(place) {
@@ -56,14 +56,14 @@ pub(crate) fn judge_exit(process: u32, processes: u8, place: Place) -> Answer
 // A step: refusals 5, 8 and 10, or taken.
 pub(crate) fn judge_step(
     process: u32,
-    processes: u8,
+    processCount: u8,
     place: Place,
     steps: u64,
     limit: u64,
 ) -> Answer
-    ensures { λ r. ⌜ r ≡ stepJudged process processes place steps limit ⌝ }
+    ensures { λ r. ⌜ r ≡ stepJudged process processCount place steps limit ⌝ }
 {
-    if !is_below(process, processes, 8) {
+    if !is_below(process, processCount, 8) {
         return Answer::Refused(Refusal::NoProcess);
     }
     if is_idle(place) {

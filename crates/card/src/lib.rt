@@ -52,7 +52,7 @@ pub fn call(card: Card, process: u32, program: u32, inputs: Words) -> Answered
     let i = (process % 8) as usize;
     let task = c.tasks[i];
     let place = task.place;
-    let answer = judge_call(process, c.processes, program, c.programs, place);
+    let answer = judge_call(process, c.processCount, program, c.programCount, place);
     if is_taken(answer) {
         c.tasks[i] = Task {
             place: Place::P1,
@@ -76,7 +76,7 @@ pub fn request_exit(card: Card, process: u32) -> Answered
     let i = (process % 8) as usize;
     let task = c.tasks[i];
     let place = task.place;
-    let answer = judge_exit(process, c.processes, place);
+    let answer = judge_exit(process, c.processCount, place);
     if is_taken(answer) {
         c.exits[i] = true;
     }
@@ -93,7 +93,7 @@ pub fn step(card: Card, process: u32) -> Answered
     let i = id as usize;
     let task = c.tasks[i];
     let place = task.place;
-    let judged = judge_step(process, c.processes, place, c.steps, c.limit);
+    let judged = judge_step(process, c.processCount, place, c.steps, c.limit);
     if !is_taken(judged) {
         return Answered {
             card: c,
@@ -121,7 +121,7 @@ pub fn step(card: Card, process: u32) -> Answered
             answer_of(place, last, steps)
         }
         Access::Announcement(access) => {
-            let m = whose(access, c.processes, id, gate);
+            let m = whose(access, c.processCount, id, gate);
             let at = (m % 8) as usize;
             let found = c.announcements[at];
             let operation = c.operations[i];
@@ -147,10 +147,10 @@ pub fn step(card: Card, process: u32) -> Answered
             let found = c.announcements[(m % 8) as usize];
             let cell = announcement_at(m, found);
             let k = cell.program;
-            let code = c.code[(k % 8) as usize];
+            let stored = c.programs[(k % 8) as usize];
             let simulation = c.simulations[i];
-            let program = program_at(k, code);
-            let began = begin_help(c.variables, program, cell, gate.seq, task, simulation);
+            let program = program_at(k, stored);
+            let began = begin_help(c.variableCount, program, cell, gate.seq, task, simulation);
             let state = began.simulation;
             let task = began.task;
             let place = task.place;
@@ -169,13 +169,13 @@ pub fn step(card: Card, process: u32) -> Answered
             let found = c.records[(v % 64) as usize];
             let k = last.program;
             let inputs = last.words;
-            let code = c.code[(k % 8) as usize];
+            let stored = c.programs[(k % 8) as usize];
             let simulation = c.simulations[i];
             let dictionary = c.dictionaries[i];
             let cell = record_at(v, found);
-            let program = program_at(k, code);
+            let program = program_at(k, stored);
             let helped = note(
-                c.variables,
+                c.variableCount,
                 program,
                 inputs,
                 cell,
@@ -237,7 +237,14 @@ pub fn trace(card: Card, process: u32) -> Traced
     let access = access_of(place, exit);
     let written = writing(gate.seq, task, dictionary);
     let item = written.item;
-    let cell = cell_of(access, card.processes, id, gate, task.target, item.variable);
+    let cell = cell_of(
+        access,
+        card.processCount,
+        id,
+        gate,
+        task.target,
+        item.variable,
+    );
     let m = announcement_in(cell);
     let v = record_in(cell);
     let held = card.gate;
@@ -275,7 +282,7 @@ pub fn trace(card: Card, process: u32) -> Traced
 pub fn read(card: Card, variable: u32) -> Answered
     ensures { λ r. ⌜ r ≡ read card variable ⌝ }
 {
-    if !is_below(variable, card.variables, 64) {
+    if !is_below(variable, card.variableCount, 64) {
         return Answered {
             card,
             answer: Answer::Refused(Refusal::NoPlace),

@@ -134,11 +134,11 @@ operationAt (x ∷ xs) k = cond (eqb (length xs) k) x (operationAt xs k)
 
 -- 'the bench's runs' in the order of finishing: what each does to the words that the earlier ones left
 abbrev pub startWords : Card → List ℕ
-startWords o = take (o .variables) (o .starts)
+startWords o = take (o .variableCount) (o .starts)
 
 abbrev pub performedAs : Card → ℕ → Invocation → List ℕ → List Performed
 performedAs o number x words =
-    performedIn (o .variables) (programOf (contentsOf o) (x .program) number) (x .inputs) (x .process) words
+    performedIn (o .variableCount) (programOf (contentsOf o) (x .program) number) (x .inputs) (x .process) words
 
 unfoldable pub performedAll : Card → List Invocation → List Finish → List Performed
 performedAll o xs [] = []
@@ -210,6 +210,6 @@ pub record Allocating (o : Card) (es : List Entry) : Type 0 where
       performed o es ≡ later ++ (record { process = i; action = Action.Took c } ∷ earlier) → givenBack earlier ≡ d ∷ l → c ≡ d
   pub words : wordsAfter (startWords o) (performed o es) ≡ run o es .history .words
   pub shown :
-      (v : ℕ) → v < o .variables →
+      (v : ℕ) → v < o .variableCount →
       read (run o es .card) v
       ≡ record { card = run o es .card; answer = Answer.Value (getD (wordsAfter (startWords o) (performed o es)) v 0) }

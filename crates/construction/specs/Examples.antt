@@ -39,7 +39,7 @@ pub record Row : Type 0 where
 abbrev pub Shows : Row → Card → Type 0
 Shows r c =
     (c .gate ≡ r .gate)
-    × (take (c .processes) (c .announcements) ≡ r .announcements)
+    × (take (c .processCount) (c .announcements) ≡ r .announcements)
     × (getD (c .records) (r .variable) (openRecord 0) ≡ r .cell)
 
 abbrev pub Holds : Row → Type 0

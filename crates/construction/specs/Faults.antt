@@ -30,4 +30,4 @@ MarkedDone c =
 -- a helper that still reads has no mark, so that one that meets a greater seq goes to P19 without it
 abbrev pub UnmarkedReading : Card → Type 0
 UnmarkedReading c =
-    (i : ℕ) → i < c .processes → localAt c i .task .place ≡ H21 → localAt c i .simulation .yields .fault ≡ false
+    (i : ℕ) → i < c .processCount → localAt c i .task .place ≡ H21 → localAt c i .simulation .yields .fault ≡ false

@@ -104,7 +104,7 @@ finishing c d = turned 0 (c .announcements) (d .announcements)
 
 -- the bench runs an operation as its number-th, by the text of the opened card o
 abbrev pub benchRun : Card → ℕ → Invocation → List ℕ → Ending
-benchRun o number x words = sequential (o .variables) (programOf (contentsOf o) (x .program) number) (x .inputs) words
+benchRun o number x words = sequential (o .variableCount) (programOf (contentsOf o) (x .program) number) (x .inputs) words
 
 -- the operations of these processes finish, under the gate number `gate`
 abbrev pub withFinish : Card → ℕ → ℕ → History → History
@@ -158,7 +158,7 @@ abbrev pub opening : Card → Observation
 opening o =
     record {
       card = o;
-      history = record { operations = []; order = []; returns = []; words = take (o .variables) (o .starts) };
+      history = record { operations = []; order = []; returns = []; words = take (o .variableCount) (o .starts) };
     }
 
 -- one entry: the card acts; the observer notes by the cells before and after which operations finish, and then by the answer what begins and ends

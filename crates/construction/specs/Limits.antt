@@ -25,8 +25,8 @@ pub record Limited (c : Card) : Type 0 where
   pub distinct : (i : ℕ) → Distinct (noted (localAt c i .dictionary))
   -- while helping, it holds at most the weight of the program helped, and has room for what H21 reads
   pub noting :
-      (i : ℕ) → i < c .processes → localAt c i .task .place ≡ H21 →
+      (i : ℕ) → i < c .processCount → localAt c i .task .place ≡ H21 →
       localAt c i .dictionary .length < weight (programOf (contentsOf c) (localAt c i .announcement .program) (localAt c i .gate .seq))
   pub writing :
-      (i : ℕ) → i < c .processes → localAt c i .task .place ≡ H36 →
+      (i : ℕ) → i < c .processCount → localAt c i .task .place ≡ H36 →
       localAt c i .dictionary .length ≤ weight (programOf (contentsOf c) (localAt c i .announcement .program) (localAt c i .gate .seq))

@@ -80,7 +80,7 @@ FinishesAtMostOne m e = (finishing (m .card) (act (m .card) e .card) ≡ []) ⊎
 pub record Linearizable (o : Card) (es : List Entry) : Type 0 where
   -- 1: a read of every variable gives the bench's word
   pub reads :
-      (v : ℕ) → v < o .variables →
+      (v : ℕ) → v < o .variableCount →
       read (run o es .card) v ≡ record { card = run o es .card; answer = Answer.Value (getD (run o es .history .words) v 0) }
   -- 2 and 5: every returned operation agrees with the order, and none returns twice
   pub returns : AllAgree (run o es .history .order) (run o es .history .returns)

@@ -216,7 +216,7 @@ writtenVariable l = writing (l .gate .seq) (l .task) (l .dictionary) .item .vari
 abbrev pub cellOf : Access → Contents → ℕ → Local → Cell
 cellOf Access.None t i l = Cell.None
 cellOf (Access.Gate a) t i l = Cell.Gate
-cellOf (Access.Announcement a) t i l = Cell.Announcement (whose a (t .processes) i (l .gate))
+cellOf (Access.Announcement a) t i l = Cell.Announcement (whose a (t .processCount) i (l .gate))
 cellOf Access.Help t i l = Cell.Announcement (holderOf (l .gate .holder))
 cellOf Access.Note t i l = Cell.Record (l .task .target)
 cellOf Access.Write t i l = Cell.Record (writtenVariable l)
@@ -255,7 +255,7 @@ stepAnnouncement a m cell l =
 
 abbrev pub stepHelp : Contents → Announcement → Local → Accessed Announcement
 stepHelp t cell l =
-    let x = beginHelp (t .variables) (programOf t (cell .program) (l .gate .seq)) cell (l .gate .seq) (l .task) (l .simulation) in
+    let x = beginHelp (t .variableCount) (programOf t (cell .program) (l .gate .seq)) cell (l .gate .seq) (l .task) (l .simulation) in
     record {
       cell = cell;
       local = after l (x .task) (l .gate) cell (x .simulation) (cond (x .helps) empty (l .dictionary)) (cond (x .helps) 0 (l .mask));
@@ -265,7 +265,7 @@ stepHelp t cell l =
 abbrev pub stepNote : Contents → Record → Local → Accessed Record
 stepNote t cell l =
     let a = l .announcement in
-    let x = note (t .variables) (programOf t (a .program) (l .gate .seq)) (a .words) cell (l .gate .seq) (l .task) (l .simulation) (l .dictionary) (l .mask) in
+    let x = note (t .variableCount) (programOf t (a .program) (l .gate .seq)) (a .words) cell (l .gate .seq) (l .task) (l .simulation) (l .dictionary) (l .mask) in
     record { cell = cell; local = after l (x .task) (l .gate) a (x .simulation) (x .dictionary) (x .mask); swap = Swap.None }
 
 abbrev pub stepWrite : Record → Local → Accessed Record
@@ -298,7 +298,7 @@ perform Access.None c i =
     record { card = withLocal c i (after l (l .task) (l .gate) (l .announcement) (l .simulation) (l .dictionary) (l .mask)); swap = Swap.None }
 perform (Access.Gate a) c i = putGate c i (stepGate a i (c .gate) (localAt c i))
 perform (Access.Announcement a) c i =
-    let m = whose a (c .processes) i (localAt c i .gate) in
+    let m = whose a (c .processCount) i (localAt c i .gate) in
     putAnnouncement c i m (stepAnnouncement a m (announcementAt c m) (localAt c i))
 perform Access.Help c i =
     let m = holderOf (localAt c i .gate .holder) in

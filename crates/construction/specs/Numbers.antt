@@ -32,10 +32,10 @@ pub record NumbersKept (m : Observation) : Type 0 where
   pub unfinished : (i : ℕ) → announcementAt (m .card) i .flag ≢ Done → announcementAt (m .card) i .number ≡ 0
   -- while the flag is done it is that of the process's latest finished operation ..
   pub finished :
-      (i : ℕ) → i < m .card .processes → announcementAt (m .card) i .flag ≡ Done →
+      (i : ℕ) → i < m .card .processCount → announcementAt (m .card) i .flag ≡ Done →
       announcementAt (m .card) i .number ≡ latestNumber (m .history .operations) (m .history .order) i
   -- .. and so 0 exactly if no operation of the process has finished yet
   pub never :
-      (i : ℕ) → i < m .card .processes → announcementAt (m .card) i .flag ≡ Done →
+      (i : ℕ) → i < m .card .processCount → announcementAt (m .card) i .flag ≡ Done →
       (announcementAt (m .card) i .number ≡ 0 → hasFinished (m .history .operations) (m .history .order) i ≡ false)
       × (hasFinished (m .history .operations) (m .history .order) i ≡ false → announcementAt (m .card) i .number ≡ 0)

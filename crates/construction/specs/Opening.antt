@@ -4,7 +4,7 @@ use mathlib.Core.Bool.{false, cond}
 use mathlib.Core.List.{List, map}
 use lib.ListN.{length, set, replicate}
 use lib.Dec.{eqb, ltb}
-use Rattle.construction.specs.Types.{Instruction, Card, Refusal, TooLong, Malformed, TooHeavy, CardLine, VarLine, SheetLine, InsLine, Contents, Verdict, ProgramReading, Reading, Opened}
+use Rattle.construction.specs.Types.{Instruction, Line, Program, Card, Refusal, TooLong, Malformed, TooHeavy, CardLine, VarLine, SheetLine, InsLine, Contents, Verdict, ProgramReading, Reading, Opened}
 use Rattle.construction.specs.Cells.{openGate, openAnnouncement, openRecord}
 use Rattle.construction.specs.Instructions.{noLine, noProgram, started}
 use Rattle.construction.specs.Weight.{weight}
@@ -12,28 +12,44 @@ use Rattle.construction.specs.Dictionary.{empty}
 use Rattle.construction.specs.Parts.{idleTask, noOperation, noGate}
 use Rattle.construction.specs.Lines.{cardLine, varLine, sheetLine, insLine}
 
+-- the contents that the line `card,p,n,s,limit` alone gives ..
+abbrev pub begun : ℕ → ℕ → ℕ → ℕ → Contents
+begun p n s l =
+    record {
+      processCount = p;
+      variableCount = n;
+      programCount = s;
+      limit = l;
+      starts = replicate 64 0;
+      programs = replicate 8 noProgram;
+    }
+
+-- .. and contents with other starting values and programs
+abbrev pub gathered : Contents → List ℕ → List Program → Contents
+gathered x starts programs =
+    record {
+      processCount = x .processCount;
+      variableCount = x .variableCount;
+      programCount = x .programCount;
+      limit = x .limit;
+      starts = starts;
+      programs = programs;
+    }
+
 -- 'the card with no processes, variables or sheets, its limit 0'
 abbrev pub noContents : Contents
-noContents =
-    record {
-      processes = 0;
-      variables = 0;
-      programs = 0;
-      limit = 0;
-      starts = replicate 64 0;
-      code = replicate 8 noProgram;
-    }
+noContents = begun 0 0 0 0
 
 -- the card as its text opens it: all cells and processes as at opening
 unfoldable pub fresh : Contents → Card
 fresh x =
     record {
-      processes = x .processes;
-      variables = x .variables;
-      programs = x .programs;
+      processCount = x .processCount;
+      variableCount = x .variableCount;
+      programCount = x .programCount;
       limit = x .limit;
       starts = x .starts;
-      code = x .code;
+      programs = x .programs;
       gate = openGate;
       announcements = replicate 8 openAnnouncement;
       records = map openRecord (x .starts);
@@ -56,15 +72,16 @@ refusedAt why line = record { verdict = Verdict.Refused why line; contents = noC
 abbrev pub programRefusedAt : Refusal → ℕ → ProgramReading
 programRefusedAt why line = record { verdict = Verdict.Refused why line; program = noProgram; at = 0; line = line }
 
+-- what has been read so far of a program and of a card, the place of the next line and its number
+abbrev pub programSoFar : ℕ → List Line → ℕ → ℕ → ProgramReading
+programSoFar m lines at line = record { verdict = Verdict.Accepted; program = record { length = m; lines = lines }; at = at; line = line }
+
+abbrev pub soFar : Contents → ℕ → ℕ → Reading
+soFar x at line = record { verdict = Verdict.Accepted; contents = x; at = at; line = line }
+
 -- the next m `ins` lines, the first for place k of the program
 abbrev pub withLine : ProgramReading → ℕ → Instruction → ℕ → ProgramReading
-withLine r k x i =
-    record {
-      verdict = Verdict.Accepted;
-      program = record { length = r .program .length; lines = set (r .program .lines) k (record { instruction = x }) };
-      at = i;
-      line = suc (r .line);
-    }
+withLine r k x i = programSoFar (r .program .length) (set (r .program .lines) k (record { instruction = x })) i (suc (r .line))
 
 abbrev pub nextIns : InsLine → ProgramReading → ℕ → (ProgramReading → ProgramReading) → ProgramReading
 nextIns (InsLine.Ins x i) r k go = go (withLine r k x i)
@@ -84,15 +101,7 @@ weighed last r = judgeWeight (r .verdict) last r
 
 -- one program: `sheet,length` and its lines, m lines after that one
 abbrev pub programAfter : ℕ → List ℕ → SheetLine → ℕ → ProgramReading
-programAfter n t (SheetLine.Length m i) line =
-    weighed (line + m)
-    (insFrom n t m 0
-    (record {
-      verdict = Verdict.Accepted;
-      program = record { length = m; lines = replicate 32 noLine };
-      at = i;
-      line = suc line;
-    }))
+programAfter n t (SheetLine.Length m i) line = weighed (line + m) (insFrom n t m 0 (programSoFar m (replicate 32 noLine) i (suc line)))
 programAfter n t (SheetLine.Refused why) line = programRefusedAt why line
 
 unfoldable pub readProgram : ℕ → List ℕ → ℕ → ℕ → ProgramReading
@@ -101,20 +110,7 @@ readProgram n t at line = programAfter n t (sheetLine t at) line
 -- the next m programs, the first with number k
 abbrev pub withProgram : Reading → ℕ → ProgramReading → Reading
 withProgram r k x =
-    record {
-      verdict = Verdict.Accepted;
-      contents =
-          record {
-            processes = r .contents .processes;
-            variables = r .contents .variables;
-            programs = r .contents .programs;
-            limit = r .contents .limit;
-            starts = r .contents .starts;
-            code = set (r .contents .code) k (x .program);
-          };
-      at = x .at;
-      line = x .line;
-    }
+    let y = r .contents in soFar (gathered y (y .starts) (set (y .programs) k (x .program))) (x .at) (x .line)
 
 abbrev pub nextProgram : Verdict → ProgramReading → Reading → ℕ → (Reading → Reading) → Reading
 nextProgram Verdict.Accepted x r k go = go (withProgram r k x)
@@ -123,26 +119,12 @@ nextProgram (Verdict.Refused why line) x r k go = refusedAt why line
 unfoldable pub programsFrom : List ℕ → ℕ → ℕ → Reading → Reading
 programsFrom t zero k r = r
 programsFrom t (suc m) k r =
-    let x = readProgram (r .contents .variables) t (r .at) (r .line) in
+    let x = readProgram (r .contents .variableCount) t (r .at) (r .line) in
     nextProgram (x .verdict) x r k (λ y. programsFrom t m (suc k) y)
 
 -- the next m `var` lines, the first for variable k
 abbrev pub withStart : Reading → ℕ → ℕ → ℕ → Reading
-withStart r k v i =
-    record {
-      verdict = Verdict.Accepted;
-      contents =
-          record {
-            processes = r .contents .processes;
-            variables = r .contents .variables;
-            programs = r .contents .programs;
-            limit = r .contents .limit;
-            starts = set (r .contents .starts) k v;
-            code = r .contents .code;
-          };
-      at = i;
-      line = suc (r .line);
-    }
+withStart r k v i = let y = r .contents in soFar (gathered y (set (y .starts) k v) (y .programs)) i (suc (r .line))
 
 abbrev pub nextVar : VarLine → Reading → ℕ → (Reading → Reading) → Reading
 nextVar (VarLine.Start v i) r k go = go (withStart r k v i)
@@ -169,24 +151,7 @@ thenPrograms t s r = ifAccepted (r .verdict) r (λ x. programsFrom t s 0 x)
 
 -- the lines after the first: n `var` lines, then s programs
 abbrev pub afterCard : List ℕ → CardLine → Reading
-afterCard t (CardLine.Fields p n s l i) =
-    thenEnd t
-    (thenPrograms t s
-    (varsFrom t n 0
-    (record {
-      verdict = Verdict.Accepted;
-      contents =
-          record {
-            processes = p;
-            variables = n;
-            programs = s;
-            limit = l;
-            starts = replicate 64 0;
-            code = replicate 8 noProgram;
-          };
-      at = i;
-      line = 2;
-    })))
+afterCard t (CardLine.Fields p n s l i) = thenEnd t (thenPrograms t s (varsFrom t n 0 (soFar (begun p n s l) i 2)))
 afterCard t (CardLine.Refused why) = refusedAt why 1
 
 -- refusal 1: 'card text over the byte limit'

@@ -21,12 +21,12 @@ noGate = record { holder = Nobody; seq = 0 }
 abbrev pub contentsOf : Card → Contents
 contentsOf c =
     record {
-      processes = c .processes;
-      variables = c .variables;
-      programs = c .programs;
+      processCount = c .processCount;
+      variableCount = c .variableCount;
+      programCount = c .programCount;
       limit = c .limit;
       starts = c .starts;
-      code = c .code;
+      programs = c .programs;
     }
 
 -- the shared cells: A[i] and R[v]
@@ -65,32 +65,40 @@ localAt c i =
 
 -- the program that an operation with this gate number runs: the same under every number, as no request changes a program (docs/DECISIONS, 12)
 abbrev pub programOf : Contents → ℕ → ℕ → Program
-programOf t k number = getD (t .code) k noProgram
+programOf t k number = getD (t .programs) k noProgram
+
+-- a card of the same text: its shared cells, its accepted steps, and what its processes keep
+abbrev pub withState :
+    Card → Gate → List Announcement → List Record → ℕ →
+    List Task → List Operation → List Bool → List ℕ → List Gate → List Announcement → List Simulation → List Dictionary → List ℕ → Card
+withState c gate announcements records steps tasks operations exits counts gates copies simulations dictionaries masks =
+    record {
+      processCount = c .processCount;
+      variableCount = c .variableCount;
+      programCount = c .programCount;
+      limit = c .limit;
+      starts = c .starts;
+      programs = c .programs;
+      gate = gate;
+      announcements = announcements;
+      records = records;
+      steps = steps;
+      tasks = tasks;
+      operations = operations;
+      exits = exits;
+      counts = counts;
+      gates = gates;
+      copies = copies;
+      simulations = simulations;
+      dictionaries = dictionaries;
+      masks = masks;
+    }
 
 -- the card with other shared cells, ..
 abbrev pub withCells : Card → Gate → List Announcement → List Record → Card
 withCells c gate announcements records =
-    record {
-      processes = c .processes;
-      variables = c .variables;
-      programs = c .programs;
-      limit = c .limit;
-      starts = c .starts;
-      code = c .code;
-      gate = gate;
-      announcements = announcements;
-      records = records;
-      steps = c .steps;
-      tasks = c .tasks;
-      operations = c .operations;
-      exits = c .exits;
-      counts = c .counts;
-      gates = c .gates;
-      copies = c .copies;
-      simulations = c .simulations;
-      dictionaries = c .dictionaries;
-      masks = c .masks;
-    }
+    withState c gate announcements records (c .steps)
+    (c .tasks) (c .operations) (c .exits) (c .counts) (c .gates) (c .copies) (c .simulations) (c .dictionaries) (c .masks)
 
 abbrev pub withGate : Card → Gate → Card
 withGate c g = withCells c g (c .announcements) (c .records)
@@ -101,52 +109,20 @@ withAnnouncement c m a = withCells c (c .gate) (set (c .announcements) m a) (c .
 abbrev pub withRecord : Card → ℕ → Record → Card
 withRecord c v r = withCells c (c .gate) (c .announcements) (set (c .records) v r)
 
+-- .. with other arrays of what the processes keep, ..
+abbrev pub withOwn :
+    Card → List Task → List Operation → List Bool → List ℕ → List Gate → List Announcement → List Simulation → List Dictionary → List ℕ → Card
+withOwn c = withState c (c .gate) (c .announcements) (c .records) (c .steps)
+
 -- .. with another own state of process i, ..
 abbrev pub withLocal : Card → ℕ → Local → Card
 withLocal c i l =
-    record {
-      processes = c .processes;
-      variables = c .variables;
-      programs = c .programs;
-      limit = c .limit;
-      starts = c .starts;
-      code = c .code;
-      gate = c .gate;
-      announcements = c .announcements;
-      records = c .records;
-      steps = c .steps;
-      tasks = set (c .tasks) i (l .task);
-      operations = set (c .operations) i (l .operation);
-      exits = set (c .exits) i (l .exit);
-      counts = set (c .counts) i (l .steps);
-      gates = set (c .gates) i (l .gate);
-      copies = set (c .copies) i (l .announcement);
-      simulations = set (c .simulations) i (l .simulation);
-      dictionaries = set (c .dictionaries) i (l .dictionary);
-      masks = set (c .masks) i (l .mask);
-    }
+    withOwn c (set (c .tasks) i (l .task)) (set (c .operations) i (l .operation)) (set (c .exits) i (l .exit)) (set (c .counts) i (l .steps))
+    (set (c .gates) i (l .gate)) (set (c .copies) i (l .announcement)) (set (c .simulations) i (l .simulation))
+    (set (c .dictionaries) i (l .dictionary)) (set (c .masks) i (l .mask))
 
 -- .. and with another count of accepted steps
 abbrev pub withSteps : Card → ℕ → Card
 withSteps c k =
-    record {
-      processes = c .processes;
-      variables = c .variables;
-      programs = c .programs;
-      limit = c .limit;
-      starts = c .starts;
-      code = c .code;
-      gate = c .gate;
-      announcements = c .announcements;
-      records = c .records;
-      steps = k;
-      tasks = c .tasks;
-      operations = c .operations;
-      exits = c .exits;
-      counts = c .counts;
-      gates = c .gates;
-      copies = c .copies;
-      simulations = c .simulations;
-      dictionaries = c .dictionaries;
-      masks = c .masks;
-    }
+    withState c (c .gate) (c .announcements) (c .records) k
+    (c .tasks) (c .operations) (c .exits) (c .counts) (c .gates) (c .copies) (c .simulations) (c .dictionaries) (c .masks)

@@ -9,13 +9,13 @@ use Rattle.construction.specs.Machine.{accessOf, advance}
 
 -- a card has room for 8 processes, 8 programs and 64 variables
 abbrev pub isProcess : Card → ℕ → Bool
-isProcess c i = ltb i (c .processes) && ltb i 8
+isProcess c i = ltb i (c .processCount) && ltb i 8
 
 abbrev pub isProgram : Card → ℕ → Bool
-isProgram c k = ltb k (c .programs) && ltb k 8
+isProgram c k = ltb k (c .programCount) && ltb k 8
 
 abbrev pub isVariable : Card → ℕ → Bool
-isVariable c v = ltb v (c .variables) && ltb v 64
+isVariable c v = ltb v (c .variableCount) && ltb v 64
 
 -- a place that has no access is that of a process without an operation
 abbrev pub isNone : Access → Bool

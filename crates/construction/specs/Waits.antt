@@ -16,7 +16,7 @@ longestWait p w = 4 + (p + 1) * (10 + 2 * w)
 
 -- of a card's text
 abbrev pub waitOf : Contents → ℕ
-waitOf t = longestWait (t .processes) (cardWeight t)
+waitOf t = longestWait (t .processCount) (cardWeight t)
 
 -- '2 more if a wish was taken'
 abbrev pub extra : Bool → ℕ
@@ -39,21 +39,21 @@ TellsAtMost n (Answer.Refused why) = Unit
 pub record WaitFree (o : Card) (es : List Entry) : Type 0 where
   -- an operation still under way has made fewer own steps than it may take
   pub underWay :
-      (i : ℕ) → i < o .processes → isBusy (run o es .card) i ≡ true →
+      (i : ℕ) → i < o .processCount → isBusy (run o es .card) i ≡ true →
       localAt (run o es .card) i .steps < allowed (contentsOf o) (localAt (run o es .card) i)
   -- one that returns at the next step tells at most that many
   pub returns :
-      (i : ℕ) → i < o .processes →
+      (i : ℕ) → i < o .processCount →
       TellsAtMost (allowed (contentsOf o) (localAt (run o es .card) i)) (step (run o es .card) i .answer)
   -- a step of a process under way is refused only by the limit
   pub refused :
-      (i : ℕ) (why : Refusal) → i < o .processes → isBusy (run o es .card) i ≡ true →
+      (i : ℕ) (why : Refusal) → i < o .processCount → isBusy (run o es .card) i ≡ true →
       step (run o es .card) i .answer ≡ Answer.Refused why → (why ≡ LimitReached) × (o .limit ≤ run o es .card .steps)
   -- one that is accepted and answers 'run' counts as one own step more
   pub counted :
-      (i : ℕ) → i < o .processes → step (run o es .card) i .answer ≡ Answer.Run →
+      (i : ℕ) → i < o .processCount → step (run o es .card) i .answer ≡ Answer.Run →
       localAt (step (run o es .card) i .card) i .steps ≡ suc (localAt (run o es .card) i .steps)
   -- and no entry takes an own step back from an operation under way
   pub kept :
-      (i : ℕ) (e : Entry) → i < o .processes → isBusy (run o es .card) i ≡ true →
+      (i : ℕ) (e : Entry) → i < o .processCount → isBusy (run o es .card) i ≡ true →
       localAt (run o es .card) i .steps ≤ localAt (act (run o es .card) e .card) i .steps

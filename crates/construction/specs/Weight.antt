@@ -35,4 +35,4 @@ heaviest [] = 0
 heaviest (x ∷ l) = max (weight x) (heaviest l)
 
 abbrev pub cardWeight : Contents → ℕ
-cardWeight t = heaviest (t .code)
+cardWeight t = heaviest (t .programs)

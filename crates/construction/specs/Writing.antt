@@ -27,9 +27,9 @@ programsText (suc m) k l = programText (getD l k noProgram) ++ programsText m (s
 -- 'The writer writes the card as it was opened, after any steps .. the empty card writes as no bytes.'
 unfoldable pub textOf : Card → List ℕ
 textOf c =
-    cond (eqb (c .processes) 0) []
-    (cardText (c .processes) (c .variables) (c .programs) (c .limit)
-    ++ (varsText (c .variables) 0 (c .starts) ++ programsText (c .programs) 0 (c .code)))
+    cond (eqb (c .processCount) 0) []
+    (cardText (c .processCount) (c .variableCount) (c .programCount) (c .limit)
+    ++ (varsText (c .variableCount) 0 (c .starts) ++ programsText (c .programCount) 0 (c .programs)))
 
 -- refusal 11, or the length; and the buffer: the text, then the bytes past it as they were
 unfoldable pub written : Card → List ℕ → Written

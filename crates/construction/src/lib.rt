@@ -286,13 +286,13 @@ pub struct Operation {
 // The card: its text, the shared cells, and the local state of each process.
 pub struct Card {
     // document 01: p, n, s and the step limit
-    pub processes: u8,
-    pub variables: u8,
-    pub programs: u8,
+    pub processCount: u8,
+    pub variableCount: u8,
+    pub programCount: u8,
     pub limit: u64,
     // the starting values, and the sheets
     pub starts: [u32; 64],
-    pub code: [Program; 8],
+    pub programs: [Program; 8],
     // the shared cells: the gate, the announcement of each process, the record of each variable
     pub gate: Gate,
     pub announcements: [Announcement; 8],
@@ -424,9 +424,9 @@ pub enum RowSwap {
 // What the first line of a card text yields: its fields and the place past it, or why it is refused.
 pub enum CardLine {
     Fields {
-        processes: u8,
-        variables: u8,
-        programs: u8,
+        processCount: u8,
+        variableCount: u8,
+        programCount: u8,
         limit: u64,
         next: usize,
     },
@@ -456,12 +456,12 @@ pub enum InsLine {
 
 // What a card text says.
 pub struct Contents {
-    pub processes: u8,
-    pub variables: u8,
-    pub programs: u8,
+    pub processCount: u8,
+    pub variableCount: u8,
+    pub programCount: u8,
     pub limit: u64,
     pub starts: [u32; 64],
-    pub code: [Program; 8],
+    pub programs: [Program; 8],
 }
 
 // Whether a text is accepted; if not, why and at which line.

@@ -138,14 +138,14 @@ fn instruction_of(code: u64, a: u8, b: u8, c: u8) -> Instruction
 }
 
 // Whether an operand is within the range of its kind, on a card of so many variables. An unused one has no range.
-fn operand_in_range(variables: u8, kind: OperandKind, x: u64) -> bool
-    ensures { λ r. ⌜ r ≡ ranged variables kind x ⌝ }
+fn operand_in_range(variableCount: u8, kind: OperandKind, x: u64) -> bool
+    ensures { λ r. ⌜ r ≡ ranged variableCount kind x ⌝ }
 {
     match kind {
         Unused => true,
         Register => x < 4,
         Word => x < 4_294_967_296,
-        Variable => x < variables as u64,
+        Variable => x < variableCount as u64,
         Skip => in_range(1, 31, x),
     }
 }
@@ -165,19 +165,19 @@ fn operand_zero_if_unused(kind: OperandKind, x: u64) -> bool
 
 // Whether the operands are within the ranges of their kinds a, b and c.
 fn operands_in_range(
-    variables: u8,
+    variableCount: u8,
     a: OperandKind,
     b: OperandKind,
     c: OperandKind,
     x: Encoded,
 ) -> bool
-    ensures { λ r. ⌜ r ≡ eachOperand (ranged variables) a b c x ⌝ }
+    ensures { λ r. ⌜ r ≡ eachOperand (ranged variableCount) a b c x ⌝ }
 {
     both(
-        operand_in_range(variables, a, x.a),
+        operand_in_range(variableCount, a, x.a),
         both(
-            operand_in_range(variables, b, x.b),
-            operand_in_range(variables, c, x.c),
+            operand_in_range(variableCount, b, x.b),
+            operand_in_range(variableCount, c, x.c),
         ),
     )
 }
@@ -197,13 +197,13 @@ fn operands_zero_if_unused(a: OperandKind, b: OperandKind, c: OperandKind, x: En
 
 // The instruction of a code and its operands, on a card of so many variables: refusals 4, 12 and 13. An operand that is not refused is told
 // whole by its low byte, a constant by its low word.
-pub fn decode(variables: u8, x: Encoded) -> Decoded
-    ensures { λ r. ⌜ r ≡ decoded variables x ⌝ }
+pub fn decode(variableCount: u8, x: Encoded) -> Decoded
+    ensures { λ r. ⌜ r ≡ decoded variableCount x ⌝ }
 {
     let Known(kind_a, kind_b, kind_c) = format_of(x.code) else {
         return Decoded::Refused(Refusal::UnknownCode);
     };
-    if !operands_in_range(variables, kind_a, kind_b, kind_c, x) {
+    if !operands_in_range(variableCount, kind_a, kind_b, kind_c, x) {
         return Decoded::Refused(Refusal::OperandOutOfRange);
     }
     if !operands_zero_if_unused(kind_a, kind_b, kind_c, x) {
@@ -222,12 +222,12 @@ pub fn decode(variables: u8, x: Encoded) -> Decoded
     Decoded::Valid(instruction_of(x.code, a, b, c))
 }
 
-fn card_fits(processes: u64, variables: u64, programs: u64, limit: u64) -> bool
-    ensures { λ r. ⌜ r ≡ cardFits processes variables programs limit ⌝ }
+fn card_fits(processCount: u64, variableCount: u64, programCount: u64, limit: u64) -> bool
+    ensures { λ r. ⌜ r ≡ cardFits processCount variableCount programCount limit ⌝ }
 {
-    let p = in_range(1, 8, processes);
-    let n = in_range(1, 64, variables);
-    let s = in_range(1, 8, programs);
+    let p = in_range(1, 8, processCount);
+    let n = in_range(1, 64, variableCount);
+    let s = in_range(1, 8, programCount);
     let l = in_range(1, 1_000_000_000_000_000_000, limit);
     both(p, both(n, both(s, l)))
 }
@@ -242,9 +242,9 @@ pub fn card_line(text: &[u8], at: usize) -> CardLine
         };
         if card_fits(a, b, c, d) {
             CardLine::Fields {
-                processes: a as u8,
-                variables: b as u8,
-                programs: c as u8,
+                processCount: a as u8,
+                variableCount: b as u8,
+                programCount: c as u8,
                 limit: d,
                 next,
             }
@@ -309,8 +309,8 @@ fn ins_of(decoded: Decoded, next: usize) -> InsLine
 }
 
 // `ins,code,a,b,c`, on a card of so many variables
-pub fn ins_line(variables: u8, text: &[u8], at: usize) -> InsLine
-    ensures { λ r. ⌜ r ≡ insLine variables (now (text .entry)) at ⌝ }
+pub fn ins_line(variableCount: u8, text: &[u8], at: usize) -> InsLine
+    ensures { λ r. ⌜ r ≡ insLine variableCount (now (text .entry)) at ⌝ }
 {
     if has_word(text, at, b"ins,") {
         let Numbers::Values { a, b, c, d, next } = four_at(text, at + 4) else {
@@ -322,7 +322,7 @@ pub fn ins_line(variables: u8, text: &[u8], at: usize) -> InsLine
             b: c,
             c: d,
         };
-        ins_of(decode(variables, x), next)
+        ins_of(decode(variableCount, x), next)
     } else {
         InsLine::Refused(Refusal::Malformed)
     }

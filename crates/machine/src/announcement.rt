@@ -120,8 +120,8 @@ fn replace_announcement(
 }
 
 // Whose announcement an access of a process is of, on a card of so many processes.
-pub fn whose(access: AnnouncementAccess, processes: u8, process: u8, gate: Gate) -> u8
-    ensures { λ r. ⌜ r ≡ whose access processes process gate ⌝ }
+pub fn whose(access: AnnouncementAccess, processCount: u8, process: u8, gate: Gate) -> u8
+    ensures { λ r. ⌜ r ≡ whose access processCount process gate ⌝ }
 {
     let holder = gate.holder;
     match access {
@@ -132,7 +132,7 @@ pub fn whose(access: AnnouncementAccess, processes: u8, process: u8, gate: Gate)
             active: _,
             exit: _,
         } => process,
-        AnnouncementAccess::ReadFirst => first_choice(gate.seq, processes),
+        AnnouncementAccess::ReadFirst => first_choice(gate.seq, processCount),
         AnnouncementAccess::Finish { flag: _, next: _ } => holder_of(holder),
     }
 }

@@ -127,11 +127,11 @@ pub fn holder_of(holder: Holder) -> u8
 }
 
 // Line C1: the process whose turn it is.
-pub fn first_choice(seq: u64, processes: u8) -> u8
-    ensures { λ r. ⌜ r ≡ firstChoice seq processes ⌝ }
+pub fn first_choice(seq: u64, processCount: u8) -> u8
+    ensures { λ r. ⌜ r ≡ firstChoice seq processCount ⌝ }
 {
-    if 0 < processes {
-        let m = seq % (processes as u64);
+    if 0 < processCount {
+        let m = seq % (processCount as u64);
         return m as u8;
     }
     0

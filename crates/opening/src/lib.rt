@@ -134,15 +134,15 @@ pub fn fresh(contents: Contents) -> Card
     ensures { λ r. ⌜ r ≡ fresh contents ⌝ }
 {
     let starts = contents.starts;
-    let code = contents.code;
+    let programs = contents.programs;
     let announcement = open_announcement();
     Card {
-        processes: contents.processes,
-        variables: contents.variables,
-        programs: contents.programs,
+        processCount: contents.processCount,
+        variableCount: contents.variableCount,
+        programCount: contents.programCount,
         limit: contents.limit,
         starts,
-        code,
+        programs,
         gate: Gate {
             holder: Holder::Nobody,
             seq: 1,

@@ -79,15 +79,15 @@ pub fn weight(program: Program) -> u8
 }
 
 // The largest weight of the programs of a card.
-pub fn heaviest(code: [Program; 8]) -> u8
-    ensures { λ r. ⌜ r ≡ heaviest code ⌝ }
+pub fn heaviest(programs: [Program; 8]) -> u8
+    ensures { λ r. ⌜ r ≡ heaviest programs ⌝ }
 {
     let mut most: u8 = 0;
     let mut k: u8 = 8;
     while 0 < k {
         k = k - 1;
         let at = k as usize;
-        let program = code[at];
+        let program = programs[at];
         let one = weight(program);
         if most < one {
             most = one;

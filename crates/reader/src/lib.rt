@@ -23,32 +23,42 @@ use construction::Verdict;
 use programs::weights::weight;
 ghost use mathlib.Core.Path.{_≡_};
 ghost use Prim.Native.Nat.{_≤_};
-ghost use Rattle.construction.specs.Opening.{insFrom, weighed, readProgram, programsFrom, varsFrom, thenEnd, thenPrograms, readCard, opened};
+ghost use Rattle.construction.specs.Opening.{begun, programSoFar, soFar, insFrom, weighed, readProgram, programsFrom, varsFrom, thenEnd, thenPrograms, readCard, opened};
 ghost use Rattle.construction.specs.Instructions.{noLine};
-ghost use Rattle.reader.specs.Gathering.{programSoFar, soFar, begun};
 ghost use lib.ListN.{replicate};
 
 // The contents after the `card` line alone.
-pub(crate) fn begun_contents(processes: u8, variables: u8, programs: u8, limit: u64) -> Contents
-    ensures { λ r. ⌜ r ≡ begun processes variables programs limit ⌝ }
+pub(crate) fn begun_contents(
+    processCount: u8,
+    variableCount: u8,
+    programCount: u8,
+    limit: u64,
+) -> Contents
+    ensures { λ r. ⌜ r ≡ begun processCount variableCount programCount limit ⌝ }
 {
     let program = opening::no_program();
-    let code = [program; 8];
+    let programs = [program; 8];
     let starts = [0u32; 64];
     Contents {
-        processes,
-        variables,
-        programs,
+        processCount,
+        variableCount,
+        programCount,
         limit,
         starts,
-        code,
+        programs,
     }
 }
 
 // The lines of a program, as many as its `sheet` line says.
-fn read_lines(variables: u8, text: &[u8], length: u8, start: usize, first: u64) -> ProgramReading
+fn read_lines(
+    variableCount: u8,
+    text: &[u8],
+    length: u8,
+    start: usize,
+    first: u64,
+) -> ProgramReading
     requires { ⌜ (length ≤ 32) × (first ≤ 10000) ⌝ }
-    ensures { λ r. ⌜ r ≡ insFrom variables (now (text .entry)) length 0 (programSoFar length (replicate 32 noLine) start first) ⌝ }
+    ensures { λ r. ⌜ r ≡ insFrom variableCount (now (text .entry)) length 0 (programSoFar length (replicate 32 noLine) start first) ⌝ }
 {
     let blank = opening::no_line();
     let mut lines = [blank; 32];
@@ -57,7 +67,7 @@ fn read_lines(variables: u8, text: &[u8], length: u8, start: usize, first: u64) 
     let count = length as usize;
     let mut k: usize = 0;
     while k < count {
-        let line = lines::ins_line(variables, text, at);
+        let line = lines::ins_line(variableCount, text, at);
         let InsLine::Ins { instruction, next } = line else {
             return program_refused_at(ins_refusal(line), number);
         };
@@ -91,15 +101,15 @@ fn weigh(read: ProgramReading, last: u64) -> ProgramReading
 }
 
 // One program: its `sheet` line and its lines.
-fn read_program(variables: u8, text: &[u8], at: usize, number: u64) -> ProgramReading
+fn read_program(variableCount: u8, text: &[u8], at: usize, number: u64) -> ProgramReading
     requires { ⌜ number ≤ 9000 ⌝ }
-    ensures { λ r. ⌜ r ≡ readProgram variables (now (text .entry)) at number ⌝ }
+    ensures { λ r. ⌜ r ≡ readProgram variableCount (now (text .entry)) at number ⌝ }
 {
     let line = lines::sheet_line(text, at);
     let SheetLine::Length { length, next } = line else {
         return program_refused_at(sheet_refusal(line), number);
     };
-    let read = read_lines(variables, text, length, next, number + 1);
+    let read = read_lines(variableCount, text, length, next, number + 1);
     weigh(read, number + length as u64)
 }
 
@@ -108,25 +118,28 @@ fn read_programs(text: &[u8], count: u8, contents: Contents, start: usize, first
     requires { ⌜ (count ≤ 8) × (first ≤ 1000) ⌝ }
     ensures { λ r. ⌜ r ≡ programsFrom (now (text .entry)) count 0 (soFar contents start first) ⌝ }
 {
-    let variables = contents.variables;
-    let mut code = contents.code;
+    let variableCount = contents.variableCount;
+    let mut programs = contents.programs;
     let mut at = start;
     let mut number = first;
     let all = count as usize;
     let mut k: usize = 0;
     while k < all {
-        let read = read_program(variables, text, at, number);
+        let read = read_program(variableCount, text, at, number);
         let verdict = read.verdict;
         if let Verdict::Refused { refusal, line } = verdict {
             return refused_at(refusal, line);
         }
         let program = read.program;
-        code[k] = program;
+        programs[k] = program;
         at = read.at;
         number = read.line;
         k = k + 1;
     }
-    let contents = Contents { code, ..contents };
+    let contents = Contents {
+        programs,
+        ..contents
+    };
     Reading {
         verdict: Verdict::Accepted,
         contents,
@@ -165,17 +178,23 @@ fn read_vars(text: &[u8], count: u8, contents: Contents, start: usize, first: u6
 }
 
 // What follows the `card` line: the `var` lines, the programs, and nothing more.
-fn read_body(text: &[u8], variables: u8, programs: u8, contents: Contents, at: usize) -> Reading
-    requires { ⌜ (variables ≤ 64) × (programs ≤ 8) ⌝ }
-    ensures { λ r. ⌜ r ≡ thenEnd (now (text .entry)) (thenPrograms (now (text .entry)) programs (varsFrom (now (text .entry)) variables 0 (soFar contents at 2))) ⌝ }
+fn read_body(
+    text: &[u8],
+    variableCount: u8,
+    programCount: u8,
+    contents: Contents,
+    at: usize,
+) -> Reading
+    requires { ⌜ (variableCount ≤ 64) × (programCount ≤ 8) ⌝ }
+    ensures { λ r. ⌜ r ≡ thenEnd (now (text .entry)) (thenPrograms (now (text .entry)) programCount (varsFrom (now (text .entry)) variableCount 0 (soFar contents at 2))) ⌝ }
 {
-    let vars = read_vars(text, variables, contents, at, 2);
+    let vars = read_vars(text, variableCount, contents, at, 2);
     let verdict = vars.verdict;
     let Verdict::Accepted = verdict else {
         return vars;
     };
     let started = vars.contents;
-    let all = read_programs(text, programs, started, vars.at, vars.line);
+    let all = read_programs(text, programCount, started, vars.at, vars.line);
     let verdict = all.verdict;
     let Verdict::Accepted = verdict else {
         return all;
@@ -195,17 +214,17 @@ fn read_card(text: &[u8]) -> Reading
     }
     let line = lines::card_line(text, 0);
     let CardLine::Fields {
-        processes,
-        variables,
-        programs,
+        processCount,
+        variableCount,
+        programCount,
         limit,
         next,
     } = line
     else {
         return refused_at(card_refusal(line), 1);
     };
-    let contents = begun_contents(processes, variables, programs, limit);
-    read_body(text, variables, programs, contents, next)
+    let contents = begun_contents(processCount, variableCount, programCount, limit);
+    read_body(text, variableCount, programCount, contents, next)
 }
 
 // The card that a text opens to, or the refusal with its line and the empty card.

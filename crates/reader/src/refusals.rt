@@ -10,7 +10,7 @@ use construction::VarLine;
 use construction::Verdict;
 ghost use mathlib.Core.Path.{_≡_};
 ghost use Rattle.construction.specs.Opening.{refusedAt, programRefusedAt};
-ghost use Rattle.reader.specs.Gathering.{cardRefusal, varRefusal, sheetRefusal, insRefusal};
+ghost use Rattle.reader.specs.Refusals.{cardRefusal, varRefusal, sheetRefusal, insRefusal};
 
 pub(crate) fn refused_at(refusal: Refusal, line: u64) -> Reading
     ensures { λ r. ⌜ r ≡ refusedAt refusal line ⌝ }
@@ -44,9 +44,9 @@ pub(crate) fn card_refusal(line: CardLine) -> Refusal
     match line {
         CardLine::Refused(refusal) => refusal,
         CardLine::Fields {
-            processes: _,
-            variables: _,
-            programs: _,
+            processCount: _,
+            variableCount: _,
+            programCount: _,
             limit: _,
             next: _,
         } => Refusal::Malformed,

@@ -88,7 +88,7 @@ sameSimulation a b =
 
 -- program i of a card, and the dictionary of process i
 abbrev pub programAt : Card → ℕ → Program
-programAt c i = getD (c .code) i (record { length = 0; lines = [] })
+programAt c i = getD (c .programs) i (record { length = 0; lines = [] })
 
 abbrev pub dictionaryAt : Card → ℕ → Dictionary
 dictionaryAt c i = getD (c .dictionaries) i (record { length = 0; items = [] })
@@ -118,9 +118,9 @@ sameAt a b i =
 -- the fields that are no arrays
 unfoldable pub sameNumbers : Card → Card → Bool
 sameNumbers a b =
-    eqb (a .processes) (b .processes)
-    && (eqb (a .variables) (b .variables)
-    && (eqb (a .programs) (b .programs)
+    eqb (a .processCount) (b .processCount)
+    && (eqb (a .variableCount) (b .variableCount)
+    && (eqb (a .programCount) (b .programCount)
     && (eqb (a .limit) (b .limit) && (eqb (a .steps) (b .steps) && sameGate (a .gate) (b .gate)))))
 
 unfoldable pub sameCard : Card → Card → Bool

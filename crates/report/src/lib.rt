@@ -123,7 +123,7 @@ pub fn show_cells(card: Card, variable: u32) {
     show_gate(gate);
     for i in 0..8 {
         let announcement = card.announcements[i];
-        if i < card.processes as usize {
+        if i < card.processCount as usize {
             show_announcement(i as u64, announcement);
         }
     }

@@ -218,7 +218,7 @@ fn same_at(a: Card, b: Card, i: usize) -> bool
     ensures { λ r. ⌜ r ≡ sameAt a b i ⌝ }
 {
     both(
-        same_program(a.code[i], b.code[i]),
+        same_program(a.programs[i], b.programs[i]),
         both(
             same_announcement(a.announcements[i], b.announcements[i]),
             both(same_work(a, b, i), same_copies(a, b, i)),
@@ -230,11 +230,11 @@ fn same_numbers(a: Card, b: Card) -> bool
     ensures { λ r. ⌜ r ≡ sameNumbers a b ⌝ }
 {
     both(
-        same_number(a.processes as u64, b.processes as u64),
+        same_number(a.processCount as u64, b.processCount as u64),
         both(
-            same_number(a.variables as u64, b.variables as u64),
+            same_number(a.variableCount as u64, b.variableCount as u64),
             both(
-                same_number(a.programs as u64, b.programs as u64),
+                same_number(a.programCount as u64, b.programCount as u64),
                 both(
                     same_number(a.limit, b.limit),
                     both(same_number(a.steps, b.steps), same_gate(a.gate, b.gate)),

@@ -96,19 +96,24 @@ pub fn noted_at(label: Label, mask: u64) -> u64
 // The cell that an access of a process touches, on a card of so many processes: `target` is the variable of H21, `written` that of H36.
 pub fn cell_of(
     access: Access,
-    processes: u8,
+    processCount: u8,
     process: u8,
     gate: Gate,
     target: u8,
     written: u8,
 ) -> Cell
-    ensures { λ r. ⌜ r ≡ cellBy access processes process gate target written ⌝ }
+    ensures { λ r. ⌜ r ≡ cellBy access processCount process gate target written ⌝ }
 {
     let holder = gate.holder;
     match access {
         Access::None => Cell::None,
         Access::Gate(_) => Cell::Gate,
-        Access::Announcement(access) => Cell::Announcement(whose(access, processes, process, gate)),
+        Access::Announcement(access) => Cell::Announcement(whose(
+            access,
+            processCount,
+            process,
+            gate,
+        )),
         Access::Help => Cell::Announcement(holder_of(holder)),
         Access::Note => Cell::Record(target),
         Access::Write => Cell::Record(written),

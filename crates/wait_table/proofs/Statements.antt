@@ -64,8 +64,8 @@ heaviest-most (x ∷ l) h = max-le (h 0) (heaviest-most l (λ k. h (suc k)))
 
 -- every card that opens has its longest wait in the table
 pub wait-of-opened :
-    (t : List ℕ) → 0 < opened t .card .processes →
-    waitFor (opened t .card .processes) (cardWeight (contentsOf (opened t .card))) ≡ Wait.Steps (waitOf (contentsOf (opened t .card)))
+    (t : List ℕ) → 0 < opened t .card .processCount →
+    waitFor (opened t .card .processCount) (cardWeight (contentsOf (opened t .card))) ≡ Wait.Steps (waitOf (contentsOf (opened t .card)))
 unfolding opened fresh
 wait-of-opened t some =
-    wait-there (readCard t .contents .processes) (cardWeight (readCard t .contents)) some (opened-bounded t .processes) (heaviest-most (readCard t .contents .code) (opened-bounded t .weights))
+    wait-there (readCard t .contents .processCount) (cardWeight (readCard t .contents)) some (opened-bounded t .processCount) (heaviest-most (readCard t .contents .programs) (opened-bounded t .weights))

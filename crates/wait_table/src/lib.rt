@@ -303,27 +303,27 @@ fn entry(row: u8, weight: u8) -> u64
 }
 
 // The longest wait for so many processes and a weight.
-pub fn wait_for(processes: u8, weight: u8) -> Wait
-    ensures { λ r. ⌜ r ≡ waitFor processes weight ⌝ }
+pub fn wait_for(processCount: u8, weight: u8) -> Wait
+    ensures { λ r. ⌜ r ≡ waitFor processCount weight ⌝ }
 {
-    if processes == 0 {
+    if processCount == 0 {
         return Wait::Outside;
     }
-    if 8 < processes {
+    if 8 < processCount {
         return Wait::Outside;
     }
     if 32 < weight {
         return Wait::Outside;
     }
-    Wait::Steps(entry(processes - 1, weight))
+    Wait::Steps(entry(processCount - 1, weight))
 }
 
 // The longest wait on a card.
 pub fn wait_of(card: Card) -> Wait
-    ensures { λ r. ⌜ r ≡ waitFor (card .processes) (cardWeight (contentsOf card)) ⌝ }
+    ensures { λ r. ⌜ r ≡ waitFor (card .processCount) (cardWeight (contentsOf card)) ⌝ }
 {
-    let code = card.code;
-    wait_for(card.processes, heaviest(code))
+    let programs = card.programs;
+    wait_for(card.processCount, heaviest(programs))
 }
 
 // What stands after the number of a weight: a comma, or the end of the line.

@@ -118,12 +118,12 @@ fn put_lines(buffer: &mut [u8], at: usize, count: u8, lines: [Line; 32]) -> usiz
 }
 
 // Program k, one of no lines past the end.
-fn program_at(code: [Program; 8], k: u8) -> Program
-    ensures { λ r. ⌜ r ≡ getD code k noProgram ⌝ }
+fn program_at(programs: [Program; 8], k: u8) -> Program
+    ensures { λ r. ⌜ r ≡ getD programs k noProgram ⌝ }
 {
     let at = k as usize;
     if at < 8 {
-        return code[at];
+        return programs[at];
     }
     opening::no_program()
 }
@@ -138,13 +138,13 @@ fn put_program(buffer: &mut [u8], at: usize, x: Program) -> usize
     put_lines(buffer, j, length, lines)
 }
 
-fn put_programs(buffer: &mut [u8], at: usize, count: u8, code: [Program; 8]) -> usize
-    ensures { λ r. ⌜ Put (now (buffer .entry)) at (programsText count 0 code) r (now (buffer .exit)) ⌝ }
+fn put_programs(buffer: &mut [u8], at: usize, count: u8, programs: [Program; 8]) -> usize
+    ensures { λ r. ⌜ Put (now (buffer .entry)) at (programsText count 0 programs) r (now (buffer .exit)) ⌝ }
 {
     let mut i = at;
     let mut k: u8 = 0;
     while k < count {
-        let program = program_at(code, k);
+        let program = program_at(programs, k);
         i = put_program(buffer, i, program);
         k = k + 1;
     }
@@ -155,25 +155,25 @@ fn put_programs(buffer: &mut [u8], at: usize, count: u8, code: [Program; 8]) -> 
 fn put_text(buffer: &mut [u8], card: Card) -> usize
     ensures { λ r. ⌜ Put (now (buffer .entry)) 0 (textOf card) r (now (buffer .exit)) ⌝ }
 {
-    let processes = card.processes;
-    if processes == 0 {
+    let processCount = card.processCount;
+    if processCount == 0 {
         return 0;
     }
-    let variables = card.variables;
-    let programs = card.programs;
+    let variableCount = card.variableCount;
+    let programCount = card.programCount;
     let starts = card.starts;
-    let code = card.code;
+    let programs = card.programs;
     let i = put_word(buffer, 0, b"card,");
     let j = put_four(
         buffer,
         i,
-        processes as u64,
-        variables as u64,
-        programs as u64,
+        processCount as u64,
+        variableCount as u64,
+        programCount as u64,
         card.limit,
     );
-    let k = put_vars(buffer, j, variables, starts);
-    put_programs(buffer, k, programs, code)
+    let k = put_vars(buffer, j, variableCount, starts);
+    put_programs(buffer, k, programCount, programs)
 }
 
 // The length of the text is learnt from a buffer of no bytes; then the text is put where it fits.

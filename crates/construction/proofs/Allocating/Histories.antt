@@ -105,7 +105,7 @@ tied o es O = tied-all o (opening o) es O (record { listed = tt; words = refl })
 
 -- each action is one that the codes can make there
 pub all-possible :
-    (o : Card) (xs : List Invocation) (fs : List Finish) → o .variables ≡ length (startWords o) → AllPossible (startWords o) (performedAll o xs fs)
+    (o : Card) (xs : List Invocation) (fs : List Finish) → o .variableCount ≡ length (startWords o) → AllPossible (startWords o) (performedAll o xs fs)
 unfolding performedAll
 all-possible o xs [] h = tt
 all-possible o xs (f ∷ fs) h =

@@ -37,7 +37,7 @@ pub record WellFormed (d : Dictionary) : Type 0 where
 pub record Before (c : Card) (w : World) (i : ℕ) : Type 0 where
   pub good : WorldInvariant (contentsOf c) (worldOf c w)
   pub sizes : Sizes c
-  pub inside : i < c .processes
+  pub inside : i < c .processCount
   pub small : c .gate .seq ≤ 1000000000000000000
   pub tidy : WellFormed (localAt c i .dictionary)
 

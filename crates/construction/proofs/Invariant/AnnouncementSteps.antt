@@ -36,7 +36,7 @@ module _ {c : Card} {w : World} {i : ℕ} (B : Before c w i) where
   L l = LocAt l F W i (localAt c i)
 
   -- the announcement of m after it was set
-  set-is : (m : ℕ) (a : Announcement) → m < c .processes → getD (set (c .announcements) m a) m openAnnouncement ≡ a
+  set-is : (m : ℕ) (a : Announcement) → m < c .processCount → getD (set (c .announcements) m a) m openAnnouncement ≡ a
   set-is m a lt =
       getD-set-same (c .announcements) m a openAnnouncement (omega (arith, B .good .fits .few, B .good .lengths .announcements))
 
@@ -122,7 +122,7 @@ module _ {c : Card} {w : World} {i : ℕ} (B : Before c w i) where
       ))
 
   read-C2 :
-      (m : ℕ) → m < c .processes → (f : Flag) → announcementAt c m .flag ≡ f → L C2 →
+      (m : ℕ) → m < c .processCount → (f : Flag) → announcementAt c m .flag ≡ f → L C2 →
       Loc F W i (read m (byFlag f C4 P13 C4))
   read-C2 m ml Done e q = q
   read-C2 m ml Active e q = (
@@ -144,8 +144,8 @@ module _ {c : Card} {w : World} {i : ℕ} (B : Before c w i) where
   pub at-C2 : L C2 → Acted c W i (perform (Access.Announcement AnnouncementAccess.ReadFirst) c i .card)
   unfolding perform accessAnnouncement
   at-C2 q =
-      let m : ℕ = whose AnnouncementAccess.ReadFirst (c .processes) i (localAt c i .gate) in
-      reads m _ (read-C2 m (first-inside (c .processes) i (localAt c i .gate) (B .inside)) (announcementAt c m .flag) refl q)
+      let m : ℕ = whose AnnouncementAccess.ReadFirst (c .processCount) i (localAt c i .gate) in
+      reads m _ (read-C2 m (first-inside (c .processCount) i (localAt c i .gate) (B .inside)) (announcementAt c m .flag) refl q)
 
   -- process i at a place, and the card after a swap of announcement m
   abbrev at : Place → Local
@@ -217,7 +217,7 @@ module _ {c : Card} {w : World} {i : ℕ} (B : Before c w i) where
         let still = helper .seen .still (omega (arith, B .good .fresh helped nd, plan .early)) in
         let zs : c .gate .seq ≡ localAt c i .gate .seq = still .1 in
         let all :
-        (v : ℕ) → v < c .variables → recordAt c v .seq < c .gate .seq →
+        (v : ℕ) → v < c .variableCount → recordAt c v .seq < c .gate .seq →
         wordAt (endingIn F W (c .gate .seq) .words) v ≡ wordAt (roundIn W (c .gate .seq) .words) v =
         ⊎-elim (λ b. absurd (omega arith)) (λ g. rw zs g) (rd .all) in
         let yields : localAt c i .simulation .yields ≡ endingIn F W (c .gate .seq) .yields =
@@ -249,7 +249,7 @@ module _ {c : Card} {w : World} {i : ℕ} (B : Before c w i) where
         sameAnnouncement-false _ _ e (announcement-path (y .program) a (y .seq) (y .number) (y .words) (y .fault))
 
   -- afterwards the flag of m is done
-  is-done : (m : ℕ) → m < c .processes → announcementIn (ending F W m) m .flag ≡ Done
+  is-done : (m : ℕ) → m < c .processCount → announcementIn (ending F W m) m .flag ≡ Done
   is-done m ml = ap (λ (r : Announcement). r .flag) (set-is m _ ml)
 
   pub at-P19 : L P19 → Acted c W i (perform (Access.Announcement (AnnouncementAccess.Finish Active P20)) c i .card)

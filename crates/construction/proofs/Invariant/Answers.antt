@@ -18,7 +18,7 @@ use Rattle.construction.proofs.Invariant.Acting.{worldOf}
 use Rattle.construction.proofs.Invariant.Cards.{CardInvariant, good-is, at-rest}
 
 -- a read shows the word of the sequential run
-module _ (c : Card) (w : World) (I : CardInvariant c w) (v : ℕ) (vl : v < c .variables) where
+module _ (c : Card) (w : World) (I : CardInvariant c w) (v : ℕ) (vl : v < c .variableCount) where
   abbrev W : World
   W = worldOf c w
 
@@ -56,7 +56,7 @@ module _ (c : Card) (w : World) (I : CardInvariant c w) (v : ℕ) (vl : v < c .v
   read-is = by-holder (c .gate .holder) (good .phase)
 
 -- the answer of an operation that has returned: done with the number and what the sequential run yields, or exited
-module _ {c : Card} {w : World} (I : CardInvariant c w) (i : ℕ) (lt : i < c .processes) (b : isBusy c i ≡ false) where
+module _ {c : Card} {w : World} (I : CardInvariant c w) (i : ℕ) (lt : i < c .processCount) (b : isBusy c i ≡ false) where
   -- what the announcement says, and the answer
   abbrev pub Returned : Answer → Type 0
   Returned a =
@@ -89,7 +89,7 @@ module _ (F : Contents) (w : World) (i : ℕ) (t : Local) where
   quiet-at Stage.numbered e q = q .0
   quiet-at (Stage.announced a b f) e q = absurd (true-false _ a e)
 
-module _ {c : Card} {w : World} (I : CardInvariant c w) (i : ℕ) (lt : i < c .processes) where
+module _ {c : Card} {w : World} (I : CardInvariant c w) (i : ℕ) (lt : i < c .processCount) where
   -- an operation that is not announced is not active and does not hold the gate
   quiet-is : isAnnounced (localAt c i .task .place) ≡ false → Quiet w i
   quiet-is e = quiet-at (contentsOf c) w i (known (localAt c i)) (stage (localAt c i .task .place)) e (I .locs i lt)

@@ -30,7 +30,7 @@ mine-change C q = record { own = owned-change C (q .own); called = q .called ∙
 pub record Helper (F : Contents) (w : World) (j : ℕ) (o : Operation) (g : Gate) : Type 0 where
   pub mine : Mine (viewOf w j) o
   pub named : g .holder ≡ Process (holderOf (g .holder))
-  pub inside : holderOf (g .holder) < F .processes
+  pub inside : holderOf (g .holder) < F .processCount
   pub seen : Seen w (holderOf (g .holder)) (g .seq)
   pub limit : Limit (viewOf w j) j (g .seq)
 
@@ -44,7 +44,7 @@ pub record Plan (F : Contents) (w : World) (g : Gate) (a : Announcement) : Type 
 
 -- an item of the dictionary of a helper of number s
 pub record ItemNoted (F : Contents) (w : World) (s : ℕ) (e : Item) : Type 0 where
-  pub inside : e .variable < F .variables
+  pub inside : e .variable < F .variableCount
   pub base : valueUnder s (e .cell) ≡ wordAt (roundIn w s .words) (e .variable)
   pub kept : (recordIn w (e .variable) ≡ e .cell) ⊎ (s ≤ recordIn w (e .variable) .seq)
 
@@ -57,7 +57,7 @@ pub record Ready (F : Contents) (w : World) (s : ℕ) (o : Yield) : Type 0 where
   pub yields : (s < w .gate .seq) ⊎ (o ≡ endingIn F w s .yields)
   pub all :
       (s < w .gate .seq)
-      ⊎ ((v : ℕ) → v < F .variables → recordIn w v .seq < s → wordAt (endingIn F w s .words) v ≡ wordAt (roundIn w s .words) v)
+      ⊎ ((v : ℕ) → v < F .variableCount → recordIn w v .seq < s → wordAt (endingIn F w s .words) v ≡ wordAt (roundIn w s .words) v)
 
 -- the program that a helper of number s runs for the announcement a
 abbrev pub programFor : Contents → ℕ → Announcement → Program
@@ -67,15 +67,15 @@ programFor F s a = programOf F (a .program) s
 module _ (F : Contents) (w : World) (s : ℕ) (a : Announcement) where
   abbrev pub CoreAt : Simulation → Dictionary → Type 0
   CoreAt l d =
-      Core (F .variables) (programFor F s a) (a .words) (roundIn w s .words) (endingIn F w s) (ItemNoted F w s) l d
+      Core (F .variableCount) (programFor F s a) (a .words) (roundIn w s .words) (endingIn F w s) (ItemNoted F w s) l d
 
   abbrev pub NeedingAt : ℕ → Simulation → Dictionary → Type 0
   NeedingAt v l d =
-      Needing (F .variables) (programFor F s a) (a .words) (roundIn w s .words) (endingIn F w s) (ItemNoted F w s) v l d
+      Needing (F .variableCount) (programFor F s a) (a .words) (roundIn w s .words) (endingIn F w s) (ItemNoted F w s) v l d
 
   abbrev pub FinishedAt : Simulation → Dictionary → Type 0
   FinishedAt l d =
-      Finished (F .variables) (programFor F s a) (a .words) (roundIn w s .words) (endingIn F w s) (ItemNoted F w s) l d
+      Finished (F .variableCount) (programFor F s a) (a .words) (roundIn w s .words) (endingIn F w s) (ItemNoted F w s) l d
 
 -- item k is to be written, and those before it need no write
 pub record Writing (F : Contents) (w : World) (s : ℕ) (b : List Item) (k : ℕ) : Type 0 where
@@ -100,7 +100,7 @@ LocAt C4 F w j t =
     Mine (viewOf w j) (t .operation) × (t .gate .holder ≡ Nobody) × (t .gate .seq ≤ w .gate .seq)
     × Limit (viewOf w j) j (t .gate .seq)
 LocAt P13 F w j t =
-    Mine (viewOf w j) (t .operation) × (t .gate .holder ≡ Nobody) × (t .task .target < F .processes)
+    Mine (viewOf w j) (t .operation) × (t .gate .holder ≡ Nobody) × (t .task .target < F .processCount)
     × Nominated w j (t .task .target) (t .gate .seq) × Limit (viewOf w j) j (t .gate .seq)
 LocAt P14 F w j t = Mine (viewOf w j) (t .operation) × Past (viewOf w j)
 LocAt P16 F w j t = Helper F w j (t .operation) (t .gate)

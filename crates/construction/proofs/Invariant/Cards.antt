@@ -33,7 +33,7 @@ pub record CardInvariant (c : Card) (w : World) : Type 0 where
   pub cells : worldOf c w ≡ w
   pub good : WorldInvariant (contentsOf c) w
   pub sizes : Sizes c
-  pub locs : (j : ℕ) → j < c .processes → Loc (contentsOf c) w j (localAt c j)
+  pub locs : (j : ℕ) → j < c .processCount → Loc (contentsOf c) w j (localAt c j)
   pub tidy : (j : ℕ) → WellFormed (localAt c j .dictionary)
   pub numbered : c .gate .seq ≤ suc (c .steps)
   pub limited : c .steps ≤ c .limit
@@ -71,7 +71,7 @@ module _ {c : Card} {w : World} {i : ℕ} (I : CardInvariant c w) (lt : i < 8) {
     cells = cells;
     good = good-move (I .good) M;
     sizes = sizes-put c i t (I .sizes);
-    locs = λ j h. at-process (λ n x. n < c .processes → Loc (contentsOf c) u n x) (λ _. loc)
+    locs = λ j h. at-process (λ n x. n < c .processCount → Loc (contentsOf c) u n x) (λ _. loc)
         (λ n ne m. loc-stays (I .good) M n ne (localAt c n) (I .locs n m)) j h;
     tidy = at-process (λ n x. WellFormed (x .dictionary)) tidy (λ n ne. I .tidy n);
     numbered = subst (λ (x : Gate). x .seq ≤ suc k) (sym (ap (λ (x : World). x .gate) cells)) numbered;
@@ -82,7 +82,7 @@ module _ {c : Card} {w : World} {i : ℕ} (I : CardInvariant c w) (lt : i < 8) {
 
 -- what is known before an accepted step of process i
 pub before-step :
-    {c : Card} {w : World} {i : ℕ} → CardInvariant c w → i < c .processes → c .steps < c .limit → Before c w i
+    {c : Card} {w : World} {i : ℕ} → CardInvariant c w → i < c .processCount → c .steps < c .limit → Before c w i
 before-step {i = i} I lt h = record {
   good = good-is I;
   sizes = I .sizes;
@@ -102,7 +102,7 @@ pub record Stepped (c : Card) (w : World) (i : ℕ) : Type 0 where
 -- a step that is accepted
 pub inv-step :
     (c : Card) (w : World) (i : ℕ) →
-    CardInvariant c w → i < c .processes → isBusy c i ≡ true → c .steps < c .limit → Stepped c w i
+    CardInvariant c w → i < c .processCount → isBusy c i ≡ true → c .steps < c .limit → Stepped c w i
 unfolding advance
 inv-step c w i I lt b h = record {
   after = A .after;
@@ -150,7 +150,7 @@ inv-step c w i I lt b h = record {
 -- what is known of a process that has no operation under way
 pub at-rest :
     {c : Card} {w : World} (I : CardInvariant c w) (i : ℕ) →
-    i < c .processes → isBusy c i ≡ false → LocAt Idle (contentsOf c) w i (localAt c i)
+    i < c .processCount → isBusy c i ≡ false → LocAt Idle (contentsOf c) w i (localAt c i)
 at-rest {c} {w} I i lt b =
     subst (λ (l : Place). LocAt l (contentsOf c) w i (known (localAt c i))) (is-idle (stage (localAt c i .task .place)) (not-false _ b)) (I .locs i lt)
 
@@ -159,12 +159,12 @@ abbrev pub called : ℕ → Words → Operation
 called k inputs = record { program = k; inputs = inputs }
 
 call-move :
-    (c : Card) (w : World) (i k : ℕ) (inputs : Words) → CardInvariant c w → i < c .processes → isBusy c i ≡ false →
+    (c : Card) (w : World) (i k : ℕ) (inputs : Words) → CardInvariant c w → i < c .processCount → isBusy c i ≡ false →
     Move (contentsOf c) i w (asking w i (called k inputs))
 call-move c w i k inputs I lt b = ask (called k inputs) lt (at-rest I i lt b .0)
 
 pub inv-call :
-    (c : Card) (w : World) (i k : ℕ) (inputs : Words) → CardInvariant c w → i < c .processes → isBusy c i ≡ false →
+    (c : Card) (w : World) (i k : ℕ) (inputs : Words) → CardInvariant c w → i < c .processCount → isBusy c i ≡ false →
     CardInvariant (withLocal c i (invoked (localAt c i) k inputs)) (asking w i (called k inputs))
 inv-call c w i k inputs I lt b =
     moved I few (call-move c w i k inputs I lt b) (c .gate) (c .announcements) (c .records) (invoked (localAt c i) k inputs) (c .steps)
@@ -181,7 +181,7 @@ inv-call c w i k inputs I lt b =
     Q = at-rest I i lt b .0
 
 -- an exit request that is taken: no assertion speaks of it
-pub inv-exit : (c : Card) (w : World) (i : ℕ) → CardInvariant c w → i < c .processes → CardInvariant (withLocal c i (exiting (localAt c i))) w
+pub inv-exit : (c : Card) (w : World) (i : ℕ) → CardInvariant c w → i < c .processCount → CardInvariant (withLocal c i (exiting (localAt c i))) w
 inv-exit c w i I lt =
     moved I (omega (arith, I .good .fits .few)) stay (c .gate) (c .announcements) (c .records) (exiting (localAt c i)) (c .steps) (I .cells)
     (I .locs i lt) (I .tidy i) (subst (λ (g : Gate). g .seq ≤ suc (c .steps)) (gate-is I) (I .numbered)) (omega arith) (I .limited)
@@ -194,25 +194,25 @@ firstWorld x =
       gate = fresh x .gate;
       announcements = fresh x .announcements;
       records = fresh x .records;
-      words = take (x .variables) (x .starts);
+      words = take (x .variableCount) (x .starts);
       calls = replicate 8 noOperation;
       results = replicate 8 noResult;
       left = replicate 8 0;
       bound = replicate 8 0;
-      rounds = record { words = take (x .variables) (x .starts); call = noOperation } ∷ [];
+      rounds = record { words = take (x .variableCount) (x .starts); call = noOperation } ∷ [];
       count = 1;
     }
 
-module _ (x : Contents) (few : x .processes ≤ 8) (narrow : x .variables ≤ 64) (capped : x .limit ≤ 1000000000000000000)
-    (many : length (x .starts) ≡ 64) (short : (k : ℕ) → Short (x .variables) (getD (x .code) k noProgram)) where
+module _ (x : Contents) (few : x .processCount ≤ 8) (narrow : x .variableCount ≤ 64) (capped : x .limit ≤ 1000000000000000000)
+    (many : length (x .starts) ≡ 64) (short : (k : ℕ) → Short (x .variableCount) (getD (x .programs) k noProgram)) where
   open-flag : (m : ℕ) → getD (replicate 8 openAnnouncement) m openAnnouncement .flag ≡ Done
   open-flag m = ap (λ (a : Announcement). a .flag) (getD-replicate-same 8 m openAnnouncement)
 
   open-record : (v : ℕ) → getD (map openRecord (x .starts)) v (openRecord 0) ≡ openRecord (getD (x .starts) v 0)
   open-record v = List·getD-map openRecord (x .starts) v 0
 
-  open-words : length (take (x .variables) (x .starts)) ≡ x .variables
-  open-words = length-take-le (x .variables) (x .starts) (omega arith)
+  open-words : length (take (x .variableCount) (x .starts)) ≡ x .variableCount
+  open-words = length-take-le (x .variableCount) (x .starts) (omega arith)
 
   good-fresh : WorldInvariant (contentsOf (fresh x)) (firstWorld x)
   unfolding fresh current
@@ -244,7 +244,7 @@ module _ (x : Contents) (few : x .processes ≤ 8) (narrow : x .variables ≤ 64
       old = λ s v l vl h. absurd (omega arith);
       same = λ v vl h. absurd (omega (arith, rw (open-record v) at h));
       settled = λ s v l vl h. absurd (omega arith);
-      words-are = λ v vl e. rw (open-record v) (sym (getD-take (x .variables) (x .starts) v 0 vl));
+      words-are = λ v vl e. rw (open-record v) (sym (getD-take (x .variableCount) (x .starts) v 0 vl));
     };
   }
 

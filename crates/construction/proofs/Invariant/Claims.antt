@@ -160,7 +160,7 @@ last-change d (freed b) q = record { only = λ h. absurd (nobody-process refl h)
 module _ {F : Contents} {w : World} (G : WorldInvariant F w) where
   -- an operation that is finished, seen by any process
   pub end-change :
-      (m j : ℕ) → m < F .processes → w .gate .holder ≡ Process m → announcementIn w m .flag ≢ Done →
+      (m j : ℕ) → m < F .processCount → w .gate .holder ≡ Process m → announcementIn w m .flag ≢ Done →
       Change j (viewOf w j) (viewOf (ending F w m) j)
   end-change m j lt hm fl = go (ℕ-discrete j m)
     where
@@ -241,7 +241,7 @@ module _ {F : Contents} {i : ℕ} {w : World} (G : WorldInvariant F w) where
 
   -- what others do to the one that j may give the gate to
   module _ {j m n : ℕ} (ne : j ≢ i) (E : Eligible w j m n) where
-    eligible-ask : (q : Operation) → i < F .processes → Quiet w i → n ≡ w .gate .seq → Eligible (asking w i q) j m n
+    eligible-ask : (q : Operation) → i < F .processCount → Quiet w i → n ≡ w .gate .seq → Eligible (asking w i q) j m n
     eligible-ask q lt Q now = record {
       alive = E .alive;
       op = on-set (λ r. operationOf (announcementIn w m) ≡ r) (w .calls) i m q noOperation (omega arith)
@@ -256,7 +256,7 @@ module _ {F : Contents} {i : ℕ} {w : World} (G : WorldInvariant F w) where
             ⊎-elim (λ mj. ne (sym mj ∙ z)) (λ b. omega (arith, b ex, late ex)) (E .right)
 
     eligible-announce :
-        (a : Announcement) → i < F .processes → a .flag ≡ Active → operationOf a ≡ callIn w i →
+        (a : Announcement) → i < F .processCount → a .flag ≡ Active → operationOf a ≡ callIn w i →
         Eligible (announcing w i a) j m n
     eligible-announce a lt fa op = record {
       alive = announcements-set G (λ r. r .flag ≢ Done) i m a lt (λ _. active-not-done fa) (λ _. E .alive);
@@ -265,7 +265,7 @@ module _ {F : Contents} {i : ℕ} {w : World} (G : WorldInvariant F w) where
           (λ _. inr (λ q. absurd (active-not-exit fa q))) (λ _. E .right);
     }
 
-    eligible-leave : i < F .processes → n ≡ w .gate .seq → Eligible (leaving w i) j m n
+    eligible-leave : i < F .processCount → n ≡ w .gate .seq → Eligible (leaving w i) j m n
     eligible-leave lt now = record {
       alive = announcements-set G (λ r. r .flag ≢ Done) i m _ lt (λ _. exit-not-done refl) (λ _. E .alive);
       op = announcements-set G (λ r. operationOf r ≡ callIn w m) i m _ lt (λ z. rw z (rw z at (E .op))) (λ _. E .op);

@@ -109,7 +109,7 @@ module _ {c : Card} {w : World} {i : ℕ} (B : Before c w i) where
 
   -- a swap that released the gate
   frees :
-      (m : ℕ) (l : Place) → m < c .processes → c .gate .holder ≡ Process m → announcementAt c m .flag ≡ Done →
+      (m : ℕ) (l : Place) → m < c .processCount → c .gate .holder ≡ Process m → announcementAt c m .flag ≡ Done →
       c .gate ≡ localAt c i .gate → Loc F (freeing W m) i (at l) →
       Acted c W i (swapped (released (localAt c i .gate)) l)
   unfolding released

@@ -29,14 +29,14 @@ use lib.Seq.{set-getD}
 -- the ending of a round is the run of its call
 run-is :
     (F : Contents) (s : ℕ) (r : Round) (a : Announcement) → r .call ≡ operationOf a →
-    sequential (F .variables) (programFor F s a) (a .words) (r .words) ≡ endingOf F s r
+    sequential (F .variableCount) (programFor F s a) (a .words) (r .words) ≡ endingOf F s r
 unfolding endingOf
 run-is F s r a e = ap (λ (o : Operation). endingOf F s (record { words = r .words; call = o })) (sym e)
 
 -- a dictionary after a simulation is tidy
 paused-tidy :
     (F : Contents) (w : World) (s : ℕ) (a : Announcement) (p : Pause) (l : Simulation) (d : Dictionary) →
-    PausedAt (F .variables) (programFor F s a) (a .words) (roundIn w s .words) (endingIn F w s) (ItemNoted F w s) p l d →
+    PausedAt (F .variableCount) (programFor F s a) (a .words) (roundIn w s .words) (endingIn F w s) (ItemNoted F w s) p l d →
     WellFormed d
 paused-tidy F w s a Ended l d q = record { short = q .room .small; keyed = q .keyed }
 paused-tidy F w s a Faulted l d q = record { short = q .room .small; keyed = q .keyed }
@@ -60,7 +60,7 @@ module _ {c : Card} {w : World} {i : ℕ} (B : Before c w i) where
   module _ (a : Announcement) (helper : Helper F W i (localAt c i .operation) (localAt c i .gate)) (plan : Plan F W (localAt c i .gate) a)
       (l : Simulation) (d : Dictionary) (core : CoreAt F W s a l d) where
     abbrev x : Simulated
-    x = simulate (c .variables) (programFor F s a) (a .words) l d
+    x = simulate (c .variableCount) (programFor F s a) (a .words) l d
 
     abbrev resumed : Local
     resumed = atSimulation (localAt c i) a (afterPause s (x .dictionary) (x .pause)) (x .simulation) (x .dictionary) 0
@@ -68,7 +68,7 @@ module _ {c : Card} {w : World} {i : ℕ} (B : Before c w i) where
     resumes : WellFormed (x .dictionary) × Loc F W i resumed
     resumes =
         let q =
-        simulates (c .variables) (programFor F s a) (a .words) (roundIn W s .words) (endingIn F W s) (ItemNoted F W s)
+        simulates (c .variableCount) (programFor F s a) (a .words) (roundIn W s .words) (endingIn F W s) (ItemNoted F W s)
         (B .good .fits .short (a .program) s)
         (λ e y p. record { inside = p .inside; base = p .base; kept = p .kept }) l d core in (
           paused-tidy F W s a (x .pause) (x .simulation) (x .dictionary) q,
@@ -78,7 +78,7 @@ module _ {c : Card} {w : World} {i : ℕ} (B : Before c w i) where
   -- what P16 comes to for the announcement of m, by the test of line P17
   abbrev begun : ℕ → Helped
   begun m =
-      helped s (simulate (c .variables) (programFor F s (announcementAt c m)) (announcementAt c m .words) started empty) 0
+      helped s (simulate (c .variableCount) (programFor F s (announcementAt c m)) (announcementAt c m .words) started empty) 0
 
   abbrev beginAs : Bool → ℕ → Began
   beginAs e m =
@@ -127,9 +127,9 @@ module _ {c : Card} {w : World} {i : ℕ} (B : Before c w i) where
         let a : Announcement = announcementAt c m in
         let r =
         resumes a q plan started empty
-        (starts (c .variables) (programFor F s a) (a .words) (roundIn W s .words) (endingIn F W s) (ItemNoted F W s)
+        (starts (c .variableCount) (programFor F s a) (a .words) (roundIn W s .words) (endingIn F W s) (ItemNoted F W s)
         (B .good .size-round s many) (run-is F s (roundIn W s) a called)) in
-        let z = simulate-empty (c .variables) (programFor F s a) (a .words) in
+        let z = simulate-empty (c .variableCount) (programFor F s a) (a .words) in
         rw t
         (keeps B refl (set-getD (c .announcements) m openAnnouncement) refl _ _ _ _ _ _ (subst WellFormed z (r .0))
         (subst (λ (d : Dictionary). Loc F W i (atSimulation (localAt c i) a (begun m .task) (begun m .simulation) d 0)) z (r .1)))
@@ -188,7 +188,7 @@ module _ {c : Card} {w : World} {i : ℕ} (B : Before c w i) where
       noting-on :
           ltb s (recordAt c v .seq) ≡ false →
           let x : Simulated =
-          simulate (c .variables) (programOf F (localAt c i .announcement .program) s) (localAt c i .announcement .words)
+          simulate (c .variableCount) (programOf F (localAt c i .announcement .program) s) (localAt c i .announcement .words)
           (localAt c i .simulation) (insert (localAt c i .dictionary) (itemOf s v (recordAt c v))) in
           Acted c W i
           (withLocal (withRecord c v (recordAt c v)) i
@@ -198,7 +198,7 @@ module _ {c : Card} {w : World} {i : ℕ} (B : Before c w i) where
           let r =
           resumes (localAt c i .announcement) (q .0) (q .1) (localAt c i .simulation)
           (insert (localAt c i .dictionary) (itemOf s v (recordAt c v)))
-          (noting (c .variables) (programFor F s (localAt c i .announcement)) (localAt c i .announcement .words) (roundIn W s .words) (endingIn F W s)
+          (noting (c .variableCount) (programFor F s (localAt c i .announcement)) (localAt c i .announcement .words) (roundIn W s .words) (endingIn F W s)
           (ItemNoted F W s) v (localAt c i .simulation) (localAt c i .dictionary) (itemOf s v (recordAt c v)) refl (base le)
           (record { inside = q .2 .inside; base = base le; kept = inl refl }) (q .2)) in
           keeps B refl refl kept _ _ _ _ _ _ (r .0) (r .1)

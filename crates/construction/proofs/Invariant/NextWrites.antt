@@ -91,7 +91,7 @@ module _ (F : Contents) (w : World) (i : ℕ) (t : Local) (a : Announcement) (he
 
   pub pause-loc :
       (p : Pause) (l : Simulation) (d : Dictionary) →
-      PausedAt (F .variables) (programFor F s a) (a .words) (roundIn w s .words) (endingIn F w s)
+      PausedAt (F .variableCount) (programFor F s a) (a .words) (roundIn w s .words) (endingIn F w s)
       (ItemNoted F w s) p l d →
       Loc F w i (atSimulation t a (afterPause s d p) l d 0)
   pause-loc Ended l d q = write-loc l d q 0 (λ k h. absurd (omega arith))

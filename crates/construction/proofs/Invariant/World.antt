@@ -23,7 +23,7 @@ noRound = record { words = []; call = noOperation }
 -- how the operation of a number ends in the sequential run
 unfoldable pub endingOf : Contents → ℕ → Round → Ending
 endingOf F number r =
-    sequential (F .variables) (programOf F (r .call .program) number) (r .call .inputs) (r .words)
+    sequential (F .variableCount) (programOf F (r .call .program) number) (r .call .inputs) (r .words)
 
 -- what an operation came to that is done: its gate number and what it yields
 pub record Result : Type 0 where
@@ -107,23 +107,23 @@ Phase (Process m) w =
 pub record Recorded (F : Contents) (records : List Record) (rounds : List Round) (count : ℕ) (words : List ℕ) : Type 0 where
   pub below : (v : ℕ) → recordOf records v .seq < length rounds
   pub old :
-      (s v : ℕ) → s < length rounds → v < F .variables → recordOf records v .seq < s →
+      (s v : ℕ) → s < length rounds → v < F .variableCount → recordOf records v .seq < s →
       current (recordOf records v) ≡ wordAt (roundOf rounds s .words) v
   pub same :
-      (v : ℕ) → v < F .variables → 0 < recordOf records v .seq →
+      (v : ℕ) → v < F .variableCount → 0 < recordOf records v .seq →
       (previous (recordOf records v) ≡ wordAt (roundOf rounds (recordOf records v .seq) .words) v)
       × (current (recordOf records v)
       ≡ wordAt (endingOf F (recordOf records v .seq) (roundOf rounds (recordOf records v .seq)) .words) v)
   pub settled :
-      (s v : ℕ) → s < count → v < F .variables → recordOf records v .seq < s →
+      (s v : ℕ) → s < count → v < F .variableCount → recordOf records v .seq < s →
       wordAt (endingOf F s (roundOf rounds s) .words) v ≡ wordAt (roundOf rounds s .words) v
-  pub words-are : (v : ℕ) → v < F .variables → count ≡ length rounds → current (recordOf records v) ≡ wordAt words v
+  pub words-are : (v : ℕ) → v < F .variableCount → count ≡ length rounds → current (recordOf records v) ≡ wordAt words v
 
 -- there is room for the processes, the variables and the lines of each program
 pub record Fits (F : Contents) : Type 0 where
-  pub few : F .processes ≤ 8
-  pub narrow : F .variables ≤ 64
-  pub short : (k number : ℕ) → Short (F .variables) (programOf F k number)
+  pub few : F .processCount ≤ 8
+  pub narrow : F .variableCount ≤ 64
+  pub short : (k number : ℕ) → Short (F .variableCount) (programOf F k number)
 
 -- the lengths of what there is for each process and for each variable
 pub record Lengths (a r c o l b : ℕ) : Type 0 where
@@ -140,8 +140,8 @@ pub record WorldInvariant (F : Contents) (w : World) : Type 0 where
   pub lengths :
       Lengths (length (w .announcements)) (length (w .records)) (length (w .calls)) (length (w .results)) (length (w .left))
       (length (w .bound))
-  pub size-words : length (w .words) ≡ F .variables
-  pub size-round : (s : ℕ) → s < length (w .rounds) → length (roundIn w s .words) ≡ F .variables
+  pub size-words : length (w .words) ≡ F .variableCount
+  pub size-round : (s : ℕ) → s < length (w .rounds) → length (roundIn w s .words) ≡ F .variableCount
   pub left-below : (m : ℕ) → leftIn w m < w .gate .seq
   pub bound-below : (m : ℕ) → boundIn w m ≤ w .gate .seq
   pub announcement-below : (m : ℕ) → announcementIn w m .seq ≤ w .gate .seq
@@ -149,7 +149,7 @@ pub record WorldInvariant (F : Contents) (w : World) : Type 0 where
   pub number-below : (m : ℕ) → announcementIn w m .number ≤ w .gate .seq
   pub unnumbered : (m : ℕ) → announcementIn w m .flag ≢ Done → announcementIn w m .number ≡ 0
   pub marked : (m : ℕ) → announcementIn w m .fault ≡ true → (announcementIn w m .flag ≡ Done) × (announcementIn w m .words ≡ zeros)
-  pub inside : (m : ℕ) → w .gate .holder ≡ Process m → m < F .processes
+  pub inside : (m : ℕ) → w .gate .holder ≡ Process m → m < F .processCount
   pub active-operation : (m : ℕ) → announcementIn w m .flag ≡ Active → operationOf (announcementIn w m) ≡ callIn w m
   pub phase : Phase (w .gate .holder) w
   pub recorded : Recorded F (w .records) (w .rounds) (w .count) (w .words)
@@ -275,22 +275,22 @@ pub record Quiet (w : World) (j : ℕ) : Type 0 where
 -- what an entry of process i may do to the world
 pub data Move (F : Contents) (i : ℕ) (w : World) : World → Type 0 where
   stay : Move F i w w
-  ask : (q : Operation) → i < F .processes → Quiet w i → Move F i w (asking w i q)
+  ask : (q : Operation) → i < F .processCount → Quiet w i → Move F i w (asking w i q)
   announce :
-      (a : Announcement) → i < F .processes → Quiet w i → a .flag ≡ Active → operationOf a ≡ callIn w i →
+      (a : Announcement) → i < F .processCount → Quiet w i → a .flag ≡ Active → operationOf a ≡ callIn w i →
       leftIn w i < a .seq → a .seq ≤ w .gate .seq → a .number ≡ 0 → a .fault ≡ false → Move F i w (announcing w i a)
-  leave : i < F .processes → announcementIn w i .flag ≡ Active → Move F i w (leaving w i)
+  leave : i < F .processCount → announcementIn w i .flag ≡ Active → Move F i w (leaving w i)
   take :
-      (m : ℕ) → m < F .processes → w .gate .holder ≡ Nobody → announcementIn w m .flag ≢ Done →
+      (m : ℕ) → m < F .processCount → w .gate .holder ≡ Nobody → announcementIn w m .flag ≢ Done →
       operationOf (announcementIn w m) ≡ callIn w m →
       (m ≡ i) ⊎ (announcementIn w m .flag ≡ Exit → w .gate .seq ≤ boundIn w m) → Move F i w (taking w m)
   write :
-      (m v x : ℕ) → v < F .variables → w .gate .holder ≡ Process m → announcementIn w m .flag ≢ Done →
+      (m v x : ℕ) → v < F .variableCount → w .gate .holder ≡ Process m → announcementIn w m .flag ≢ Done →
       recordIn w v .seq < w .gate .seq →
       x ≡ wordAt (endingIn F w (w .gate .seq) .words) v → Move F i w (storing w v x)
   end :
-      (m : ℕ) → m < F .processes → w .gate .holder ≡ Process m → announcementIn w m .flag ≢ Done →
-      ((v : ℕ) → v < F .variables → recordIn w v .seq < w .gate .seq →
+      (m : ℕ) → m < F .processCount → w .gate .holder ≡ Process m → announcementIn w m .flag ≢ Done →
+      ((v : ℕ) → v < F .variableCount → recordIn w v .seq < w .gate .seq →
       wordAt (endingIn F w (w .gate .seq) .words) v ≡ wordAt (roundIn w (w .gate .seq) .words) v) →
       Move F i w (ending F w m)
-  free : (m : ℕ) → m < F .processes → w .gate .holder ≡ Process m → announcementIn w m .flag ≡ Done → Move F i w (freeing w m)
+  free : (m : ℕ) → m < F .processCount → w .gate .holder ≡ Process m → announcementIn w m .flag ≡ Done → Move F i w (freeing w m)

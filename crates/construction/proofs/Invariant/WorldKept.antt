@@ -20,12 +20,12 @@ use Rattle.construction.specs.Machine.{finished}
 
 ending-length : (F : Contents) (s : ℕ) (r : Round) → length (endingOf F s r .words) ≡ length (r .words)
 unfolding endingOf
-ending-length F s r = sequential-length (F .variables) _ (r .call .inputs) (r .words)
+ending-length F s r = sequential-length (F .variableCount) _ (r .call .inputs) (r .words)
 
 -- an operation that ends as a fault outputs zeros
 ending-fault : (F : Contents) (s : ℕ) (r : Round) → endingOf F s r .yields .fault ≡ true → endingOf F s r .yields .outputs ≡ zeros
 unfolding endingOf
-ending-fault F s r h = ap (λ (e : Ending). e .yields .outputs) (sequential-fault (F .variables) _ (r .call .inputs) (r .words) h)
+ending-fault F s r h = ap (λ (e : Ending). e .yields .outputs) (sequential-fault (F .variableCount) _ (r .call .inputs) (r .words) h)
 
 -- a mark stands with the flag done and outputs 0
 abbrev Marked : Announcement → Type 0
@@ -51,7 +51,7 @@ module _ {F : Contents} {w : World} (G : WorldInvariant F w) where
   -- after announcement i was set to a: by cases on whose is meant
   pub announcements-set :
       (P : Announcement → Type 0) (i j : ℕ) (a : Announcement) →
-      i < F .processes → (j ≡ i → P a) → (j ≢ i → P (announcementIn w j)) →
+      i < F .processCount → (j ≡ i → P a) → (j ≢ i → P (announcementIn w j)) →
       P (getD (set (w .announcements) i a) j openAnnouncement)
   announcements-set P i j a lt = on-set P (w .announcements) i j a openAnnouncement (omega arith)
 
@@ -61,7 +61,7 @@ module _ {F : Contents} {w : World} (G : WorldInvariant F w) where
       let z = getD-set-other (w .calls) i m q noOperation (λ e. ne (ap Process e)) in
       (ph .0, ph .1, λ d. record { counted = ph .2 d .counted; now = rw z (ph .2 d .now); asked = rw z (ph .2 d .asked) })
 
-  good-ask : (i : ℕ) (q : Operation) → i < F .processes → Quiet w i → WorldInvariant F (asking w i q)
+  good-ask : (i : ℕ) (q : Operation) → i < F .processCount → Quiet w i → WorldInvariant F (asking w i q)
   good-ask i q lt Q = record {
     fits = G .fits;
     lengths = rw length-set (G .lengths);
@@ -94,7 +94,7 @@ module _ {F : Contents} {w : World} (G : WorldInvariant F w) where
       )
 
   good-announce :
-      (i : ℕ) (a : Announcement) → i < F .processes → Quiet w i → a .flag ≡ Active → operationOf a ≡ callIn w i →
+      (i : ℕ) (a : Announcement) → i < F .processCount → Quiet w i → a .flag ≡ Active → operationOf a ≡ callIn w i →
       leftIn w i < a .seq → a .seq ≤ w .gate .seq → a .number ≡ 0 → a .fault ≡ false → WorldInvariant F (announcing w i a)
   good-announce i a lt Q fa op l b n um = record {
     fits = G .fits;
@@ -121,7 +121,7 @@ module _ {F : Contents} {w : World} (G : WorldInvariant F w) where
   }
 
   phase-leave :
-      (i : ℕ) → i < F .processes → announcementIn w i .flag ≡ Active → (h : Holder) → Phase h w → Phase h (leaving w i)
+      (i : ℕ) → i < F .processCount → announcementIn w i .flag ≡ Active → (h : Holder) → Phase h w → Phase h (leaving w i)
   phase-leave i lt fa Nobody ph = ph
   phase-leave i lt fa (Process m) ph = (
     ph .0,
@@ -139,7 +139,7 @@ module _ {F : Contents} {w : World} (G : WorldInvariant F w) where
             (λ e. rw e (rw e at (B .asked))) (λ _. B .asked);
       }
 
-  good-leave : (i : ℕ) → i < F .processes → announcementIn w i .flag ≡ Active → WorldInvariant F (leaving w i)
+  good-leave : (i : ℕ) → i < F .processCount → announcementIn w i .flag ≡ Active → WorldInvariant F (leaving w i)
   good-leave i lt fa = record {
     fits = G .fits;
     lengths = simp length-set (G .lengths);
@@ -183,7 +183,7 @@ module _ {F : Contents} {w : World} (G : WorldInvariant F w) where
   split-last m s lt = eq-or-lt-of-le (omega (arith, simp length-append at lt))
 
   good-take :
-      (m : ℕ) → m < F .processes → w .gate .holder ≡ Nobody → announcementIn w m .flag ≢ Done →
+      (m : ℕ) → m < F .processCount → w .gate .holder ≡ Nobody → announcementIn w m .flag ≢ Done →
       operationOf (announcementIn w m) ≡ callIn w m → WorldInvariant F (taking w m)
   good-take m lt hn fl op =
       let R = G .recorded in
@@ -241,7 +241,7 @@ module _ {F : Contents} {w : World} (G : WorldInvariant F w) where
 
     -- variable v is written (H36)
     module _
-        (v x : ℕ) (vl : v < F .variables) (below : recordIn w v .seq < w .gate .seq)
+        (v x : ℕ) (vl : v < F .variableCount) (below : recordIn w v .seq < w .gate .seq)
         (ex : x ≡ wordAt (endingIn F w (w .gate .seq) .words) v) where
       set-record :
           (P : Record → Type 0) (u : ℕ) → (u ≡ v → P (rewritten (recordIn w v) x (w .gate .seq))) → (u ≢ v → P (recordIn w u)) →
@@ -295,8 +295,8 @@ module _ {F : Contents} {w : World} (G : WorldInvariant F w) where
 
     -- the operation is finished (P19, P20)
     module _
-        (lt : m < F .processes)
-        (all : (v : ℕ) → v < F .variables → recordIn w v .seq < w .gate .seq →
+        (lt : m < F .processCount)
+        (all : (v : ℕ) → v < F .variableCount → recordIn w v .seq < w .gate .seq →
         wordAt (endingIn F w (w .gate .seq) .words) v ≡ wordAt (roundIn w (w .gate .seq) .words) v) where
       recorded-end : Recorded F (w .records) (w .rounds) (suc (w .count)) (endingIn F w (w .gate .seq) .words)
       recorded-end =
@@ -349,7 +349,7 @@ module _ {F : Contents} {w : World} (G : WorldInvariant F w) where
           }
 
   good-free :
-      (m : ℕ) → m < F .processes → w .gate .holder ≡ Process m → announcementIn w m .flag ≡ Done → WorldInvariant F (freeing w m)
+      (m : ℕ) → m < F .processCount → w .gate .holder ≡ Process m → announcementIn w m .flag ≡ Done → WorldInvariant F (freeing w m)
   good-free m lt hm d =
       let ph : Phase (Process m) w = subst (λ (h : Holder). Phase h w) hm (G .phase) in
       let many : length (w .rounds) ≡ suc (w .gate .seq) = ph .0 in
@@ -401,7 +401,7 @@ pub ends-now :
     {F : Contents} {w : World} → WorldInvariant F w → (m : ℕ) → w .gate .holder ≡ Process m → announcementIn w m .flag ≢ Done →
     (w .count ≡ w .gate .seq)
     × (endingIn F w (w .gate .seq)
-    ≡ sequential (F .variables) (programOf F (callIn w m .program) (w .gate .seq)) (callIn w m .inputs) (w .words))
+    ≡ sequential (F .variableCount) (programOf F (callIn w m .program) (w .gate .seq)) (callIn w m .inputs) (w .words))
 unfolding endingOf
 ends-now {F} {w} G m hm fl = (counted G m hm fl, ap (endingOf F (w .gate .seq)) (held G m hm fl .2 fl .now))
 

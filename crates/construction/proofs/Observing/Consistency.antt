@@ -32,7 +32,7 @@ abbrev announcedIn : Card → ℕ → Bool
 announcedIn c j = isAnnounced (localAt c j .task .place)
 
 abbrev Follows : Card → Card → World → History → Type 0
-Follows o c w s = Tracks (o .processes) (isBusy c) (announcedIn c) w s
+Follows o c w s = Tracks (o .processCount) (isBusy c) (announcedIn c) w s
 
 -- a moment in which card, world and notes go together
 pub record Consistent (o : Card) (m : Observation) : Type 0 where
@@ -69,8 +69,8 @@ module _ (o : Card) (m : Observation) (O : Consistent o m) where
       none : withFinishes o (c .gate .seq) (finishing c d) s ≡ s
       none = rw (← z, turned-same 0 (c .announcements))
 
-  processes-is : c .processes ≡ o .processes
-  processes-is = ap (λ (x : Contents). x .processes) (O .text)
+  processes-is : c .processCount ≡ o .processCount
+  processes-is = ap (λ (x : Contents). x .processCount) (O .text)
 
   -- an entry that is refused
   refused-kept : (e : Entry) (why : Refusal) → Consistent o (after o m e (refused c why))
@@ -87,7 +87,7 @@ module _ (o : Card) (m : Observation) (O : Consistent o m) where
   read-kept : (v x : ℕ) → Consistent o (after o m (Entry.Read v) (record { card = c; answer = Answer.Value x }))
   read-kept v x = unturned c (Entry.Read v) (Answer.Value x) refl O
 
-  exit-kept : (i : ℕ) → i < c .processes → Consistent o (after o m (Entry.Exit i) (record { card = withLocal c i (exiting (localAt c i)); answer = Answer.Taken }))
+  exit-kept : (i : ℕ) → i < c .processCount → Consistent o (after o m (Entry.Exit i) (record { card = withLocal c i (exiting (localAt c i)); answer = Answer.Taken }))
   exit-kept i lt =
       unturned (withLocal c i (exiting (localAt c i))) (Entry.Exit i) Answer.Taken refl
       (record { world = w; inv = inv-exit c w i (O .inv) lt; tracks = kept; text = O .text })
@@ -96,12 +96,12 @@ module _ (o : Card) (m : Observation) (O : Consistent o m) where
       kept =
           subst
           (λ (l : List Task).
-          Tracks (o .processes) (λ j. not (isIdle (getD l j idleTask .place))) (λ j. isAnnounced (getD l j idleTask .place)) w s)
+          Tracks (o .processCount) (λ j. not (isIdle (getD l j idleTask .place))) (λ j. isAnnounced (getD l j idleTask .place)) w s)
           (sym (set-getD (c .tasks) i idleTask)) (O .tracks)
 
   -- a call
   call-kept :
-      (i k : ℕ) (inputs : Words) → i < c .processes → isBusy c i ≡ false →
+      (i k : ℕ) (inputs : Words) → i < c .processCount → isBusy c i ≡ false →
       Consistent o (after o m (Entry.Call i k inputs) (record { card = withLocal c i (invoked (localAt c i) k inputs); answer = Answer.Taken }))
   call-kept i k inputs lt f =
       let x : Invocation = record { process = i; program = k; inputs = inputs } in
@@ -119,7 +119,7 @@ module _ (o : Card) (m : Observation) (O : Consistent o m) where
       })
 
   -- an accepted step of process i
-  module _ (i : ℕ) (lt : i < c .processes) (b : isBusy c i ≡ true) (l : c .steps < c .limit) where
+  module _ (i : ℕ) (lt : i < c .processCount) (b : isBusy c i ≡ true) (l : c .steps < c .limit) where
     abbrev d : Card
     d = advance c i
 
@@ -158,9 +158,9 @@ module _ (o : Card) (m : Observation) (O : Consistent o m) where
 
     -- the notes after the step and before its answer
     abbrev Moved : ℕ → List ℕ → World → Type 0
-    Moved gate is v = Tracks (o .processes) (isBusy c) (announcedIn c) v (withFinishes o gate is s)
+    Moved gate is v = Tracks (o .processCount) (isBusy c) (announcedIn c) v (withFinishes o gate is s)
 
-    moved : Tracks (o .processes) (isBusy c) (announcedIn c) (S .after) noticed
+    moved : Tracks (o .processCount) (isBusy c) (announcedIn c) (S .after) noticed
     unfolding withFinishes
     moved = ⊎-elim calm ends kind
       where
@@ -175,8 +175,8 @@ module _ (o : Card) (m : Observation) (O : Consistent o m) where
             (subst (λ (v : World). Moved (c .gate .seq) (E .process ∷ []) v) (sym (E .becomes))
             (subst (λ (g : Gate). Moved (g .seq) (E .process ∷ []) (ending (contentsOf c) w (E .process))) (sym (gate-is (O .inv)))
             (tracks-finished o (O .inv .good) (O .tracks) (E .process) (E .inside) (E .held) (E .undone) (ends-own E)
-            (ap (λ (x : Contents). x .variables) (sym (O .text)))
-            (ap (λ (x : Contents). x .code) (sym (O .text))) (ends-announced E))))
+            (ap (λ (x : Contents). x .variableCount) (sym (O .text)))
+            (ap (λ (x : Contents). x .programs) (sym (O .text))) (ends-announced E))))
 
     others : (j : ℕ) → j ≢ i → (isBusy d j ≡ isBusy c j) × (announcedIn d j ≡ announcedIn c j)
     others j ne =
@@ -256,7 +256,7 @@ module _ (o : Card) (m : Observation) (O : Consistent o m) where
     answered =
         ⊎-elim (λ busy. by-answer (cond-false (isIdle next-place) _ _ (not-true _ busy)) (running busy))
         (λ idle. ⊎-elim (λ z. by-answer (z .1) (ended-done idle (z .0))) (λ z. by-answer (z .1) (ended-exited idle (z .0)))
-        (answer-is (S .inv) i (subst (λ (x : Contents). i < x .processes) (one-access c i .text) lt) idle))
+        (answer-is (S .inv) i (subst (λ (x : Contents). i < x .processCount) (one-access c i .text) lt) idle))
         (true-or-false (isBusy d i))
       where
         by-answer : {a : Answer} → answerOf (localAt d i) ≡ a → Ended (eventOf a) → Ended (eventOf (answerOf (localAt d i)))
@@ -282,7 +282,7 @@ module _ (o : Card) (m : Observation) (O : Consistent o m) where
   abbrev AtMostOne : Entry → Answered → Type 0
   AtMostOne e r = (finishing c (r .card) ≡ []) ⊎ (act c e ≡ r → FinishesOne m e)
 
-  step-finishes : {e : Entry} (i : ℕ) → Steps e i → i < c .processes → isBusy c i ≡ true → c .steps < c .limit →
+  step-finishes : {e : Entry} (i : ℕ) → Steps e i → i < c .processCount → isBusy c i ≡ true → c .steps < c .limit →
       AtMostOne e (record { card = advance c i; answer = answerOf (localAt (advance c i) i) })
   step-finishes i x p b l =
       ⊎-elim (λ C. inl (finishing-is i p b l ∙ C .none))
@@ -305,12 +305,12 @@ module _ (o : Card) (m : Observation) (O : Consistent o m) where
   finishes-one e = ⊎-elim inl (λ f. inr (f refl)) (outcome-finishes (outcome c e))
 
 -- a read shows the word of the bench
-pub read-shown : (o : Card) (m : Observation) → Consistent o m → (v : ℕ) → v < o .variables →
+pub read-shown : (o : Card) (m : Observation) → Consistent o m → (v : ℕ) → v < o .variableCount →
     read (m .card) v ≡ record { card = m .card; answer = Answer.Value (getD (m .history .words) v 0) }
 unfolding read
 read-shown o m O v l =
-    let inside : v < m .card .variables = subst (λ (x : Contents). v < x .variables) (sym (O .text)) l in
-    let there : isVariable (m .card) v ≡ true = rw (lt-ltb v (m .card .variables) inside) (lt-ltb v 64 (omega (arith, O .inv .good .fits .narrow))) in
+    let inside : v < m .card .variableCount = subst (λ (x : Contents). v < x .variableCount) (sym (O .text)) l in
+    let there : isVariable (m .card) v ≡ true = rw (lt-ltb v (m .card .variableCount) inside) (lt-ltb v 64 (omega (arith, O .inv .good .fits .narrow))) in
     cond-false (not (isVariable (m .card) v)) _ _ (ap not there)
     ∙ ap (λ (x : ℕ). record { card = m .card; answer = Answer.Value x })
     (read-is (m .card) (O .world) (O .inv) v inside ∙ ap (λ (ws : List ℕ). getD ws v 0) (sym (O .tracks .words)))

@@ -15,13 +15,13 @@ on-not {ℓ κ} : {A : Type ℓ} (P : A → Type κ) (b : Bool) {x y : A} → P 
 on-not P true f g = g refl
 on-not P false f g = f
 
-inside : (c : Card) (i : ℕ) → isProcess c i ≡ true → i < c .processes
-inside c i e = ltb-true i (c .processes) (and-true (ltb i (c .processes)) _ e .0)
+inside : (c : Card) (i : ℕ) → isProcess c i ≡ true → i < c .processCount
+inside c i e = ltb-true i (c .processCount) (and-true (ltb i (c .processCount)) _ e .0)
 
 module _ {κ} (P : Answered → Type κ) (c : Card) (turned-back : (r : Refusal) → P (refused c r)) where
   pub on-call :
       (i k : ℕ) (inputs : Words) →
-      (i < c .processes → isProgram c k ≡ true → isBusy c i ≡ false →
+      (i < c .processCount → isProgram c k ≡ true → isBusy c i ≡ false →
       P (record { card = withLocal c i (invoked (localAt c i) k inputs); answer = Answer.Taken })) →
       P (call c i k inputs)
   unfolding call
@@ -32,7 +32,7 @@ module _ {κ} (P : Answered → Type κ) (c : Card) (turned-back : (r : Refusal)
 
   pub on-exit :
       (i : ℕ) →
-      (i < c .processes → isBusy c i ≡ true → P (record { card = withLocal c i (exiting (localAt c i)); answer = Answer.Taken })) →
+      (i < c .processCount → isBusy c i ≡ true → P (record { card = withLocal c i (exiting (localAt c i)); answer = Answer.Taken })) →
       P (requestExit c i)
   unfolding requestExit
   on-exit i taken =
@@ -40,7 +40,7 @@ module _ {κ} (P : Answered → Type κ) (c : Card) (turned-back : (r : Refusal)
 
   pub on-step :
       (i : ℕ) →
-      (i < c .processes → isBusy c i ≡ true → c .steps < c .limit →
+      (i < c .processCount → isBusy c i ≡ true → c .steps < c .limit →
       P (record { card = advance c i; answer = answerOf (localAt (advance c i) i) })) →
       P (step c i)
   unfolding step

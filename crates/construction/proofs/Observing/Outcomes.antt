@@ -13,11 +13,11 @@ use Rattle.construction.specs.Parts.{withLocal, localAt}
 pub data Outcome (c : Card) : Entry → Answered → Type 0 where
   turned-back : (e : Entry) (why : Refusal) → Outcome c e (refused c why)
   called :
-      (i k : ℕ) (inputs : Words) → i < c .processes → isBusy c i ≡ false →
+      (i k : ℕ) (inputs : Words) → i < c .processCount → isBusy c i ≡ false →
       Outcome c (Entry.Call i k inputs) (record { card = withLocal c i (invoked (localAt c i) k inputs); answer = Answer.Taken })
-  asked : (i : ℕ) → i < c .processes → Outcome c (Entry.Exit i) (record { card = withLocal c i (exiting (localAt c i)); answer = Answer.Taken })
+  asked : (i : ℕ) → i < c .processCount → Outcome c (Entry.Exit i) (record { card = withLocal c i (exiting (localAt c i)); answer = Answer.Taken })
   stepped :
-      {e : Entry} (i : ℕ) → Steps e i → i < c .processes → isBusy c i ≡ true → c .steps < c .limit →
+      {e : Entry} (i : ℕ) → Steps e i → i < c .processCount → isBusy c i ≡ true → c .steps < c .limit →
       Outcome c e (record { card = advance c i; answer = answerOf (localAt (advance c i) i) })
   shown : (v x : ℕ) → Outcome c (Entry.Read v) (record { card = c; answer = Answer.Value x })
 

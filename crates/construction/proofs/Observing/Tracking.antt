@@ -75,7 +75,7 @@ pub record NothingFinishes (announced : ℕ → Bool) (w v : World) : Type 0 whe
 
 pub record OneFinishes (F : Contents) (w v : World) : Type 0 where
   pub process : ℕ
-  pub inside : process < F .processes
+  pub inside : process < F .processCount
   pub held : w .gate .holder ≡ Process process
   pub undone : announcementIn w process .flag ≢ Done
   pub becomes : v ≡ ending F w process
@@ -177,11 +177,11 @@ tracks-calm C f T =
 -- a move that finishes the operation of m, whose number the sequential run gives it too
 module _
     (o : Card) {F : Contents} {p : ℕ} {busy announced : ℕ → Bool} {w : World} {s : History} (G : WorldInvariant F w) (T : Tracks p busy announced w s)
-    (m : ℕ) (lt : m < F .processes) (held : w .gate .holder ≡ Process m) (undone : announcementIn w m .flag ≢ Done)
-    (O : Own true w s m) (vs : o .variables ≡ F .variables) (co : o .code ≡ F .code) where
+    (m : ℕ) (lt : m < F .processCount) (held : w .gate .holder ≡ Process m) (undone : announcementIn w m .flag ≢ Done)
+    (O : Own true w s m) (vs : o .variableCount ≡ F .variableCount) (co : o .programs ≡ F .programs) where
   same-run : benchRun o (suc (length (s .order))) (latestCall (s .operations) m) (s .words) ≡ endingIn F w (w .gate .seq)
   same-run =
-      ap (λ (q : Operation). sequential (o .variables) (getD (o .code) (q .program) noProgram) (q .inputs) (s .words)) (O .request)
+      ap (λ (q : Operation). sequential (o .variableCount) (getD (o .programs) (q .program) noProgram) (q .inputs) (s .words)) (O .request)
       ∙ (rw (vs, co, T .words) refl ∙ sym (ends-now G m held undone .1))
 
   number-is : w .gate .seq ≡ suc (length (s .order))
@@ -315,7 +315,7 @@ module _
 
   -- a call of process i is taken
   pub tracks-called :
-      {F : Contents} (x : Invocation) → WorldInvariant F w → i < F .processes → x .process ≡ i → announced′ i ≡ false →
+      {F : Contents} (x : Invocation) → WorldInvariant F w → i < F .processCount → x .process ≡ i → announced′ i ≡ false →
       Tracks p busy′ announced′ (asking w i (requestOf x))
       (record { operations = x ∷ s .operations; order = s .order; returns = s .returns; words = s .words })
   unfolding hasCalled latest latestCall

@@ -57,4 +57,4 @@ heaviest-at (x ∷ l) zero = le-max-left (weight x) (heaviest l)
 heaviest-at (x ∷ l) (suc k) = le-trans (heaviest-at l k) (le-max-right (weight x) (heaviest l))
 
 pub weight-card : (t : Contents) (k number : ℕ) → weight (programOf t k number) ≤ cardWeight t
-weight-card t k number = heaviest-at (t .code) k
+weight-card t k number = heaviest-at (t .programs) k

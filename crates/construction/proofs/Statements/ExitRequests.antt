@@ -11,7 +11,7 @@ use Rattle.construction.specs.Types.{Words, P1, Access, Task, Card, Answ
 use Rattle.construction.specs.Cells.{openAnnouncement}
 use Rattle.construction.specs.Instructions.{started}
 use Rattle.construction.specs.Dictionary.{empty}
-use Rattle.construction.specs.Parts.{idleTask, noOperation, noGate, localAt, withLocal}
+use Rattle.construction.specs.Parts.{idleTask, noOperation, noGate, localAt, withOwn, withLocal}
 use Rattle.construction.specs.Machine.{accessIn, perform, advance}
 use Rattle.construction.specs.Requests.{isProcess, isProgram, isBusy, isIdle, invoked, exiting, call, requestExit}
 use Rattle.construction.specs.History.{Entry, act}
@@ -25,27 +25,12 @@ asked c i = withLocal c i (exiting (localAt c i))
 
 -- what stood in it, put back once more
 asked-again : (c : Card) (i : ℕ) → asked (asked c i) i ≡ asked c i
-asked-again c i = let d = asked c i in λ k. record {
-  processes = c .processes;
-  variables = c .variables;
-  programs = c .programs;
-  limit = c .limit;
-  starts = c .starts;
-  code = c .code;
-  gate = c .gate;
-  announcements = c .announcements;
-  records = c .records;
-  steps = c .steps;
-  tasks = set-getD (d .tasks) i idleTask k;
-  operations = set-getD (d .operations) i noOperation k;
-  exits = set-set (c .exits) i true true k;
-  counts = set-getD (d .counts) i 0 k;
-  gates = set-getD (d .gates) i noGate k;
-  copies = set-getD (d .copies) i openAnnouncement k;
-  simulations = set-getD (d .simulations) i started k;
-  dictionaries = set-getD (d .dictionaries) i empty k;
-  masks = set-getD (d .masks) i 0 k;
-}
+asked-again c i =
+    let d = asked c i in
+    λ k.
+    withOwn c (set-getD (d .tasks) i idleTask k) (set-getD (d .operations) i noOperation k) (set-set (c .exits) i true true k) (set-getD (d .counts) i 0 k)
+    (set-getD (d .gates) i noGate k) (set-getD (d .copies) i openAnnouncement k) (set-getD (d .simulations) i started k)
+    (set-getD (d .dictionaries) i empty k) (set-getD (d .masks) i 0 k)
 
 -- a second exit request has the answer of the first and alters nothing
 pub exit-twice : (c : Card) (i : ℕ) → requestExit (requestExit c i .card) i ≡ requestExit c i
@@ -132,24 +117,9 @@ exit-over c i k inputs b p q f =
     d = withExit c i b
 
     same : withLocal d i (invoked (localAt d i) k inputs) ≡ withLocal c i (invoked (localAt c i) k inputs)
-    same = λ n. record {
-      processes = c .processes;
-      variables = c .variables;
-      programs = c .programs;
-      limit = c .limit;
-      starts = c .starts;
-      code = c .code;
-      gate = c .gate;
-      announcements = c .announcements;
-      records = c .records;
-      steps = c .steps;
-      tasks = set-set (c .tasks) i (localAt c i .task) (record { place = P1; target = 0 }) n;
-      operations = set-set (c .operations) i (localAt c i .operation) (record { program = k; inputs = inputs }) n;
-      exits = set-set (c .exits) i b false n;
-      counts = set-set (c .counts) i (localAt c i .steps) 0 n;
-      gates = set-getD (d .gates) i noGate n;
-      copies = set-getD (d .copies) i openAnnouncement n;
-      simulations = set-getD (d .simulations) i started n;
-      dictionaries = set-getD (d .dictionaries) i empty n;
-      masks = set-getD (d .masks) i 0 n;
-    }
+    same =
+        λ n.
+        withOwn c (set-set (c .tasks) i (localAt c i .task) (record { place = P1; target = 0 }) n)
+        (set-set (c .operations) i (localAt c i .operation) (record { program = k; inputs = inputs }) n) (set-set (c .exits) i b false n)
+        (set-set (c .counts) i (localAt c i .steps) 0 n) (set-getD (d .gates) i noGate n) (set-getD (d .copies) i openAnnouncement n)
+        (set-getD (d .simulations) i started n) (set-getD (d .dictionaries) i empty n) (set-getD (d .masks) i 0 n)

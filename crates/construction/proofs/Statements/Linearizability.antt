@@ -29,7 +29,7 @@ unfolding observeAll
 all-consistent o m [] O = O
 all-consistent o m (e ∷ es) O = all-consistent o (observe o m e) es (entry-kept o m O e)
 
-short-code : (x : Contents) → Bounded x → (k : ℕ) → Short (x .variables) (getD (x .code) k noProgram)
+short-code : (x : Contents) → Bounded x → (k : ℕ) → Short (x .variableCount) (getD (x .programs) k noProgram)
 short-code x B k = record { ends = omega (arith, B .lines k); light = B .weights k; some = B .some k }
 
 fresh-consistent : (x : Contents) → Bounded x → Consistent (fresh x) (opening (fresh x))
@@ -37,7 +37,7 @@ unfolding fresh times hasReturned accessOf latestNumber
 fresh-consistent x B =
     record {
       world = firstWorld x;
-      inv = inv-fresh x (B .processes) (B .variables) (B .limit) (B .starts) (short-code x B);
+      inv = inv-fresh x (B .processCount) (B .variableCount) (B .limit) (B .starts) (short-code x B);
       tracks =
           record {
             words = refl;
@@ -101,7 +101,7 @@ linearizability t es =
     }
 
 -- the single-user bench has n words after any list
-pub bench-words : (t : List ℕ) (es : List Entry) → length (run (opened t .card) es .history .words) ≡ opened t .card .variables
+pub bench-words : (t : List ℕ) (es : List Entry) → length (run (opened t .card) es .history .words) ≡ opened t .card .variableCount
 bench-words t es =
     let O = opened-consistent t es in
-    ap length (O .tracks .words) ∙ (O .inv .good .size-words ∙ ap (λ (x : Contents). x .variables) (O .text))
+    ap length (O .tracks .words) ∙ (O .inv .good .size-words ∙ ap (λ (x : Contents). x .variableCount) (O .text))

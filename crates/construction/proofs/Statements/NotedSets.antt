@@ -126,7 +126,7 @@ module _ (c : Card) (Z : Sizes c) (j : ℕ) (lt : j < 8) (H : AllMarked c) where
       let l = localAt c j in
       let cell = announcementAt c (holderOf (l .gate .holder)) in
       let program = programOf (contentsOf c) (cell .program) (l .gate .seq) in
-      put-marked i _ _ (begun (beginHelp (c .variables) program cell (l .gate .seq) (l .task) (l .simulation) .helps))
+      put-marked i _ _ (begun (beginHelp (c .variableCount) program cell (l .gate .seq) (l .task) (l .simulation) .helps))
     where
       begun : (b : Bool) → Marks (cond b 0 (localAt c j .mask)) (cond b empty (localAt c j .dictionary))
       begun true = marks-empty
@@ -135,7 +135,7 @@ module _ (c : Card) (Z : Sizes c) (j : ℕ) (lt : j < 8) (H : AllMarked c) where
   access-marked Access.Write q i = put-marked i _ _ (H j)
 
 -- an accepted step, and every entry
-step-marked : {c : Card} {w : World} → CardInvariant c w → (j : ℕ) → j < c .processes → AllMarked c → AllMarked (advance c j)
+step-marked : {c : Card} {w : World} → CardInvariant c w → (j : ℕ) → j < c .processCount → AllMarked c → AllMarked (advance c j)
 unfolding advance
 step-marked {c} {w} I j lt H =
     access-marked c (I .sizes) j (omega (arith, I .good .fits .few)) H (accessIn (localAt c j))
@@ -174,7 +174,7 @@ told true word d M = (λ _. (M, M .count), λ e. absurd (true≢false e))
 told false word d M = (λ e. absurd (false≢true e), λ _. (refl, marks-empty .count))
 
 pub tells-noted :
-    (t : List ℕ) (es : List Entry) (i : ℕ) → i < run (opened t .card) es .card .processes → TellsNoted (run (opened t .card) es .card) i
+    (t : List ℕ) (es : List Entry) (i : ℕ) → i < run (opened t .card) es .card .processCount → TellsNoted (run (opened t .card) es .card) i
 unfolding reportOf
 tells-noted t es i lt =
     let c = run (opened t .card) es .card in

@@ -37,13 +37,13 @@ module _ (t : List ℕ) (es : List Entry) where
   m = run (opened t .card) es
 
   number-is :
-      (i : ℕ) → i < m .card .processes → announcementAt (m .card) i .flag ≡ Done →
+      (i : ℕ) → i < m .card .processCount → announcementAt (m .card) i .flag ≡ Done →
       announcementAt (m .card) i .number ≡ latestNumber (m .history .operations) (m .history .order) i
   number-is i l d =
       let O = opened-consistent t es in
       let same : List Announcement → Announcement = λ x. getD x i openAnnouncement in
       ap (λ (x : List Announcement). same x .number) (announcements-is (O .inv))
-      ∙ O .tracks .last i (subst (λ (x : Contents). i < x .processes) (O .text) l)
+      ∙ O .tracks .last i (subst (λ (x : Contents). i < x .processCount) (O .text) l)
       (ap (λ (x : List Announcement). isDone (same x .flag)) (sym (announcements-is (O .inv))) ∙ ap isDone d)
 
   pub numbers-kept : NumbersKept m

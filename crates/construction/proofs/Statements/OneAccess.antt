@@ -87,12 +87,12 @@ module _ (c d : Card) (i : ℕ) (T : SameText c d) (S : SameLocal i c d) where
       let x : stepGate a i (c .gate) (localAt c i) ≡ stepGate a i (d .gate) (localAt d i) = λ k. stepGate a i (n k) (local-is k) in
       (put (ap (λ (y : Accessed Gate). y .local) x), ap (λ (y : Accessed Gate). y .cell) x, ap (λ (y : Accessed Gate). y .swap) x)
   access-alike (Access.Announcement a) n =
-      let m : whose a (c .processes) i (localAt c i .gate) ≡ whose a (d .processes) i (localAt d i .gate) =
-      λ k. whose a (T k .processes) i (local-is k .gate) in
+      let m : whose a (c .processCount) i (localAt c i .gate) ≡ whose a (d .processCount) i (localAt d i .gate) =
+      λ k. whose a (T k .processCount) i (local-is k .gate) in
       let e = n .elements ∙ ap (announcementAt d) m in
       let x :
-      stepAnnouncement a (whose a (c .processes) i (localAt c i .gate)) (announcementAt c (whose a (c .processes) i (localAt c i .gate))) (localAt c i)
-      ≡ stepAnnouncement a (whose a (d .processes) i (localAt d i .gate)) (announcementAt d (whose a (d .processes) i (localAt d i .gate))) (localAt d i) =
+      stepAnnouncement a (whose a (c .processCount) i (localAt c i .gate)) (announcementAt c (whose a (c .processCount) i (localAt c i .gate))) (localAt c i)
+      ≡ stepAnnouncement a (whose a (d .processCount) i (localAt d i .gate)) (announcementAt d (whose a (d .processCount) i (localAt d i .gate))) (localAt d i) =
       λ k. stepAnnouncement a (m k) (e k) (local-is k) in
       (put (ap (λ (y : Accessed Announcement). y .local) x), stored-at m (ap (λ (y : Accessed Announcement). y .cell) x) n, ap (λ (y : Accessed Announcement). y .swap) x)
   access-alike Access.Help n =

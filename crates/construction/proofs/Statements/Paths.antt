@@ -178,7 +178,7 @@ module _ (c : Card) (i : ℕ) (Z : Sizes c) (lt : i < 8) where
   leaves Access.None = after own (own .task) (own .gate) (own .announcement) (own .simulation) (own .dictionary) (own .mask)
   leaves (Access.Gate a) = stepGate a i (c .gate) own .local
   leaves (Access.Announcement a) =
-      let m = whose a (c .processes) i (own .gate) in
+      let m = whose a (c .processCount) i (own .gate) in
       stepAnnouncement a m (announcementAt c m) own .local
   leaves Access.Help = stepHelp (contentsOf c) (announcementAt c (holderOf (own .gate .holder))) own .local
   leaves Access.Note = stepNote (contentsOf c) (recordAt c (own .task .target)) own .local
@@ -223,7 +223,7 @@ module _ (c : Card) (i : ℕ) (Z : Sizes c) (lt : i < 8) where
   lands P10 exit n q =
       (on-holder (GateRead Label.P10) (c .gate .holder) P16 C2 (λ e _. Edge.P10-P16 e) (λ e _. Edge.P10-C2 e))
   lands C2 exit n q =
-      let m = firstChoice (own .gate .seq) (c .processes) in
+      let m = firstChoice (own .gate .seq) (c .processCount) in
       (on-flag (AnnouncementRead Label.C2 m) (announcementAt c m .flag) C4 P13 C4 (λ e _. Edge.C2-C4 (λ z. active-not-done z e))
       (λ e _. Edge.C2-P13 e) (λ e _. Edge.C2-C4 (λ z. active-not-exit z e)))
   lands C4 exit n q =
@@ -443,14 +443,14 @@ both j i b x y P f g =
 
 -- every entry
 module _ {c : Card} {w : World} (I : CardInvariant c w) (i : ℕ) (ms : List Made) (S : Stands i (localAt c i) ms) where
-  small : (j : ℕ) → j < c .processes → j < 8
+  small : (j : ℕ) → j < c .processCount → j < 8
   small j p = omega (arith, I .good .fits .few)
 
   -- the own state of another process put back
   elsewhere : (j : ℕ) (l : Local) → j ≢ i → Stands i (localAt (withLocal c j l) i) ms
   elsewhere j l ne = subst (λ (x : Local). Stands i x ms) (sym (local-other c j i l (λ e. ne (sym e)))) S
 
-  call-stands : (j k : ℕ) (inputs : Words) → j < c .processes →
+  call-stands : (j k : ℕ) (inputs : Words) → j < c .processCount →
       Stands i (localAt (withLocal c j (invoked (localAt c j) k inputs)) i) (cond (eqb j i && true) [] ms)
   call-stands j k inputs p =
       both j i true [] ms (Stands i (localAt (withLocal c j (invoked (localAt c j) k inputs)) i))
@@ -460,17 +460,17 @@ module _ {c : Card} {w : World} (I : CardInvariant c w) (i : ℕ) (ms : List Mad
       (record { path = Path.none; whole = tt; numbers = tt }, Ready.called (ap (λ (l : Local). l .task .place) here)))
       (⊎-elim (elsewhere j _) (λ e. absurd (true≢false e)))
 
-  exit-stands : (j : ℕ) → j < c .processes → Stands i (localAt (withLocal c j (exiting (localAt c j))) i) ms
+  exit-stands : (j : ℕ) → j < c .processCount → Stands i (localAt (withLocal c j (exiting (localAt c j))) i) ms
   exit-stands j p = go (ℕ-discrete j i)
     where
       go : Dec (j ≡ i) → Stands i (localAt (withLocal c j (exiting (localAt c j))) i) ms
       go (yes e) =
           subst (λ (n : ℕ). Stands i (localAt (withLocal c n (exiting (localAt c n))) i) ms) (sym e)
-          (subst (λ (x : Local). Stands i x ms) (sym (local-same c i _ (I .sizes) (small i (subst (λ (n : ℕ). n < c .processes) e p))))
+          (subst (λ (x : Local). Stands i x ms) (sym (local-same c i _ (I .sizes) (small i (subst (λ (n : ℕ). n < c .processCount) e p))))
           (S .0, exit-ready i (localAt c i) ms (S .1)))
       go (no ne) = elsewhere j _ ne
 
-  step-stands : (j : ℕ) → j < c .processes → isBusy c j ≡ true → c .steps < c .limit →
+  step-stands : (j : ℕ) → j < c .processCount → isBusy c j ≡ true → c .steps < c .limit →
       Stands i (localAt (advance c j) i) (cond (eqb j i && not (isRefused (answerOf (localAt (advance c j) j)))) (made c i ∷ ms) ms)
   step-stands j p b l =
       both j i _ (made c i ∷ ms) ms (Stands i (localAt (advance c j) i))
@@ -479,7 +479,7 @@ module _ {c : Card} {w : World} (I : CardInvariant c w) (i : ℕ) (ms : List Mad
     where
       mine : j ≡ i → Stands i (localAt (advance c i) i) (made c i ∷ ms)
       mine e =
-          let q : i < c .processes = subst (λ (n : ℕ). n < c .processes) e p in
+          let q : i < c .processCount = subst (λ (n : ℕ). n < c .processCount) e p in
           let d : isBusy c i ≡ true = subst (λ (n : ℕ). isBusy c n ≡ true) e b in
           stands-on c i (I .sizes) (small i q) (not-true _ d)
           (returning (localAt c i .task .place) (contentsOf c) w i (known (localAt c i)) (I .locs i q)) S

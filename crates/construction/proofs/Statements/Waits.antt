@@ -51,12 +51,12 @@ not-refused l why =
     (λ _. returned-not (l .announcement) (l .announcement .flag) (l .steps) why) (λ _ e. clash (cc))
 
 -- what follows for a process of the card
-module _ (o : Card) (m : Observation) (O : Consistent o m) (W : AllWait (contentsOf o) (m .card)) (i : ℕ) (lo : i < o .processes) where
+module _ (o : Card) (m : Observation) (O : Consistent o m) (W : AllWait (contentsOf o) (m .card)) (i : ℕ) (lo : i < o .processCount) where
   abbrev c : Card
   c = m .card
 
-  lt : i < c .processes
-  lt = subst (λ (x : Contents). i < x .processes) (sym (O .text)) lo
+  lt : i < c .processCount
+  lt = subst (λ (x : Contents). i < x .processCount) (sym (O .text)) lo
 
   few : i < 8
   few = omega (arith, lt, O .inv .good .fits .few)
@@ -99,14 +99,14 @@ module _ (o : Card) (m : Observation) (O : Consistent o m) (W : AllWait (content
       (λ e. returns-by (idle l b h e) (localAt (advance c i) i .announcement) (localAt (advance c i) i .announcement .flag)) (λ _. tt))
     where
       idle :
-          i < c .processes → isBusy c i ≡ true → c .steps < c .limit → isIdle (localAt (advance c i) i .task .place) ≡ true →
+          i < c .processCount → isBusy c i ≡ true → c .steps < c .limit → isIdle (localAt (advance c i) i .task .place) ≡ true →
           Within (localAt (advance c i) i .steps)
       idle l b h e =
           let X : Waits (contentsOf c) (advance c i) i = wait-step (O .inv) (here o m O W) l b h i l in
           let q : localAt (advance c i) i .steps ≤ allowed (contentsOf c) (localAt (advance c i) i) =
           subst
           (λ (p : Place).
-          CourseAt p (c .processes) (cardWeight (contentsOf c)) (advance c i .gate) (announcementAt (advance c i) i) (X .tally) (localAt (advance c i) i))
+          CourseAt p (c .processCount) (cardWeight (contentsOf c)) (advance c i .gate) (announcementAt (advance c i) i) (X .tally) (localAt (advance c i) i))
           (is-idle (stage (localAt (advance c i) i .task .place)) e) (X .course) in
           subst (λ (x : Contents). localAt (advance c i) i .steps ≤ allowed x (localAt c i)) (O .text)
           (subst (λ (x : Bool). localAt (advance c i) i .steps ≤ waitOf (contentsOf c) + extra x) asks q)
@@ -117,7 +117,7 @@ module _ (o : Card) (m : Observation) (O : Consistent o m) (W : AllWait (content
   refused-by why b e = go (decLt (c .steps) (c .limit))
     where
       here-is : isProcess c i ≡ true
-      here-is = rw (lt-ltb i (c .processes) lt, lt-ltb i 8 few) refl
+      here-is = rw (lt-ltb i (c .processCount) lt, lt-ltb i 8 few) refl
 
       full : c .limit ≤ c .steps → Answer.Refused LimitReached ≡ Answer.Refused why → (why ≡ LimitReached) × (o .limit ≤ c .steps)
       full h z = (cc, subst (λ (x : Contents). x .limit ≤ c .steps) (O .text) h)

@@ -16,15 +16,15 @@ use Rattle.construction.proofs.Text.Reading.{afterFields, afterLength, 
 
 -- the bounds of a card's contents
 pub record Bounded (x : Contents) : Type 0 where
-  pub processes : x .processes ≤ 8
-  pub variables : x .variables ≤ 64
+  pub processCount : x .processCount ≤ 8
+  pub variableCount : x .variableCount ≤ 64
   pub limit : x .limit ≤ 1000000000000000000
   pub starts : length (x .starts) ≡ 64
-  pub code : length (x .code) ≡ 8
-  pub lines : (k : ℕ) → length (getD (x .code) k noProgram .lines) ≡ 32
-  pub weights : (k : ℕ) → weight (getD (x .code) k noProgram) ≤ 32
+  pub programs : length (x .programs) ≡ 8
+  pub lines : (k : ℕ) → length (getD (x .programs) k noProgram .lines) ≡ 32
+  pub weights : (k : ℕ) → weight (getD (x .programs) k noProgram) ≤ 32
   -- a program that touches variables stands on a card that has some
-  pub some : (k : ℕ) → 0 < weight (getD (x .code) k noProgram) → 0 < x .variables
+  pub some : (k : ℕ) → 0 < weight (getD (x .programs) k noProgram) → 0 < x .variableCount
 
 weight-none : weight noProgram ≡ 0
 unfolding weightBefore fetch
@@ -64,11 +64,11 @@ program-light n t at line =
 empty-bounded : Bounded noContents
 empty-bounded =
     record {
-      processes = omega arith;
-      variables = omega arith;
+      processCount = omega arith;
+      variableCount = omega arith;
       limit = omega arith;
       starts = refl;
-      code = refl;
+      programs = refl;
       lines = λ k. rw (getD-replicate-same 8 k noProgram);
       weights = λ k. rw (getD-replicate-same 8 k noProgram) (omega (arith, weight-none));
       some = λ k h. absurd (omega (arith, weight-none, rw (getD-replicate-same 8 k noProgram) at h));
@@ -77,7 +77,7 @@ empty-bounded =
 -- a reading that goes on has variables
 pub record Within (r : Reading) : Type 0 where
   pub bounds : Bounded (r .contents)
-  pub some : r .verdict ≡ Verdict.Accepted → 0 < r .contents .variables
+  pub some : r .verdict ≡ Verdict.Accepted → 0 < r .contents .variableCount
 
 empty-within : (why : Refusal) (line : ℕ) → Within (refusedAt why line)
 empty-within why line = record { bounds = empty-bounded; some = λ e. clash (cc) }
@@ -93,11 +93,11 @@ vars-bounded t (suc m) k r e h =
     (record {
       bounds =
           record {
-            processes = b .processes;
-            variables = b .variables;
+            processCount = b .processCount;
+            variableCount = b .variableCount;
             limit = b .limit;
             starts = rw length-set (b .starts);
-            code = b .code;
+            programs = b .programs;
             lines = b .lines;
             weights = b .weights;
             some = b .some;
@@ -114,14 +114,14 @@ with-program r k x l w e h =
     record {
       bounds =
           record {
-            processes = b .processes;
-            variables = b .variables;
+            processCount = b .processCount;
+            variableCount = b .variableCount;
             limit = b .limit;
             starts = b .starts;
-            code = rw length-set (b .code);
+            programs = rw length-set (b .programs);
             lines = λ j.
-                set-keeps (λ (y : Program). length (y .lines) ≡ 32) (r .contents .code) k j (x .program) noProgram (λ _. l) (b .lines j);
-            weights = λ j. set-keeps (λ (y : Program). weight y ≤ 32) (r .contents .code) k j (x .program) noProgram (λ _. w) (b .weights j);
+                set-keeps (λ (y : Program). length (y .lines) ≡ 32) (r .contents .programs) k j (x .program) noProgram (λ _. l) (b .lines j);
+            weights = λ j. set-keeps (λ (y : Program). weight y ≤ 32) (r .contents .programs) k j (x .program) noProgram (λ _. w) (b .weights j);
             some = λ j _. h .some e;
           };
       some = λ _. h .some e;
@@ -131,10 +131,10 @@ programs-bounded : (t : List ℕ) (m k : ℕ) (r : Reading) → r .verdict ≡ V
 unfolding programsFrom
 programs-bounded t zero k r e h = h
 programs-bounded t (suc m) k r e h =
-    let x = readProgram (r .contents .variables) t (r .at) (r .line) in
+    let x = readProgram (r .contents .variableCount) t (r .at) (r .line) in
     on-program Within (x .verdict) x r k (λ y. programsFrom t m (suc k) y)
     (λ a. programs-bounded t m (suc k) (withProgram r k x) refl
-    (with-program r k x (program-lines (r .contents .variables) t (r .at) (r .line)) (program-light (r .contents .variables) t (r .at) (r .line) a) e h))
+    (with-program r k x (program-lines (r .contents .variableCount) t (r .at) (r .line)) (program-light (r .contents .variableCount) t (r .at) (r .line) a) e h))
     empty-within
 
 end-bounded : (t : List ℕ) (r : Reading) → Within r → Within (atEnd t r)
@@ -148,16 +148,16 @@ card-bounded t x e =
     let first : Within (afterFields p n s l i) = record {
       bounds =
           record {
-            processes = c .processes .1;
-            variables = c .variables .1;
+            processCount = c .processCount .1;
+            variableCount = c .variableCount .1;
             limit = c .limit .1;
             starts = refl;
-            code = refl;
+            programs = refl;
             lines = empty-bounded .lines;
             weights = empty-bounded .weights;
-            some = λ _ _. omega (arith, c .variables);
+            some = λ _ _. omega (arith, c .variableCount);
           };
-      some = λ _. omega (arith, c .variables);
+      some = λ _. omega (arith, c .variableCount);
     } in
     let vars = vars-bounded t n 0 (afterFields p n s l i) refl first in
     let r = varsFrom t n 0 (afterFields p n s l i) in

@@ -38,9 +38,9 @@ module _ (t : List ℕ) (at : ℕ) {w : Bool} (e : w ≡ hasWord t at cardWord) 
       card-fields z = rw (← e, p, ← q, ← g, z)
 
 pub record CardFits (p n s l : ℕ) : Type 0 where
-  pub processes : (1 ≤ p) × (p ≤ 8)
-  pub variables : (1 ≤ n) × (n ≤ 64)
-  pub programs : (1 ≤ s) × (s ≤ 8)
+  pub processCount : (1 ≤ p) × (p ≤ 8)
+  pub variableCount : (1 ≤ n) × (n ≤ 64)
+  pub programCount : (1 ≤ s) × (s ≤ 8)
   pub limit : (1 ≤ l) × (l ≤ 1000000000000000000)
 
 pub card-fits : (p n s l : ℕ) → cardFits p n s l ≡ true → CardFits p n s l
@@ -49,9 +49,9 @@ card-fits p n s l e =
     let b = and-true (inRange 1 64 n) _ (a .1) in
     let c = and-true (inRange 1 8 s) _ (b .1) in
     record {
-      processes = range-true 1 8 p (a .0);
-      variables = range-true 1 64 n (b .0);
-      programs = range-true 1 8 s (c .0);
+      processCount = range-true 1 8 p (a .0);
+      variableCount = range-true 1 64 n (b .0);
+      programCount = range-true 1 8 s (c .0);
       limit = range-true 1 1000000000000000000 l (c .1);
     }
 

@@ -23,6 +23,9 @@ use Rattle.construction.specs.Opening.{
   withStart,
   nextVar,
   varsFrom,
+  begun,
+  programSoFar,
+  soFar,
   ifAccepted,
   thenEnd,
   thenPrograms,
@@ -32,17 +35,10 @@ use Rattle.construction.proofs.Basics.{on-test, clash}
 
 -- ---- what is read after the `card` line and after a `sheet` line
 abbrev pub afterFields : ℕ → ℕ → ℕ → ℕ → ℕ → Reading
-afterFields p n s l i =
-    record {
-      verdict = Verdict.Accepted;
-      contents = record { processes = p; variables = n; programs = s; limit = l; starts = replicate 64 0; code = replicate 8 noProgram };
-      at = i;
-      line = 2;
-    }
+afterFields p n s l i = soFar (begun p n s l) i 2
 
 abbrev pub afterLength : ℕ → ℕ → ℕ → ProgramReading
-afterLength m i line =
-    record { verdict = Verdict.Accepted; program = record { length = m; lines = replicate 32 noLine }; at = i; line = line }
+afterLength m i line = programSoFar m (replicate 32 noLine) i line
 
 -- ---- by cases on what a line yields, which is in hand where it goes on
 pub on-ins :

@@ -62,9 +62,9 @@ module _ (t : List ℕ) (at : ℕ) where
       let f = r .fits in
       let small : Small p n s l =
       record {
-        small-a = omega (arith, f .processes);
-        small-b = omega (arith, f .variables);
-        small-c = omega (arith, f .programs);
+        small-a = omega (arith, f .processCount);
+        small-b = omega (arith, f .variableCount);
+        small-c = omega (arith, f .programCount);
         small-d = omega (arith, f .limit);
       } in
       word-text t cardWord at (r .word-there)
@@ -97,29 +97,29 @@ ins-text n h t at x i e =
 
 -- ---- the numbers of the `card` line stay while the others are read
 record Fields (p n s l : ℕ) (x : Contents) : Type 0 where
-  processes : x .processes ≡ p
-  variables : x .variables ≡ n
-  programs : x .programs ≡ s
+  processCount : x .processCount ≡ p
+  variableCount : x .variableCount ≡ n
+  programCount : x .programCount ≡ s
   limit : x .limit ≡ l
 
 abbrev SameFields : Reading → Reading → Type 0
-SameFields r z = Fields (r .contents .processes) (r .contents .variables) (r .contents .programs) (r .contents .limit) (z .contents)
+SameFields r z = Fields (r .contents .processCount) (r .contents .variableCount) (r .contents .programCount) (r .contents .limit) (z .contents)
 
-same : {x : Contents} → Fields (x .processes) (x .variables) (x .programs) (x .limit) x
-same = record { processes = refl; variables = refl; programs = refl; limit = refl }
+same : {x : Contents} → Fields (x .processCount) (x .variableCount) (x .programCount) (x .limit) x
+same = record { processCount = refl; variableCount = refl; programCount = refl; limit = refl }
 
 -- ---- the `var` lines
 record VarsRead (t : List ℕ) (m k : ℕ) (r z : Reading) : Type 0 where
   text : drop (r .at) t ≡ varsText m k (z .contents .starts) ++ drop (z .at) t
   fields : SameFields r z
-  code : z .contents .code ≡ r .contents .code
+  programs : z .contents .programs ≡ r .contents .programs
   below : (j : ℕ) → j < k → getD (z .contents .starts) j 0 ≡ getD (r .contents .starts) j 0
 
 vars-read :
     (t : List ℕ) (m k : ℕ) (r : Reading) → k + m ≤ length (r .contents .starts) → Accepted (varsFrom t m k r .verdict) →
     VarsRead t m k r (varsFrom t m k r)
 unfolding varsFrom varsText
-vars-read t zero k r h = λ e. record { text = refl; fields = same; code = refl; below = λ j p. refl }
+vars-read t zero k r h = λ e. record { text = refl; fields = same; programs = refl; below = λ j p. refl }
 vars-read t (suc m) k r h =
     on-var (λ z. Accepted (z .verdict) → VarsRead t (suc m) k r z) (varLine t (r .at)) r k (λ x. varsFrom t m (suc k) x)
     (λ v i f e.
@@ -129,7 +129,7 @@ vars-read t (suc m) k r h =
     record {
       text = rw (g, append-assoc (varText v)) (var-text t (r .at) v i f ∙ ap (λ (l : List ℕ). varText v ++ l) (q .text));
       fields = q .fields;
-      code = q .code;
+      programs = q .programs;
       below = λ j p. q .below j (omega arith) ∙ getD-set-other (r .contents .starts) k j v 0 (λ (z : j ≡ k). omega arith);
     })
     (λ why e. clash (cc))
@@ -176,30 +176,30 @@ program-text n s t at line =
 
 -- ---- the programs
 record ProgramsRead (t : List ℕ) (m k : ℕ) (r z : Reading) : Type 0 where
-  text : drop (r .at) t ≡ programsText m k (z .contents .code) ++ drop (z .at) t
+  text : drop (r .at) t ≡ programsText m k (z .contents .programs) ++ drop (z .at) t
   fields : SameFields r z
   starts : z .contents .starts ≡ r .contents .starts
-  below : (j : ℕ) → j < k → getD (z .contents .code) j noProgram ≡ getD (r .contents .code) j noProgram
+  below : (j : ℕ) → j < k → getD (z .contents .programs) j noProgram ≡ getD (r .contents .programs) j noProgram
 
 programs-read :
-    (t : List ℕ) (m k : ℕ) (r : Reading) → r .contents .variables ≤ 256 → k + m ≤ length (r .contents .code) →
+    (t : List ℕ) (m k : ℕ) (r : Reading) → r .contents .variableCount ≤ 256 → k + m ≤ length (r .contents .programs) →
     Accepted (programsFrom t m k r .verdict) → ProgramsRead t m k r (programsFrom t m k r)
 unfolding programsFrom programsText
 programs-read t zero k r s h = λ e. record { text = refl; fields = same; starts = refl; below = λ j p. refl }
 programs-read t (suc m) k r s h =
-    let x = readProgram (r .contents .variables) t (r .at) (r .line) in
+    let x = readProgram (r .contents .variableCount) t (r .at) (r .line) in
     on-program (λ z. Accepted (z .verdict) → ProgramsRead t (suc m) k r z) (x .verdict) x r k (λ y. programsFrom t m (suc k) y)
     (λ a e.
-    let q = programs-read t m (suc k) (withProgram r k x) s (omega (arith, length-set (r .contents .code) k (x .program))) e in
-    let g : getD (programsFrom t m (suc k) (withProgram r k x) .contents .code) k noProgram ≡ x .program =
-    q .below k (omega arith) ∙ getD-set-same (r .contents .code) k (x .program) noProgram (omega arith) in
+    let q = programs-read t m (suc k) (withProgram r k x) s (omega (arith, length-set (r .contents .programs) k (x .program))) e in
+    let g : getD (programsFrom t m (suc k) (withProgram r k x) .contents .programs) k noProgram ≡ x .program =
+    q .below k (omega arith) ∙ getD-set-same (r .contents .programs) k (x .program) noProgram (omega arith) in
     record {
       text =
           rw (g, append-assoc (programText (x .program)))
-          (program-text (r .contents .variables) s t (r .at) (r .line) a ∙ ap (λ (l : List ℕ). programText (x .program) ++ l) (q .text));
+          (program-text (r .contents .variableCount) s t (r .at) (r .line) a ∙ ap (λ (l : List ℕ). programText (x .program) ++ l) (q .text));
       fields = q .fields;
       starts = q .starts;
-      below = λ j p. q .below j (omega arith) ∙ getD-set-other (r .contents .code) k j (x .program) noProgram (λ (z : j ≡ k). omega arith);
+      below = λ j p. q .below j (omega arith) ∙ getD-set-other (r .contents .programs) k j (x .program) noProgram (λ (z : j ≡ k). omega arith);
     })
     (λ why line e. clash (cc))
 
@@ -220,12 +220,12 @@ module _ (t : List ℕ) (p n s l i : ℕ) (f : cardLine t 0 ≡ CardLine.Fields 
   unfolding textOf fresh
   all-read v z a b =
       let c = card-read t 0 p n s l i f .fits in
-      let x₁ : z .contents .processes ≡ p = b .fields .processes ∙ a .fields .processes in
-      let x₂ : z .contents .variables ≡ n = b .fields .variables ∙ a .fields .variables in
-      let x₃ : z .contents .programs ≡ s = b .fields .programs ∙ a .fields .programs in
+      let x₁ : z .contents .processCount ≡ p = b .fields .processCount ∙ a .fields .processCount in
+      let x₂ : z .contents .variableCount ≡ n = b .fields .variableCount ∙ a .fields .variableCount in
+      let x₃ : z .contents .programCount ≡ s = b .fields .programCount ∙ a .fields .programCount in
       let x₄ : z .contents .limit ≡ l = b .fields .limit ∙ a .fields .limit in
-      let q : eqb p 0 ≡ false = ne-eqb p 0 (λ (y : p ≡ 0). omega (arith, c .processes)) in
-      let w : t ≡ cardText p n s l ++ (varsText n 0 (v .contents .starts) ++ (programsText s 0 (z .contents .code) ++ drop (z .at) t)) =
+      let q : eqb p 0 ≡ false = ne-eqb p 0 (λ (y : p ≡ 0). omega (arith, c .processCount)) in
+      let w : t ≡ cardText p n s l ++ (varsText n 0 (v .contents .starts) ++ (programsText s 0 (z .contents .programs) ++ drop (z .at) t)) =
       card-text t 0 p n s l i f
       ∙ ap (λ (y : List ℕ). cardText p n s l ++ y) (a .text ∙ ap (λ (y : List ℕ). varsText n 0 (v .contents .starts) ++ y) (b .text)) in
       rw (x₁, x₂, x₃, x₄, b .starts, q) (w ∙ simp append-assoc)
@@ -235,12 +235,12 @@ module _ (t : List ℕ) (p n s l i : ℕ) (f : cardLine t 0 ≡ CardLine.Fields 
       let c = card-read t 0 p n s l i f .fits in
       all-read v (programsFrom t s 0 v) a
       (programs-read t s 0 v
-      (omega (arith, c .variables, a .fields .variables))
-      (rw (a .code) (omega (arith, c .programs, length-replicate 8 noProgram)))
+      (omega (arith, c .variableCount, a .fields .variableCount))
+      (rw (a .programs) (omega (arith, c .programCount, length-replicate 8 noProgram)))
       e)
 
   vars-there : Accepted (varsFrom t n 0 begun .verdict) → VarsRead t n 0 begun (varsFrom t n 0 begun)
-  vars-there e = vars-read t n 0 begun (omega (arith, card-read t 0 p n s l i f .fits .variables, length-replicate {A = ℕ} 64 0)) e
+  vars-there e = vars-read t n 0 begun (omega (arith, card-read t 0 p n s l i f .fits .variableCount, length-replicate {A = ℕ} 64 0)) e
 
   body-there :
       (v : Reading) → (Accepted (v .verdict) → VarsRead t n 0 begun v) → Accepted (thenPrograms t s v .verdict) →
@@ -294,7 +294,7 @@ programs-empty : (t : List ℕ) (m k : ℕ) (r : Reading) → Accepted (r .verdi
 unfolding programsFrom
 programs-empty t zero k r e = λ n. absurd (n e)
 programs-empty t (suc m) k r e =
-    let x = readProgram (r .contents .variables) t (r .at) (r .line) in
+    let x = readProgram (r .contents .variableCount) t (r .at) (r .line) in
     on-program Empty (x .verdict) x r k (λ y. programsFrom t m (suc k) y)
     (λ _. programs-empty t m (suc k) (withProgram r k x) refl) (λ why line n. refl)
 

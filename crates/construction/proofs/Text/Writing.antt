@@ -67,17 +67,17 @@ module _ {b : List ℕ} {at i j k : ℕ} {z₁ z₂ z₃ : List ℕ} where
   put-program x h p q r = put-both h (put-both h p q) r
 
 -- ---- the card
-pub put-nothing : (c : Card) (b : List ℕ) → c .processes ≡ 0 → Put b 0 (textOf c) 0 b
+pub put-nothing : (c : Card) (b : List ℕ) → c .processCount ≡ 0 → Put b 0 (textOf c) 0 b
 unfolding textOf
-put-nothing c b h = rw (eq-eqb (c .processes) 0 h) (record { place = refl; bytes = refl })
+put-nothing c b h = rw (eq-eqb (c .processCount) 0 h) (record { place = refl; bytes = refl })
 
 module _ {b : List ℕ} {i j k l : ℕ} {z₁ z₂ z₃ z₄ : List ℕ} where
   pub put-card :
-      (c : Card) → (c .processes ≡ 0 → ⊥) → Room b 0 → Put b 0 cardWord i z₁ → Put z₁ i (fourText (c .processes) (c .variables) (c .programs) (c .limit)) j z₂ →
-      Put z₂ j (varsText (c .variables) 0 (c .starts)) k z₃ → Put z₃ k (programsText (c .programs) 0 (c .code)) l z₄ → Put b 0 (textOf c) l z₄
+      (c : Card) → (c .processCount ≡ 0 → ⊥) → Room b 0 → Put b 0 cardWord i z₁ → Put z₁ i (fourText (c .processCount) (c .variableCount) (c .programCount) (c .limit)) j z₂ →
+      Put z₂ j (varsText (c .variableCount) 0 (c .starts)) k z₃ → Put z₃ k (programsText (c .programCount) 0 (c .programs)) l z₄ → Put b 0 (textOf c) l z₄
   unfolding textOf cardText
   put-card c h room p q r s =
-      rw (ne-eqb (c .processes) 0 h)
+      rw (ne-eqb (c .processCount) 0 h)
       (rest-last (rest-step (rest-step (rest-all b 0 _ room) (put-both room p q)) r) s)
 
 -- ---- what the writer answers, by the length that a buffer of no bytes tells; d is the buffer after that

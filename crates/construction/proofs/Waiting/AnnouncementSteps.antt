@@ -30,7 +30,7 @@ again f x = record { turn = x .turn; laps = lapsBy f (x .laps); spent = x .spent
 
 module _ {c : Card} {w : World} {i : ℕ} (B : Before c w i) (small : localAt c i .steps ≤ 1000000000000000000) (x : Tally) where
   abbrev p : ℕ
-  p = c .processes
+  p = c .processCount
 
   abbrev heavy : ℕ
   heavy = cardWeight (contentsOf c)

@@ -33,11 +33,11 @@ use Rattle.construction.proofs.Basics.{nobody-process, active-not-done,
 pub record Waits (F : Contents) (c : Card) (j : ℕ) : Type 0 where
   pub tally : Tally
   pub frugal : announcementAt c j .flag ≡ Active → tally .spent ≡ 0
-  pub due : announcementAt c j .flag ≡ Active → Due (F .processes) (c .gate) (localAt c) j (tally .turn)
-  pub course : CourseAt (localAt c j .task .place) (F .processes) (cardWeight F) (c .gate) (announcementAt c j) tally (localAt c j)
+  pub due : announcementAt c j .flag ≡ Active → Due (F .processCount) (c .gate) (localAt c) j (tally .turn)
+  pub course : CourseAt (localAt c j .task .place) (F .processCount) (cardWeight F) (c .gate) (announcementAt c j) tally (localAt c j)
 
 abbrev pub AllWait : Contents → Card → Type 0
-AllWait F c = (j : ℕ) → j < F .processes → Waits F c j
+AllWait F c = (j : ℕ) → j < F .processCount → Waits F c j
 
 -- what a move of another process changes of the gate and of one's own announcement
 onward-change : {j : ℕ} {x y : View} → Change j x y → Onward (x .gate) (y .gate)
@@ -53,7 +53,7 @@ own-change (ended o h d) e = absurd (active-not-done e refl)
 own-change (freed b) e = refl
 
 -- an accepted step
-module _ {c : Card} {w : World} {i : ℕ} (I : CardInvariant c w) (W : AllWait (contentsOf c) c) (lt : i < c .processes) (busy : isBusy c i ≡ true)
+module _ {c : Card} {w : World} {i : ℕ} (I : CardInvariant c w) (W : AllWait (contentsOf c) c) (lt : i < c .processCount) (busy : isBusy c i ≡ true)
     (h : c .steps < c .limit) where
   abbrev F : Contents
   F = contentsOf c
@@ -87,13 +87,13 @@ module _ {c : Card} {w : World} {i : ℕ} (I : CardInvariant c w) (W : AllWait (
       go (Went.went y n zt zs q) = record {
         tally = y;
         frugal = λ e. zs ∙ X .frugal (access-active _ c i n e);
-        due = λ e. subst (λ (k : ℕ). Due (c .processes) (advance c i .gate) (localAt (advance c i)) i k) (sym zt)
+        due = λ e. subst (λ (k : ℕ). Due (c .processCount) (advance c i .gate) (localAt (advance c i)) i k) (sym zt)
             (due-step I lt busy S i (X .tally .turn) (X .due (access-active _ c i n e)) (access-active _ c i n e));
         course = q;
       }
 
   -- another
-  module _ (j : ℕ) (ne : j ≢ i) (lj : j < c .processes) where
+  module _ (j : ℕ) (ne : j ≢ i) (lj : j < c .processCount) where
     X : Waits F c j
     X = W j lj
 
@@ -124,9 +124,9 @@ module _ {c : Card} {w : World} {i : ℕ} (I : CardInvariant c w) (W : AllWait (
       course =
           subst
           (λ (t : Local).
-          CourseAt (t .task .place) (F .processes) (cardWeight F) (advance c i .gate) (announcementAt (advance c i) j) (X .tally) t)
+          CourseAt (t .task .place) (F .processCount) (cardWeight F) (advance c i .gate) (announcementAt (advance c i) j) (X .tally) t)
           (sym (S .elsewhere j ne))
-          (course-stays (localAt c j .task .place) (F .processes) (cardWeight F) (X .tally) (localAt c j) onward own-stays (X .course));
+          (course-stays (localAt c j .task .place) (F .processCount) (cardWeight F) (X .tally) (localAt c j) onward own-stays (X .course));
     }
 
   pub wait-step : AllWait F (advance c i)
@@ -137,7 +137,7 @@ module _ {c : Card} {w : World} {i : ℕ} (I : CardInvariant c w) (W : AllWait (
       go (no ne) = standing j ne lj
 
 -- process i gets the own state t, and chooses as before
-module _ {c : Card} {w : World} {i : ℕ} (I : CardInvariant c w) (W : AllWait (contentsOf c) c) (lt : i < c .processes) (t : Local)
+module _ {c : Card} {w : World} {i : ℕ} (I : CardInvariant c w) (W : AllWait (contentsOf c) c) (lt : i < c .processCount) (t : Local)
     (chooses : (j : ℕ) → ChoosesIn j (c .gate) (localAt c i) → ChoosesIn j (c .gate) t) where
   abbrev v : Card
   v = withLocal c i t
@@ -145,7 +145,7 @@ module _ {c : Card} {w : World} {i : ℕ} (I : CardInvariant c w) (W : AllWait (
   put-same : localAt v i ≡ t
   put-same = local-same c i t (I .sizes) (omega (arith, I .good .fits .few))
 
-  due-put : {j turn : ℕ} → Due (c .processes) (c .gate) (localAt c) j turn → Due (c .processes) (c .gate) (localAt v) j turn
+  due-put : {j turn : ℕ} → Due (c .processCount) (c .gate) (localAt c) j turn → Due (c .processCount) (c .gate) (localAt v) j turn
   due-put {j} {turn} D = record {
     own = D .own;
     high = D .high;
@@ -153,19 +153,19 @@ module _ {c : Card} {w : World} {i : ℕ} (I : CardInvariant c w) (W : AllWait (
     chosen = λ e q lq. go e q lq (ℕ-discrete q i);
   }
     where
-      go : c .gate .seq ≡ turn → (q : ℕ) → q < c .processes → Dec (q ≡ i) → ChoosesIn j (c .gate) (localAt v q)
+      go : c .gate .seq ≡ turn → (q : ℕ) → q < c .processCount → Dec (q ≡ i) → ChoosesIn j (c .gate) (localAt v q)
       go e q lq (yes z) =
           subst (λ (k : ℕ). ChoosesIn j (c .gate) (localAt v k)) (sym z)
           (subst (ChoosesIn j (c .gate)) (sym put-same) (chooses j (D .chosen e i lt)))
       go e q lq (no ne) = subst (ChoosesIn j (c .gate)) (sym (local-other c i q t ne)) (D .chosen e q lq)
 
   wait-put :
-      (y : Tally) → (announcementAt c i .flag ≡ Active → (y .spent ≡ 0) × Due (c .processes) (c .gate) (localAt c) i (y .turn)) →
-      CourseAt (t .task .place) (c .processes) (cardWeight (contentsOf c)) (c .gate) (announcementAt c i) y t → AllWait (contentsOf c) v
+      (y : Tally) → (announcementAt c i .flag ≡ Active → (y .spent ≡ 0) × Due (c .processCount) (c .gate) (localAt c) i (y .turn)) →
+      CourseAt (t .task .place) (c .processCount) (cardWeight (contentsOf c)) (c .gate) (announcementAt c i) y t → AllWait (contentsOf c) v
   wait-put y d q j lj = go (ℕ-discrete j i)
     where
       At : Local → Type 0
-      At s = CourseAt (s .task .place) (c .processes) (cardWeight (contentsOf c)) (c .gate) (announcementAt c i) y s
+      At s = CourseAt (s .task .place) (c .processCount) (cardWeight (contentsOf c)) (c .gate) (announcementAt c i) y s
 
       own : Waits (contentsOf c) v i
       own = record {
@@ -186,12 +186,12 @@ module _ {c : Card} {w : World} {i : ℕ} (I : CardInvariant c w) (W : AllWait (
             course =
                 subst
                 (λ (s : Local).
-                CourseAt (s .task .place) (c .processes) (cardWeight (contentsOf c)) (c .gate) (announcementAt c j) (X .tally) s)
+                CourseAt (s .task .place) (c .processCount) (cardWeight (contentsOf c)) (c .gate) (announcementAt c j) (X .tally) s)
                 (sym (local-other c i j t ne)) (X .course);
           }
 
 pub wait-call :
-    {c : Card} {w : World} {i : ℕ} (k : ℕ) (inputs : Words) → CardInvariant c w → AllWait (contentsOf c) c → i < c .processes → isBusy c i ≡ false →
+    {c : Card} {w : World} {i : ℕ} (k : ℕ) (inputs : Words) → CardInvariant c w → AllWait (contentsOf c) c → i < c .processCount → isBusy c i ≡ false →
     AllWait (contentsOf c) (withLocal c i (invoked (localAt c i) k inputs))
 wait-call {c} {w} {i} k inputs I W lt b =
     wait-put I W lt (invoked (localAt c i) k inputs) (λ _ _. tt) (record { turn = 0; laps = 0; spent = 0 }) (λ e. absurd (inactive e)) (omega arith)
@@ -201,12 +201,12 @@ wait-call {c} {w} {i} k inputs I W lt b =
         subst (λ (l : List Announcement). getD l i openAnnouncement .flag ≢ Active) (sym (announcements-is I)) (at-rest I i lt b .0 .not-active)
 
 pub wait-exit :
-    {c : Card} {w : World} {i : ℕ} → CardInvariant c w → AllWait (contentsOf c) c → i < c .processes →
+    {c : Card} {w : World} {i : ℕ} → CardInvariant c w → AllWait (contentsOf c) c → i < c .processCount →
     AllWait (contentsOf c) (withLocal c i (exiting (localAt c i)))
 wait-exit {c} {w} {i} I W lt =
     let X = W i lt in
     wait-put I W lt (exiting (localAt c i)) (λ _ q. q) (X .tally) (λ e. (X .frugal e, X .due e))
-    (course-exits (localAt c i .task .place) (c .processes) (cardWeight (contentsOf c)) (c .gate) (announcementAt c i) (X .tally) (localAt c i)
+    (course-exits (localAt c i .task .place) (c .processCount) (cardWeight (contentsOf c)) (c .gate) (announcementAt c i) (X .tally) (localAt c i)
     (X .course))
 
 -- a card as opened
@@ -219,7 +219,7 @@ wait-fresh x j lj = record {
   course =
       subst
       (λ (l : Place).
-      CourseAt l (x .processes) (cardWeight x) (fresh x .gate) (announcementAt (fresh x) j) (record { turn = 0; laps = 0; spent = 0 }) (localAt (fresh x) j))
+      CourseAt l (x .processCount) (cardWeight x) (fresh x .gate) (announcementAt (fresh x) j) (record { turn = 0; laps = 0; spent = 0 }) (localAt (fresh x) j))
       (sym (ap (λ (t : Task). t .place) (getD-replicate-same 8 j idleTask)))
       (rw (getD-replicate-same {A = ℕ} 8 j 0) (omega arith));
 }

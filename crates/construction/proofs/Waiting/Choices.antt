@@ -73,8 +73,8 @@ module _ (F : Contents) (w : World) (q j : ℕ) (g : Gate) (t : Local)
   apart F3 k = tt
 
 -- a step of process i, where j has its turn
-module _ (c : Card) (i j turn : ℕ) (sizes : Sizes c) (few : i < 8) (lt : i < c .processes)
-    (D : Due (c .processes) (c .gate) (localAt c) j turn) (active : announcementAt c j .flag ≡ Active) where
+module _ (c : Card) (i j turn : ℕ) (sizes : Sizes c) (few : i < 8) (lt : i < c .processCount)
+    (D : Due (c .processCount) (c .gate) (localAt c) j turn) (active : announcementAt c j .flag ≡ Active) where
   -- at the turn of j, process i chooses j after its step
   abbrev Choosing : Card → Type 0
   Choosing d = d .gate .seq ≡ turn → ChoosesIn j (d .gate) (localAt d i)
@@ -103,10 +103,10 @@ module _ (c : Card) (i j turn : ℕ) (sizes : Sizes c) (few : i < 8) (lt : i < c
   choose-C2 e = reads first _ (go (announcementAt c first .flag) refl)
     where
       first : ℕ
-      first = whose AnnouncementAccess.ReadFirst (c .processes) i (localAt c i .gate)
+      first = whose AnnouncementAccess.ReadFirst (c .processCount) i (localAt c i .gate)
 
       first-is : localAt c i .gate ≡ c .gate → first ≡ j
-      first-is z = ap (λ (g : Gate). firstChoice (g .seq) (c .processes)) z ∙ (ap (λ (n : ℕ). firstChoice n (c .processes)) e ∙ D .own)
+      first-is z = ap (λ (g : Gate). firstChoice (g .seq) (c .processCount)) z ∙ (ap (λ (n : ℕ). firstChoice n (c .processCount)) e ∙ D .own)
 
       is-active : localAt c i .gate ≡ c .gate → announcementAt c first .flag ≡ Active
       is-active z = subst (λ (m : ℕ). announcementAt c m .flag ≡ Active) (sym (first-is z)) active

@@ -21,8 +21,8 @@ use Rattle.construction.proofs.Invariant.Cards.{CardInvariant, Stepped,
 use Rattle.construction.proofs.Waiting.Choices.{Chooses, ChoosesIn, Due, apart, chooses}
 use Rattle.construction.proofs.Waiting.Nominees.{Nominee, gives}
 
-module _ {c : Card} {w : World} {i : ℕ} (I : CardInvariant c w) (lt : i < c .processes) (busy : isBusy c i ≡ true) (S : Stepped c w i) (j turn : ℕ)
-    (D : Due (c .processes) (c .gate) (localAt c) j turn) (active : announcementAt c j .flag ≡ Active) where
+module _ {c : Card} {w : World} {i : ℕ} (I : CardInvariant c w) (lt : i < c .processCount) (busy : isBusy c i ≡ true) (S : Stepped c w i) (j turn : ℕ)
+    (D : Due (c .processCount) (c .gate) (localAt c) j turn) (active : announcementAt c j .flag ≡ Active) where
   abbrev next : Card
   next = advance c i
 
@@ -37,8 +37,8 @@ module _ {c : Card} {w : World} {i : ℕ} (I : CardInvariant c w) (lt : i < c .p
 
   -- and the others, if they go on as they chose
   choose :
-      (next .gate .seq ≡ turn → (q : ℕ) → q < c .processes → ChoosesIn j (next .gate) (localAt c q)) →
-      next .gate .seq ≡ turn → (q : ℕ) → q < c .processes → ChoosesIn j (next .gate) (localAt next q)
+      (next .gate .seq ≡ turn → (q : ℕ) → q < c .processCount → ChoosesIn j (next .gate) (localAt c q)) →
+      next .gate .seq ≡ turn → (q : ℕ) → q < c .processCount → ChoosesIn j (next .gate) (localAt next q)
   choose rest e q lq = go (ℕ-discrete q i)
     where
       go : Dec (q ≡ i) → ChoosesIn j (next .gate) (localAt next q)
@@ -46,10 +46,10 @@ module _ {c : Card} {w : World} {i : ℕ} (I : CardInvariant c w) (lt : i < c .p
       go (no n) = subst (ChoosesIn j (next .gate)) (sym (S .elsewhere q n)) (rest e q lq)
 
   -- the gate stays
-  due-kept : next .gate ≡ w .gate → Due (c .processes) (next .gate) (localAt next) j turn
+  due-kept : next .gate ≡ w .gate → Due (c .processCount) (next .gate) (localAt next) j turn
   due-kept z =
-      let E : Due (c .processes) (next .gate) (localAt c) j turn =
-      subst (λ (g : Gate). Due (c .processes) g (localAt c) j turn) (gate-is I ∙ sym z) D in
+      let E : Due (c .processCount) (next .gate) (localAt c) j turn =
+      subst (λ (g : Gate). Due (c .processCount) g (localAt c) j turn) (gate-is I ∙ sym z) D in
       record { own = D .own; high = E .high; held = E .held; chosen = choose (E .chosen) }
 
   same-seq : c .gate .seq ≡ w .gate .seq
@@ -67,7 +67,7 @@ module _ {c : Card} {w : World} {i : ℕ} (I : CardInvariant c w) (lt : i < c .p
   -- the gate is given to m, and so to j if it is the turn of j
   due-taken :
       (m : ℕ) → w .gate .holder ≡ Nobody → next .gate ≡ record { holder = Process m; seq = w .gate .seq } →
-      Due (c .processes) (next .gate) (localAt next) j turn
+      Due (c .processCount) (next .gate) (localAt next) j turn
   due-taken m hn z = record {
     own = D .own;
     high = omega (arith, zs, same-seq, D .high);
@@ -93,7 +93,7 @@ module _ {c : Card} {w : World} {i : ℕ} (I : CardInvariant c w) (lt : i < c .p
   -- the gate is given back for m, which is done, and so not at the turn of j
   due-freed :
       (m : ℕ) → w .gate .holder ≡ Process m → announcementIn w m .flag ≡ Done →
-      next .gate ≡ record { holder = Nobody; seq = w .gate .seq + 1 } → Due (c .processes) (next .gate) (localAt next) j turn
+      next .gate ≡ record { holder = Nobody; seq = w .gate .seq + 1 } → Due (c .processCount) (next .gate) (localAt next) j turn
   due-freed m hm done z = record {
     own = D .own;
     high = ⊎-elim (λ e. absurd (⊎-elim (λ h. nobody-process h (same-holder ∙ hm)) mine (D .held e)))
@@ -114,7 +114,7 @@ module _ {c : Card} {w : World} {i : ℕ} (I : CardInvariant c w) (lt : i < c .p
           (subst (λ (k : ℕ). announcementAt c k .flag ≡ Done) e
           (subst (λ (l : List Announcement). getD l m openAnnouncement .flag ≡ Done) (sym (announcements-is I)) done))
 
-  by-move : {v : World} → Move (contentsOf c) i w v → next .gate ≡ v .gate → Due (c .processes) (next .gate) (localAt next) j turn
+  by-move : {v : World} → Move (contentsOf c) i w v → next .gate ≡ v .gate → Due (c .processCount) (next .gate) (localAt next) j turn
   by-move stay z = due-kept z
   by-move (ask q l Q) z = due-kept z
   by-move (announce a l Q fa op b e nu unmarked) z = due-kept z
@@ -124,5 +124,5 @@ module _ {c : Card} {w : World} {i : ℕ} (I : CardInvariant c w) (lt : i < c .p
   by-move (end m l hm fl all) z = due-kept z
   by-move (free m l hm d) z = due-freed m hm d z
 
-  pub due-step : Due (c .processes) (next .gate) (localAt next) j turn
+  pub due-step : Due (c .processCount) (next .gate) (localAt next) j turn
   due-step = by-move (S .move) (gate-is (S .inv))

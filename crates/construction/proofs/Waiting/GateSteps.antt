@@ -23,7 +23,7 @@ module _ {c : Card} {w : World} {i : ℕ} (B : Before c w i) (small : localAt c 
 
   -- the course at a place with the own state t, while the gate is g
   abbrev At : Place → Gate → Local → Type 0
-  At l g t = CourseAt l (c .processes) (cardWeight (contentsOf c)) g (announcementAt c i) x t
+  At l g t = CourseAt l (c .processCount) (cardWeight (contentsOf c)) g (announcementAt c i) x t
 
   abbrev Now : Place → Type 0
   Now l = At l (c .gate) (localAt c i)
@@ -83,7 +83,7 @@ module _ {c : Card} {w : World} {i : ℕ} (B : Before c w i) (small : localAt c 
       (λ e. swapped (c .gate) P14 (one-more small q _ 5 (k .3 .below) (omega arith) _ _ _ _ _ _, free e)))
     where
       -- the swap was lost to another number
-      free : sameGate (c .gate) (localAt c i .gate) ≡ false → c .gate .holder ≡ Nobody → Ahead (c .processes) (c .gate) x
+      free : sameGate (c .gate) (localAt c i .gate) ≡ false → c .gate .holder ≡ Nobody → Ahead (c .processCount) (c .gate) x
       free e h =
           let ne : c .gate .seq ≢ localAt c i .gate .seq = λ z. sameGate-false _ _ e (gate-path (h ∙ sym (k .1)) z) in
           omega (arith, q .low, k .3 .below)

@@ -20,12 +20,12 @@ use Rattle.construction.proofs.Waiting.Courses.{Tally, Loop, CourseAt}
 -- the course of process i on a card d
 abbrev pub CourseIn : Card → ℕ → Tally → Card → Type 0
 CourseIn c i y d =
-    CourseAt (localAt d i .task .place) (c .processes) (cardWeight (contentsOf c)) (d .gate) (announcementAt d i) y (localAt d i)
+    CourseAt (localAt d i .task .place) (c .processCount) (cardWeight (contentsOf c)) (d .gate) (announcementAt d i) y (localAt d i)
 
 -- what an access comes to for a process with the tally x: it announces its operation (P3), asks to exit (P6), or neither
 pub data Went (c : Card) (i : ℕ) (x : Tally) (a : Access) : Type 0 where
   announced :
-      (y : Tally) → perform a c i .card .gate .seq < y .turn → firstChoice (y .turn) (c .processes) ≡ i → y .spent ≡ 0 →
+      (y : Tally) → perform a c i .card .gate .seq < y .turn → firstChoice (y .turn) (c .processCount) ≡ i → y .spent ≡ 0 →
       CourseIn c i y (perform a c i .card) → Went c i x a
   withdrew :
       (y : Tally) → announcementAt (perform a c i .card) i .flag ≢ Active → CourseIn c i y (perform a c i .card) → Went c i x a
@@ -44,9 +44,9 @@ module _ {c : Card} {w : World} {i : ℕ} (B : Before c w i) where
   -- process i is put back with the own state t
   pub put-course :
       (g : Gate) (l : List Announcement) (r : List Record) (t : Local) (y : Tally) →
-      CourseAt (t .task .place) (c .processes) (cardWeight (contentsOf c)) g (getD l i openAnnouncement) y t →
+      CourseAt (t .task .place) (c .processCount) (cardWeight (contentsOf c)) g (getD l i openAnnouncement) y t →
       CourseIn c i y (withLocal (withCells c g l r) i t)
   put-course g l r t y q =
       subst
-      (λ (s : Local). CourseAt (s .task .place) (c .processes) (cardWeight (contentsOf c)) g (getD l i openAnnouncement) y s)
+      (λ (s : Local). CourseAt (s .task .place) (c .processCount) (cardWeight (contentsOf c)) g (getD l i openAnnouncement) y s)
       (sym (local-same (withCells c g l r) i t (B .sizes) (place-fits B))) q

@@ -38,10 +38,10 @@ module _ {c : Card} {w : World} {i : ℕ} (B : Before c w i) (small : localAt c 
 
   -- a helper's course does not depend on the shared cells
   abbrev At : Place → Local → Type 0
-  At l t = (a : Announcement) → CourseAt l (c .processes) heavy (c .gate) a x t
+  At l t = (a : Announcement) → CourseAt l (c .processCount) heavy (c .gate) a x t
 
   abbrev Now : Place → Type 0
-  Now l = CourseAt l (c .processes) heavy (c .gate) (announcementAt c i) x (localAt c i)
+  Now l = CourseAt l (c .processCount) heavy (c .gate) (announcementAt c i) x (localAt c i)
 
   -- a helper that goes on with a task
   abbrev on : Task → Announcement → Simulation → Dictionary → ℕ → Local
@@ -49,16 +49,16 @@ module _ {c : Card} {w : World} {i : ℕ} (B : Before c w i) (small : localAt c 
 
   -- the next write from item k on, with the dictionary e
   writes :
-      {n : ℕ} (d : Dictionary) (k : ℕ) (a : Announcement) (z : Simulation) (e : Dictionary) (mask : ℕ) → Loop (c .processes) heavy s n x (localAt c i) →
+      {n : ℕ} (d : Dictionary) (k : ℕ) (a : Announcement) (z : Simulation) (e : Dictionary) (mask : ℕ) → Loop (c .processCount) heavy s n x (localAt c i) →
       n < 7 + e .length + k → n < 7 + 2 * heavy → At (writeFrom s d k .place) (on (writeFrom s d k) a z e mask)
   unfolding nextWrite
   writes d k a z e mask q h l b =
-      on-test (λ (t : Task). CourseAt (t .place) (c .processes) heavy (c .gate) b x (on t a z e mask)) (ltb (nextWrite s d k) (length (noted d)))
+      on-test (λ (t : Task). CourseAt (t .place) (c .processCount) heavy (c .gate) b x (on t a z e mask)) (ltb (nextWrite s d k) (length (noted d)))
       (λ _. one-more small q s _ (omega arith) (omega arith) _ _ _ _ _ _) (λ _. one-more small q s _ (omega arith) (omega arith) _ _ _ _ _ _)
 
   -- a simulation that stands still
   resumes :
-      {n : ℕ} (d : Dictionary) (r : Pause) (a : Announcement) (z : Simulation) (e : Dictionary) (mask : ℕ) → Loop (c .processes) heavy s n x (localAt c i) →
+      {n : ℕ} (d : Dictionary) (r : Pause) (a : Announcement) (z : Simulation) (e : Dictionary) (mask : ℕ) → Loop (c .processCount) heavy s n x (localAt c i) →
       n < 7 + e .length → e .length ≤ heavy → At (afterPause s d r .place) (on (afterPause s d r) a z e mask)
   resumes d Ended a z e mask q h l b = writes d 0 a z e mask q (omega arith) (omega arith) b
   resumes d Faulted a z e mask q h l b = one-more small q s _ (omega arith) (omega arith) _ _ _ _ _ _
@@ -69,7 +69,7 @@ module _ {c : Card} {w : World} {i : ℕ} (B : Before c w i) (small : localAt c 
   at-P16 q =
       let a : Announcement = announcementAt c m in
       let l : List Announcement = set (c .announcements) m a in
-      let z : Simulated = simulate (c .variables) (programOf (contentsOf c) (a .program) s) (a .words) started empty in
+      let z : Simulated = simulate (c .variableCount) (programOf (contentsOf c) (a .program) s) (a .words) started empty in
       Went.went x refl refl refl
       (on-test (λ (b : Began). CourseIn c i x (helping b)) (helps (announcementAt c m) s)
       (λ _. put-course B (c .gate) l (c .records) (on (afterPause s (z .dictionary) (z .pause)) a (z .simulation) empty 0) x
@@ -92,9 +92,9 @@ module _ {c : Card} {w : World} {i : ℕ} (B : Before c w i) (small : localAt c 
       let program : Program = programOf (contentsOf c) (a .program) s in
       let r : List Record = set (c .records) v (recordAt c v) in
       let d : Dictionary = insert (localAt c i .dictionary) (itemOf s v (recordAt c v)) in
-      let z : Simulated = simulate (c .variables) program (a .words) (localAt c i .simulation) d in
+      let z : Simulated = simulate (c .variableCount) program (a .words) (localAt c i .simulation) d in
       let longer : z .dictionary .length ≡ suc (localAt c i .dictionary .length) =
-      simulate-length (c .variables) program (a .words) (localAt c i .simulation) d
+      simulate-length (c .variableCount) program (a .words) (localAt c i .simulation) d
       ∙ insert-length (localAt c i .dictionary) (itemOf s v (recordAt c v)) (k .2 .spare) in
       let room : localAt c i .dictionary .length < heavy = le-trans (k .2 .fewer) (weight-card (contentsOf c) (a .program) s) in
       Went.went x refl refl refl

@@ -25,7 +25,7 @@ module _ {c : Card} {w : World} {i : ℕ} (B : Before c w i) (small : localAt c 
     (due : announcementAt c i .flag ≡ Active → (x .spent ≡ 0) × (c .gate .seq ≤ x .turn)) where
   pub at-place :
       (l : Place) (exit : Bool) → localAt c i .exit ≡ exit → isIdle l ≡ false → LocAt l (contentsOf c) (worldOf c w) i (known (localAt c i)) →
-      CourseAt l (c .processes) (cardWeight (contentsOf c)) (c .gate) (announcementAt c i) x (localAt c i) →
+      CourseAt l (c .processCount) (cardWeight (contentsOf c)) (c .gate) (announcementAt c i) x (localAt c i) →
       Went c i x (accessOf l exit)
   unfolding accessOf
   at-place Idle exit e n k q = absurd (true≢false n)
@@ -52,12 +52,12 @@ module _ {c : Card} {w : World} {i : ℕ} (B : Before c w i) (small : localAt c 
 -- an operation under way has made fewer steps than it may take
 module _ (F : Contents) (w : World) (j : ℕ) (g : Gate) (a : Announcement) (x : Tally) (t : Local) where
   abbrev Left : Type 0
-  Left = t .steps < longestWait (F .processes) (cardWeight F) + extra (t .exit)
+  Left = t .steps < longestWait (F .processCount) (cardWeight F) + extra (t .exit)
 
-  in-loop : {n k : ℕ} → Loop (F .processes) (cardWeight F) n k x t → k ≤ 10 + 2 * cardWeight F → Left
+  in-loop : {n k : ℕ} → Loop (F .processCount) (cardWeight F) n k x t → k ≤ 10 + 2 * cardWeight F → Left
   in-loop q h = omega (arith, last-lap q h)
 
-  pub left : (l : Place) → isIdle l ≡ false → LocAt l F w j (known t) → CourseAt l (F .processes) (cardWeight F) g a x t → Left
+  pub left : (l : Place) → isIdle l ≡ false → LocAt l F w j (known t) → CourseAt l (F .processCount) (cardWeight F) g a x t → Left
   unfolding accessOf
   left Idle n k q = absurd (true≢false n)
   left P1 n k q = omega (arith, q)

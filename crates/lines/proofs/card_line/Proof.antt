@@ -14,13 +14,13 @@ returns : tie.Need-returns
 returns c = laws.card-malformed _ _ (c .before .before .before .before .has-word .ensures) (c .before .before .before .if1 .taken) (sym (c .enum-told .given .1) ∙ (c .before .before .four-at .ensures))
 
 cast-t18 : tie.Need-cast-t18
-cast-t18 c = let h = laws.card-fits (c .before .before .before .a .given .0 .0) (c .before .before .before .a .given .0 .1 .0) (c .before .before .before .a .given .0 .1 .1 .0) (c .before .before .before .a .given .0 .1 .1 .1 .0) (sym (c .before .card-fits .ensures) ∙ (c .if2 .taken)) in omega (arith, h .processes)
+cast-t18 c = let h = laws.card-fits (c .before .before .before .a .given .0 .0) (c .before .before .before .a .given .0 .1 .0) (c .before .before .before .a .given .0 .1 .1 .0) (c .before .before .before .a .given .0 .1 .1 .1 .0) (sym (c .before .card-fits .ensures) ∙ (c .if2 .taken)) in omega (arith, h .processCount)
 
 cast-t19 : tie.Need-cast-t19
-cast-t19 c = let h = laws.card-fits (c .before .before .before .a .given .0 .0) (c .before .before .before .a .given .0 .1 .0) (c .before .before .before .a .given .0 .1 .1 .0) (c .before .before .before .a .given .0 .1 .1 .1 .0) (sym (c .before .card-fits .ensures) ∙ (c .if2 .taken)) in omega (arith, h .variables)
+cast-t19 c = let h = laws.card-fits (c .before .before .before .a .given .0 .0) (c .before .before .before .a .given .0 .1 .0) (c .before .before .before .a .given .0 .1 .1 .0) (c .before .before .before .a .given .0 .1 .1 .1 .0) (sym (c .before .card-fits .ensures) ∙ (c .if2 .taken)) in omega (arith, h .variableCount)
 
 cast-t20 : tie.Need-cast-t20
-cast-t20 c = let h = laws.card-fits (c .before .before .before .a .given .0 .0) (c .before .before .before .a .given .0 .1 .0) (c .before .before .before .a .given .0 .1 .1 .0) (c .before .before .before .a .given .0 .1 .1 .1 .0) (sym (c .before .card-fits .ensures) ∙ (c .if2 .taken)) in omega (arith, h .programs)
+cast-t20 c = let h = laws.card-fits (c .before .before .before .a .given .0 .0) (c .before .before .before .a .given .0 .1 .0) (c .before .before .before .a .given .0 .1 .1 .0) (c .before .before .before .a .given .0 .1 .1 .1 .0) (sym (c .before .card-fits .ensures) ∙ (c .if2 .taken)) in omega (arith, h .programCount)
 
 returns-2 : tie.Need-returns-2
 returns-2 c = laws.card-fields _ _ (c .before .before .before .before .before .before .before .has-word .ensures) (c .before .before .before .before .before .before .if1 .taken) (sym (c .before .before .before .a .given .1) ∙ (c .before .before .before .before .before .four-at .ensures)) (c .before .card-fits .ensures) (c .if2 .taken)

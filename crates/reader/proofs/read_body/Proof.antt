@@ -1,4 +1,4 @@
-use Rattle.reader.specs.Gathering.{soFar}
+use Rattle.construction.specs.Opening.{soFar}
 use Rattle.construction.specs.declared.Reading.{Reading}
 use Rattle.reader.proofs.Laws as laws
 use mathlib.Core.Path.{ap}
@@ -11,7 +11,7 @@ returns : tie.Need-returns
 returns c = rw (← c .before .before .read-vars .ensures) (laws.body-no-vars _ _ (c .before .before .read-vars .result) (c .enum-told2 .given .1))
 
 read-programs-requires : tie.Need-read-programs-requires
-read-programs-requires c κs = omega (arith, ap (λ (z : Reading). z .line) (c .before .before .before .read-vars .ensures), laws.vars-line (c .before .before .before .before .before .args .text .now) (c .before .before .before .before .before .args .variables) 0 (soFar (c .before .before .before .before .before .args .contents) (c .before .before .before .before .before .args .at) 2))
+read-programs-requires c κs = omega (arith, ap (λ (z : Reading). z .line) (c .before .before .before .read-vars .ensures), laws.vars-line (c .before .before .before .before .before .args .text .now) (c .before .before .before .before .before .args .variableCount) 0 (soFar (c .before .before .before .before .before .args .contents) (c .before .before .before .before .before .args .at) 2))
 
 returns-2 : tie.Need-returns-2
 returns-2 c = rw (← c .before .before .before .before .before .before .read-vars .ensures) (laws.body-no-programs _ _ (c .before .before .before .before .before .before .read-vars .result) (c .before .before .read-programs .result) (c .before .before .before .before .enum-told .given .1) (c .before .before .read-programs .ensures) (c .enum-told4 .given .1))

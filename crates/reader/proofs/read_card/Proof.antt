@@ -15,7 +15,7 @@ unfolding readCard
 returns-2 c = rw (le-ltb _ _ (c .before .before .before .before .before .if1 .left), c .refused-at2 .ensures, c .before .card-refusal .ensures, ← c .before .before .before .before .card-line .ensures, c .before .before .enum-told .given .1)
 
 read-body-requires : tie.Need-read-body-requires
-read-body-requires c κs = let f = card-read (c .before .before .before .before .before .before .before .args .text .now) 0 (c .before .before .line .given .0 .0) (c .before .before .line .given .0 .1 .0) (c .before .before .line .given .0 .1 .1 .0) (c .before .before .line .given .0 .1 .1 .1 .0) (c .before .before .line .given .0 .1 .1 .1 .1 .0) (sym (c .before .before .before .before .card-line .ensures) ∙ (c .before .before .line .given .1)) .fits in (f .variables .1, f .programs .1)
+read-body-requires c κs = let f = card-read (c .before .before .before .before .before .before .before .args .text .now) 0 (c .before .before .line .given .0 .0) (c .before .before .line .given .0 .1 .0) (c .before .before .line .given .0 .1 .1 .0) (c .before .before .line .given .0 .1 .1 .1 .0) (c .before .before .line .given .0 .1 .1 .1 .1 .0) (sym (c .before .before .before .before .card-line .ensures) ∙ (c .before .before .line .given .1)) .fits in (f .variableCount .1, f .programCount .1)
 
 returns-3 : tie.Need-returns-3
 unfolding readCard

@@ -1,5 +1,4 @@
-use Rattle.reader.specs.Gathering.{programSoFar}
-use Rattle.construction.specs.Opening.{insFrom}
+use Rattle.construction.specs.Opening.{programSoFar, insFrom}
 use Rattle.construction.specs.Instructions.{noLine}
 use Rattle.reader.proofs.Laws as laws
 use lib.ListN as list

@@ -1,7 +1,6 @@
 use lib.ListN.{length-map}
-use Rattle.reader.specs.Gathering.{soFar, withCode}
 use Rattle.construction.specs.declared.ProgramReading.{ProgramReading}
-use Rattle.construction.specs.Opening.{programsFrom}
+use Rattle.construction.specs.Opening.{gathered, soFar, programsFrom}
 use lib.ListN as list
 use lib.ListN.{length-set}
 use Prim.Native.Nat.{_+_, _-_, _*_, _≤_}
@@ -15,13 +14,13 @@ use Rattle.reader.proofs.read_programs.Statement.{statement}
 use Rattle.reader.proofs.read_programs.Tie as tie
 
 abbrev Inv-loop : tie.InvT-loop
-Inv-loop text count contents start first variables code₀ at₀ number₀ all k₀ code at number k = (programsFrom text count 0 (soFar contents start first) ≡ programsFrom text (all - k) k (soFar (withCode contents code) at number)) × (k ≤ all) × (number ≤ first + 33 * k) × (list.length code ≡ 8)
+Inv-loop text count contents start first variables programs₀ at₀ number₀ all k₀ programs at number k = (programsFrom text count 0 (soFar contents start first) ≡ programsFrom text (all - k) k (soFar (gathered contents (contents .starts) programs) at number)) × (k ≤ all) × (number ≤ first + 33 * k) × (list.length programs ≡ 8)
 
 abbrev μ-loop : tie.MeasureT-loop
-μ-loop text count contents start first variables code₀ at₀ number₀ all k₀ code at number k = all - k
+μ-loop text count contents start first variables programs₀ at₀ number₀ all k₀ programs at number k = all - k
 
 loop-holds : tie.Need-loop-holds Inv-loop μ-loop
-loop-holds c = (rw sub-zero, omega arith, omega arith, (let e : list.length (c .before .before .args .contents .code) ≡ 8 = simp length-map at (c .before .before .good .1 .1 .0 .1 .1 .1 .1 .1 .1 .1 .0 .1 .0 .1) in e))
+loop-holds c = (rw sub-zero, omega arith, omega arith, (let e : list.length (c .before .before .args .contents .programs) ≡ 8 = simp length-map at (c .before .before .good .1 .1 .0 .1 .1 .1 .1 .1 .1 .1 .0 .1 .0 .1) in e))
 
 read-program-requires : tie.Need-read-program-requires Inv-loop μ-loop
 read-program-requires c κs = omega arith
@@ -32,7 +31,7 @@ returns c = rw (c .refused-at .ensures, c .before .before .before .before .befor
 
 loop-again : tie.Need-loop-again Inv-loop μ-loop
 unfolding programsFrom
-loop-again c = (rw (c .before .before .before .before .before .loop .inv .0, laws.one-less _ _ (c .before .before .before .before .loop-test .taken), ← c .before .before .before .read-program .ensures, c .before .enum-told .given .1, add-one), omega arith, omega (arith, ap (λ (y : ProgramReading). y .line) (c .before .before .before .read-program .ensures), laws.program-line (c .before .before .before .before .before .before .before .before .args .contents .variables) (c .before .before .before .before .before .before .before .before .args .text .now) (c .before .before .before .before .before .loop .at) (c .before .before .before .before .before .loop .number)), simp length-set ((c .before .before .before .before .before .loop .inv .3)))
+loop-again c = (rw (c .before .before .before .before .before .loop .inv .0, laws.one-less _ _ (c .before .before .before .before .loop-test .taken), ← c .before .before .before .read-program .ensures, c .before .enum-told .given .1, add-one), omega arith, omega (arith, ap (λ (y : ProgramReading). y .line) (c .before .before .before .read-program .ensures), laws.program-line (c .before .before .before .before .before .before .before .before .args .contents .variableCount) (c .before .before .before .before .before .before .before .before .args .text .now) (c .before .before .before .before .before .loop .at) (c .before .before .before .before .before .loop .number)), simp length-set ((c .before .before .before .before .before .loop .inv .3)))
 
 returns-2 : tie.Need-returns-2 Inv-loop μ-loop
 unfolding programsFrom

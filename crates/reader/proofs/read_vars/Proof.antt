@@ -1,5 +1,4 @@
-use Rattle.reader.specs.Gathering.{soFar, withStarts}
-use Rattle.construction.specs.Opening.{varsFrom}
+use Rattle.construction.specs.Opening.{gathered, soFar, varsFrom}
 use Rattle.reader.proofs.Laws as laws
 use lib.ListN as list
 use lib.ListN.{length-set}
@@ -13,7 +12,7 @@ use Rattle.reader.proofs.read_vars.Statement.{statement}
 use Rattle.reader.proofs.read_vars.Tie as tie
 
 abbrev Inv-loop : tie.InvT-loop
-Inv-loop text count contents start first starts₀ at₀ number₀ all k₀ starts at number k = (varsFrom text count 0 (soFar contents start first) ≡ varsFrom text (all - k) k (soFar (withStarts contents starts) at number)) × (k ≤ all) × (number ≤ first + k) × (list.length starts ≡ 64)
+Inv-loop text count contents start first starts₀ at₀ number₀ all k₀ starts at number k = (varsFrom text count 0 (soFar contents start first) ≡ varsFrom text (all - k) k (soFar (gathered contents starts (contents .programs)) at number)) × (k ≤ all) × (number ≤ first + k) × (list.length starts ≡ 64)
 
 abbrev μ-loop : tie.MeasureT-loop
 μ-loop text count contents start first starts₀ at₀ number₀ all k₀ starts at number k = all - k

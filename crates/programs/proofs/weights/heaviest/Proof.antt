@@ -9,10 +9,10 @@ use Rattle.programs.proofs.weights.heaviest.Statement.{statement}
 use Rattle.programs.proofs.weights.heaviest.Tie as tie
 
 abbrev Inv-loop : tie.InvT-loop
-Inv-loop code most₀ k₀ most k = (most ≡ heaviest (drop k code)) × (k ≤ 8)
+Inv-loop programs most₀ k₀ most k = (most ≡ heaviest (drop k programs)) × (k ≤ 8)
 
 abbrev μ-loop : tie.MeasureT-loop
-μ-loop code most₀ k₀ most k = k
+μ-loop programs most₀ k₀ most k = k
 
 loop-holds : tie.Need-loop-holds Inv-loop μ-loop
 loop-holds c = (laws.none-left (c .args .t1) 8 (omega arith), omega arith)

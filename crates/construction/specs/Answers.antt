@@ -28,7 +28,7 @@ abbrev pub refusedWith : ℕ → Fields
 refusedWith number = fields "refused" (number ∷ [])
 
 -- the number of a refusal in the table of 'Turned back', 12 and 13 in document 02, order 8, and 14 in its order 9
-unfoldable pub numberOf : Refusal → ℕ
+abbrev pub numberOf : Refusal → ℕ
 numberOf TooLong = 1
 numberOf Malformed = 2
 numberOf OutOfRange = 3

@@ -11,7 +11,7 @@ use Rattle.construction.specs.Types.{Cell, Swap, Label, Report}
 use Rattle.construction.specs.Answers.{bytes, numbersText}
 
 -- a label is the letter of its procedure (P, C, H or F) and the number of its line; 0 and 0 where there is none
-unfoldable pub letterOf : Label → ℕ
+abbrev pub letterOf : Label → ℕ
 letterOf Label.None = 0
 letterOf Label.P1 = 80
 letterOf Label.P3 = 80
@@ -32,7 +32,7 @@ letterOf Label.P22 = 80
 letterOf Label.F1 = 70
 letterOf Label.F3 = 70
 
-unfoldable pub lineNumber : Label → ℕ
+abbrev pub lineNumber : Label → ℕ
 lineNumber Label.None = 0
 lineNumber Label.P1 = 1
 lineNumber Label.P3 = 3
@@ -62,7 +62,7 @@ cellText Cell.Gate = 44 ∷ 71 ∷ []
 cellText (Cell.Announcement m) = 44 ∷ 65 ∷ decimal m
 cellText (Cell.Record v) = 44 ∷ 82 ∷ decimal v
 
-unfoldable pub swapByte : Swap → ℕ
+abbrev pub swapByte : Swap → ℕ
 swapByte Swap.None = 45
 swapByte Swap.Lost = 48
 swapByte Swap.Won = 49

@@ -11,7 +11,7 @@ use Rattle.construction.specs.OneAccess.{touched}
 use Rattle.construction.specs.Requests.{step}
 
 -- 'the label of the access made': that of a process's place, by its exit request at the top of the loop (line P5, which is no access)
-unfoldable pub labelOf : Place → Bool → Label
+abbrev pub labelOf : Place → Bool → Label
 labelOf Idle exit = Label.None
 labelOf P1 exit = Label.P1
 labelOf P3 exit = Label.P3
@@ -33,7 +33,7 @@ labelOf F1 exit = Label.F1
 labelOf F3 exit = Label.F3
 
 -- 'from H21 to P20'
-unfoldable pub isNoting : Label → Bool
+abbrev pub isNoting : Label → Bool
 isNoting Label.None = false
 isNoting Label.P1 = false
 isNoting Label.P3 = false

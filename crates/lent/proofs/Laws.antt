@@ -73,7 +73,7 @@ module _ (row : List Record) (place : ℕ) (expected new : Record) where
 
   -- the guard's arm: no such place
   pub refused : length row ≤ place → Said (Refused NoPlace) row
-  unfolding rowAnswer rowAfter rowFields swapFields numberOf
+  unfolding rowAnswer rowAfter rowFields swapFields
   refused h = (rw (le-leb _ _ h), rw (le-leb _ _ h), rw (le-leb _ _ h))
 
   which : (t : Bool) → rowFields (tells t) ≡ cond t (fields "won" []) (fields "lost" [])

@@ -47,10 +47,9 @@ module _ {b : List ℕ} {i j k : ℕ} {y₁ y₂ z : List ℕ} where
   pub put-calls-refusal :
       length b ≤ largest → Put b 0 (bytes "calls") i y₁ → PutWithin y₁ i (fieldsText (refusedWith (numberOf TooLong))) j y₂ 29 →
       Put y₂ j (10 ∷ []) k z → PutWithin b 0 callsRefusal k z longest
-  unfolding numberOf
   put-calls-refusal h p q r = put-parts (refusedWith 1) 5 29 longest (omega arith) (put-short 5 p (omega arith)) q r (omega arith)
 
 -- a malformed command is answered as its fields say
 pub malformed-refused : (c : Card) → answerFields (execute c Command.Malformed .answer) ≡ commandFields Command.Malformed
-unfolding execute answerFields numberOf commandFields
+unfolding execute answerFields commandFields
 malformed-refused c = refl

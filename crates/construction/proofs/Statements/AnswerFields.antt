@@ -20,7 +20,6 @@ refusalFrom n =
     getD (TooLong ∷ TooLong ∷ Malformed ∷ OutOfRange ∷ UnknownCode ∷ NoProcess ∷ NoProgram ∷ Busy ∷ NotBusy ∷ NoPlace ∷ LimitReached ∷ ShortBuffer ∷ OperandOutOfRange ∷ UnusedOperand ∷ TooHeavy ∷ []) n TooLong
 
 refusal-back : (r : Refusal) → refusalFrom (numberOf r) ≡ r
-unfolding numberOf
 refusal-back TooLong = refl
 refusal-back Malformed = refl
 refusal-back OutOfRange = refl

@@ -26,26 +26,26 @@ rows-hold =
 
 -- the pieces that speak of lines
 pub rows-told : AllTold tracedRows
-unfolding opened readCard cardLine judgeCard four field number digits hasWord varsFrom varLine judgeVar programsFrom readProgram sheetLine judgeSheet insFrom insLine judgeIns decode weightBefore fresh call requestExit step read valueOf advance perform accessOf accessGate accessAnnouncement firstChoice beginHelp note writing simulate simulateFrom allocated effectOf fetch word withWord sum difference load store free forward withRegister withOutput skipped faulted position assign valueUnder insert altered unaltered nextWrite sameWords sameGate sameAnnouncement sameRecord swapGate swapAnnouncement swapRecord released current previous rewritten withBit ones onesIn swapOf trace reportOf labelOf isNoting
+unfolding opened readCard cardLine judgeCard four field number digits hasWord varsFrom varLine judgeVar programsFrom readProgram sheetLine judgeSheet insFrom insLine judgeIns decode weightBefore fresh call requestExit step read valueOf advance perform accessOf accessGate accessAnnouncement firstChoice beginHelp note writing simulate simulateFrom allocated effectOf fetch word withWord sum difference load store free forward withRegister withOutput skipped faulted position assign valueUnder insert altered unaltered nextWrite sameWords sameGate sameAnnouncement sameRecord swapGate swapAnnouncement swapRecord released current previous rewritten withBit ones onesIn swapOf trace reportOf
 rows-told = (refl, (refl, (refl, (refl, tt))))
 
 pub texts-refused : AllTextsRefused refusedTexts
-unfolding opened readCard cardLine judgeCard four field number digits hasWord varsFrom varLine judgeVar programsFrom readProgram sheetLine judgeSheet insFrom insLine judgeIns decode weightBefore fetch fresh verdictFields numberOf decimal decimals
+unfolding opened readCard cardLine judgeCard four field number digits hasWord varsFrom varLine judgeVar programsFrom readProgram sheetLine judgeSheet insFrom insLine judgeIns decode weightBefore fetch fresh verdictFields decimal decimals
 texts-refused = (refl, (refl, (refl, (refl, (refl, (refl, (refl, (refl, (refl, (refl, tt))))))))))
 
 pub full-opens : FullOpens
-unfolding opened readCard cardLine judgeCard four field number digits hasWord varsFrom varLine judgeVar programsFrom readProgram sheetLine judgeSheet insFrom insLine judgeIns decode weightBefore fetch fresh verdictFields numberOf decimal decimals
+unfolding opened readCard cardLine judgeCard four field number digits hasWord varsFrom varLine judgeVar programsFrom readProgram sheetLine judgeSheet insFrom insLine judgeIns decode weightBefore fetch fresh verdictFields decimal decimals
 full-opens = refl
 
 pub lines-yield : AllYielded yieldedLines
-unfolding cardLine judgeCard four field number digits hasWord varLine judgeVar sheetLine judgeSheet insLine judgeIns decode encode cardLineFields varLineFields sheetLineFields decodedFields insLineFields numberOf
+unfolding cardLine judgeCard four field number digits hasWord varLine judgeVar sheetLine judgeSheet insLine judgeIns decode encode cardLineFields varLineFields sheetLineFields decodedFields insLineFields
 lines-yield = (refl, (refl, (refl, (refl, (refl, (refl, (refl, (refl, (refl, (refl, (refl, (refl, tt))))))))))))
 
 pub entries-refused : AllEntriesRefused refusedEntries
-unfolding opened readCard cardLine judgeCard four field number digits hasWord varsFrom varLine judgeVar programsFrom readProgram sheetLine judgeSheet insFrom insLine judgeIns decode weightBefore fresh call requestExit step read valueOf advance perform accessOf accessGate accessAnnouncement firstChoice beginHelp note writing simulate simulateFrom allocated effectOf fetch word withWord forward withRegister skipped position assign valueUnder insert sameWords sameGate sameAnnouncement sameRecord swapGate swapAnnouncement swapRecord answerFields numberOf trace
+unfolding opened readCard cardLine judgeCard four field number digits hasWord varsFrom varLine judgeVar programsFrom readProgram sheetLine judgeSheet insFrom insLine judgeIns decode weightBefore fresh call requestExit step read valueOf advance perform accessOf accessGate accessAnnouncement firstChoice beginHelp note writing simulate simulateFrom allocated effectOf fetch word withWord forward withRegister skipped position assign valueUnder insert sameWords sameGate sameAnnouncement sameRecord swapGate swapAnnouncement swapRecord answerFields trace
 entries-refused =
     (record { refusal = refl; kept = refl }, (record { refusal = refl; kept = refl }, (record { refusal = refl; kept = refl }, (record { refusal = refl; kept = refl }, (record { refusal = refl; kept = refl }, (record { refusal = refl; kept = refl }, (record { refusal = refl; kept = refl }, (record { refusal = refl; kept = refl }, (record { refusal = refl; kept = refl }, tt)))))))))
 
 pub buffer-refused : BufferRefused
-unfolding opened readCard cardLine judgeCard four field number digits hasWord varsFrom varLine judgeVar programsFrom readProgram sheetLine judgeSheet insFrom insLine judgeIns decode weightBefore fetch fresh written textOf varsText programsText linesText cardText varText sheetText insText encode decimal decimals writtenFields numberOf
+unfolding opened readCard cardLine judgeCard four field number digits hasWord varsFrom varLine judgeVar programsFrom readProgram sheetLine judgeSheet insFrom insLine judgeIns decode weightBefore fetch fresh written textOf varsText programsText linesText cardText varText sheetText insText encode decimal decimals writtenFields
 buffer-refused = refl

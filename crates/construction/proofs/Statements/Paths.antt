@@ -205,7 +205,7 @@ module _ (c : Card) (i : ℕ) (Z : Sizes c) (lt : i < 8) where
       Onto i (own .gate .seq) label Swap.None (Found.announcement (announcementAt c m)) (announcementAt c m .flag)
 
   lands : (p : Place) (exit : Bool) → isIdle p ≡ false → Returning p (own .announcement .flag) → Lands p exit (leaves (accessOf p exit))
-  unfolding accessOf labelOf perform accessGate accessAnnouncement writing
+  unfolding accessOf perform accessGate accessAnnouncement writing
   lands Idle exit n q = absurd (true≢false n)
   lands P1 exit n q =
       (on-holder (GateRead Label.P1) (c .gate .holder) P3 P3 (λ _ _. Edge.P1-P3) (λ _ _. Edge.P1-P3))
@@ -267,7 +267,7 @@ module _ (c : Card) (i : ℕ) (Z : Sizes c) (lt : i < 8) where
   number-is :
       (p : Place) (exit : Bool) (n : ℕ) → isIdle p ≡ false → (p ≡ P1) ⊎ (n ≡ own .gate .seq) →
       leaves (accessOf p exit) .gate .seq ≡ cond (readsGate (labelOf p exit)) (numberIn (found p exit) n) n
-  unfolding accessOf labelOf accessGate readsGate
+  unfolding accessOf accessGate readsGate
   number-is Idle exit n b h = absurd (true≢false b)
   number-is P1 exit n b h = refl
   number-is P3 exit n b h = before (λ e. clash (cc)) h
@@ -381,7 +381,6 @@ module _ (c : Card) (i : ℕ) (Z : Sizes c) (lt : i < 8) (busy : isIdle (localAt
       (true-or-false (isIdle (next .task .place)))
 
 first-label : {p : Place} (exit : Bool) → p ≡ P1 → labelOf p exit ≡ Label.P1
-unfolding labelOf
 first-label exit e = ap (λ (p : Place). labelOf p exit) e
 
 -- the path with it

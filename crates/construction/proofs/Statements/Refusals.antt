@@ -31,15 +31,15 @@ refuses-only c r why h =
 
 module _ (c : Card) (i k : ℕ) (inputs : Words) where
   pub call-no-process : isProcess c i ≡ false → Refuses c (call c i k inputs) 5
-  unfolding call numberOf
+  unfolding call
   call-no-process p = refuses c (call c i k inputs) NoProcess (rw p)
 
   pub call-no-program : isProcess c i ≡ true → isProgram c k ≡ false → Refuses c (call c i k inputs) 6
-  unfolding call numberOf
+  unfolding call
   call-no-program p q = refuses c (call c i k inputs) NoProgram (rw (p, q))
 
   pub call-busy : isProcess c i ≡ true → isProgram c k ≡ true → isBusy c i ≡ true → Refuses c (call c i k inputs) 7
-  unfolding call numberOf
+  unfolding call
   call-busy p q b = refuses c (call c i k inputs) Busy (rw (p, q, b))
 
   pub call-taken :
@@ -50,11 +50,11 @@ module _ (c : Card) (i k : ℕ) (inputs : Words) where
 
 module _ (c : Card) (i : ℕ) where
   pub exit-no-process : isProcess c i ≡ false → Refuses c (requestExit c i) 5
-  unfolding requestExit numberOf
+  unfolding requestExit
   exit-no-process p = refuses c (requestExit c i) NoProcess (rw p)
 
   pub exit-not-busy : isProcess c i ≡ true → isBusy c i ≡ false → Refuses c (requestExit c i) 8
-  unfolding requestExit numberOf
+  unfolding requestExit
   exit-not-busy p b = refuses c (requestExit c i) NotBusy (rw (p, b))
 
   pub exit-taken :
@@ -63,15 +63,15 @@ module _ (c : Card) (i : ℕ) where
   exit-taken p b = rw (p, b)
 
   pub step-no-process : isProcess c i ≡ false → Refuses c (step c i) 5
-  unfolding step numberOf
+  unfolding step
   step-no-process p = refuses c (step c i) NoProcess (rw p)
 
   pub step-not-busy : isProcess c i ≡ true → isBusy c i ≡ false → Refuses c (step c i) 8
-  unfolding step numberOf
+  unfolding step
   step-not-busy p b = refuses c (step c i) NotBusy (rw (p, b))
 
   pub step-limit : isProcess c i ≡ true → isBusy c i ≡ true → c .limit ≤ c .steps → Refuses c (step c i) 10
-  unfolding step numberOf
+  unfolding step
   step-limit p b l = refuses c (step c i) LimitReached (rw (p, b, le-ltb _ _ l))
 
   pub step-accepted :
@@ -81,7 +81,7 @@ module _ (c : Card) (i : ℕ) where
   step-accepted p b l = rw (p, b, lt-ltb _ _ l)
 
   pub read-no-place : isVariable c i ≡ false → Refuses c (read c i) 9
-  unfolding read numberOf
+  unfolding read
   read-no-place p = refuses c (read c i) NoPlace (rw p)
 
   pub read-value : isVariable c i ≡ true → read c i ≡ record { card = c; answer = Answer.Value (valueOf c i) }
@@ -90,14 +90,14 @@ module _ (c : Card) (i : ℕ) where
 
 -- row 1, at line 0
 pub text-too-long : (t : List ℕ) → 16384 < length t → verdictFields (opened t .verdict) ≡ fields "refused" (1 ∷ 0 ∷ [])
-unfolding opened readCard verdictFields numberOf
+unfolding opened readCard verdictFields
 text-too-long t l = rw (lt-ltb 16384 (length t) l)
 
 -- row 11, and the length else
 pub write-short :
     (c : Card) (b : List ℕ) → length b < length (textOf c) →
     (writtenFields (written c b) ≡ refusedWith 11) × (writtenInto c b ≡ b)
-unfolding written writtenInto writtenFields numberOf
+unfolding written writtenInto writtenFields
 write-short c b l = (rw (lt-leb _ _ l), rw (lt-leb _ _ l))
 
 pub write-fits :

@@ -43,5 +43,5 @@ trace-accepted c i p b l =
 
 -- the eighteen labels are printed as the paper writes them
 pub labels-spelt : AllSpelt labels
-unfolding letterOf lineNumber decimal decimals
+unfolding decimal decimals
 labels-spelt = (refl, (refl, (refl, (refl, (refl, (refl, (refl, (refl, (refl, (refl, (refl, (refl, (refl, (refl, (refl, (refl, (refl, (refl, tt))))))))))))))))))

@@ -2,6 +2,7 @@
 use crate::put_number;
 use construction::Cell;
 use construction::Label;
+use construction::LabelName;
 use construction::Report;
 use construction::Swap;
 use grammar::writing::put_byte;
@@ -10,59 +11,38 @@ ghost use mathlib.Core.Path.{_≡_};
 ghost use mathlib.Core.List.{_∷_, []};
 ghost use Prim.Native.Nat.{_+_, _≤_};
 ghost use Rattle.grammar.specs.Writing.{Put};
-ghost use Rattle.construction.specs.Reports.{letterOf, lineNumber, labelText, cellText, swapByte, reportText};
+ghost use Rattle.construction.specs.Reports.{named as namedAs, nameOf, labelText, cellText, swapByte, reportText};
 
-// The letter of a label, 0 where there is none.
-pub fn letter_of(label: Label) -> u8
-    ensures { λ r. ⌜ r ≡ letterOf label ⌝ }
+fn named(letter: u8, number: u8) -> LabelName
+    ensures { λ r. ⌜ r ≡ namedAs letter number ⌝ }
 {
-    match label {
-        Label::None => 0,
-        Label::P1 => b'P',
-        Label::P3 => b'P',
-        Label::P6 => b'P',
-        Label::P7 => b'P',
-        Label::P10 => b'P',
-        Label::C2 => b'C',
-        Label::C4 => b'C',
-        Label::P13 => b'P',
-        Label::P14 => b'P',
-        Label::P16 => b'P',
-        Label::H21 => b'H',
-        Label::H36 => b'H',
-        Label::P19 => b'P',
-        Label::P20 => b'P',
-        Label::P21 => b'P',
-        Label::P22 => b'P',
-        Label::F1 => b'F',
-        Label::F3 => b'F',
-    }
+    LabelName { letter, number }
 }
 
-// The number of its line.
-pub fn line_number(label: Label) -> u64
-    ensures { λ r. ⌜ r ≡ lineNumber label ⌝ }
+// A label as the paper writes it, 0 and 0 where there is none.
+pub fn name_of(label: Label) -> LabelName
+    ensures { λ r. ⌜ r ≡ nameOf label ⌝ }
 {
     match label {
-        Label::None => 0,
-        Label::P1 => 1,
-        Label::P3 => 3,
-        Label::P6 => 6,
-        Label::P7 => 7,
-        Label::P10 => 10,
-        Label::C2 => 2,
-        Label::C4 => 4,
-        Label::P13 => 13,
-        Label::P14 => 14,
-        Label::P16 => 16,
-        Label::H21 => 21,
-        Label::H36 => 36,
-        Label::P19 => 19,
-        Label::P20 => 20,
-        Label::P21 => 21,
-        Label::P22 => 22,
-        Label::F1 => 1,
-        Label::F3 => 3,
+        Label::None => named(0, 0),
+        Label::P1 => named(b'P', 1),
+        Label::P3 => named(b'P', 3),
+        Label::P6 => named(b'P', 6),
+        Label::P7 => named(b'P', 7),
+        Label::P10 => named(b'P', 10),
+        Label::C2 => named(b'C', 2),
+        Label::C4 => named(b'C', 4),
+        Label::P13 => named(b'P', 13),
+        Label::P14 => named(b'P', 14),
+        Label::P16 => named(b'P', 16),
+        Label::H21 => named(b'H', 21),
+        Label::H36 => named(b'H', 36),
+        Label::P19 => named(b'P', 19),
+        Label::P20 => named(b'P', 20),
+        Label::P21 => named(b'P', 21),
+        Label::P22 => named(b'P', 22),
+        Label::F1 => named(b'F', 1),
+        Label::F3 => named(b'F', 3),
     }
 }
 
@@ -89,8 +69,9 @@ fn put_letter(buffer: &mut [u8], at: usize, letter: u8) -> usize
 pub fn put_label(buffer: &mut [u8], at: usize, label: Label) -> usize
     ensures { λ r. ⌜ Put (now (buffer .entry)) at (labelText label) r (now (buffer .exit)) × (r ≤ at + 22) ⌝ }
 {
-    let next = put_letter(buffer, at, letter_of(label));
-    put_decimal(buffer, next, line_number(label))
+    let name = name_of(label);
+    let next = put_letter(buffer, at, name.letter);
+    put_decimal(buffer, next, name.number as u64)
 }
 
 // A cell: the gate, or an announcement or a record with its number.
@@ -112,7 +93,8 @@ pub fn put_report(buffer: &mut [u8], at: usize, report: Report) -> usize
     let label = report.label;
     let cell = report.cell;
     let swap = report.swap;
-    if letter_of(label) == 0 {
+    let name = name_of(label);
+    if name.letter == 0 {
         return at;
     }
     let i = put_label(buffer, at, label);

@@ -16,7 +16,8 @@ use Rattle.construction.specs.Parts.{noGate, contentsOf, announcementAt, record
 use Rattle.construction.specs.Machine.{accessOf, accessIn, cellOf, writing, writtenVariable, perform, advance, swapOf}
 use Rattle.construction.specs.OneAccess.{touched}
 use Rattle.construction.specs.Requests.{isProcess, isIdle, refused, step}
-use Rattle.construction.specs.Tracing.{labelOf, reportWith, reportOf, noReport, isRefused, trace}
+use Rattle.construction.specs.Answers.{isRefused}
+use Rattle.construction.specs.Tracing.{labelOf, reportWith, reportOf, noReport, trace}
 use Rattle.tracing.specs.Pieces.{cellBy, announcementIn, recordIn, swapBy}
 use Rattle.card.proofs.Arrays.{Rooms, found}
 use Rattle.card.proofs.Requests.{steppedAt, in-room}

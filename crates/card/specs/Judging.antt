@@ -1,6 +1,6 @@
 -- Whether a request is taken, by numbers and the place of its process: refusals 5 to 8 and 10 in their order
 use Prim.Native.Nat.{ℕ}
-use mathlib.Core.Bool.{Bool, true, false, cond, not, _&&_}
+use mathlib.Core.Bool.{Bool, cond, not, _&&_}
 use lib.Dec.{ltb}
 use Rattle.construction.specs.declared.{Announcement.Announcement, Place.Place, Refusal.Refusal, Answer.Answer}
 use Rattle.construction.specs.declared.Refusal.the-variants.{NoProcess, NoProgram, Busy, NotBusy, LimitReached}
@@ -22,14 +22,6 @@ exitJudged i p place =
 abbrev pub stepJudged : ℕ → ℕ → Place → ℕ → ℕ → Answer
 stepJudged i p place steps limit =
     judged (ltb i p && ltb i 8) NoProcess (not (isIdle place)) NotBusy (ltb steps limit) LimitReached
-
-abbrev pub isTaken : Answer → Bool
-isTaken Answer.Taken = true
-isTaken Answer.Run = false
-isTaken (Answer.Done number y steps) = false
-isTaken (Answer.Exited steps) = false
-isTaken (Answer.Value x) = false
-isTaken (Answer.Refused r) = false
 
 -- the answer to a step that was taken: `answerOf` of a process, by its place, the announcement last read and its own steps
 abbrev pub stepAnswer : Place → Announcement → ℕ → Answer

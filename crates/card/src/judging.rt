@@ -9,7 +9,7 @@ use machine::places::is_idle;
 ghost use mathlib.Core.Path.{_≡_};
 ghost use mathlib.Core.Bool.{_&&_};
 ghost use lib.Dec.{ltb};
-ghost use Rattle.card.specs.Judging.{callJudged, exitJudged, stepJudged, isTaken, stepAnswer};
+ghost use Rattle.card.specs.Judging.{callJudged, exitJudged, stepJudged, stepAnswer};
 
 // Whether a number is below a count and below the room for it.
 pub(crate) fn is_below(number: u32, count: u8, room: u32) -> bool
@@ -73,23 +73,6 @@ pub(crate) fn judge_step(
         return Answer::Refused(Refusal::LimitReached);
     }
     Answer::Taken
-}
-
-pub(crate) fn is_taken(answer: Answer) -> bool
-    ensures { λ r. ⌜ r ≡ isTaken answer ⌝ }
-{
-    match answer {
-        Answer::Taken => true,
-        Answer::Run => false,
-        Answer::Done {
-            number: _,
-            yields: _,
-            steps: _,
-        } => false,
-        Answer::Exited { steps: _ } => false,
-        Answer::Value(_) => false,
-        Answer::Refused(_) => false,
-    }
 }
 
 // 'Returning is local work of the last access': the answer to a step that was taken, by the place after it, the announcement last read and

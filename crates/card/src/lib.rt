@@ -1,13 +1,12 @@
 // The card of document 01 as code: call, exit request (wish), step, traced step and read (look), for every value of a card. These alone take and
 // give a card: each takes the pieces that it needs out of it, has functions on small values judge them and work on them, and puts back what changed.
-// It rests on the crates construction (types and definitions), cells, helping, machine, opening and tracing.
+// It rests on the crates construction (types and definitions), answers, cells, helping, machine, opening and tracing.
 mod judging; // judging.rt: whether a request is taken, and the answer to a step
 mod reading; // reading.rt: what a read shows
 mod rooms; // rooms.rt: places past the room of an array
 
 use crate::judging::answer_of;
 use crate::judging::is_below;
-use crate::judging::is_taken;
 use crate::judging::judge_call;
 use crate::judging::judge_exit;
 use crate::judging::judge_step;
@@ -15,6 +14,7 @@ use crate::reading::value_of;
 use crate::rooms::announcement_at;
 use crate::rooms::program_at;
 use crate::rooms::record_at;
+use answers::tests::is_taken;
 use construction::Access;
 use construction::Answer;
 use construction::Answered;

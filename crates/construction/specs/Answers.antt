@@ -62,6 +62,31 @@ answerFields (Answer.Exited steps) = fields "exited" (steps ∷ [])
 answerFields (Answer.Value x) = fields "" (x ∷ [])
 answerFields (Answer.Refused r) = refusedWith (numberOf r)
 
+-- tests of an answer: a call or an exit request is taken, an operation runs on, a request is refused
+abbrev pub isTaken : Answer → Bool
+isTaken Answer.Taken = true
+isTaken Answer.Run = false
+isTaken (Answer.Done number y steps) = false
+isTaken (Answer.Exited steps) = false
+isTaken (Answer.Value x) = false
+isTaken (Answer.Refused r) = false
+
+abbrev pub isRun : Answer → Bool
+isRun Answer.Taken = false
+isRun Answer.Run = true
+isRun (Answer.Done number y steps) = false
+isRun (Answer.Exited steps) = false
+isRun (Answer.Value x) = false
+isRun (Answer.Refused r) = false
+
+abbrev pub isRefused : Answer → Bool
+isRefused Answer.Taken = false
+isRefused Answer.Run = false
+isRefused (Answer.Done number y steps) = false
+isRefused (Answer.Exited steps) = false
+isRefused (Answer.Value x) = false
+isRefused (Answer.Refused r) = true
+
 -- a card text: accepted, or '`card,refused,number,line`'
 unfoldable pub verdictFields : Verdict → Fields
 verdictFields Verdict.Accepted = fields "accepted" []

@@ -7,13 +7,14 @@ use mathlib.Core.Bool.{Bool, true, false, cond, not, _&&_}
 use mathlib.Core.Logic.{_≢_, _⊎_}
 use mathlib.Core.List.{List, [], _∷_}
 use lib.Dec.{eqb}
-use Rattle.construction.specs.Types.{Holder, Nobody, Process, Gate, Done, Active, Exit, Announcement, Record, Cell, Swap, Card, Answer, Label, Report}
+use Rattle.construction.specs.Types.{Holder, Nobody, Process, Gate, Done, Active, Exit, Yield, Announcement, Record, Cell, Swap, Card, Answer, Label, Report}
 use Rattle.construction.specs.Parts.{localAt, announcementAt, recordAt}
 use Rattle.construction.specs.Machine.{advance}
 use Rattle.construction.specs.Requests.{answerOf}
 use Rattle.construction.specs.OneAccess.{touched}
-use Rattle.construction.specs.Tracing.{reportOf, isRefused}
-use Rattle.construction.specs.History.{Entry, act}
+use Rattle.construction.specs.Answers.{isTaken, isRefused}
+use Rattle.construction.specs.Tracing.{reportOf}
+use Rattle.construction.specs.History.{Return, Event, eventOf, Entry, act}
 
 -- what stood in the cell that an access touched, before it
 pub data Found : Type 0 where
@@ -102,36 +103,21 @@ pub data Edge (i number : ℕ) : Label → Swap → Found → Bool → Label →
   -- F2: the process itself holds the gate, so F3
   F1-F3 : {g : Gate} {wish : Bool} → g .holder ≡ Process i → Edge i number Label.F1 Swap.None (Found.gate g) wish Label.F3
 
--- how an operation returns: done, or exited; or it runs on
-pub data Course : Type 0 where
-  runs : Course
-  done : Course
-  exited : Course
-  other : Course
-
-abbrev pub courseOf : Answer → Course
-courseOf Answer.Taken = Course.other
-courseOf Answer.Run = Course.runs
-courseOf (Answer.Done number o steps) = Course.done
-courseOf (Answer.Exited steps) = Course.exited
-courseOf (Answer.Value x) = Course.other
-courseOf (Answer.Refused r) = Course.other
-
 -- THE ENDS: the access at which an operation of process i returns, and how.
-pub data End (i : ℕ) : Label → Swap → Found → Course → Type 0 where
+pub data End (i : ℕ) : Label → Swap → Found → Event → Type 0 where
   -- P4, P23: the operation asked to exit and was not finished
-  P22 : {a : Announcement} → a .flag ≡ Exit → End i Label.P22 Swap.None (Found.announcement a) Course.exited
+  P22 : {a : Announcement} → a .flag ≡ Exit → End i Label.P22 Swap.None (Found.announcement a) (Event.returned Return.exited)
   -- F2, F4: another holds the gate, or nobody
-  F1 : {g : Gate} → g .holder ≢ Process i → End i Label.F1 Swap.None (Found.gate g) Course.done
+  F1 : {g : Gate} {number : ℕ} {y : Yield} → g .holder ≢ Process i → End i Label.F1 Swap.None (Found.gate g) (Event.returned (Return.done number y))
   -- F4, won or lost
-  F3 : {s : Swap} {f : Found} → s ≢ Swap.None → End i Label.F3 s f Course.done
+  F3 : {s : Swap} {f : Found} {number : ℕ} {y : Yield} → s ≢ Swap.None → End i Label.F3 s f (Event.returned (Return.done number y))
 
 -- the same of an access that was made
 abbrev pub Leads : ℕ → Made → Bool → Label → Type 0
 Leads i m wish next = Edge i (m .report .number) (m .report .label) (m .report .swap) (m .found) wish next
 
 abbrev pub Ends : ℕ → Made → Type 0
-Ends i m = End i (m .report .label) (m .report .swap) (m .found) (courseOf (m .answer))
+Ends i m = End i (m .report .label) (m .report .swap) (m .found) (eventOf (m .answer))
 
 -- A path, newest access first: it begins with P1, and an edge leads from each access to the next; each but the newest was answered `run`.
 pub data Path (i : ℕ) : List Made → Type 0 where
@@ -146,37 +132,21 @@ abbrev pub Whole : ℕ → List Made → Type 0
 Whole i [] = Unit
 Whole i (m ∷ ms) = (m .answer ≡ Answer.Run) ⊎ Ends i m
 
--- the gate number last read by these accesses, 0 if none has read it: P1, P10, P14 and F1 read it, a swap only tells whether it won
-unfoldable pub readsGate : Label → Bool
-readsGate Label.None = false
-readsGate Label.P1 = true
-readsGate Label.P3 = false
-readsGate Label.P6 = false
-readsGate Label.P7 = false
-readsGate Label.P10 = true
-readsGate Label.C2 = false
-readsGate Label.C4 = false
-readsGate Label.P13 = false
-readsGate Label.P14 = true
-readsGate Label.P16 = false
-readsGate Label.H21 = false
-readsGate Label.H36 = false
-readsGate Label.P19 = false
-readsGate Label.P20 = false
-readsGate Label.P21 = false
-readsGate Label.P22 = false
-readsGate Label.F1 = true
-readsGate Label.F3 = false
-
+-- the gate number last read by these accesses, 0 if none has read it: an access of the gate reads it, but a swap only tells whether it won
 abbrev pub numberIn : Found → ℕ → ℕ
 numberIn Found.nothing n = n
 numberIn (Found.gate g) n = g .seq
 numberIn (Found.announcement a) n = n
 numberIn (Found.cell r) n = n
 
+abbrev pub unlessSwap : Swap → ℕ → ℕ → ℕ
+unlessSwap Swap.None read n = read
+unlessSwap Swap.Lost read n = n
+unlessSwap Swap.Won read n = n
+
 unfoldable pub lastNumber : List Made → ℕ
 lastNumber [] = 0
-lastNumber (m ∷ ms) = cond (readsGate (m .report .label)) (numberIn (m .found) (lastNumber ms)) (lastNumber ms)
+lastNumber (m ∷ ms) = unlessSwap (m .report .swap) (numberIn (m .found) (lastNumber ms)) (lastNumber ms)
 
 -- 'the gate number it last read in that operation, this step included'
 abbrev pub NumbersRead : List Made → Type 0
@@ -191,14 +161,6 @@ pub record Follows (i : ℕ) (ms : List Made) : Type 0 where
 
 -- THE ACCESSES OF AN OPERATION, by the run itself: those of the accepted steps of process i, asked by `step` or by `trace`, since its latest taken
 -- call, newest first.
-abbrev pub isTaken : Answer → Bool
-isTaken Answer.Taken = true
-isTaken Answer.Run = false
-isTaken (Answer.Done number o steps) = false
-isTaken (Answer.Exited steps) = false
-isTaken (Answer.Value x) = false
-isTaken (Answer.Refused r) = false
-
 abbrev pub calledAnew : ℕ → ℕ → Answer → List Made → List Made
 calledAnew i j a ms = cond (eqb j i && isTaken a) [] ms
 

@@ -7,54 +7,36 @@ use mathlib.Core.Path.{_≡_}
 use mathlib.Core.List.{List, [], _∷_, _++_}
 use lib.Dec.{eqb}
 use Rattle.grammar.specs.Writing.{decimal}
-use Rattle.construction.specs.Types.{Cell, Swap, Label, Report}
+use Rattle.construction.specs.Types.{Cell, Swap, Label, LabelName, Report}
 use Rattle.construction.specs.Answers.{bytes, numbersText}
 
--- a label is the letter of its procedure (P, C, H or F) and the number of its line; 0 and 0 where there is none
-abbrev pub letterOf : Label → ℕ
-letterOf Label.None = 0
-letterOf Label.P1 = 80
-letterOf Label.P3 = 80
-letterOf Label.P6 = 80
-letterOf Label.P7 = 80
-letterOf Label.P10 = 80
-letterOf Label.C2 = 67
-letterOf Label.C4 = 67
-letterOf Label.P13 = 80
-letterOf Label.P14 = 80
-letterOf Label.P16 = 80
-letterOf Label.H21 = 72
-letterOf Label.H36 = 72
-letterOf Label.P19 = 80
-letterOf Label.P20 = 80
-letterOf Label.P21 = 80
-letterOf Label.P22 = 80
-letterOf Label.F1 = 70
-letterOf Label.F3 = 70
+-- a label is the letter of its procedure (P, C, H or F: 80, 67, 72, 70) and the number of its line; 0 and 0 where there is none
+abbrev pub named : ℕ → ℕ → LabelName
+named letter number = record { letter = letter; number = number }
 
-abbrev pub lineNumber : Label → ℕ
-lineNumber Label.None = 0
-lineNumber Label.P1 = 1
-lineNumber Label.P3 = 3
-lineNumber Label.P6 = 6
-lineNumber Label.P7 = 7
-lineNumber Label.P10 = 10
-lineNumber Label.C2 = 2
-lineNumber Label.C4 = 4
-lineNumber Label.P13 = 13
-lineNumber Label.P14 = 14
-lineNumber Label.P16 = 16
-lineNumber Label.H21 = 21
-lineNumber Label.H36 = 36
-lineNumber Label.P19 = 19
-lineNumber Label.P20 = 20
-lineNumber Label.P21 = 21
-lineNumber Label.P22 = 22
-lineNumber Label.F1 = 1
-lineNumber Label.F3 = 3
+unfoldable pub nameOf : Label → LabelName
+nameOf Label.None = named 0 0
+nameOf Label.P1 = named 80 1
+nameOf Label.P3 = named 80 3
+nameOf Label.P6 = named 80 6
+nameOf Label.P7 = named 80 7
+nameOf Label.P10 = named 80 10
+nameOf Label.C2 = named 67 2
+nameOf Label.C4 = named 67 4
+nameOf Label.P13 = named 80 13
+nameOf Label.P14 = named 80 14
+nameOf Label.P16 = named 80 16
+nameOf Label.H21 = named 72 21
+nameOf Label.H36 = named 72 36
+nameOf Label.P19 = named 80 19
+nameOf Label.P20 = named 80 20
+nameOf Label.P21 = named 80 21
+nameOf Label.P22 = named 80 22
+nameOf Label.F1 = named 70 1
+nameOf Label.F3 = named 70 3
 
 abbrev pub labelText : Label → List ℕ
-labelText label = 44 ∷ letterOf label ∷ decimal (lineNumber label)
+labelText label = 44 ∷ nameOf label .letter ∷ decimal (nameOf label .number)
 
 unfoldable pub cellText : Cell → List ℕ
 cellText Cell.None = 44 ∷ 45 ∷ []
@@ -74,7 +56,7 @@ accessText r =
 
 -- nothing is printed of no access
 unfoldable pub reportText : Report → List ℕ
-reportText r = cond (eqb (letterOf (r .label)) 0) [] (accessText r)
+reportText r = cond (eqb (nameOf (r .label) .letter) 0) [] (accessText r)
 
 -- the eighteen labels as the paper writes them
 pub record Spelt : Type 0 where

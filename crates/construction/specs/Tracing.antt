@@ -3,7 +3,8 @@ use Prim.Native.Nat.{ℕ}
 use mathlib.Core.Path.{_≡_}
 use mathlib.Core.Bool.{Bool, true, false, cond}
 use lib.Count.{ones}
-use Rattle.construction.specs.Types.{Place, Idle, P1, P3, P5, P7, P10, C2, C4, P13, P14, P16, H21, H36, P19, P20, P21, P22, F1, F3, Cell, Swap, Card, Answer, Answered, Label, Report, Traced}
+use Rattle.construction.specs.Types.{Place, Idle, P1, P3, P5, P7, P10, C2, C4, P13, P14, P16, H21, H36, P19, P20, P21, P22, F1, F3, Cell, Swap, Card, Answered, Label, Report, Traced}
+use Rattle.construction.specs.Answers.{isRefused}
 use Rattle.construction.specs.Marks.{Marks}
 use Rattle.construction.specs.Parts.{localAt}
 use Rattle.construction.specs.Machine.{advance, swapOf}
@@ -81,14 +82,6 @@ reportOf c i =
 -- no access
 abbrev pub noReport : Report
 noReport = record { label = Label.None; cell = Cell.None; swap = Swap.None; number = 0; noted = 0; count = 0 }
-
-abbrev pub isRefused : Answer → Bool
-isRefused Answer.Taken = false
-isRefused Answer.Run = false
-isRefused (Answer.Done number o steps) = false
-isRefused (Answer.Exited steps) = false
-isRefused (Answer.Value x) = false
-isRefused (Answer.Refused r) = true
 
 -- `trace`: the card and the answer are those of `step`, with its refusals; an accepted step has its report, a refused one has none
 unfoldable pub trace : Card → ℕ → Traced

@@ -44,6 +44,7 @@ pub use Rattle.construction.specs.declared.Refusal.the-variants.{TooLong
 pub use Rattle.construction.specs.declared.Answer.{Answer}
 pub use Rattle.construction.specs.declared.Answered.{Answered}
 pub use Rattle.construction.specs.declared.Label.{Label}
+pub use Rattle.construction.specs.declared.LabelName.{LabelName}
 pub use Rattle.construction.specs.declared.Report.{Report}
 pub use Rattle.construction.specs.declared.Traced.{Traced}
 pub use Rattle.construction.specs.declared.SwappedGate.{SwappedGate}

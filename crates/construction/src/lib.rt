@@ -378,6 +378,12 @@ pub enum Label {
     F3,
 }
 
+// A label as the paper writes it: the letter of its procedure and the number of its line.
+pub struct LabelName {
+    pub letter: u8,
+    pub number: u8,
+}
+
 // What is told of a step (document 02, order 1): the label of the access made, the cell touched, the swap, the gate number last read in that
 // operation, the variables that its helping has noted so far, bit v for variable v, and how many these are.
 pub struct Report {

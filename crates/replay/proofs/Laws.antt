@@ -1,33 +1,12 @@
--- Answers other than `run`, and requests and entries played one after the other
+-- Requests and entries played one after the other
 use Prim.Native.Nat.{ℕ, _+_}
-use mathlib.Core.Bool.{Bool, true, false}
 use mathlib.Core.Path.{_≡_, refl}
 use mathlib.Core.List.{List, [], _∷_}
 use native.Mathlib.Numerals.{add-one}
-use types.Run.{OneOf, miss}
-use denote.Enum.Declared.{tagOf}
-use Rattle.grammar.specs.Reading.{hasWord}
-use Rattle.construction.specs.declared.{Card.Card, Answer.Answer}
-use Rattle.construction.proofs.Answer.{the-type}
-use Rattle.construction.specs.Answers.{bytes, doneWord, answerFields}
+use Rattle.construction.specs.declared.Card.{Card}
 use Rattle.replay.specs.declared.Request.{Request}
 use Rattle.replay.specs.Entries.{entryAt}
-use Rattle.replay.specs.Playing.{played, isRun, after, afterEntry, afterEntries}
-
--- neither `done` nor `fault` is `run`
-not-done : (fault : Bool) → false ≡ hasWord (bytes (doneWord fault)) 0 (bytes "run")
-unfolding hasWord
-not-done true = refl
-not-done false = refl
-
-pub not-run : (a : Answer) → OneOf (0 ∷ 2 ∷ 3 ∷ 4 ∷ 5 ∷ []) (tagOf the-type a) → false ≡ isRun a
-unfolding answerFields hasWord
-not-run Answer.Taken h = refl
-not-run Answer.Run h = absurd (miss (0 ∷ 2 ∷ 3 ∷ 4 ∷ 5 ∷ []) 1 tt h)
-not-run (Answer.Done number y steps) h = not-done (y .fault)
-not-run (Answer.Exited steps) h = refl
-not-run (Answer.Value x) h = refl
-not-run (Answer.Refused r) h = refl
+use Rattle.replay.specs.Playing.{played, after, afterEntry, afterEntries}
 
 module _ (c : Card) (r : Request) where
   pub starts : c ≡ after 0 c r

@@ -2,9 +2,8 @@
 use Prim.Native.Nat.{ℕ, zero, suc, _+_, _%_, _^_}
 use mathlib.Core.Bool.{Bool, cond, not, _&&_}
 use mathlib.Core.List.{List}
-use Rattle.grammar.specs.Reading.{hasWord}
 use Rattle.construction.specs.declared.{Card.Card, Answer.Answer, Answered.Answered}
-use Rattle.construction.specs.Answers.{bytes, answerFields}
+use Rattle.construction.specs.Answers.{isRun}
 use Rattle.construction.specs.Requests.{call, requestExit, step, read}
 use Rattle.construction.specs.Tracing.{trace, untold}
 use Rattle.report.specs.Same.{sameCard}
@@ -24,10 +23,6 @@ comparedWith c r = record { card = r .card; answer = r .answer; same = sameCard 
 
 unfoldable pub played : Card → Request → Played
 played c r = comparedWith c (asked c r)
-
--- the answer `run`
-abbrev pub isRun : Answer → Bool
-isRun a = hasWord (answerFields a .word) 0 (bytes "run")
 
 -- steps that run on and change the card are told together: how many there were before this answer and with it
 abbrev pub runsOn : Answer → Bool → Bool

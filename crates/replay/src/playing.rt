@@ -5,6 +5,7 @@ use crate::Played;
 use crate::Request;
 use crate::entries::entry_at;
 use crate::lines::find;
+use answers::tests::is_run;
 use construction::Answer;
 use construction::Answered;
 use construction::Card;
@@ -19,7 +20,7 @@ use report::show_runs;
 ghost use mathlib.Core.Path.{_≡_};
 ghost use lib.ListN.{length};
 ghost use Rattle.construction.specs.Tracing.{untold};
-ghost use Rattle.replay.specs.Playing.{asked, played, isRun, runsOn, counted, after, afterEntry, afterEntries};
+ghost use Rattle.replay.specs.Playing.{asked, played, runsOn, counted, after, afterEntry, afterEntries};
 
 // A traced step without what is told of it.
 fn untold(traced: Traced) -> Answered
@@ -59,15 +60,6 @@ fn play(card: Card, request: Request) -> Played
         card: after,
         answer,
         same,
-    }
-}
-
-fn is_run(answer: Answer) -> bool
-    ensures { λ r. ⌜ r ≡ isRun answer ⌝ }
-{
-    match answer {
-        Answer::Run => true,
-        _ => false,
     }
 }
 

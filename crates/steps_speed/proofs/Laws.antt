@@ -6,7 +6,8 @@ use native.Mathlib.Omega.{arith}
 use borrow.Author.Tests.{not-true, not-false}
 use Rattle.construction.specs.declared.{Words.Words, Answered.Answered}
 use Rattle.construction.specs.Requests.{call, step}
-use Rattle.steps_speed.specs.Runs.{nextRandom, inputsOf, isRun, calledFrom, again, runFrom}
+use Rattle.construction.specs.Answers.{isRun}
+use Rattle.steps_speed.specs.Runs.{nextRandom, inputsOf, calledFrom, again, runFrom}
 
 pub calls-on :
     (n p : ℕ) (a b : Answered) (w : Words) (d : Answered) → p < n → b ≡ step (a .card) p → w ≡ inputsOf p → d ≡ call (b .card) p 0 w →

@@ -1,9 +1,9 @@
 -- The calls and steps that steps_speed makes, as one run of the requests of document 01.
 use Prim.Native.Nat.{ℕ, zero, suc, _+_, _*_, _/_, _%_}
-use mathlib.Core.Bool.{Bool, true, false, cond}
+use mathlib.Core.Bool.{cond}
 use lib.Bits.{bitXor}
 use Rattle.construction.specs.declared.{Words.Words, Card.Card, Answer.Answer, Answered.Answered}
-use Rattle.construction.specs.declared.Answer.the-variants.{Taken, Run, Done, Exited, Value, Refused}
+use Rattle.construction.specs.Answers.{isRun}
 use Rattle.construction.specs.Requests.{call, step}
 
 -- Marsaglia's xorshift on 64 bits: left by 13, right by 7, left by 17
@@ -19,17 +19,9 @@ seed = 88172645463325252
 abbrev pub inputsOf : ℕ → Words
 inputsOf input = record { w0 = input; w1 = 0; w2 = 0; w3 = 0 }
 
-abbrev pub isRun : Answer → Bool
-isRun Taken = false
-isRun Run = true
-isRun (Done number yields steps) = false
-isRun (Exited steps) = false
-isRun (Value value) = false
-isRun (Refused refusal) = false
-
 -- the card before its first request
 abbrev pub opened : Card → Answered
-opened c = record { card = c; answer = Taken }
+opened c = record { card = c; answer = Answer.Taken }
 
 -- a call of the one program
 abbrev pub called : Answered → ℕ → ℕ → Answered

@@ -2,6 +2,7 @@
 // of pseudo-random numbers. Standard input holds how many steps are made; the shared cells are printed at the end.
 // tests/speed/run.sh times it against tests/speed/steps/steps.rs, which ends with the same cells.
 // The card stands in one variable, the last request's result, so that nothing but the requests copies it.
+use answers::tests::is_run;
 use construction::Answer;
 use construction::Answered;
 use construction::Card;
@@ -10,7 +11,7 @@ use grammar::Number;
 use grammar::reading::number_at;
 use libc::STDIN_FILENO;
 ghost use mathlib.Core.Path.{_≡_};
-ghost use Rattle.steps_speed.specs.Runs.{nextRandom, seed, inputsOf, isRun, calledFrom, runFrom, opened};
+ghost use Rattle.steps_speed.specs.Runs.{nextRandom, seed, inputsOf, calledFrom, runFrom, opened};
 
 // Marsaglia's xorshift with shifts 13, 7 and 17.
 fn next_random(x: u64) -> u64
@@ -30,23 +31,6 @@ fn inputs(input: u32) -> Words
         w1: 0,
         w2: 0,
         w3: 0,
-    }
-}
-
-fn is_run(answer: Answer) -> bool
-    ensures { λ r. ⌜ r ≡ isRun answer ⌝ }
-{
-    match answer {
-        Answer::Taken => false,
-        Answer::Run => true,
-        Answer::Done {
-            number: _,
-            yields: _,
-            steps: _,
-        } => false,
-        Answer::Exited { steps: _ } => false,
-        Answer::Value(_) => false,
-        Answer::Refused(_) => false,
     }
 }
 

@@ -1,5 +1,6 @@
 // The line behind each step (document 02, order 1) on small values: the label of an access, the cell that it touches, whether its swap won, and
-// what is told of it. It rests on the crates construction (types and definitions) and machine.
+// what is told of it. It rests on the crates construction (types and definitions), answers and machine.
+use answers::tests::is_refused;
 use construction::Access;
 use construction::Announcement;
 use construction::Answer;
@@ -22,7 +23,8 @@ use machine::places::holder_of;
 use machine::record::write;
 ghost use mathlib.Core.Path.{_≡_};
 ghost use mathlib.Core.Bool.{cond};
-ghost use Rattle.construction.specs.Tracing.{labelOf, isNoting, notedAt, reportWith, noReport, isRefused};
+ghost use Rattle.construction.specs.Tracing.{labelOf, isNoting, notedAt, reportWith, noReport};
+ghost use Rattle.construction.specs.Answers.{isRefused};
 ghost use Rattle.tracing.specs.Pieces.{cellBy, announcementIn, recordIn, swapBy};
 
 // At the top of the loop: with an exit request P6, without one P10.
@@ -215,23 +217,6 @@ pub fn no_report() -> Report
         number: 0,
         noted: 0,
         count: 0,
-    }
-}
-
-pub fn is_refused(answer: Answer) -> bool
-    ensures { λ r. ⌜ r ≡ isRefused answer ⌝ }
-{
-    match answer {
-        Answer::Taken => false,
-        Answer::Run => false,
-        Answer::Done {
-            number: _,
-            yields: _,
-            steps: _,
-        } => false,
-        Answer::Exited { steps: _ } => false,
-        Answer::Value(_) => false,
-        Answer::Refused(_) => true,
     }
 }
 

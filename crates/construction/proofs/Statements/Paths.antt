@@ -9,7 +9,7 @@ use native.Mathlib.Decide.{ℕ-discrete}
 use lib.Dec.{eqb, ltb, leb}
 use lib.ListN.{length}
 use borrow.Author.Tests.{le-ltb, ltb-true, ltb-false, leb-true, leb-false, not-true, not-false, eqb-true, eqb-false}
-use Rattle.construction.specs.Types.{Holder, Nobody, Process, Gate, Flag, Done, Active, Exit, Words, Announcement, Record, Program, Dictionary, Simulation, Pause, Ended, Faulted, Lacks, Simulated, Place, Idle, P1, P3, P5, P7, P10, C2, C4, P13, P14, P16, H21, H36, P19, P20, P21, P22, F1, F3, Access, Swap, Task, Began, Helped, Card, Refusal, Answer, Answered, Label, Contents}
+use Rattle.construction.specs.Types.{Holder, Nobody, Process, Gate, Flag, Done, Active, Exit, Words, Announcement, Record, Program, Dictionary, Simulation, Pause, Ended, Faulted, Lacks, Simulated, Place, Idle, P1, P3, P5, P7, P10, C2, C4, P13, P14, P16, H21, H36, P19, P20, P21, P22, F1, F3, GateAccess, Access, Swap, Task, Began, Helped, Card, Refusal, Answer, Answered, Label, Contents}
 use Rattle.construction.specs.Cells.{isDone, sameHolder, swapGate, swapAnnouncement, swapRecord, released}
 use Rattle.construction.specs.Instructions.{started}
 use Rattle.construction.specs.Dictionary.{empty, noted, insert, itemOf, nextWrite}
@@ -18,10 +18,11 @@ use Rattle.construction.specs.Helping.{simulate}
 use Rattle.construction.specs.Parts.{idleTask, Local, localAt, contentsOf, announcementAt, recordAt, withCells, withLocal}
 use Rattle.construction.specs.Machine.{accessOf, accessGate, accessAnnouncement, byHolder, byFlag, holderOf, firstChoice, outcome, helps, helped, afterPause, writeFrom, beginHelp, note, writing, writtenVariable, whose, cellOf, after, stepGate, stepAnnouncement, stepHelp, stepNote, stepWrite, perform, advance, swapOf}
 use Rattle.construction.specs.Requests.{isIdle, isBusy, invoked, exiting, returned, answerOf}
-use Rattle.construction.specs.Tracing.{labelOf, reportOf, isRefused}
+use Rattle.construction.specs.Answers.{isRefused}
+use Rattle.construction.specs.Tracing.{labelOf, reportOf}
 use Rattle.construction.specs.Opening.{fresh, opened}
-use Rattle.construction.specs.History.{Entry, act, Steps, Observation, observe, observeAll, opening, run}
-use Rattle.construction.specs.Paths.{Found, foundIn, Made, made, Edge, Course, courseOf, End, Leads, Ends, Path, Whole, readsGate, numberIn, lastNumber, NumbersRead, Follows, noticed, accessesFrom, accesses}
+use Rattle.construction.specs.History.{Event, eventOf, Entry, act, Steps, Observation, observe, observeAll, opening, run}
+use Rattle.construction.specs.Paths.{Found, foundIn, Made, made, Edge, End, Leads, Ends, Path, Whole, numberIn, unlessSwap, lastNumber, NumbersRead, Follows, noticed, accessesFrom, accesses}
 use Rattle.construction.proofs.Basics.{on-test, cond-true, cond-false, true-or-false, and-true, and-false, clash, nobody-process, active-not-done, exit-not-done, active-not-exit, isDone-true, isDone-false, sameHolder-true, sameHolder-refl, true-false, getD-replicate-same}
 use Rattle.construction.proofs.Simulating.Simulations.{simulate-empty}
 use Rattle.construction.proofs.Invariant.World.{World}
@@ -34,37 +35,21 @@ use Rattle.construction.proofs.Observing.Consistency.{Consistent, entry
 use Rattle.construction.proofs.Statements.Linearizability.{opened-consistent}
 use Rattle.construction.proofs.Statements.Tracing.{answers}
 
--- how an operation returns whose process last read an announcement with this flag
-abbrev settled : Flag → Course
-settled Done = Course.done
-settled Active = Course.done
-settled Exit = Course.exited
+-- how an operation returns whose process last read this announcement
+abbrev settled : Announcement → Event
+settled a = eventOf (returned a (a .flag) 0)
 
 -- an access with this label, swap and finding leads on to a place, whatever wish its process has there; or the operation returns
-module _ (i number : ℕ) (label : Label) (s : Swap) (f : Found) (last : Flag) where
+module _ (i number : ℕ) (label : Label) (s : Swap) (f : Found) (last : Announcement) where
   abbrev Toward : Place → Type 0
   Toward l = (wish : Bool) → Edge i number label s f wish (labelOf l wish)
 
+  abbrev OntoBy : Bool → Place → Type 0
+  OntoBy true l = End i label s f (settled last)
+  OntoBy false l = Toward l
+
   abbrev Onto : Place → Type 0
-  Onto Idle = End i label s f (settled last)
-  Onto P1 = Toward P1
-  Onto P3 = Toward P3
-  Onto P5 = Toward P5
-  Onto P7 = Toward P7
-  Onto P10 = Toward P10
-  Onto C2 = Toward C2
-  Onto C4 = Toward C4
-  Onto P13 = Toward P13
-  Onto P14 = Toward P14
-  Onto P16 = Toward P16
-  Onto H21 = Toward H21
-  Onto H36 = Toward H36
-  Onto P19 = Toward P19
-  Onto P20 = Toward P20
-  Onto P21 = Toward P21
-  Onto P22 = Toward P22
-  Onto F1 = Toward F1
-  Onto F3 = Toward F3
+  Onto l = OntoBy (isIdle l) l
 
 -- the test of line P17
 helps-true : (a : Announcement) (number : ℕ) → helps a number ≡ true → (a .flag ≢ Done) × (a .seq ≤ number)
@@ -139,27 +124,19 @@ announcement-swapped cell a new = swapped (swapAnnouncement cell a new .won)
 record-swapped : (cell r new : Record) → outcome (swapRecord cell r new .won) ≢ Swap.None
 record-swapped cell r new = swapped (swapRecord cell r new .won)
 
+-- a swap tells nothing of the gate's number, and what is no gate has none
+unread : (won : Bool) (x n : ℕ) → unlessSwap (outcome won) x n ≡ n
+unread true x n = refl
+unread false x n = refl
+
+as-before : (s : Swap) (n : ℕ) → unlessSwap s n n ≡ n
+as-before Swap.None n = refl
+as-before Swap.Lost n = refl
+as-before Swap.Won n = refl
+
 -- what a process knows of the announcement last read where it is about to return
 abbrev Returning : Place → Flag → Type 0
-Returning Idle f = Unit
-Returning P1 f = Unit
-Returning P3 f = Unit
-Returning P5 f = Unit
-Returning P7 f = Unit
-Returning P10 f = Unit
-Returning C2 f = Unit
-Returning C4 f = Unit
-Returning P13 f = Unit
-Returning P14 f = Unit
-Returning P16 f = Unit
-Returning H21 f = Unit
-Returning H36 f = Unit
-Returning P19 f = Unit
-Returning P20 f = Unit
-Returning P21 f = Unit
-Returning P22 f = Unit
-Returning F1 f = f ≡ Done
-Returning F3 f = f ≡ Done
+Returning p f = (p ≡ F1) ⊎ (p ≡ F3) → f ≡ Done
 
 -- the access of process i at a place
 module _ (c : Card) (i : ℕ) (Z : Sizes c) (lt : i < 8) where
@@ -171,7 +148,7 @@ module _ (c : Card) (i : ℕ) (Z : Sizes c) (lt : i < 8) where
 
   abbrev Lands : Place → Bool → Local → Type 0
   Lands p exit l =
-      Onto i (l .gate .seq) (labelOf p exit) (perform (accessOf p exit) c i .swap) (found p exit) (l .announcement .flag) (l .task .place)
+      Onto i (l .gate .seq) (labelOf p exit) (perform (accessOf p exit) c i .swap) (found p exit) (l .announcement) (l .task .place)
 
   -- the own state that an access leaves
   abbrev leaves : Access → Local
@@ -193,16 +170,17 @@ module _ (c : Card) (i : ℕ) (Z : Sizes c) (lt : i < 8) where
   left-is Access.Note = local-same c i _ Z lt
   left-is Access.Write = local-same c i _ Z lt
 
-  before : {p : Place} {n : ℕ} → p ≢ P1 → (p ≡ P1) ⊎ (n ≡ own .gate .seq) → own .gate .seq ≡ n
-  before ne h = ⊎-elim (λ e. absurd (ne e)) sym h
-
   -- where a read of the gate leads to, and one of the announcement of process m
   abbrev GateRead : Label → Place → Type 0
-  GateRead label = Onto i (c .gate .seq) label Swap.None (Found.gate (c .gate)) (own .announcement .flag)
+  GateRead label = Onto i (c .gate .seq) label Swap.None (Found.gate (c .gate)) (own .announcement)
 
   abbrev AnnouncementRead : Label → ℕ → Place → Type 0
   AnnouncementRead label m =
-      Onto i (own .gate .seq) label Swap.None (Found.announcement (announcementAt c m)) (announcementAt c m .flag)
+      Onto i (own .gate .seq) label Swap.None (Found.announcement (announcementAt c m)) (announcementAt c m)
+
+  -- an end, by the flag of the announcement last read
+  abbrev Settles : Label → Swap → Found → Announcement → Flag → Type 0
+  Settles label s f a flag = End i label s f (eventOf (returned a flag 0))
 
   lands : (p : Place) (exit : Bool) → isIdle p ≡ false → Returning p (own .announcement .flag) → Lands p exit (leaves (accessOf p exit))
   unfolding accessOf perform accessGate accessAnnouncement writing
@@ -238,89 +216,62 @@ module _ (c : Card) (i : ℕ) (Z : Sizes c) (lt : i < 8) where
       (λ e le. (λ _. Edge.P16-H21 e le, λ _. Edge.P16-P19 e le)) (λ e _. Edge.P16-P21 e))
   lands H21 exit n q =
       let r = recordAt c (own .task .target) in
-      (on-note (Onto i (own .gate .seq) Label.H21 Swap.None (Found.cell r) (own .announcement .flag)) _ _ _ r (own .gate .seq) _ _ _ _
+      (on-note (Onto i (own .gate .seq) Label.H21 Swap.None (Found.cell r) (own .announcement)) _ _ _ r (own .gate .seq) _ _ _ _
       (λ e _. Edge.H21-P19-late e) (λ le. (λ _. Edge.H21-H21 le, λ _. Edge.H21-H36 le, λ _. Edge.H21-P19 le)))
   lands H36 exit n q =
-      (on-write (Onto i (own .gate .seq) Label.H36 _ (found H36 exit) (own .announcement .flag)) (own .gate .seq) (own .dictionary) (suc (own .task .target))
+      (on-write (Onto i (own .gate .seq) Label.H36 _ (found H36 exit) (own .announcement)) (own .gate .seq) (own .dictionary) (suc (own .task .target))
       (λ _. Edge.H36-H36 (record-swapped _ _ _)) (λ _. Edge.H36-P19 (record-swapped _ _ _)))
   lands P19 exit n q = λ _. Edge.P19-P20 (announcement-swapped _ _ _)
   lands P20 exit n q = λ _. Edge.P20-P21 (announcement-swapped _ _ _)
   lands P21 exit n q = λ _. Edge.P21-P22 (gate-swapped _ _ _)
   lands P22 exit n q =
       (on-flag (AnnouncementRead Label.P22 i) (announcementAt c i .flag) F1 P5 Idle (λ e _. Edge.P22-F1 e) top
-      (λ e. subst (λ (f : Flag). End i Label.P22 Swap.None (Found.announcement (announcementAt c i)) (settled f)) (sym e) (End.P22 e)))
+      (λ e. subst (Settles Label.P22 Swap.None (Found.announcement (announcementAt c i)) (announcementAt c i)) (sym e) (End.P22 e)))
     where
       top : announcementAt c i .flag ≡ Active → AnnouncementRead Label.P22 i P5
       top e true = Edge.P22-P6 e
       top e false = Edge.P22-P10 e
   lands F1 exit n q =
       (on-test (GateRead Label.F1) (sameHolder (c .gate .holder) (Process i)) (λ e _. Edge.F1-F3 (sameHolder-true _ _ e))
-      (λ e. subst (λ (f : Flag). End i Label.F1 Swap.None (Found.gate (c .gate)) (settled f)) (sym q) (End.F1 (not-held e))))
+      (λ e. subst (Settles Label.F1 Swap.None (Found.gate (c .gate)) (own .announcement)) (sym (q (inl refl))) (End.F1 (not-held e))))
     where
       not-held : sameHolder (c .gate .holder) (Process i) ≡ false → c .gate .holder ≢ Process i
       not-held e z = true-false _ (rw z (sameHolder-refl (Process i))) e
   lands F3 exit n q =
-      subst (λ (f : Flag). End i Label.F3 (perform (accessOf F3 exit) c i .swap) (Found.gate (c .gate)) (settled f)) (sym q)
+      subst (Settles Label.F3 (perform (accessOf F3 exit) c i .swap) (Found.gate (c .gate)) (own .announcement)) (sym (q (inr refl)))
       (End.F3 (gate-swapped (c .gate) (own .gate) (released (own .gate))))
 
   -- the gate number last read: that of the gate where the access reads it, else the one read before
+  abbrev number-after : Access → ℕ → ℕ
+  number-after a n = unlessSwap (perform a c i .swap) (numberIn (foundIn c (cellOf a (contentsOf c) i own)) n) n
+
+  -- (the access of P1 reads the gate, where none was read before)
   number-is :
-      (p : Place) (exit : Bool) (n : ℕ) → isIdle p ≡ false → (p ≡ P1) ⊎ (n ≡ own .gate .seq) →
-      leaves (accessOf p exit) .gate .seq ≡ cond (readsGate (labelOf p exit)) (numberIn (found p exit) n) n
-  unfolding accessOf accessGate readsGate
-  number-is Idle exit n b h = absurd (true≢false b)
-  number-is P1 exit n b h = refl
-  number-is P3 exit n b h = before (λ e. clash (cc)) h
-  number-is P5 true n b h = before (λ e. clash (cc)) h
-  number-is P5 false n b h = refl
-  number-is P7 exit n b h = before (λ e. clash (cc)) h
-  number-is P10 exit n b h = refl
-  number-is C2 exit n b h = before (λ e. clash (cc)) h
-  number-is C4 exit n b h = before (λ e. clash (cc)) h
-  number-is P13 exit n b h = before (λ e. clash (cc)) h
-  number-is P14 exit n b h = refl
-  number-is P16 exit n b h = before (λ e. clash (cc)) h
-  number-is H21 exit n b h = before (λ e. clash (cc)) h
-  number-is H36 exit n b h = before (λ e. clash (cc)) h
-  number-is P19 exit n b h = before (λ e. clash (cc)) h
-  number-is P20 exit n b h = before (λ e. clash (cc)) h
-  number-is P21 exit n b h = before (λ e. clash (cc)) h
-  number-is P22 exit n b h = before (λ e. clash (cc)) h
-  number-is F1 exit n b h = refl
-  number-is F3 exit n b h = before (λ e. clash (cc)) h
+      (a : Access) (n : ℕ) → (a ≢ Access.Gate (GateAccess.Read P3 P3) → n ≡ own .gate .seq) → leaves a .gate .seq ≡ number-after a n
+  unfolding perform accessGate
+  number-is Access.None n h = sym (h (λ e. clash (cc)))
+  number-is (Access.Gate (GateAccess.Read held free)) n h = refl
+  number-is (Access.Gate GateAccess.ReadLast) n h = refl
+  number-is (Access.Gate GateAccess.Nominate) n h = sym (h (λ e. clash (cc))) ∙ sym (unread (swapGate (c .gate) (own .gate) _ .won) _ n)
+  number-is (Access.Gate (GateAccess.Release next)) n h = sym (h (λ e. clash (cc))) ∙ sym (unread (swapGate (c .gate) (own .gate) _ .won) _ n)
+  number-is (Access.Announcement a) n h = sym (h (λ e. clash (cc))) ∙ sym (as-before (perform (Access.Announcement a) c i .swap) n)
+  number-is Access.Help n h = sym (h (λ e. clash (cc)))
+  number-is Access.Note n h = sym (h (λ e. clash (cc)))
+  number-is Access.Write n h = sym (h (λ e. clash (cc))) ∙ sym (as-before (perform Access.Write c i .swap) n)
 
 -- the edges to a place that is not idle, and the end at one that is
-module _ (i number : ℕ) (label : Label) (s : Swap) (f : Found) (last : Flag) where
+module _ (i number : ℕ) (label : Label) (s : Swap) (f : Found) (last : Announcement) where
   toward : (p : Place) → isIdle p ≡ false → Onto i number label s f last p → Toward i number label s f last p
-  unfolding accessOf
-  toward Idle n q = absurd (true≢false n)
-  toward P1 n q = q
-  toward P3 n q = q
-  toward P5 n q = q
-  toward P7 n q = q
-  toward P10 n q = q
-  toward C2 n q = q
-  toward C4 n q = q
-  toward P13 n q = q
-  toward P14 n q = q
-  toward P16 n q = q
-  toward H21 n q = q
-  toward H36 n q = q
-  toward P19 n q = q
-  toward P20 n q = q
-  toward P21 n q = q
-  toward P22 n q = q
-  toward F1 n q = q
-  toward F3 n q = q
+  toward p e q = subst (λ (b : Bool). OntoBy i number label s f last b p) e q
 
   at-end : (p : Place) → isIdle p ≡ true → Onto i number label s f last p → End i label s f (settled last)
-  at-end p e q = subst (Onto i number label s f last) (is-idle (stage p) e) q
+  at-end p e q = subst (λ (b : Bool). OntoBy i number label s f last b p) e q
 
 -- the answer of a step, by the place and the flag that it leaves
-course-settled : (a : Announcement) (f : Flag) (steps : ℕ) → courseOf (returned a f steps) ≡ settled f
-course-settled a Done steps = refl
-course-settled a Active steps = refl
-course-settled a Exit steps = refl
+event-settled : (a : Announcement) (f : Flag) (steps : ℕ) → eventOf (returned a f steps) ≡ eventOf (returned a f 0)
+event-settled a Done steps = refl
+event-settled a Active steps = refl
+event-settled a Exit steps = refl
 
 -- where the operation of process i stands, given the accesses that it made: it has none, is called, or is led on by its newest access
 data Ready (i : ℕ) (l : Local) : List Made → Type 0 where
@@ -328,7 +279,7 @@ data Ready (i : ℕ) (l : Local) : List Made → Type 0 where
   called : l .task .place ≡ P1 → Ready i l []
   going :
       {m : Made} {ms : List Made} → m .answer ≡ Answer.Run →
-      Onto i (m .report .number) (m .report .label) (m .report .swap) (m .found) (l .announcement .flag) (l .task .place) →
+      Onto i (m .report .number) (m .report .label) (m .report .swap) (m .found) (l .announcement) (l .task .place) →
       lastNumber (m ∷ ms) ≡ l .gate .seq → Ready i l (m ∷ ms)
 
 abbrev Stands : ℕ → Local → List Made → Type 0
@@ -355,22 +306,25 @@ module _ (c : Card) (i : ℕ) (Z : Sizes c) (lt : i < 8) (busy : isIdle (localAt
 
   -- the accesses before, and the new one
   numbered : (place ≡ P1) ⊎ (lastNumber ms ≡ localAt c i .gate .seq) → made c i .report .number ≡ lastNumber (made c i ∷ ms)
-  unfolding made reportOf lastNumber
-  numbered h = ap (λ (l : Local). l .gate .seq) next-is ∙ number-is c i Z lt place wish (lastNumber ms) busy h
+  unfolding made reportOf lastNumber accessOf swapOf
+  numbered h =
+      ap (λ (l : Local). l .gate .seq) next-is
+      ∙ number-is c i Z lt (accessOf place wish) (lastNumber ms)
+      (λ other. ⊎-elim (λ (e : place ≡ P1). absurd (other (ap (λ (p : Place). accessOf p wish) e))) (λ e. e) h)
 
   whole : Whole i (made c i ∷ ms)
   unfolding made reportOf swapOf
   whole =
       ⊎-elim
       (λ (e : isIdle (next .task .place) ≡ true).
-      inr (subst (End i (labelOf place wish) (swapOf c i) (found c i Z lt place wish)) (sym (course e)) (at-end i (next .gate .seq) _ _ _ (next .announcement .flag) (next .task .place) e landed)))
+      inr (subst (End i (labelOf place wish) (swapOf c i) (found c i Z lt place wish)) (sym (event e)) (at-end i (next .gate .seq) _ _ _ (next .announcement) (next .task .place) e landed)))
       (λ e. inl (cond-false (isIdle (next .task .place)) _ _ e))
       (true-or-false (isIdle (next .task .place)))
     where
-      course : isIdle (next .task .place) ≡ true → courseOf (answerOf next) ≡ settled (next .announcement .flag)
-      course e =
-          ap courseOf (cond-true (isIdle (next .task .place)) _ _ e)
-          ∙ course-settled (next .announcement) (next .announcement .flag) (next .steps)
+      event : isIdle (next .task .place) ≡ true → eventOf (answerOf next) ≡ settled (next .announcement)
+      event e =
+          ap eventOf (cond-true (isIdle (next .task .place)) _ _ e)
+          ∙ event-settled (next .announcement) (next .announcement .flag) (next .steps)
 
   ready : (place ≡ P1) ⊎ (lastNumber ms ≡ localAt c i .gate .seq) → Ready i next (made c i ∷ ms)
   unfolding made reportOf swapOf
@@ -398,7 +352,7 @@ module _ (c : Card) (i : ℕ) (Z : Sizes c) (lt : i < 8) (busy : isIdle (localAt
   )
   stands-on {ms} (F, Ready.going r o n) = (
     record {
-      path = Path.next r (toward i _ _ _ _ (localAt c i .announcement .flag) (localAt c i .task .place) busy o (localAt c i .exit)) (F .path);
+      path = Path.next r (toward i _ _ _ _ (localAt c i .announcement) (localAt c i .task .place) busy o (localAt c i .exit)) (F .path);
       whole = whole c i Z lt busy known ms;
       numbers = (numbered c i Z lt busy known ms (inr n), F .numbers);
     },
@@ -407,25 +361,12 @@ module _ (c : Card) (i : ℕ) (Z : Sizes c) (lt : i < 8) (busy : isIdle (localAt
 
 -- what a process knows at a place, of the announcement last read
 returning : (p : Place) (F : Contents) (w : World) (i : ℕ) (l : Local) → LocAt p F w i l → Returning p (l .announcement .flag)
-returning Idle F w i l q = tt
-returning P1 F w i l q = tt
-returning P3 F w i l q = tt
-returning P5 F w i l q = tt
-returning P7 F w i l q = tt
-returning P10 F w i l q = tt
-returning C2 F w i l q = tt
-returning C4 F w i l q = tt
-returning P13 F w i l q = tt
-returning P14 F w i l q = tt
-returning P16 F w i l q = tt
-returning H21 F w i l q = tt
-returning H36 F w i l q = tt
-returning P19 F w i l q = tt
-returning P20 F w i l q = tt
-returning P21 F w i l q = tt
-returning P22 F w i l q = tt
-returning F1 F w i l q = ap (λ (a : Announcement). a .flag) (sym (q .same)) ∙ q .done
-returning F3 F w i l q = ap (λ (a : Announcement). a .flag) (sym (q .0 .same)) ∙ q .0 .done
+returning p F w i l q =
+    ⊎-elim (λ (e : p ≡ F1). let k = at F1 e in ap (λ (a : Announcement). a .flag) (sym (k .same)) ∙ k .done)
+    (λ (e : p ≡ F3). let k = at F3 e .0 in ap (λ (a : Announcement). a .flag) (sym (k .same)) ∙ k .done)
+  where
+    at : (x : Place) → p ≡ x → LocAt x F w i l
+    at x e = subst (λ (y : Place). LocAt y F w i l) e q
 
 -- an exit request leaves where an operation stands
 exit-ready : (i : ℕ) (l : Local) (ms : List Made) → Ready i l ms → Ready i (exiting l) ms

@@ -7,8 +7,9 @@ use Rattle.construction.specs.Types.{Flag, Done, Active, Exit, Announcem
 use Rattle.construction.specs.Parts.{Local, localAt}
 use Rattle.construction.specs.Machine.{advance}
 use Rattle.construction.specs.Requests.{isProcess, isBusy, isIdle, returned, answerOf, step}
-use Rattle.construction.specs.Tracing.{reportOf, noReport, isRefused, trace, untold}
-use Rattle.construction.specs.Reports.{letterOf, lineNumber, AllSpelt, labels}
+use Rattle.construction.specs.Answers.{isRefused}
+use Rattle.construction.specs.Tracing.{reportOf, noReport, trace, untold}
+use Rattle.construction.specs.Reports.{nameOf, AllSpelt, labels}
 use Rattle.construction.proofs.Basics.{on-test, cond-true, cond-false}
 use Rattle.construction.proofs.Statements.Refusals.{step-accepted}
 
@@ -43,5 +44,5 @@ trace-accepted c i p b l =
 
 -- the eighteen labels are printed as the paper writes them
 pub labels-spelt : AllSpelt labels
-unfolding decimal decimals
+unfolding nameOf decimal decimals
 labels-spelt = (refl, (refl, (refl, (refl, (refl, (refl, (refl, (refl, (refl, (refl, (refl, (refl, (refl, (refl, (refl, (refl, (refl, (refl, tt))))))))))))))))))

@@ -2,24 +2,6 @@ use borrow.Author.Needs.{needs}
 use Rattle.tracing.proofs.swap_of.Statement.{statement}
 use Rattle.tracing.proofs.swap_of.Tie as tie
 
-returns : tie.Need-returns
-returns c = rw (c .enum-told .given .1)
-
-returns-2 : tie.Need-returns-2
-returns-2 c = rw (c .before .before .access .given .1, c .access-gate .ensures)
-
-returns-3 : tie.Need-returns-3
-returns-3 c = rw (c .before .before .access2 .given .1, c .access-announcement .ensures)
-
-returns-4 : tie.Need-returns-4
-returns-4 c = rw (c .enum-told2 .given .1)
-
-returns-5 : tie.Need-returns-5
-returns-5 c = rw (c .enum-told3 .given .1)
-
-returns-6 : tie.Need-returns-6
-returns-6 c = rw (c .before .before .enum-told4 .given .1, c .outcome .ensures, c .before .write .ensures)
-
 pub swap-of-spec : {M : Type 1} → statement M
 swap-of-spec =
     tie.close
@@ -34,9 +16,9 @@ swap-of-spec =
     (λ c. search needs)
     (λ c κs. search needs)
     (λ c κs. search needs)
-    returns
-    returns-2
-    returns-3
-    returns-4
-    returns-5
-    returns-6)
+    (λ c. rw (c .enum-told .given .1))
+    (λ c. rw (c .before .before .access .given .1, c .access-gate .ensures))
+    (λ c. rw (c .before .before .access2 .given .1, c .access-announcement .ensures))
+    (λ c. rw (c .enum-told2 .given .1))
+    (λ c. rw (c .enum-told3 .given .1))
+    (λ c. rw (c .before .before .enum-told4 .given .1, c .outcome .ensures, c .before .write .ensures)))

@@ -1,0 +1,55 @@
+// Tests of an answer (construction, specs/Answers): taken, run, refused.
+use construction::Answer;
+ghost use mathlib.Core.Path.{_≡_};
+ghost use Rattle.construction.specs.Answers.{isTaken, isRun, isRefused};
+
+pub fn is_taken(answer: Answer) -> bool
+    ensures { λ r. ⌜ r ≡ isTaken answer ⌝ }
+{
+    match answer {
+        Answer::Taken => true,
+        Answer::Run => false,
+        Answer::Done {
+            number: _,
+            yields: _,
+            steps: _,
+        } => false,
+        Answer::Exited { steps: _ } => false,
+        Answer::Value(_) => false,
+        Answer::Refused(_) => false,
+    }
+}
+
+pub fn is_run(answer: Answer) -> bool
+    ensures { λ r. ⌜ r ≡ isRun answer ⌝ }
+{
+    match answer {
+        Answer::Taken => false,
+        Answer::Run => true,
+        Answer::Done {
+            number: _,
+            yields: _,
+            steps: _,
+        } => false,
+        Answer::Exited { steps: _ } => false,
+        Answer::Value(_) => false,
+        Answer::Refused(_) => false,
+    }
+}
+
+pub fn is_refused(answer: Answer) -> bool
+    ensures { λ r. ⌜ r ≡ isRefused answer ⌝ }
+{
+    match answer {
+        Answer::Taken => false,
+        Answer::Run => false,
+        Answer::Done {
+            number: _,
+            yields: _,
+            steps: _,
+        } => false,
+        Answer::Exited { steps: _ } => false,
+        Answer::Value(_) => false,
+        Answer::Refused(_) => true,
+    }
+}

@@ -29,31 +29,14 @@ module _ (c : Card) (i : ℕ) where
       (set (c .exits) (i % 8) false) (set (c .counts) (i % 8) 0) (c .gates) (c .copies) (c .simulations) (c .dictionaries) (c .masks)
       ≡ withLocal c i (invoked (localAt c i) k inputs)
   called k inputs p =
-      rw (
-        mod-eq-of-lt p,
-        set-getD (c .gates) i noGate,
-        set-getD (c .copies) i openAnnouncement,
-        set-getD (c .simulations) i started,
-        set-getD (c .dictionaries) i empty,
-        set-getD (c .masks) i 0,
-      )
+      simp (mod-eq-of-lt p, set-getD)
 
   pub asked :
       i < 8 →
       withOwn c (c .tasks) (c .operations) (set (c .exits) (i % 8) true) (c .counts) (c .gates) (c .copies) (c .simulations) (c .dictionaries) (c .masks)
       ≡ withLocal c i (exiting (localAt c i))
   asked p =
-      rw (
-        mod-eq-of-lt p,
-        set-getD (c .tasks) i idleTask,
-        set-getD (c .operations) i noOperation,
-        set-getD (c .counts) i 0,
-        set-getD (c .gates) i noGate,
-        set-getD (c .copies) i openAnnouncement,
-        set-getD (c .simulations) i started,
-        set-getD (c .dictionaries) i empty,
-        set-getD (c .masks) i 0,
-      )
+      simp (mod-eq-of-lt p, set-getD)
 
 -- a step of process i that is accepted: n is the count of steps after it, m that of the process's own, and a is its access
 pub record Accepted (c : Card) (i n m : ℕ) (a : Access) : Type 0 where
@@ -104,19 +87,8 @@ module _ {c : Card} {i n m : ℕ} {a : Access} (h : Accepted c i n m a) where
         left c (c .tasks) (c .gates) (c .copies) (c .simulations) (c .dictionaries) (c .masks)
     unfolding perform
     at-none e told =
-        rw (
-          ← h .own,
-          set-getD (c .tasks) i idleTask,
-          set-getD (c .operations) i noOperation,
-          set-getD (c .exits) i false,
-          set-getD (c .gates) i noGate,
-          set-getD (c .copies) i openAnnouncement,
-          set-getD (c .simulations) i started,
-          set-getD (c .dictionaries) i empty,
-          set-getD (c .masks) i 0,
-        ) at
-        (stepped (c .gate) (c .announcements) (c .records) (localAt c i .task) (localAt c i .gate) (localAt c i .announcement) (localAt c i .simulation) (localAt c i .dictionary) (localAt c i .mask)
-        (rw (← h .chosen, e)) t told)
+        rw (← h .own) at (simp set-getD at (stepped (c .gate) (c .announcements) (c .records) (localAt c i .task) (localAt c i .gate) (localAt c i .announcement) (localAt c i .simulation) (localAt c i .dictionary) (localAt c i .mask)
+        (rw (← h .chosen, e)) t told))
 
     pub at-gate :
         (b : GateAccess) → a ≡ Access.Gate b → (r : GateAccessed) → r ≡ accessGate b i (c .gate) (localAt c i .gate) (localAt c i .task) →
@@ -124,17 +96,8 @@ module _ {c : Card} {i n m : ℕ} {a : Access} (h : Accepted c i n m a) where
         left (withGate c (r .cell)) (set (c .tasks) i (r .task)) (set (c .gates) i (r .read)) (c .copies) (c .simulations) (c .dictionaries) (c .masks)
     unfolding perform
     at-gate b e r er told =
-        rw (
-          ← h .own,
-          set-getD (c .operations) i noOperation,
-          set-getD (c .exits) i false,
-          set-getD (c .copies) i openAnnouncement,
-          set-getD (c .simulations) i started,
-          set-getD (c .dictionaries) i empty,
-          set-getD (c .masks) i 0,
-        ) at
-        (stepped (r .cell) (c .announcements) (c .records) (r .task) (r .read) (localAt c i .announcement) (localAt c i .simulation) (localAt c i .dictionary) (localAt c i .mask)
-        (rw (← h .chosen, e, ← er)) t told)
+        rw (← h .own) at (simp set-getD at (stepped (r .cell) (c .announcements) (c .records) (r .task) (r .read) (localAt c i .announcement) (localAt c i .simulation) (localAt c i .dictionary) (localAt c i .mask)
+        (rw (← h .chosen, e, ← er)) t told))
 
     pub at-announcement :
         (b : AnnouncementAccess) → a ≡ Access.Announcement b → (k : ℕ) → k ≡ whose b (c .processCount) i (localAt c i .gate) →
@@ -144,18 +107,8 @@ module _ {c : Card} {i n m : ℕ} {a : Access} (h : Accepted c i n m a) where
         left (withCells c (c .gate) row (c .records)) (set (c .tasks) i (r .task)) (c .gates) (set (c .copies) i (r .read)) (c .simulations) (c .dictionaries) (c .masks)
     unfolding perform
     at-announcement b e k ek cell ec r er told row stored =
-        rw (
-          ← stored,
-          ← h .own,
-          set-getD (c .operations) i noOperation,
-          set-getD (c .exits) i false,
-          set-getD (c .gates) i noGate,
-          set-getD (c .simulations) i started,
-          set-getD (c .dictionaries) i empty,
-          set-getD (c .masks) i 0,
-        ) at
-        (stepped (c .gate) (set (c .announcements) k (r .cell)) (c .records) (r .task) (localAt c i .gate) (r .read) (localAt c i .simulation) (localAt c i .dictionary) (localAt c i .mask)
-        (rw (← h .chosen, e, ← ek, ← found (c .announcements) 8 (h .rooms .announcements) k openAnnouncement openAnnouncement cell ec, ← er)) t told)
+        rw (← stored, ← h .own) at (simp set-getD at (stepped (c .gate) (set (c .announcements) k (r .cell)) (c .records) (r .task) (localAt c i .gate) (r .read) (localAt c i .simulation) (localAt c i .dictionary) (localAt c i .mask)
+        (rw (← h .chosen, e, ← ek, ← found (c .announcements) 8 (h .rooms .announcements) k openAnnouncement openAnnouncement cell ec, ← er)) t told))
 
     pub at-help :
         a ≡ Access.Help → (k : ℕ) → k ≡ holderOf (localAt c i .gate .holder) →
@@ -169,16 +122,8 @@ module _ {c : Card} {i n m : ℕ} {a : Access} (h : Accepted c i n m a) where
     at-help e k ek cell ec program ep r er told ds stored masks marked =
         let announced = found (c .announcements) 8 (h .rooms .announcements) k openAnnouncement openAnnouncement cell ec in
         let helped = found (c .programs) 8 (h .rooms .programs) (cell .program) (record { length = 0; lines = [] }) noProgram program ep in
-        rw (
-          ← stored,
-          ← marked,
-          ← h .own,
-          set-getD (c .operations) i noOperation,
-          set-getD (c .exits) i false,
-          set-getD (c .gates) i noGate,
-        ) at
-        (stepped (c .gate) (c .announcements) (c .records) (r .task) (localAt c i .gate) cell (r .simulation) (cond (r .helps) empty (localAt c i .dictionary)) (cond (r .helps) 0 (localAt c i .mask))
-        (rw (← h .chosen, e, ← ek, ← announced, ← helped, ← er, announced, set-getD (c .announcements) k openAnnouncement)) t told)
+        rw (← stored, ← marked, ← h .own) at (simp set-getD at (stepped (c .gate) (c .announcements) (c .records) (r .task) (localAt c i .gate) cell (r .simulation) (cond (r .helps) empty (localAt c i .dictionary)) (cond (r .helps) 0 (localAt c i .mask))
+        (rw (← h .chosen, e, ← ek, ← announced, ← helped, ← er, announced, set-getD (c .announcements) k openAnnouncement)) t told))
 
     pub at-note :
         a ≡ Access.Note →
@@ -193,15 +138,8 @@ module _ {c : Card} {i n m : ℕ} {a : Access} (h : Accepted c i n m a) where
         let read = found (c .records) 64 (h .rooms .records) v (openRecord 0) (openRecord 0) cell ec in
         let helped = found (c .programs) 8 (h .rooms .programs) (localAt c i .announcement .program) (record { length = 0; lines = [] }) noProgram program ep in
         let noted = rw own-dictionary at er in
-        rw (
-          ← h .own,
-          set-getD (c .operations) i noOperation,
-          set-getD (c .exits) i false,
-          set-getD (c .gates) i noGate,
-          set-getD (c .copies) i openAnnouncement,
-        ) at
-        (stepped (c .gate) (c .announcements) (c .records) (r .task) (localAt c i .gate) (localAt c i .announcement) (r .simulation) (r .dictionary) (r .mask)
-        (rw (← h .chosen, e, ← read, ← helped, ← noted, read, set-getD (c .records) v (openRecord 0))) t told)
+        rw (← h .own) at (simp set-getD at (stepped (c .gate) (c .announcements) (c .records) (r .task) (localAt c i .gate) (localAt c i .announcement) (r .simulation) (r .dictionary) (r .mask)
+        (rw (← h .chosen, e, ← read, ← helped, ← noted, read, set-getD (c .records) v (openRecord 0))) t told))
 
     pub at-write :
         a ≡ Access.Write →
@@ -214,16 +152,5 @@ module _ {c : Card} {i n m : ℕ} {a : Access} (h : Accepted c i n m a) where
     at-write e w ew cell ec r er told row stored =
         let read = found (c .records) 64 (h .rooms .records) (w .item .variable) (openRecord 0) (openRecord 0) cell ec in
         let written = rw own-dictionary at ew in
-        rw (
-          ← stored,
-          ← h .own,
-          set-getD (c .operations) i noOperation,
-          set-getD (c .exits) i false,
-          set-getD (c .gates) i noGate,
-          set-getD (c .copies) i openAnnouncement,
-          set-getD (c .simulations) i started,
-          set-getD (c .dictionaries) i empty,
-          set-getD (c .masks) i 0,
-        ) at
-        (stepped (c .gate) (c .announcements) (set (c .records) (w .item .variable) (r .cell)) (w .task) (localAt c i .gate) (localAt c i .announcement) (localAt c i .simulation) (localAt c i .dictionary) (localAt c i .mask)
-        (rw (← h .chosen, e, writtenVariable, ← written, ← read, ← er)) t told)
+        rw (← stored, ← h .own) at (simp set-getD at (stepped (c .gate) (c .announcements) (set (c .records) (w .item .variable) (r .cell)) (w .task) (localAt c i .gate) (localAt c i .announcement) (localAt c i .simulation) (localAt c i .dictionary) (localAt c i .mask)
+        (rw (← h .chosen, e, writtenVariable, ← written, ← read, ← er)) t told))

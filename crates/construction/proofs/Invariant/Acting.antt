@@ -8,26 +8,14 @@ use Rattle.construction.specs.Dictionary.{noted}
 use Rattle.construction.specs.Parts.{Local, localAt, contentsOf, withCells, withLocal}
 use Rattle.construction.specs.Machine.{after}
 use Rattle.construction.proofs.Simulating.Dictionaries.{Keyed}
-use Rattle.construction.proofs.Invariant.World.{World, WorldInvariant, Move}
+use Rattle.construction.proofs.Invariant.World.{World, WorldInvariant, withShared, Move}
 use Rattle.construction.proofs.Invariant.World.Move.{stay}
 use Rattle.construction.proofs.Invariant.Locals.{Sizes}
 use Rattle.construction.proofs.Invariant.Assertions.{Loc}
 
 -- a world whose shared cells are those of a card
 abbrev pub worldOf : Card → World → World
-worldOf c w =
-    record {
-      gate = c .gate;
-      announcements = c .announcements;
-      records = c .records;
-      words = w .words;
-      calls = w .calls;
-      results = w .results;
-      left = w .left;
-      bound = w .bound;
-      rounds = w .rounds;
-      count = w .count;
-    }
+worldOf c w = withShared w (c .gate) (c .announcements) (c .records)
 
 -- a dictionary has at most 32 items, and no variable stands in it twice
 pub record WellFormed (d : Dictionary) : Type 0 where

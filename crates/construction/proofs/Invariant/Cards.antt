@@ -19,7 +19,7 @@ use Rattle.construction.specs.Requests.{isBusy, invoked, exiting}
 use Rattle.construction.specs.Opening.{fresh}
 use Rattle.construction.proofs.Basics.{getD-replicate-same, true-false, active-not-done, exit-not-done, nobody-process}
 use Rattle.construction.proofs.Simulating.Sequential.{Short}
-use Rattle.construction.proofs.Invariant.World.{World, noResult, resultOf, WorldInvariant, asking, Quiet, Move}
+use Rattle.construction.proofs.Invariant.World.{World, noResult, resultOf, WorldInvariant, withShared, asking, Quiet, Move}
 use Rattle.construction.proofs.Invariant.World.Move.{ask, stay}
 use Rattle.construction.proofs.Invariant.WorldKept.{good-move, seq-move}
 use Rattle.construction.proofs.Invariant.Locals.{Sizes, local-same, local-other, sizes-put}
@@ -109,18 +109,7 @@ inv-step c w i I lt b h = record {
   move = M;
   inv = subst (λ (x : Card). CardInvariant (withSteps x k) (A .after)) (sym (A .put))
       (moved I few M (v .gate) (v .announcements) (v .records) (A .local) k
-      (λ n. record {
-        gate = A .gate-is n;
-        announcements = A .announcements-is n;
-        records = A .records-is n;
-        words = A .after .words;
-        calls = A .after .calls;
-        results = A .after .results;
-        left = A .after .left;
-        bound = A .after .bound;
-        rounds = A .after .rounds;
-        count = A .after .count;
-      })
+      (λ n. withShared (A .after) (A .gate-is n) (A .announcements-is n) (A .records-is n))
       (A .loc) (A .tidy) (omega (arith, seq-move M, ap (λ (g : Gate). g .seq) (gate-is I), I .numbered, steps)) (omega (arith, steps))
       (omega (arith, steps)) (omega (arith, A .counted, I .counts i, I .capped, steps)));
   calls-is = A .calls-is;

@@ -154,117 +154,68 @@ pub record WorldInvariant (F : Contents) (w : World) : Type 0 where
   pub phase : Phase (w .gate .holder) w
   pub recorded : Recorded F (w .records) (w .rounds) (w .count) (w .words)
 
+-- a world of its parts
+abbrev worldFrom :
+    Gate → List Announcement → List Record → List ℕ → List Operation → List Result → List ℕ → List ℕ → List Round → ℕ → World
+worldFrom gate announcements records words calls results left bound rounds count =
+    record {
+      gate = gate;
+      announcements = announcements;
+      records = records;
+      words = words;
+      calls = calls;
+      results = results;
+      left = left;
+      bound = bound;
+      rounds = rounds;
+      count = count;
+    }
+
+-- the world with other shared cells, and with another ghost state
+abbrev pub withShared : World → Gate → List Announcement → List Record → World
+withShared w gate announcements records =
+    worldFrom gate announcements records (w .words) (w .calls) (w .results) (w .left) (w .bound) (w .rounds) (w .count)
+
+abbrev withGhosts : World → List ℕ → List Operation → List Result → List ℕ → List ℕ → List Round → ℕ → World
+withGhosts w = worldFrom (w .gate) (w .announcements) (w .records)
+
 -- process i is called
 abbrev pub asking : World → ℕ → Operation → World
-asking w i q =
-    record {
-      gate = w .gate;
-      announcements = w .announcements;
-      records = w .records;
-      words = w .words;
-      calls = set (w .calls) i q;
-      results = w .results;
-      left = w .left;
-      bound = w .bound;
-      rounds = w .rounds;
-      count = w .count;
-    }
+asking w i q = withGhosts w (w .words) (set (w .calls) i q) (w .results) (w .left) (w .bound) (w .rounds) (w .count)
 
 -- process i announces its operation (P3)
 abbrev pub announcing : World → ℕ → Announcement → World
-announcing w i a =
-    record {
-      gate = w .gate;
-      announcements = set (w .announcements) i a;
-      records = w .records;
-      words = w .words;
-      calls = w .calls;
-      results = w .results;
-      left = w .left;
-      bound = w .bound;
-      rounds = w .rounds;
-      count = w .count;
-    }
+announcing w i a = withShared w (w .gate) (set (w .announcements) i a) (w .records)
 
 -- process i asks to exit (P6)
 abbrev pub leaving : World → ℕ → World
 leaving w i =
-    record {
-      gate = w .gate;
-      announcements = set (w .announcements) i (flagged (announcementIn w i) Exit);
-      records = w .records;
-      words = w .words;
-      calls = w .calls;
-      results = w .results;
-      left = w .left;
-      bound = set (w .bound) i (w .gate .seq);
-      rounds = w .rounds;
-      count = w .count;
-    }
+    withGhosts (announcing w i (flagged (announcementIn w i) Exit))
+    (w .words) (w .calls) (w .results) (w .left) (set (w .bound) i (w .gate .seq)) (w .rounds) (w .count)
 
 -- the gate is given to m (P13)
 abbrev pub taking : World → ℕ → World
 taking w m =
-    record {
-      gate = record { holder = Process m; seq = w .gate .seq };
-      announcements = w .announcements;
-      records = w .records;
-      words = w .words;
-      calls = w .calls;
-      results = w .results;
-      left = w .left;
-      bound = w .bound;
-      rounds = w .rounds ++ (record { words = w .words; call = callIn w m } ∷ []);
-      count = w .count;
-    }
+    withGhosts (withShared w (record { holder = Process m; seq = w .gate .seq }) (w .announcements) (w .records))
+    (w .words) (w .calls) (w .results) (w .left) (w .bound) (w .rounds ++ (record { words = w .words; call = callIn w m } ∷ [])) (w .count)
 
 -- variable v is written (H36)
 abbrev pub storing : World → ℕ → ℕ → World
-storing w v x =
-    record {
-      gate = w .gate;
-      announcements = w .announcements;
-      records = set (w .records) v (rewritten (recordIn w v) x (w .gate .seq));
-      words = w .words;
-      calls = w .calls;
-      results = w .results;
-      left = w .left;
-      bound = w .bound;
-      rounds = w .rounds;
-      count = w .count;
-    }
+storing w v x = withShared w (w .gate) (w .announcements) (set (w .records) v (rewritten (recordIn w v) x (w .gate .seq)))
 
 -- the operation of m is finished (P19, P20)
 abbrev pub ending : Contents → World → ℕ → World
 ending F w m =
-    record {
-      gate = w .gate;
-      announcements = set (w .announcements) m (finished (announcementIn w m) (w .gate) (endingIn F w (w .gate .seq) .yields));
-      records = w .records;
-      words = endingIn F w (w .gate .seq) .words;
-      calls = w .calls;
-      results = set (w .results) m (record { number = w .gate .seq; yields = endingIn F w (w .gate .seq) .yields });
-      left = w .left;
-      bound = w .bound;
-      rounds = w .rounds;
-      count = suc (w .count);
-    }
+    withGhosts (announcing w m (finished (announcementIn w m) (w .gate) (endingIn F w (w .gate .seq) .yields)))
+    (endingIn F w (w .gate .seq) .words) (w .calls)
+    (set (w .results) m (record { number = w .gate .seq; yields = endingIn F w (w .gate .seq) .yields }))
+    (w .left) (w .bound) (w .rounds) (suc (w .count))
 
 -- the gate is given back for m (P21, F3)
 abbrev pub freeing : World → ℕ → World
 freeing w m =
-    record {
-      gate = record { holder = Nobody; seq = w .gate .seq + 1 };
-      announcements = w .announcements;
-      records = w .records;
-      words = w .words;
-      calls = w .calls;
-      results = w .results;
-      left = set (w .left) m (w .gate .seq);
-      bound = w .bound;
-      rounds = w .rounds;
-      count = w .count;
-    }
+    withGhosts (withShared w (record { holder = Nobody; seq = w .gate .seq + 1 }) (w .announcements) (w .records))
+    (w .words) (w .calls) (w .results) (set (w .left) m (w .gate .seq)) (w .bound) (w .rounds) (w .count)
 
 -- no operation of j is announced: j does not hold the gate and will not be given it
 pub record Quiet (w : World) (j : ℕ) : Type 0 where

@@ -60,30 +60,37 @@ module _ {c : Card} {w : World} {i : ℕ} (B : Before c w i) where
   pub place-fits : i < 8
   place-fits = omega (arith, B .good .fits .few, B .inside)
 
-  -- no shared cell is changed
-  pub keeps :
-      {g : Gate} {l : List Announcement} {r : List Record} → g ≡ c .gate → l ≡ c .announcements → r ≡ c .records →
-      (x : Task) (h : Gate) (a : Announcement) (s : Simulation) (d : Dictionary) (m : ℕ) → WellFormed d →
-      Loc (contentsOf c) (worldOf c w) i (after (localAt c i) x h a s d m) →
-      Acted c (worldOf c w) i (withLocal (withCells c g l r) i (after (localAt c i) x h a s d m))
-  keeps g l r x h a s d m y q =
+  -- a move that leaves the shared cells as the card has them, and process i with what it then keeps
+  pub acts :
+      {u : World} → Move (contentsOf c) i (worldOf c w) u → u .calls ≡ w .calls →
+      {g : Gate} {l : List Announcement} {r : List Record} → g ≡ u .gate → l ≡ u .announcements → r ≡ u .records →
+      (t : Local) → t .steps ≡ (localAt c i .steps + 1) % 18446744073709551616 → WellFormed (t .dictionary) → Loc (contentsOf c) u i t →
+      Acted c (worldOf c w) i (withLocal (withCells c g l r) i t)
+  acts M k g l r t n y q =
       record {
-        after = worldOf c w;
-        move = stay;
+        after = _;
+        move = M;
         gate-is = g;
         announcements-is = l;
         records-is = r;
-        calls-is = refl;
-        local = _;
+        calls-is = k;
+        local = t;
         put = refl;
-        counted = refl;
+        counted = n;
         tidy = y;
         loc = q;
       }
+
+  -- no shared cell is changed
+  pub keeps :
+      {g : Gate} {l : List Announcement} {r : List Record} → g ≡ c .gate → l ≡ c .announcements → r ≡ c .records →
+      (t : Local) → t .steps ≡ (localAt c i .steps + 1) % 18446744073709551616 → WellFormed (t .dictionary) →
+      Loc (contentsOf c) (worldOf c w) i t → Acted c (worldOf c w) i (withLocal (withCells c g l r) i t)
+  keeps = acts stay refl
 
   -- only the task changes
   pub goes-on :
       (x : Task) → Loc (contentsOf c) (worldOf c w) i (atTask (localAt c i) x) →
       {g : Gate} {l : List Announcement} {r : List Record} → g ≡ c .gate → l ≡ c .announcements → r ≡ c .records →
       Acted c (worldOf c w) i (withLocal (withCells c g l r) i (atTask (localAt c i) x))
-  goes-on x q g l r = keeps g l r x _ _ _ _ _ (B .tidy) q
+  goes-on x q g l r = keeps g l r _ refl (B .tidy) q

@@ -18,7 +18,7 @@ use Rattle.construction.proofs.Invariant.World.{endingIn, World, announ
 use Rattle.construction.proofs.Invariant.World.Move.{announce, leave, end}
 use Rattle.construction.proofs.Invariant.Claims.{viewOf, Change, end-change}
 use Rattle.construction.proofs.Invariant.Assertions.{Mine, Helper, Plan, Ready, LocAt, Loc, helper-stays, plan-stays, ready-stays}
-use Rattle.construction.proofs.Invariant.Acting.{worldOf, Before, Acted, keeps, atTask, goes-on, atAnnouncement}
+use Rattle.construction.proofs.Invariant.Acting.{worldOf, Before, Acted, acts, keeps, atTask, goes-on, atAnnouncement}
 
 -- line C1 names a process
 first-inside : (p i : ℕ) (g : Gate) → i < p → whose AnnouncementAccess.ReadFirst p i g < p
@@ -43,32 +43,18 @@ module _ {c : Card} {w : World} {i : ℕ} (B : Before c w i) where
   pub at-P3 : L P3 → Acted c W i (perform (Access.Announcement AnnouncementAccess.Announce) c i .card)
   unfolding perform accessAnnouncement
   at-P3 q =
-      let a : Announcement = announced (localAt c i .operation) (localAt c i .gate) in
-      let z : getD (set (c .announcements) i (announced (localAt c i .operation) (localAt c i .gate))) i openAnnouncement ≡ announced (localAt c i .operation) (localAt c i .gate) =
-      set-is i (announced (localAt c i .operation) (localAt c i .gate)) (B .inside) in
-      record {
-        after = announcing W i a;
-        move = announce a (B .inside) (q .0) refl (q .1) (q .2) (q .3) refl refl;
-        gate-is = refl;
-        announcements-is = refl;
-        records-is = refl;
-        calls-is = refl;
-        local = _;
-        put = refl;
-        counted = refl;
-        tidy = B .tidy;
-        loc = (
-          record {
-            own = record {
-              out = λ d. absurd (active-not-done (ap (λ (r : Announcement). r .flag) z) d);
-              op = λ _. ap operationOf z ∙ q .1;
-            };
-            called = q .1;
-          },
-          refl,
-          refl,
-        );
-      }
+      let z = set-is i (announced (localAt c i .operation) (localAt c i .gate)) (B .inside) in
+      acts B (announce _ (B .inside) (q .0) refl (q .1) (q .2) (q .3) refl refl) refl refl refl refl _ refl (B .tidy) (
+        record {
+          own = record {
+            out = λ d. absurd (active-not-done (ap (λ (r : Announcement). r .flag) z) d);
+            op = λ _. ap operationOf z ∙ q .1;
+          };
+          called = q .1;
+        },
+        refl,
+        refl,
+      )
 
   -- process i with the announcement of m read, and at a place
   abbrev read : ℕ → Place → Local
@@ -78,7 +64,7 @@ module _ {c : Card} {w : World} {i : ℕ} (B : Before c w i) where
   reads :
       (m : ℕ) (l : Place) → Loc F W i (read m l) →
       Acted c W i (withLocal (withAnnouncement c m (announcementAt c m)) i (read m l))
-  reads m l q = keeps B refl (set-getD (c .announcements) m openAnnouncement) refl _ _ _ _ _ _ (B .tidy) q
+  reads m l q = keeps B refl (set-getD (c .announcements) m openAnnouncement) refl _ refl (B .tidy) q
 
   -- lines P7, C4 and P22: by the flag that is read
   at-own :
@@ -175,29 +161,16 @@ module _ {c : Card} {w : World} {i : ℕ} (B : Before c w i) where
           let fa : announcementAt c i .flag ≡ Active = ap (λ (r : Announcement). r .flag) z ∙ q .1 in
           let zw : announcementAt c i .words ≡ localAt c i .operation .inputs = ap (λ (r : Announcement). r .words) z ∙ q .2 in
           let y = set-is i (flagged (announcementAt c i) Exit) (B .inside) in
-          record {
-            after = leaving W i;
-            move = leave (B .inside) fa;
-            gate-is = refl;
-            announcements-is =
-                ap {B = List Announcement} (set (c .announcements) i)
-                (announcement-path (ap (λ (r : Announcement). r .program) (sym z)) refl
-                (ap (λ (r : Announcement). r .seq) (sym z)) (sym (B .good .unnumbered i (active-not-done fa))) (sym zw)
-                (sym (unmarked (active-not-done fa))));
-            records-is = refl;
-            calls-is = refl;
-            local = _;
-            put = refl;
-            counted = refl;
-            tidy = B .tidy;
-            loc = record {
-              own = record {
-                out = λ d. absurd (exit-not-done (ap (λ (r : Announcement). r .flag) y) d);
-                op = λ _. ap operationOf y ∙ q .0 .own .op (active-not-done fa);
-              };
-              called = q .0 .called;
+          let same : withdrawn (localAt c i .announcement) (localAt c i .operation) ≡ flagged (announcementAt c i) Exit =
+          announcement-path (ap (λ (r : Announcement). r .program) (sym z)) refl (ap (λ (r : Announcement). r .seq) (sym z))
+          (sym (B .good .unnumbered i (active-not-done fa))) (sym zw) (sym (unmarked (active-not-done fa))) in
+          acts B (leave (B .inside) fa) refl refl (ap (set (c .announcements) i) same) refl _ refl (B .tidy) (record {
+            own = record {
+              out = λ d. absurd (exit-not-done (ap (λ (r : Announcement). r .flag) y) d);
+              op = λ _. ap operationOf y ∙ q .0 .own .op (active-not-done fa);
             };
-          }
+            called = q .0 .called;
+          })
 
   -- the process that is helped
   abbrev helped : ℕ
@@ -223,22 +196,13 @@ module _ {c : Card} {w : World} {i : ℕ} (B : Before c w i) where
         let yields : localAt c i .simulation .yields ≡ endingIn F W (c .gate .seq) .yields =
         ⊎-elim (λ b. absurd (omega arith)) (λ g. rw zs g) (rd .yields) in
         let M : Move F i W (ending F W helped) = end helped (helper .inside) (still .0) nd all in
-        record {
-          after = ending F W helped;
-          move = M;
-          gate-is = refl;
-          announcements-is =
-              ap {B = List Announcement} (set (c .announcements) helped)
-              (announcement-path (sym (ap (λ (r : Announcement). r .program) z)) refl (sym zq) (sym zs)
-              (ap (λ (y : Yield). y .outputs) yields) (ap (λ (y : Yield). y .fault) yields));
-          records-is = refl;
-          calls-is = refl;
-          local = _;
-          put = refl;
-          counted = refl;
-          tidy = B .tidy;
-          loc = loc M (end-change (B .good) helped i (helper .inside) (still .0) nd);
-        }
+        let same :
+        finished (localAt c i .announcement) (localAt c i .gate) (localAt c i .simulation .yields)
+        ≡ finished (announcementAt c helped) (c .gate) (endingIn F W (c .gate .seq) .yields) =
+        announcement-path (sym (ap (λ (r : Announcement). r .program) z)) refl (sym zq) (sym zs)
+        (ap (λ (y : Yield). y .outputs) yields) (ap (λ (y : Yield). y .fault) yields) in
+        acts B M refl refl (ap (set (c .announcements) helped) same) refl _ refl (B .tidy)
+        (loc M (end-change (B .good) helped i (helper .inside) (still .0) nd))
 
     -- where the swap is lost, the flag is not f
     missed :

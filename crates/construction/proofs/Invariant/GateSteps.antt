@@ -14,7 +14,7 @@ use Rattle.construction.proofs.Invariant.World.{World, resultOf, leftIn
 use Rattle.construction.proofs.Invariant.World.Move.{take, free}
 use Rattle.construction.proofs.Invariant.Claims.{View, viewOf, gated, Limit, Returning, Rested, Eligible}
 use Rattle.construction.proofs.Invariant.Assertions.{Mine, Helper, LocAt, Loc}
-use Rattle.construction.proofs.Invariant.Acting.{worldOf, Before, Acted, keeps, atTask, atGate, goes-on}
+use Rattle.construction.proofs.Invariant.Acting.{worldOf, Before, Acted, acts, keeps, atTask, atGate, goes-on}
 
 -- what is known of an operation at its return
 rests :
@@ -49,7 +49,7 @@ module _ {c : Card} {w : World} {i : ℕ} (B : Before c w i) where
 
   -- the gate is read
   reads : (l : Place) → Loc F W i (read l) → Acted c W i (withLocal c i (read l))
-  reads l q = keeps B refl refl refl _ _ _ _ _ _ (B .tidy) q
+  reads l q = keeps B refl refl refl _ refl (B .tidy) q
 
   limit-now : Limit (viewOf W i) i (c .gate .seq)
   limit-now = record { low = λ _. B .good .bound-below i; high = λ _ _. omega arith }
@@ -116,19 +116,7 @@ module _ {c : Card} {w : World} {i : ℕ} (B : Before c w i) where
   frees m l ml h d z q =
       let zs : c .gate .seq ≡ localAt c i .gate .seq = ap (λ (g : Gate). g .seq) z in
       let few : c .gate .seq ≤ 1000000000000000000 = B .small in
-      record {
-        after = freeing W m;
-        move = free m ml h d;
-        gate-is = gate-path refl (omega arith);
-        announcements-is = refl;
-        records-is = refl;
-        calls-is = refl;
-        local = _;
-        put = refl;
-        counted = refl;
-        tidy = B .tidy;
-        loc = q;
-      }
+      acts B (free m ml h d) refl (gate-path refl (omega arith)) refl refl _ refl (B .tidy) q
 
   pub at-P13 : L P13 → Acted c W i (perform (Access.Gate GateAccess.Nominate) c i .card)
   unfolding perform accessGate swapGate
@@ -155,19 +143,9 @@ module _ {c : Card} {w : World} {i : ℕ} (B : Before c w i) where
           let zh : c .gate .holder ≡ Nobody = ap (λ (g : Gate). g .holder) z ∙ q .1 in
           let zs : c .gate .seq ≡ localAt c i .gate .seq = ap (λ (g : Gate). g .seq) z in
           let E : Eligible W i m (localAt c i .gate .seq) = q .3 .fit zh zs in
-          record {
-            after = taking W m;
-            move = take m (q .2) zh (E .alive) (E .op) (⊎-elim inl (λ b. inr (λ x. rw zs (b x))) (E .right));
-            gate-is = gate-path refl (sym zs);
-            announcements-is = refl;
-            records-is = refl;
-            calls-is = refl;
-            local = _;
-            put = refl;
-            counted = refl;
-            tidy = B .tidy;
-            loc = (mine-gated (q .0), record { past = λ _ h. absurd (nobody-process h refl) });
-          }
+          acts B (take m (q .2) zh (E .alive) (E .op) (⊎-elim inl (λ b. inr (λ x. rw zs (b x))) (E .right))) refl
+          (gate-path refl (sym zs)) refl refl _ refl (B .tidy)
+          (mine-gated (q .0), record { past = λ _ h. absurd (nobody-process h refl) })
 
   -- a helper that does not find the gate as it read it comes after the release of that number
   pub released-since :

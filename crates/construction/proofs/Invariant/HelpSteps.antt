@@ -131,7 +131,7 @@ module _ {c : Card} {w : World} {i : ℕ} (B : Before c w i) where
         (B .good .size-round s many) (run-is F s (roundIn W s) a called)) in
         let z = simulate-empty (c .variableCount) (programFor F s a) (a .words) in
         rw t
-        (keeps B refl (set-getD (c .announcements) m openAnnouncement) refl _ _ _ _ _ _ (subst WellFormed z (r .0))
+        (keeps B refl (set-getD (c .announcements) m openAnnouncement) refl _ refl (subst WellFormed z (r .0))
         (subst (λ (d : Dictionary). Loc F W i (atSimulation (localAt c i) a (begun m .task) (begun m .simulation) d 0)) z (r .1)))
 
   at-P16-for : (m : ℕ) → holderOf (localAt c i .gate .holder) ≡ m → L P16 → Acted c W i (helping m (beginAs (helps (announcementAt c m) s) m))
@@ -141,7 +141,7 @@ module _ {c : Card} {w : World} {i : ℕ} (B : Before c w i) where
       begins m n (isDone-false _ (not-true _ (h .0))) (leb-true _ _ (h .1)) q _ e)
       (λ e.
       rw e
-      (keeps B refl (set-getD (c .announcements) m openAnnouncement) refl _ _ _ _ _ _ (B .tidy)
+      (keeps B refl (set-getD (c .announcements) m openAnnouncement) refl _ refl (B .tidy)
       (q, record { over = λ _ z. rw n (over z e) }))) (true-or-false (helps (announcementAt c m) s))
     where
       over : c .gate .seq ≡ s → helps (announcementAt c m) s ≡ false → announcementAt c m .flag ≡ Done
@@ -201,4 +201,4 @@ module _ {c : Card} {w : World} {i : ℕ} (B : Before c w i) where
           (noting (c .variableCount) (programFor F s (localAt c i .announcement)) (localAt c i .announcement .words) (roundIn W s .words) (endingIn F W s)
           (ItemNoted F W s) v (localAt c i .simulation) (localAt c i .dictionary) (itemOf s v (recordAt c v)) refl (base le)
           (record { inside = q .2 .inside; base = base le; kept = inl refl }) (q .2)) in
-          keeps B refl refl kept _ _ _ _ _ _ (r .0) (r .1)
+          keeps B refl refl kept _ refl (r .0) (r .1)

@@ -24,7 +24,7 @@ use Rattle.construction.proofs.Invariant.WorldKept.{count-many}
 use Rattle.construction.proofs.Invariant.Assertions.{ItemNoted, NoWriteDue, LocAt, helper-stays, plan-stays, fine-stays, finished-stays}
 use Rattle.construction.proofs.Invariant.Claims.Change.{kept}
 use Rattle.construction.proofs.Invariant.NextWrites.{write-loc}
-use Rattle.construction.proofs.Invariant.Acting.{worldOf, Before, Acted, atTask, goes-on}
+use Rattle.construction.proofs.Invariant.Acting.{worldOf, Before, Acted, acts, atTask, goes-on}
 
 -- the item that is due
 module _ {c : Card} {w : World} {i : ℕ} (B : Before c w i) (q : LocAt H36 (contentsOf c) (worldOf c w) i (localAt c i)) where
@@ -138,29 +138,18 @@ module _ {c : Card} {w : World} {i : ℕ} (B : Before c w i) (q : LocAt H36 (con
         }
 
     won : Acted c W i (wrote (rewritten (item .cell) (item .value) s))
-    won = record {
-      after = storing W v (item .value);
-      move = writes;
-      gate-is = refl;
-      announcements-is = refl;
-      records-is = ap {B = List Record} (set (c .records) v) (cc (same, held .1));
-      calls-is = refl;
-      local = _;
-      put = refl;
-      counted = refl;
-      tidy = B .tidy;
-      loc =
-          write-loc F (storing W v (item .value)) i (localAt c i) (localAt c i .announcement)
-          (helper-stays (B .good) writes kept (q .0))
-          (plan-stays (B .good) writes (localAt c i .gate) (localAt c i .announcement) (q .0 .seen) (q .1))
-          (localAt c i .simulation) d
-          (finished-stays (B .good) writes s (q .1 .number) (q .1 .below) (localAt c i .announcement) (localAt c i .simulation) d (q .2))
-          (suc k)
-          (λ j h.
-          ⊎-elim (at-item _ written j)
-          (λ l. fine-stays (B .good) writes s (q .1 .number) (q .1 .below) (getD (noted d) j noItem) (q .3 .before j l))
-          (eq-or-lt-of-le (omega arith)));
-    }
+    won =
+        acts B writes refl refl refl (ap {B = List Record} (set (c .records) v) (cc (same, held .1))) _ refl (B .tidy)
+        (write-loc F (storing W v (item .value)) i (localAt c i) (localAt c i .announcement)
+        (helper-stays (B .good) writes kept (q .0))
+        (plan-stays (B .good) writes (localAt c i .gate) (localAt c i .announcement) (q .0 .seen) (q .1))
+        (localAt c i .simulation) d
+        (finished-stays (B .good) writes s (q .1 .number) (q .1 .below) (localAt c i .announcement) (localAt c i .simulation) d (q .2))
+        (suc k)
+        (λ j h.
+        ⊎-elim (at-item _ written j)
+        (λ l. fine-stays (B .good) writes s (q .1 .number) (q .1 .below) (getD (noted d) j noItem) (q .3 .before j l))
+        (eq-or-lt-of-le (omega arith))))
 
   pub at-H36 : Acted c W i (perform Access.Write c i .card)
   unfolding perform writing swapRecord

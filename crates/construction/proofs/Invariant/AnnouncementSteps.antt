@@ -1,9 +1,8 @@
 -- The steps whose access is of an announcement, but for P16: P3, P6, P7, C2, C4, P19, P20, P22.
 use Prim.Native.Nat.{ℕ, _<_}
 use mathlib.Core.Path.{_≡_, refl, sym, ap, _∙_}
-use mathlib.Core.Bool.{true, false}
+use mathlib.Core.Bool.{true, false, false≢true}
 use mathlib.Core.Logic.{_≢_, inl, inr, ⊎-elim}
-use mathlib.Core.List.{List}
 use native.Mathlib.Omega.{arith}
 use native.Mathlib.Nat.{mod-lt}
 use lib.ListN.{getD, set}
@@ -12,9 +11,9 @@ use borrow.Author.Tests.{lt-ltb}
 use Rattle.construction.specs.Types.{Process, Gate, Flag, Done, Active, Exit, Yield, Announcement, Place, Idle, P3, P5, P7, P10, C2, C4, P13, P19, P20, P21, P22, F1, AnnouncementAccess, Access, Operation, Card, Contents}
 use Rattle.construction.specs.Cells.{openAnnouncement, sameAnnouncement, swapAnnouncement}
 use Rattle.construction.specs.Parts.{announcementAt, recordAt, withAnnouncement, localAt, Local, contentsOf, withLocal}
-use Rattle.construction.specs.Machine.{goTo, byFlag, holderOf, firstChoice, whose, announced, flagged, withdrawn, finished, accessAnnouncement, perform, after}
+use Rattle.construction.specs.Machine.{goTo, byFlag, holderOf, firstChoice, whose, announced, flagged, withdrawn, finished, accessAnnouncement, perform}
 use Rattle.construction.proofs.Basics.{on-test, true-or-false, announcement-path, sameAnnouncement-true, sameAnnouncement-false, active-not-done, active-not-exit, exit-not-done, else-done}
-use Rattle.construction.proofs.Invariant.World.{endingIn, World, announcementIn, roundIn, wordAt, operationOf, announcing, leaving, ending, Move}
+use Rattle.construction.proofs.Invariant.World.{endingIn, World, announcementIn, leftIn, callIn, roundIn, wordAt, operationOf, AnnouncementInvariant, ending, Move}
 use Rattle.construction.proofs.Invariant.World.Move.{announce, leave, end}
 use Rattle.construction.proofs.Invariant.Claims.{viewOf, Change, end-change}
 use Rattle.construction.proofs.Invariant.Assertions.{Mine, Helper, Plan, Ready, LocAt, Loc, helper-stays, plan-stays, ready-stays}
@@ -43,18 +42,30 @@ module _ {c : Card} {w : World} {i : ℕ} (B : Before c w i) where
   pub at-P3 : L P3 → Acted c W i (perform (Access.Announcement AnnouncementAccess.Announce) c i .card)
   unfolding perform accessAnnouncement
   at-P3 q =
-      let z = set-is i (announced (localAt c i .operation) (localAt c i .gate)) (B .inside) in
-      acts B (announce _ (B .inside) (q .0) refl (q .1) (q .2) (q .3) refl refl) refl refl refl refl _ refl (B .tidy) (
+      acts B (announce new (B .inside) (q .0) refl good) refl refl refl refl _ refl (B .tidy) (
         record {
           own = record {
-            out = λ d. absurd (active-not-done (ap (λ (r : Announcement). r .flag) z) d);
-            op = λ _. ap operationOf z ∙ q .1;
+            out = λ d. absurd (active-not-done (ap (λ (r : Announcement). r .flag) (set-is i new (B .inside))) d);
+            op = λ _. ap operationOf (set-is i new (B .inside)) ∙ q .1;
           };
           called = q .1;
         },
         refl,
         refl,
       )
+    where
+      new : Announcement
+      new = announced (localAt c i .operation) (localAt c i .gate)
+
+      good : AnnouncementInvariant (c .gate .seq) (leftIn W i) (callIn W i) new
+      good = record {
+        below = q .3;
+        fresh = λ _. q .2;
+        number-below = omega arith;
+        unnumbered = λ _. refl;
+        marked = λ t. absurd (false≢true t);
+        active-operation = λ _. q .1;
+      }
 
   -- process i with the announcement of m read, and at a place
   abbrev read : ℕ → Place → Local
@@ -119,7 +130,7 @@ module _ {c : Card} {w : World} {i : ℕ} (B : Before c w i) where
       below = q .2;
       fit = λ _ _. record {
         alive = active-not-done e;
-        op = B .good .active-operation m e;
+        op = B .good .announced m .active-operation e;
         right = inr (λ x. absurd (active-not-exit e x));
       };
     },
@@ -147,7 +158,7 @@ module _ {c : Card} {w : World} {i : ℕ} (B : Before c w i) where
   -- an announcement that is not done carries no mark
   unmarked : announcementAt c i .flag ≢ Done → announcementAt c i .fault ≡ false
   unmarked nd =
-      ⊎-elim (λ t. absurd (nd (B .good .marked i t .0))) (λ f. f) (true-or-false (announcementAt c i .fault))
+      ⊎-elim (λ t. absurd (nd (B .good .announced i .marked t .0))) (λ f. f) (true-or-false (announcementAt c i .fault))
 
   pub at-P6 : L P5 → Acted c W i (perform (Access.Announcement AnnouncementAccess.Withdraw) c i .card)
   unfolding perform accessAnnouncement swapAnnouncement
@@ -163,7 +174,7 @@ module _ {c : Card} {w : World} {i : ℕ} (B : Before c w i) where
           let y = set-is i (flagged (announcementAt c i) Exit) (B .inside) in
           let same : withdrawn (localAt c i .announcement) (localAt c i .operation) ≡ flagged (announcementAt c i) Exit =
           announcement-path (ap (λ (r : Announcement). r .program) (sym z)) refl (ap (λ (r : Announcement). r .seq) (sym z))
-          (sym (B .good .unnumbered i (active-not-done fa))) (sym zw) (sym (unmarked (active-not-done fa))) in
+          (sym (B .good .announced i .unnumbered (active-not-done fa))) (sym zw) (sym (unmarked (active-not-done fa))) in
           acts B (leave (B .inside) fa) refl refl (ap (set (c .announcements) i) same) refl _ refl (B .tidy) (record {
             own = record {
               out = λ d. absurd (exit-not-done (ap (λ (r : Announcement). r .flag) y) d);
@@ -187,7 +198,7 @@ module _ {c : Card} {w : World} {i : ℕ} (B : Before c w i) where
     ends z loc =
         let nd : announcementAt c helped .flag ≢ Done = λ d. nf (sym (ap (λ (r : Announcement). r .flag) z) ∙ d) in
         let zq : announcementAt c helped .seq ≡ localAt c i .announcement .seq = ap (λ (r : Announcement). r .seq) z in
-        let still = helper .seen .still (omega (arith, B .good .fresh helped nd, plan .early)) in
+        let still = helper .seen .still (omega (arith, B .good .announced helped .fresh nd, plan .early)) in
         let zs : c .gate .seq ≡ localAt c i .gate .seq = still .1 in
         let all :
         (v : ℕ) → v < c .variableCount → recordAt c v .seq < c .gate .seq →

@@ -146,7 +146,7 @@ module _ {F : Contents} {i : ℕ} {w v : World} (G : WorldInvariant F w) (M : Mo
   left-stays : {u : World} (j n : ℕ) → Move F i w u → Quiet w j → leftIn w j < n → leftIn u j < n
   left-stays j n stay q h = h
   left-stays j n (ask c lt Q) q h = h
-  left-stays j n (announce a lt Q fa op l b z um) q h = h
+  left-stays j n (announce a lt Q fa A) q h = h
   left-stays j n (leave lt fa) q h = h
   left-stays j n (take m lt hn fl op z) q h = h
   left-stays j n (write m v x vl hm fl below ex) q h = h

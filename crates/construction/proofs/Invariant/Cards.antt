@@ -1,7 +1,7 @@
 -- The invariant of a card beside a world, and that fresh cards have it and every taken call, exit request and step keeps it.
 use Prim.Native.Nat.{ℕ, suc, _+_, _≤_, _<_, _%_}
 use mathlib.Core.Path.{_≡_, refl, sym, subst, ap, _∙_}
-use mathlib.Core.Bool.{true, false}
+use mathlib.Core.Bool.{true, false, false≢true}
 use mathlib.Core.Logic.{_≢_}
 use mathlib.Core.List.{[], _∷_, map, List}
 use native.Mathlib.Omega.{arith}
@@ -17,7 +17,7 @@ use Rattle.construction.specs.Parts.{idleTask, noOperation, localAt, wit
 use Rattle.construction.specs.Machine.{perform, advance, accessIn}
 use Rattle.construction.specs.Requests.{isBusy, invoked, exiting}
 use Rattle.construction.specs.Opening.{fresh}
-use Rattle.construction.proofs.Basics.{getD-replicate-same, true-false, active-not-done, exit-not-done, nobody-process}
+use Rattle.construction.proofs.Basics.{getD-replicate-same, active-not-done, exit-not-done, nobody-process}
 use Rattle.construction.proofs.Simulating.Sequential.{Short}
 use Rattle.construction.proofs.Invariant.World.{World, noResult, resultOf, WorldInvariant, withShared, asking, Quiet, Move}
 use Rattle.construction.proofs.Invariant.World.Move.{ask, stay}
@@ -219,14 +219,15 @@ module _ (x : Contents) (few : x .processCount ≤ 8) (narrow : x .variableCount
     size-round = λ s l. let z : s ≡ 0 = omega arith in rw z open-words;
     left-below = λ m. rw (getD-replicate-same {A = ℕ} 8 m 0) (omega arith);
     bound-below = λ m. rw (getD-replicate-same {A = ℕ} 8 m 0) (omega arith);
-    announcement-below = λ m. rw (getD-replicate-same 8 m openAnnouncement) (omega arith);
-    fresh = λ m e. absurd (e (open-flag m));
-    number-below = λ m. rw (getD-replicate-same 8 m openAnnouncement) (omega arith);
-    unnumbered = λ m e. absurd (e (open-flag m));
-    marked = λ m t.
-        absurd (true-false _ t (ap (λ (a : Announcement). a .fault) (getD-replicate-same 8 m openAnnouncement)));
+    announced = λ m. rw (getD-replicate-same 8 m openAnnouncement) (record {
+      below = omega arith;
+      fresh = λ e. absurd (e refl);
+      number-below = omega arith;
+      unnumbered = λ e. absurd (e refl);
+      marked = λ t. absurd (false≢true t);
+      active-operation = λ e. absurd (active-not-done e refl);
+    });
     inside = λ m e. absurd (nobody-process refl e);
-    active-operation = λ m e. absurd (active-not-done e (open-flag m));
     phase = (refl, refl);
     recorded = record {
       below = λ v. rw (open-record v) (omega arith);

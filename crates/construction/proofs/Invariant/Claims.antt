@@ -174,7 +174,7 @@ module _ {F : Contents} {w : World} (G : WorldInvariant F w) where
   pub change : {i : ℕ} {v : World} {j : ℕ} → j ≢ i → Move F i w v → Change j (viewOf w j) (viewOf v j)
   change ne stay = kept
   change {i} {j = j} ne (ask q lt Q) = rw (getD-set-other (w .calls) i j q noOperation ne) kept
-  change {i} {j = j} ne (announce a lt Q fa op l b n um) = rw (getD-set-other (w .announcements) i j a openAnnouncement ne) kept
+  change {i} {j = j} ne (announce a lt Q fa A) = rw (getD-set-other (w .announcements) i j a openAnnouncement ne) kept
   change {i} {j = j} ne (leave lt fa) =
       rw (getD-set-other (w .announcements) i j _ openAnnouncement ne, getD-set-other (w .bound) i j _ 0 ne) kept
   change ne (take m lt hn fl op z) =
@@ -226,7 +226,7 @@ module _ {F : Contents} {i : ℕ} {w : World} (G : WorldInvariant F w) where
   pub seen-stays : {v : World} {m s : ℕ} → Move F i w v → Seen w m s → Seen v m s
   seen-stays stay o = o
   seen-stays (ask c lt Q) o = record { still = o .still }
-  seen-stays (announce a lt Q fa op l b n um) o = record { still = o .still }
+  seen-stays (announce a lt Q fa A) o = record { still = o .still }
   seen-stays (leave lt fa) o = record { still = o .still }
   seen-stays {m = m} (take m′ lt hn fl op z) o = record { still = λ l. absurd (nobody-process hn (o .still l .0)) }
   seen-stays (write m v x vl hm fl below ex) o = record { still = o .still }
@@ -280,8 +280,8 @@ module _ {F : Contents} {i : ℕ} {w : World} (G : WorldInvariant F w) where
   pub nominated-stays : {v : World} {j m n : ℕ} → j ≢ i → Move F i w v → Nominated w j m n → Nominated v j m n
   nominated-stays ne stay o = o
   nominated-stays ne (ask c lt Q) o = record { below = o .below; fit = λ h e. eligible-ask ne (o .fit h e) c lt Q (sym e) }
-  nominated-stays ne (announce a lt Q fa op l b n um) o =
-      record { below = o .below; fit = λ h e. eligible-announce ne (o .fit h e) a lt fa op }
+  nominated-stays ne (announce a lt Q fa A) o =
+      record { below = o .below; fit = λ h e. eligible-announce ne (o .fit h e) a lt fa (A .active-operation fa) }
   nominated-stays ne (leave lt fa) o = record { below = o .below; fit = λ h e. eligible-leave ne (o .fit h e) lt (sym e) }
   nominated-stays ne (take m lt hn fl op z) o = record { below = o .below; fit = λ h. absurd (nobody-process h refl) }
   nominated-stays ne (write m v x vl hm fl below ex) o =
@@ -300,7 +300,7 @@ module _ {F : Contents} {i : ℕ} {w : World} (G : WorldInvariant F w) where
     held-stays : {v : World} → Move F i w v → v .gate .holder ≡ Process m → v .gate .seq ≡ s → P (announcementIn v m)
     held-stays stay h e = f h e
     held-stays (ask c lt Q) h e = f h e
-    held-stays (announce a lt Q fa op l b n um) h e =
+    held-stays (announce a lt Q fa A) h e =
         announcements-set G P i m a lt (λ z. absurd (Q .free-of (h ∙ ap Process z))) (λ _. f h e)
     held-stays (leave lt fa) h e =
         announcements-set G P i m _ lt (λ z. rw (← z) (exits (announcementIn w m) (rw z fa) (f h e))) (λ _. f h e)
@@ -335,7 +335,7 @@ module _ {F : Contents} {i : ℕ} {w : World} (G : WorldInvariant F w) where
   pub below-stays : {v : World} {n : ℕ} → Move F i w v → n ≤ w .gate .seq → n ≤ v .gate .seq
   below-stays stay h = h
   below-stays (ask c lt Q) h = h
-  below-stays (announce a lt Q fa op l b n um) h = h
+  below-stays (announce a lt Q fa A) h = h
   below-stays (leave lt fa) h = h
   below-stays (take m lt hn fl op z) h = h
   below-stays (write m v x vl hm fl below ex) h = h
@@ -347,7 +347,7 @@ module _ {F : Contents} {i : ℕ} {w : World} (G : WorldInvariant F w) where
   unfolding rewritten
   record-stays stay u = inl refl
   record-stays (ask c lt Q) u = inl refl
-  record-stays (announce a lt Q fa op l b n um) u = inl refl
+  record-stays (announce a lt Q fa A) u = inl refl
   record-stays (leave lt fa) u = inl refl
   record-stays (take m lt hn fl op z) u = inl refl
   record-stays (write m v x vl hm fl below ex) u =
@@ -361,7 +361,7 @@ module _ {F : Contents} {i : ℕ} {w : World} (G : WorldInvariant F w) where
       {v : World} → Move F i w v → (s : ℕ) → s < length (w .rounds) → (roundIn v s ≡ roundIn w s) × (s < length (v .rounds))
   round-stays stay s h = (refl, h)
   round-stays (ask c lt Q) s h = (refl, h)
-  round-stays (announce a lt Q fa op l b n um) s h = (refl, h)
+  round-stays (announce a lt Q fa A) s h = (refl, h)
   round-stays (leave lt fa) s h = (refl, h)
   round-stays (take m lt hn fl op z) s h =
       (List·getD-append (w .rounds) _ noRound s h, rw length-append (omega arith))

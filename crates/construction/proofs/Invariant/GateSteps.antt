@@ -8,9 +8,9 @@ use native.Mathlib.Decide.{decLt}
 use Rattle.construction.specs.Types.{Holder, Nobody, Process, Gate, Done, Announcement, Place, Idle, P1, P3, C2, P13, P14, P16, P21, P22, F1, F3, GateAccess, Access, Operation, Card, Contents}
 use Rattle.construction.specs.Cells.{sameHolder, sameGate, swapGate, released}
 use Rattle.construction.specs.Parts.{announcementAt, withGate, localAt, Local, contentsOf, withLocal}
-use Rattle.construction.specs.Machine.{goTo, byHolder, holderOf, accessGate, perform, after}
+use Rattle.construction.specs.Machine.{goTo, byHolder, holderOf, accessGate, perform}
 use Rattle.construction.proofs.Basics.{on-test, true-false, gate-path, sameGate-true, sameGate-false, sameHolder-true, sameHolder-refl, nobody-process, active-not-done, exit-not-done}
-use Rattle.construction.proofs.Invariant.World.{World, resultOf, leftIn, taking, freeing, Quiet}
+use Rattle.construction.proofs.Invariant.World.{World, resultOf, leftIn, freeing, Quiet}
 use Rattle.construction.proofs.Invariant.World.Move.{take, free}
 use Rattle.construction.proofs.Invariant.Claims.{View, viewOf, gated, Limit, Returning, Rested, Eligible}
 use Rattle.construction.proofs.Invariant.Assertions.{Mine, Helper, LocAt, Loc}

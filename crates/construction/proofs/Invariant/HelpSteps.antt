@@ -97,7 +97,7 @@ module _ {c : Card} {w : World} {i : ℕ} (B : Before c w i) where
     still : (c .gate .holder ≡ Process m) × (c .gate .seq ≡ s)
     still =
         let seen : Seen W m s = subst (λ (k : ℕ). Seen W k s) n (q .seen) in
-        seen .still (omega (arith, B .good .fresh m nd))
+        seen .still (omega (arith, B .good .announced m .fresh nd))
 
     pending : Phase (Process m) W
     pending = subst (λ (h : Holder). Phase h W) (still .0) (B .good .phase)
@@ -115,7 +115,7 @@ module _ {c : Card} {w : World} {i : ℕ} (B : Before c w i) where
       below = omega (arith, still .1);
       number = many;
       early = le;
-      positive = omega (arith, B .good .fresh m nd);
+      positive = omega (arith, B .good .announced m .fresh nd);
       working =
           subst (λ (k : ℕ). Working W k s (announcementAt c m)) (sym n)
           (record { alike = λ _ _ _. record { program = refl; seq = refl; number = refl; words = refl; fault = refl } });
@@ -147,7 +147,7 @@ module _ {c : Card} {w : World} {i : ℕ} (B : Before c w i) where
       over : c .gate .seq ≡ s → helps (announcementAt c m) s ≡ false → announcementAt c m .flag ≡ Done
       over z e =
           ⊎-elim (λ d. isDone-true (announcementAt c m .flag) (not-false _ d))
-          (λ b. absurd (omega (arith, B .good .announcement-below m, leb-false (announcementAt c m .seq) s (b .1))))
+          (λ b. absurd (omega (arith, B .good .announced m .below, leb-false (announcementAt c m .seq) s (b .1))))
           (and-false (not (isDone (announcementAt c m .flag))) (leb (announcementAt c m .seq) s) e)
 
   pub at-P16 : L P16 → Acted c W i (perform Access.Help c i .card)

@@ -1,7 +1,7 @@
 -- The shared cells with the ghost state of the proof, what holds of them after every list of entries, and the moves that an entry makes.
 use Prim.Native.Nat.{ℕ, suc, _+_, _≤_, _<_}
 use mathlib.Core.Path.{_≡_}
-use mathlib.Core.Bool.{true, false}
+use mathlib.Core.Bool.{true}
 use mathlib.Core.Logic.{_≢_, _⊎_}
 use mathlib.Core.List.{List, [], _∷_, _++_}
 use lib.ListN.{length, getD, set}
@@ -134,6 +134,15 @@ pub record Lengths (a r c o l b : ℕ) : Type 0 where
   pub left : l ≡ 8
   pub bound : b ≡ 8
 
+-- what holds of the announcement of a process that called for o last and gave back the gate under `left` last, while the gate's number is seq
+pub record AnnouncementInvariant (seq left : ℕ) (o : Operation) (a : Announcement) : Type 0 where
+  pub below : a .seq ≤ seq
+  pub fresh : a .flag ≢ Done → left < a .seq
+  pub number-below : a .number ≤ seq
+  pub unnumbered : a .flag ≢ Done → a .number ≡ 0
+  pub marked : a .fault ≡ true → (a .flag ≡ Done) × (a .words ≡ zeros)
+  pub active-operation : a .flag ≡ Active → operationOf a ≡ o
+
 -- what holds of the world after every list of entries
 pub record WorldInvariant (F : Contents) (w : World) : Type 0 where
   pub fits : Fits F
@@ -144,13 +153,8 @@ pub record WorldInvariant (F : Contents) (w : World) : Type 0 where
   pub size-round : (s : ℕ) → s < length (w .rounds) → length (roundIn w s .words) ≡ F .variableCount
   pub left-below : (m : ℕ) → leftIn w m < w .gate .seq
   pub bound-below : (m : ℕ) → boundIn w m ≤ w .gate .seq
-  pub announcement-below : (m : ℕ) → announcementIn w m .seq ≤ w .gate .seq
-  pub fresh : (m : ℕ) → announcementIn w m .flag ≢ Done → leftIn w m < announcementIn w m .seq
-  pub number-below : (m : ℕ) → announcementIn w m .number ≤ w .gate .seq
-  pub unnumbered : (m : ℕ) → announcementIn w m .flag ≢ Done → announcementIn w m .number ≡ 0
-  pub marked : (m : ℕ) → announcementIn w m .fault ≡ true → (announcementIn w m .flag ≡ Done) × (announcementIn w m .words ≡ zeros)
+  pub announced : (m : ℕ) → AnnouncementInvariant (w .gate .seq) (leftIn w m) (callIn w m) (announcementIn w m)
   pub inside : (m : ℕ) → w .gate .holder ≡ Process m → m < F .processCount
-  pub active-operation : (m : ℕ) → announcementIn w m .flag ≡ Active → operationOf (announcementIn w m) ≡ callIn w m
   pub phase : Phase (w .gate .holder) w
   pub recorded : Recorded F (w .records) (w .rounds) (w .count) (w .words)
 
@@ -228,8 +232,8 @@ pub data Move (F : Contents) (i : ℕ) (w : World) : World → Type 0 where
   stay : Move F i w w
   ask : (q : Operation) → i < F .processCount → Quiet w i → Move F i w (asking w i q)
   announce :
-      (a : Announcement) → i < F .processCount → Quiet w i → a .flag ≡ Active → operationOf a ≡ callIn w i →
-      leftIn w i < a .seq → a .seq ≤ w .gate .seq → a .number ≡ 0 → a .fault ≡ false → Move F i w (announcing w i a)
+      (a : Announcement) → i < F .processCount → Quiet w i → a .flag ≡ Active →
+      AnnouncementInvariant (w .gate .seq) (leftIn w i) (callIn w i) a → Move F i w (announcing w i a)
   leave : i < F .processCount → announcementIn w i .flag ≡ Active → Move F i w (leaving w i)
   take :
       (m : ℕ) → m < F .processCount → w .gate .holder ≡ Nobody → announcementIn w m .flag ≢ Done →

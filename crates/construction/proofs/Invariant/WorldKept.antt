@@ -12,11 +12,10 @@ use Rattle.construction.specs.Types.{Holder, Nobody, Process, Done, Acti
 use Rattle.construction.specs.Cells.{zeros, openAnnouncement, openRecord, current, previous, rewritten}
 use Rattle.construction.specs.Sequential.{Ending, sequential}
 use Rattle.construction.specs.Parts.{noOperation, programOf}
-use Rattle.construction.proofs.Basics.{on-set, active-not-done, active-not-exit, exit-not-done, nobody-process, process-same, done-or-not, true-false}
+use Rattle.construction.proofs.Basics.{on-set, active-not-done, active-not-exit, exit-not-done, nobody-process, process-same, done-or-not}
 use Rattle.construction.proofs.Simulating.Sequential.{sequential-length, sequential-fault}
-use Rattle.construction.proofs.Invariant.World.{Round, noRound, endingOf, endingIn, World, announcementIn, recordIn, leftIn, callIn, roundIn, wordAt, operationOf, Pending, Phase, Recorded, WorldInvariant, asking, announcing, leaving, taking, storing, ending, freeing, Quiet, Move}
+use Rattle.construction.proofs.Invariant.World.{Round, noRound, endingOf, endingIn, World, announcementIn, recordIn, leftIn, callIn, roundIn, wordAt, operationOf, Pending, Phase, Recorded, AnnouncementInvariant, WorldInvariant, asking, announcing, leaving, taking, storing, ending, freeing, Quiet, Move}
 use Rattle.construction.proofs.Invariant.World.Move.{stay, ask, announce, leave, take, write, end, free}
-use Rattle.construction.specs.Machine.{finished}
 
 ending-length : (F : Contents) (s : ℕ) (r : Round) → length (endingOf F s r .words) ≡ length (r .words)
 unfolding endingOf
@@ -27,9 +26,18 @@ ending-fault : (F : Contents) (s : ℕ) (r : Round) → endingOf F s r .yields .
 unfolding endingOf
 ending-fault F s r h = ap (λ (e : Ending). e .yields .outputs) (sequential-fault (F .variableCount) _ (r .call .inputs) (r .words) h)
 
--- a mark stands with the flag done and outputs 0
-abbrev Marked : Announcement → Type 0
-Marked r = r .fault ≡ true → (r .flag ≡ Done) × (r .words ≡ zeros)
+-- the call of an announcement that is not active is of no matter
+recalled :
+    {seq left : ℕ} {o p : Operation} {a : Announcement} → AnnouncementInvariant seq left o a → a .flag ≢ Active →
+    AnnouncementInvariant seq left p a
+recalled A na = record {
+  below = A .below;
+  fresh = A .fresh;
+  number-below = A .number-below;
+  unnumbered = A .unnumbered;
+  marked = A .marked;
+  active-operation = λ e. absurd (na e);
+}
 
 current-rewritten : (r : Record) (x s : ℕ) → current (rewritten r x s) ≡ x
 unfolding current rewritten
@@ -55,6 +63,12 @@ module _ {F : Contents} {w : World} (G : WorldInvariant F w) where
       P (getD (set (w .announcements) i a) j openAnnouncement)
   announcements-set P i j a lt = on-set P (w .announcements) i j a openAnnouncement (omega arith)
 
+  announced-set :
+      (i : ℕ) (a : Announcement) → i < F .processCount → AnnouncementInvariant (w .gate .seq) (leftIn w i) (callIn w i) a → (m : ℕ) →
+      AnnouncementInvariant (w .gate .seq) (leftIn w m) (callIn w m) (announcementIn (announcing w i a) m)
+  announced-set i a lt A m =
+      announcements-set (AnnouncementInvariant (w .gate .seq) (leftIn w m) (callIn w m)) i m a lt (λ e. rw e A) (λ _. G .announced m)
+
   phase-ask : (i : ℕ) (q : Operation) (h : Holder) → h ≢ Process i → Phase h w → Phase h (asking w i q)
   phase-ask i q Nobody ne ph = ph
   phase-ask i q (Process m) ne ph =
@@ -69,16 +83,10 @@ module _ {F : Contents} {w : World} (G : WorldInvariant F w) where
     size-round = G .size-round;
     left-below = G .left-below;
     bound-below = G .bound-below;
-    announcement-below = G .announcement-below;
-    fresh = G .fresh;
-    number-below = G .number-below;
-    unnumbered = G .unnumbered;
-    marked = G .marked;
+    announced = λ m.
+        on-set (λ o. AnnouncementInvariant (w .gate .seq) (leftIn w m) o (announcementIn w m)) (w .calls) i m q noOperation (omega arith)
+        (λ e. recalled (G .announced m) (rw e (Q .not-active))) (λ _. G .announced m);
     inside = G .inside;
-    active-operation = λ m a.
-        on-set (λ r. operationOf (announcementIn w m) ≡ r) (w .calls) i m q noOperation (omega arith)
-        (λ e. absurd (Q .not-active (rw e at a)))
-        (λ e. G .active-operation m a);
     phase = phase-ask i q (w .gate .holder) (Q .free-of) (G .phase);
     recorded = G .recorded;
   }
@@ -94,28 +102,17 @@ module _ {F : Contents} {w : World} (G : WorldInvariant F w) where
       )
 
   good-announce :
-      (i : ℕ) (a : Announcement) → i < F .processCount → Quiet w i → a .flag ≡ Active → operationOf a ≡ callIn w i →
-      leftIn w i < a .seq → a .seq ≤ w .gate .seq → a .number ≡ 0 → a .fault ≡ false → WorldInvariant F (announcing w i a)
-  good-announce i a lt Q fa op l b n um = record {
+      (i : ℕ) (a : Announcement) → i < F .processCount → Quiet w i → AnnouncementInvariant (w .gate .seq) (leftIn w i) (callIn w i) a →
+      WorldInvariant F (announcing w i a)
+  good-announce i a lt Q A = record {
     fits = G .fits;
     lengths = rw length-set (G .lengths);
     size-words = G .size-words;
     size-round = G .size-round;
     left-below = G .left-below;
     bound-below = G .bound-below;
-    announcement-below = λ m.
-        announcements-set (λ r. r .seq ≤ w .gate .seq) i m a lt (λ _. b) (λ _. G .announcement-below m);
-    fresh = λ m.
-        announcements-set (λ r. r .flag ≢ Done → leftIn w m < r .seq) i m a lt (λ e _. rw e l) (λ _. G .fresh m);
-    number-below = λ m.
-        announcements-set (λ r. r .number ≤ w .gate .seq) i m a lt (λ _. omega (arith, n)) (λ _. G .number-below m);
-    unnumbered = λ m.
-        announcements-set (λ r. r .flag ≢ Done → r .number ≡ 0) i m a lt (λ _ _. n) (λ _. G .unnumbered m);
-    marked = λ m. announcements-set Marked i m a lt (λ _ t. absurd (true-false _ t um)) (λ _. G .marked m);
+    announced = announced-set i a lt A;
     inside = G .inside;
-    active-operation = λ m.
-        announcements-set (λ r. r .flag ≡ Active → operationOf r ≡ callIn w m) i m a lt
-        (λ e _. rw e op) (λ _. G .active-operation m);
     phase = phase-announce i a (w .gate .holder) (Q .free-of) (G .phase);
     recorded = G .recorded;
   }
@@ -149,24 +146,21 @@ module _ {F : Contents} {w : World} (G : WorldInvariant F w) where
     bound-below = λ m.
         on-set (λ r. r ≤ w .gate .seq) (w .bound) i m (w .gate .seq) 0 (omega arith)
         (λ _. omega arith) (λ _. G .bound-below m);
-    announcement-below = λ m.
-        announcements-set (λ r. r .seq ≤ w .gate .seq) i m _ lt (λ _. G .announcement-below i) (λ _. G .announcement-below m);
-    fresh = λ m.
-        announcements-set (λ r. r .flag ≢ Done → leftIn w m < r .seq) i m _ lt
-        (λ e _. rw e (G .fresh i (active-not-done fa))) (λ _. G .fresh m);
-    number-below = λ m.
-        announcements-set (λ r. r .number ≤ w .gate .seq) i m _ lt (λ _. G .number-below i) (λ _. G .number-below m);
-    unnumbered = λ m.
-        announcements-set (λ r. r .flag ≢ Done → r .number ≡ 0) i m _ lt
-        (λ _ _. G .unnumbered i (active-not-done fa)) (λ _. G .unnumbered m);
-    marked = λ m. announcements-set Marked i m _ lt (λ _ t. absurd (active-not-done fa (G .marked i t .0))) (λ _. G .marked m);
+    announced = announced-set i _ lt (record {
+      below = A .below;
+      fresh = λ _. A .fresh (active-not-done fa);
+      number-below = A .number-below;
+      unnumbered = λ _. A .unnumbered (active-not-done fa);
+      marked = λ t. absurd (active-not-done fa (A .marked t .0));
+      active-operation = λ q. absurd (active-not-exit q refl);
+    });
     inside = G .inside;
-    active-operation = λ m.
-        announcements-set (λ r. r .flag ≡ Active → operationOf r ≡ callIn w m) i m _ lt
-        (λ _ q. absurd (active-not-exit q refl)) (λ _. G .active-operation m);
     phase = phase-leave i lt fa (w .gate .holder) (G .phase);
     recorded = G .recorded;
   }
+    where
+      A : AnnouncementInvariant (w .gate .seq) (leftIn w i) (callIn w i) (announcementIn w i)
+      A = G .announced i
 
   -- one round more: the earlier ones are as before
   abbrev newRound : ℕ → Round
@@ -197,13 +191,8 @@ module _ {F : Contents} {w : World} (G : WorldInvariant F w) where
             ⊎-elim (λ e. rw (latest m s e) (G .size-words)) (λ l. rw (earlier m s l) (G .size-round s l)) (split-last m s sl);
         left-below = G .left-below;
         bound-below = G .bound-below;
-        announcement-below = G .announcement-below;
-        fresh = G .fresh;
-        number-below = G .number-below;
-        unnumbered = G .unnumbered;
-        marked = G .marked;
+        announced = G .announced;
         inside = λ j e. rw (← process-same e) lt;
-        active-operation = G .active-operation;
         phase = (
           omega arith,
           λ d. absurd (fl d),
@@ -282,13 +271,8 @@ module _ {F : Contents} {w : World} (G : WorldInvariant F w) where
         size-round = G .size-round;
         left-below = G .left-below;
         bound-below = G .bound-below;
-        announcement-below = G .announcement-below;
-        fresh = G .fresh;
-        number-below = G .number-below;
-        unnumbered = G .unnumbered;
-        marked = G .marked;
+        announced = G .announced;
         inside = G .inside;
-        active-operation = G .active-operation;
         phase = phase-write v x (w .gate .holder) (G .phase);
         recorded = recorded-write;
       }
@@ -316,7 +300,6 @@ module _ {F : Contents} {w : World} (G : WorldInvariant F w) where
 
       good-end : WorldInvariant F (ending F w m)
       good-end =
-          let a : Announcement = finished (announcementIn w m) (w .gate) (endingIn F w (w .gate .seq) .yields) in
           record {
             fits = G .fits;
             lengths = simp length-set (G .lengths);
@@ -325,25 +308,19 @@ module _ {F : Contents} {w : World} (G : WorldInvariant F w) where
             size-round = G .size-round;
             left-below = G .left-below;
             bound-below = G .bound-below;
-            announcement-below = λ j.
-                announcements-set (λ r. r .seq ≤ w .gate .seq) m j a lt (λ _. G .announcement-below m) (λ _. G .announcement-below j);
-            fresh = λ j.
-                announcements-set (λ r. r .flag ≢ Done → leftIn w j < r .seq) m j a lt (λ _ q. absurd (q refl)) (λ _. G .fresh j);
-            number-below = λ j.
-                announcements-set (λ r. r .number ≤ w .gate .seq) m j a lt (λ _. omega arith) (λ _. G .number-below j);
-            unnumbered = λ j.
-                announcements-set (λ r. r .flag ≢ Done → r .number ≡ 0) m j a lt (λ _ q. absurd (q refl)) (λ _. G .unnumbered j);
-            marked = λ j.
-                announcements-set Marked m j a lt
-                (λ _ t. (refl, ending-fault F (w .gate .seq) (roundIn w (w .gate .seq)) t)) (λ _. G .marked j);
+            announced = announced-set m _ lt (record {
+              below = G .announced m .below;
+              fresh = λ q. absurd (q refl);
+              number-below = omega arith;
+              unnumbered = λ q. absurd (q refl);
+              marked = λ t. (refl, ending-fault F (w .gate .seq) (roundIn w (w .gate .seq)) t);
+              active-operation = λ q. absurd (active-not-done q refl);
+            });
             inside = G .inside;
-            active-operation = λ j.
-                announcements-set (λ r. r .flag ≡ Active → operationOf r ≡ callIn w j) m j a lt
-                (λ _ q. absurd (active-not-done q refl)) (λ _. G .active-operation j);
             phase = subst (λ (h : Holder). Phase h (ending F w m)) (sym hm) (
               many,
               λ _. omega (arith, counted),
-              λ d. absurd (d (announcements-set (λ r. r .flag ≡ Done) m m a lt (λ _. refl) (λ ne. absurd (ne refl)))),
+              λ d. absurd (d (announcements-set (λ r. r .flag ≡ Done) m m _ lt (λ _. refl) (λ ne. absurd (ne refl)))),
             );
             recorded = recorded-end;
           }
@@ -364,13 +341,17 @@ module _ {F : Contents} {w : World} (G : WorldInvariant F w) where
         size-round = G .size-round;
         left-below = λ j. set-left (λ b. b < w .gate .seq + 1) j (λ _. omega arith) (λ _. omega (arith, G .left-below j));
         bound-below = λ j. omega (arith, G .bound-below j);
-        announcement-below = λ j. omega (arith, G .announcement-below j);
-        fresh = λ j q. set-left (λ b. b < announcementIn w j .seq) j (λ e. absurd (q (rw e d))) (λ _. G .fresh j q);
-        number-below = λ j. omega (arith, G .number-below j);
-        unnumbered = G .unnumbered;
-        marked = G .marked;
+        announced = λ j.
+            let A = G .announced j in
+            record {
+              below = omega (arith, A .below);
+              fresh = λ q. set-left (λ b. b < announcementIn w j .seq) j (λ e. absurd (q (rw e d))) (λ _. A .fresh q);
+              number-below = omega (arith, A .number-below);
+              unnumbered = A .unnumbered;
+              marked = A .marked;
+              active-operation = A .active-operation;
+            };
         inside = λ j e. absurd (nobody-process refl e);
-        active-operation = G .active-operation;
         phase = (omega arith, omega arith);
         recorded = G .recorded;
       }
@@ -378,7 +359,7 @@ module _ {F : Contents} {w : World} (G : WorldInvariant F w) where
 pub good-move : {F : Contents} {i : ℕ} {w v : World} → WorldInvariant F w → Move F i w v → WorldInvariant F v
 good-move G stay = G
 good-move G (ask q lt Q) = good-ask G _ q lt Q
-good-move G (announce a lt Q fa op l b n um) = good-announce G _ a lt Q fa op l b n um
+good-move G (announce a lt Q fa A) = good-announce G _ a lt Q A
 good-move G (leave lt fa) = good-leave G _ lt fa
 good-move G (take m lt hn fl op z) = good-take G m lt hn fl op
 good-move G (write m v x vl hm fl below ex) = good-write G m hm fl v x vl below ex
@@ -389,7 +370,7 @@ good-move G (free m lt hm d) = good-free G m lt hm d
 pub seq-move : {F : Contents} {i : ℕ} {w v : World} → Move F i w v → v .gate .seq ≤ suc (w .gate .seq)
 seq-move stay = omega arith
 seq-move (ask c lt Q) = omega arith
-seq-move (announce a lt Q fa op l b n um) = omega arith
+seq-move (announce a lt Q fa A) = omega arith
 seq-move (leave lt fa) = omega arith
 seq-move (take m lt hn fl op z) = omega arith
 seq-move (write m v x vl hm fl below ex) = omega arith

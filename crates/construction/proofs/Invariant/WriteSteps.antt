@@ -15,7 +15,7 @@ use Rattle.construction.specs.Types.{Holder, Process, Done, Record, Item
 use Rattle.construction.specs.Cells.{openRecord, sameRecord, swapRecord, current, rewritten}
 use Rattle.construction.specs.Dictionary.{noItem, noted, valueUnder, altered}
 use Rattle.construction.specs.Parts.{announcementAt, recordAt, withRecord, localAt, contentsOf, withLocal}
-use Rattle.construction.specs.Machine.{holderOf, writeFrom, perform, after, writing}
+use Rattle.construction.specs.Machine.{holderOf, writeFrom, perform, writing}
 use Rattle.construction.proofs.Basics.{on-test, true-false, and-true, sameRecord-true, sameRecord-false}
 use Rattle.construction.proofs.Simulating.Dictionaries.{valueIn, all-at, value-at}
 use Rattle.construction.proofs.Invariant.World.{endingIn, World, leftIn, roundIn, wordAt, Phase, storing, Move}

@@ -104,7 +104,7 @@ module _ {F : Contents} {w : World} (announced : ℕ → Bool) (G : WorldInvaria
       NothingFinishes announced w v ⊎ OneFinishes F w v
   kind-of stay only = inl (calm-same refl refl refl refl)
   kind-of (ask q lt Q) only = inl (calm-same refl refl refl refl)
-  kind-of {i} (announce a lt Q fa op l b n um) only =
+  kind-of {i} (announce a lt Q fa A) only =
       let size : i < length (w .announcements) = omega (arith, G .lengths .announcements, G .fits .few) in
       inl (record {
         none = turned-not 0 (w .announcements) i a (rw fa (turns-active (announcementIn w i .flag)));

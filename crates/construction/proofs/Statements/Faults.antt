@@ -26,7 +26,7 @@ fault-leaves-all = sequential-fault
 
 -- after any list of entries
 pub marked-done : (t : List ℕ) (es : List Entry) → MarkedDone (run (opened t .card) es .card)
-marked-done t es = good-is (opened-consistent t es .inv) .marked
+marked-done t es = λ m. good-is (opened-consistent t es .inv) .announced m .marked
 
 pub unmarked-reading : (t : List ℕ) (es : List Entry) → UnmarkedReading (run (opened t .card) es .card)
 unmarked-reading t es i l e =

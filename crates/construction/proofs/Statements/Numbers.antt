@@ -51,8 +51,8 @@ module _ (t : List ℕ) (es : List Entry) where
       let O = opened-consistent t es in
       let G = good-is (O .inv) in
       record {
-        below = G .number-below;
-        unfinished = G .unnumbered;
+        below = λ m. G .announced m .number-below;
+        unfinished = λ m. G .announced m .unnumbered;
         finished = number-is;
         never = λ i l d. (
           λ z. zero-never (m .history .operations) (m .history .order) i (O .tracks .numbers) (sym (number-is i l d) ∙ z),

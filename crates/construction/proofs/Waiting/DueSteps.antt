@@ -117,7 +117,7 @@ module _ {c : Card} {w : World} {i : ℕ} (I : CardInvariant c w) (lt : i < c .p
   by-move : {v : World} → Move (contentsOf c) i w v → next .gate ≡ v .gate → Due (c .processCount) (next .gate) (localAt next) j turn
   by-move stay z = due-kept z
   by-move (ask q l Q) z = due-kept z
-  by-move (announce a l Q fa op b e nu unmarked) z = due-kept z
+  by-move (announce a l Q fa A) z = due-kept z
   by-move (leave l fa) z = due-kept z
   by-move (take m l hn fl op x) z = due-taken m hn z
   by-move (write m v x vl hm fl below ex) z = due-kept z

@@ -4,6 +4,7 @@ pub mod WorldKept
 pub mod Claims
 pub mod Locals
 pub mod Assertions
+pub mod NextPlaces
 pub mod Stages
 pub mod Acting
 pub mod NextWrites
@@ -14,5 +15,4 @@ pub mod WriteSteps
 pub mod Steps
 pub mod Cards
 pub mod Answers
-pub mod NextPlaces
 pub mod ActiveFlags

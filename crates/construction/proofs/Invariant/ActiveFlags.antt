@@ -1,16 +1,16 @@
 -- Only line P3 makes an announcement active: a process does not announce its operation twice.
 use Prim.Native.Nat.{ℕ}
 use mathlib.Core.Path.{_≡_, refl}
-use mathlib.Core.Bool.{Bool, true, false, true≢false, false≢true}
+use mathlib.Core.Bool.{true, false, true≢false}
 use mathlib.Core.Logic.{_≢_}
 use mathlib.Core.List.{List}
 use lib.ListN.{getD, set}
-use Rattle.construction.specs.Types.{Gate, Active, Yield, Announcement, Place, AnnouncementAccess, Access, Task, Operation, Card}
+use Rattle.construction.specs.Types.{Gate, Active, Yield, Announcement, AnnouncementAccess, Access, Task, Operation, Card}
 use Rattle.construction.specs.Cells.{openAnnouncement, sameAnnouncement, swapAnnouncement}
 use Rattle.construction.specs.Parts.{announcementAt, localAt}
-use Rattle.construction.specs.Machine.{accessOf, accessAnnouncement, perform, advance}
+use Rattle.construction.specs.Machine.{accessAnnouncement, perform, advance}
 use Rattle.construction.proofs.Basics.{on-test, set-keeps, active-not-done, active-not-exit}
-use Rattle.construction.proofs.Invariant.Stages.{isAnnounced, announces, Stage, stage, isAnnouncing}
+use Rattle.construction.proofs.Invariant.Stages.{isAnnounced, announces, stage, isAnnouncing, proceeds}
 
 -- a flag that is active after was active before
 abbrev pub ActiveBefore : Card → ℕ → Card → Type 0
@@ -48,15 +48,9 @@ access-active Access.Help c i e = set-active (c .announcements) _ i _ (λ h. h)
 access-active Access.Note c i e = λ h. h
 access-active Access.Write c i e = λ h. h
 
-place-active : {l : Place} → Stage l → isAnnounced l ≡ true → (exit : Bool) (c : Card) (i : ℕ) → ActiveBefore c i (perform (accessOf l exit) c i .card)
-place-active Stage.idle t exit c i = absurd (false≢true t)
-place-active Stage.called t exit c i = absurd (false≢true t)
-place-active Stage.numbered t exit c i = absurd (false≢true t)
-place-active (Stage.announced a b f) t exit c i = access-active _ c i (f exit)
-
 -- a process that has announced its operation does not announce again
 pub active-before :
     (c : Card) (i : ℕ) → isAnnounced (localAt c i .task .place) ≡ true → announcementAt (advance c i) i .flag ≡ Active →
     announcementAt c i .flag ≡ Active
 unfolding advance
-active-before c i t = place-active (stage (localAt c i .task .place)) t (localAt c i .exit) c i
+active-before c i t = access-active _ c i (proceeds (stage (localAt c i .task .place)) t (localAt c i .exit) .0)

@@ -87,7 +87,7 @@ module _ (F : Contents) (w : World) (i : ℕ) (t : Local) where
   quiet-at Stage.idle e q = q .0
   quiet-at Stage.called e q = q .0
   quiet-at Stage.numbered e q = q .0
-  quiet-at (Stage.announced a b f) e q = absurd (true-false _ a e)
+  quiet-at (Stage.announced l a b f) e q = absurd (true-false _ a e)
 
 module _ {c : Card} {w : World} (I : CardInvariant c w) (i : ℕ) (lt : i < c .processCount) where
   -- an operation that is not announced is not active and does not hold the gate

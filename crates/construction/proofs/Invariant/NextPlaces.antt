@@ -1,18 +1,15 @@
 -- Where a step leads: the place of its process afterwards.
 use Prim.Native.Nat.{ℕ, _<_, suc}
 use mathlib.Core.Path.{_≡_, refl, sym, subst}
-use mathlib.Core.Bool.{Bool, true, false, false≢true}
-use mathlib.Core.Logic.{_⊎_, inl, inr}
 use lib.ListN.{length, getD, set}
 use lib.Seq.{getD-set-same}
 use lib.Dec.{ltb}
-use Rattle.construction.specs.Types.{Holder, Nobody, Process, Gate, Flag, Done, Active, Exit, Words, Yield, Announcement, Record, Program, Dictionary, Simulation, Pause, Ended, Faulted, Lacks, Simulated, Place, Idle, P1, P3, P5, P7, P10, C2, C4, P13, P14, P16, H21, H36, P19, P20, P21, P22, F1, F3, GateAccess, AnnouncementAccess, Access, Task, Began, Helped, Operation, Card}
+use Rattle.construction.specs.Types.{Holder, Nobody, Process, Gate, Flag, Done, Active, Exit, Words, Yield, Announcement, Record, Program, Dictionary, Simulation, Pause, Ended, Faulted, Lacks, Simulated, Place, Idle, P1, P3, P5, P7, C4, P13, P14, H21, H36, P19, P21, F3, GateAccess, AnnouncementAccess, Access, Task, Began, Helped, Operation, Card}
 use Rattle.construction.specs.Cells.{openAnnouncement, sameHolder}
 use Rattle.construction.specs.Dictionary.{noted, nextWrite, insert, itemOf, empty}
 use Rattle.construction.specs.Parts.{idleTask, announcementAt, localAt}
 use Rattle.construction.specs.Machine.{byHolder, byFlag, writeFrom, afterPause, announced, accessOf, accessGate, accessAnnouncement, perform, advance, beginHelp, note, writing, helps, helped}
 use Rattle.construction.proofs.Basics.{on-test}
-use Rattle.construction.proofs.Invariant.Stages.{isAnnounced}
 use Rattle.construction.specs.Marks.{withBit}
 use Rattle.construction.specs.Helping.{simulate}
 use Rattle.construction.specs.Instructions.{started}
@@ -114,38 +111,7 @@ module _ (Q : Place → Type 0) where
     leads Access.Note q = placed _ (note-leads q _ _ _ _ _ _ _ _ _)
     leads Access.Write q = placed _ (write-leads q _ _ _)
 
--- an announced operation stays announced until it returns
-abbrev pub Onward : Place → Type 0
-Onward l = (isAnnounced l ≡ true) ⊎ (l ≡ Idle)
-
-onward : (l : Place) (exit : Bool) → isAnnounced l ≡ true → Leads Onward (accessOf l exit)
-unfolding accessOf
-onward Idle exit e = absurd (false≢true e)
-onward P1 exit e = absurd (false≢true e)
-onward P3 exit e = absurd (false≢true e)
-onward P5 true e = inl refl
-onward P5 false e = (inl refl, inl refl)
-onward P7 exit e = (inl refl, inl refl, inl refl)
-onward P10 exit e = (inl refl, inl refl)
-onward C2 exit e = (inl refl, inl refl)
-onward C4 exit e = (inl refl, inl refl, inl refl)
-onward P13 exit e = inl refl
-onward P14 exit e = (inl refl, inl refl)
-onward P16 exit e = (inl refl, inl refl, inl refl, inl refl)
-onward H21 exit e = (inl refl, inl refl, inl refl)
-onward H36 exit e = (inl refl, inl refl)
-onward P19 exit e = inl refl
-onward P20 exit e = inl refl
-onward P21 exit e = inl refl
-onward P22 exit e = (inl refl, inl refl, inr refl)
-onward F1 exit e = (inl refl, inr refl)
-onward F3 exit e = inr refl
-
 module _ (c : Card) (i : ℕ) (lt : i < length (c .tasks)) where
-  pub announced-next : isAnnounced (localAt c i .task .place) ≡ true → Onward (localAt (advance c i) i .task .place)
-  unfolding advance
-  announced-next e = leads Onward c i lt _ (onward (localAt c i .task .place) (localAt c i .exit) e)
-
   -- P1 leads to P3
   pub P1-next : localAt c i .task .place ≡ P1 → localAt (advance c i) i .task .place ≡ P3
   unfolding advance accessOf

@@ -1,11 +1,15 @@
 -- The places of a process by what it has done there (lines P1 to P3, and all that follow P3), so that they are told apart once.
+use Prim.Native.Nat.{ℕ, _<_}
 use mathlib.Core.Path.{_≡_, refl, ap}
 use mathlib.Core.Bool.{Bool, true, false, not, false≢true}
 use mathlib.Core.Logic.{_⊎_, inl, inr}
-use Rattle.construction.specs.Types.{Gate, Announcement, Place, Idle, P1, P3, P5, P7, P10, C2, C4, P13, P14, P16, H21, H36, P19, P20, P21, P22, F1, F3, AnnouncementAccess, Access}
-use Rattle.construction.specs.Machine.{accessOf}
+use Rattle.construction.specs.Types.{Gate, Announcement, Place, Idle, P1, P3, P5, P7, P10, C2, C4, P13, P14, P16, H21, H36, P19, P20, P21, P22, F1, F3, AnnouncementAccess, Access, Card}
+use lib.ListN.{length}
+use Rattle.construction.specs.Parts.{localAt}
+use Rattle.construction.specs.Machine.{accessOf, advance}
 use Rattle.construction.specs.Requests.{isIdle}
-use Rattle.construction.proofs.Basics.{on-test, true-false}
+use Rattle.construction.proofs.Basics.{true-false}
+use Rattle.construction.proofs.Invariant.NextPlaces.{Leads, leads}
 
 -- the places of an announced operation: after P3 until it returns
 abbrev pub isAnnounced : Place → Bool
@@ -45,53 +49,72 @@ isAnnouncing Access.Help = false
 isAnnouncing Access.Note = false
 isAnnouncing Access.Write = false
 
--- no operation under way; one that is called; one that has a number; one that is announced and does not announce again
+-- an announced operation stays announced until it returns
+abbrev pub Onward : Place → Type 0
+Onward l = (isAnnounced l ≡ true) ⊎ (l ≡ Idle)
+
+-- its access is not that of P3, and leads onward
+abbrev Proceeds : Access → Type 0
+Proceeds a = (isAnnouncing a ≡ false) × Leads Onward a
+
+-- no operation under way; one that is called; one that has a number; one that is announced
 pub data Stage : Place → Type 0 where
   idle : Stage Idle
   called : Stage P1
   numbered : Stage P3
-  announced :
-      {l : Place} → isAnnounced l ≡ true → isIdle l ≡ false → ((exit : Bool) → isAnnouncing (accessOf l exit) ≡ false) → Stage l
+  announced : (l : Place) → isAnnounced l ≡ true → isIdle l ≡ false → ((exit : Bool) → Proceeds (accessOf l exit)) → Stage l
 
 pub stage : (l : Place) → Stage l
 unfolding accessOf
 stage Idle = Stage.idle
 stage P1 = Stage.called
 stage P3 = Stage.numbered
-stage P5 = Stage.announced refl refl (λ exit. on-test (λ a. isAnnouncing a ≡ false) exit (λ _. refl) (λ _. refl))
-stage P7 = Stage.announced refl refl (λ _. refl)
-stage P10 = Stage.announced refl refl (λ _. refl)
-stage C2 = Stage.announced refl refl (λ _. refl)
-stage C4 = Stage.announced refl refl (λ _. refl)
-stage P13 = Stage.announced refl refl (λ _. refl)
-stage P14 = Stage.announced refl refl (λ _. refl)
-stage P16 = Stage.announced refl refl (λ _. refl)
-stage H21 = Stage.announced refl refl (λ _. refl)
-stage H36 = Stage.announced refl refl (λ _. refl)
-stage P19 = Stage.announced refl refl (λ _. refl)
-stage P20 = Stage.announced refl refl (λ _. refl)
-stage P21 = Stage.announced refl refl (λ _. refl)
-stage P22 = Stage.announced refl refl (λ _. refl)
-stage F1 = Stage.announced refl refl (λ _. refl)
-stage F3 = Stage.announced refl refl (λ _. refl)
+stage P5 = Stage.announced P5 refl refl (elim [ true ↦ (refl, inl refl) | false ↦ (refl, (inl refl, inl refl)) ])
+stage P7 = Stage.announced P7 refl refl (λ _. (refl, (inl refl, inl refl, inl refl)))
+stage P10 = Stage.announced P10 refl refl (λ _. (refl, (inl refl, inl refl)))
+stage C2 = Stage.announced C2 refl refl (λ _. (refl, (inl refl, inl refl)))
+stage C4 = Stage.announced C4 refl refl (λ _. (refl, (inl refl, inl refl, inl refl)))
+stage P13 = Stage.announced P13 refl refl (λ _. (refl, inl refl))
+stage P14 = Stage.announced P14 refl refl (λ _. (refl, (inl refl, inl refl)))
+stage P16 = Stage.announced P16 refl refl (λ _. (refl, (inl refl, inl refl, inl refl, inl refl)))
+stage H21 = Stage.announced H21 refl refl (λ _. (refl, (inl refl, inl refl, inl refl)))
+stage H36 = Stage.announced H36 refl refl (λ _. (refl, (inl refl, inl refl)))
+stage P19 = Stage.announced P19 refl refl (λ _. (refl, inl refl))
+stage P20 = Stage.announced P20 refl refl (λ _. (refl, inl refl))
+stage P21 = Stage.announced P21 refl refl (λ _. (refl, inl refl))
+stage P22 = Stage.announced P22 refl refl (λ _. (refl, (inl refl, inl refl, inr refl)))
+stage F1 = Stage.announced F1 refl refl (λ _. (refl, (inl refl, inr refl)))
+stage F3 = Stage.announced F3 refl refl (λ _. (refl, inr refl))
+
+-- an announced operation does not announce again, and goes onward
+pub proceeds : {l : Place} → Stage l → isAnnounced l ≡ true → (exit : Bool) → Proceeds (accessOf l exit)
+proceeds Stage.idle t exit = absurd (false≢true t)
+proceeds Stage.called t exit = absurd (false≢true t)
+proceeds Stage.numbered t exit = absurd (false≢true t)
+proceeds (Stage.announced l a b f) t exit = f exit
+
+pub announced-next :
+    (c : Card) (i : ℕ) → i < length (c .tasks) → isAnnounced (localAt c i .task .place) ≡ true → Onward (localAt (advance c i) i .task .place)
+unfolding advance
+announced-next c i lt e = leads Onward c i lt _ (proceeds (stage (localAt c i .task .place)) e (localAt c i .exit) .1)
 
 pub is-idle : {l : Place} → Stage l → isIdle l ≡ true → l ≡ Idle
 unfolding accessOf
 is-idle Stage.idle e = refl
 is-idle Stage.called e = absurd (false≢true e)
 is-idle Stage.numbered e = absurd (false≢true e)
-is-idle (Stage.announced a b f) e = absurd (true-false _ e b)
+is-idle (Stage.announced l a b f) e = absurd (true-false _ e b)
 
 pub announced-busy : {l : Place} → Stage l → isAnnounced l ≡ true → not (isIdle l) ≡ true
 unfolding accessOf
 announced-busy Stage.idle t = t
 announced-busy Stage.called t = refl
 announced-busy Stage.numbered t = refl
-announced-busy (Stage.announced a b f) t = ap not b
+announced-busy (Stage.announced l a b f) t = ap not b
 
 pub busy-stage : {l : Place} → Stage l → not (isIdle l) ≡ true → (l ≡ P1) ⊎ (l ≡ P3) ⊎ (isAnnounced l ≡ true)
 unfolding accessOf
 busy-stage Stage.idle t = absurd (false≢true t)
 busy-stage Stage.called t = inl refl
 busy-stage Stage.numbered t = inr (inl refl)
-busy-stage (Stage.announced a b f) t = inr (inr a)
+busy-stage (Stage.announced l a b f) t = inr (inr a)

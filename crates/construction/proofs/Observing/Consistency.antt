@@ -19,10 +19,10 @@ use Rattle.construction.proofs.Observing.Histories.{turned-same}
 use Rattle.construction.proofs.Statements.OneAccess.{one-access}
 use Rattle.construction.proofs.Observing.Outcomes.{Outcome, outcome}
 use Rattle.construction.proofs.Invariant.World.{World, announcementIn, resultIn, ending, asking}
-use Rattle.construction.proofs.Invariant.Stages.{isAnnounced, stage, announced-busy, busy-stage}
+use Rattle.construction.proofs.Invariant.Stages.{isAnnounced, stage, announced-busy, busy-stage, announced-next}
 use Rattle.construction.proofs.Invariant.Cards.{CardInvariant, Stepped, gate-is, announcements-is, inv-call, inv-exit, inv-step}
 use Rattle.construction.proofs.Invariant.Answers.{read-is, answer-is, holder-announced}
-use Rattle.construction.proofs.Invariant.NextPlaces.{P1-next, P3-next, P3-active, announced-next}
+use Rattle.construction.proofs.Invariant.NextPlaces.{P1-next, P3-next, P3-active}
 use Rattle.construction.proofs.Invariant.ActiveFlags.{active-before}
 use Rattle.construction.proofs.Observing.Tracking.{requestOf, Own, Tracks, under-way, NothingFinishes, OneFinishes, kind-of, turned-ends, tracks-calm, tracks-finished, own-next, tracks-place, tracks-called, tracks-returned}
 use Rattle.construction.specs.Linearizability.{FinishesOne, FinishesAtMostOne}

@@ -96,24 +96,22 @@ sameBool-refl false = refl
 pub eqb-refl : (n : ℕ) → eqb n n ≡ true
 eqb-refl n = eq-eqb n n refl
 
-sameWords-true : (a b : Words) → sameWords a b ≡ true → a ≡ b
-unfolding sameWords
-sameWords-true a b e =
-    let h = and-true (eqb (a .w0) (b .w0)) _ e in
-    let k = and-true (eqb (a .w1) (b .w1)) _ (h .1) in
-    let l = and-true (eqb (a .w2) (b .w2)) _ (k .1) in
-    λ i. record {
-      w0 = eqb-true (a .w0) (b .w0) (h .0) i;
-      w1 = eqb-true (a .w1) (b .w1) (k .0) i;
-      w2 = eqb-true (a .w2) (b .w2) (l .0) i;
-      w3 = eqb-true (a .w3) (b .w3) (l .1) i;
-    }
+-- four tests that hold together
+and-four : (a b c d : Bool) → a && (b && (c && d)) ≡ true → (a ≡ true) × (b ≡ true) × (c ≡ true) × (d ≡ true)
+and-four a b c d e =
+    let h = and-true a _ e in
+    let k = and-true b _ (h .1) in
+    let l = and-true c d (k .1) in
+    (h .0, k .0, l .0, l .1)
 
-sameWords-refl : (a : Words) → sameWords a a ≡ true
-unfolding sameWords
-sameWords-refl a = rw (eqb-refl (a .w0), eqb-refl (a .w1), eqb-refl (a .w2)) (eqb-refl (a .w3))
+-- a test that holds of a value and itself does not fail on equal values
+refl-false : {A : Type 0} (same : A → A → Bool) → ((a : A) → same a a ≡ true) → (a b : A) → same a b ≡ false → a ≢ b
+refl-false same r a b e q = true-false (same a b) (rw (← q) (r a)) e
 
--- equality of whole cells
+-- equality of the words of a cell, and of whole cells, by their fields
+words-path : {a b : Words} → a .w0 ≡ b .w0 → a .w1 ≡ b .w1 → a .w2 ≡ b .w2 → a .w3 ≡ b .w3 → a ≡ b
+words-path e f g h = λ i. record { w0 = e i; w1 = f i; w2 = g i; w3 = h i }
+
 pub gate-path : {a b : Gate} → a .holder ≡ b .holder → a .seq ≡ b .seq → a ≡ b
 gate-path e f = λ i. record { holder = e i; seq = f i }
 
@@ -121,6 +119,20 @@ pub announcement-path :
     {a b : Announcement} → a .program ≡ b .program → a .flag ≡ b .flag → a .seq ≡ b .seq → a .number ≡ b .number → a .words ≡ b .words →
     a .fault ≡ b .fault → a ≡ b
 announcement-path e f g n h k = λ i. record { program = e i; flag = f i; seq = g i; number = n i; words = h i; fault = k i }
+
+record-path : {a b : Record} → a .val0 ≡ b .val0 → a .val1 ≡ b .val1 → a .toggle ≡ b .toggle → a .seq ≡ b .seq → a ≡ b
+record-path e f g h = λ i. record { val0 = e i; val1 = f i; toggle = g i; seq = h i }
+
+-- the tests of them
+sameWords-true : (a b : Words) → sameWords a b ≡ true → a ≡ b
+unfolding sameWords
+sameWords-true a b e =
+    let h = and-four (eqb (a .w0) (b .w0)) (eqb (a .w1) (b .w1)) (eqb (a .w2) (b .w2)) _ e in
+    words-path (eqb-true _ _ (h .0)) (eqb-true _ _ (h .1)) (eqb-true _ _ (h .2)) (eqb-true _ _ (h .3))
+
+sameWords-refl : (a : Words) → sameWords a a ≡ true
+unfolding sameWords
+sameWords-refl a = rw (eqb-refl (a .w0), eqb-refl (a .w1), eqb-refl (a .w2)) (eqb-refl (a .w3))
 
 pub sameGate-true : (a b : Gate) → sameGate a b ≡ true → a ≡ b
 unfolding sameGate
@@ -133,45 +145,36 @@ unfolding sameGate
 sameGate-refl a = rw sameHolder-refl (eqb-refl (a .seq))
 
 pub sameGate-false : (a b : Gate) → sameGate a b ≡ false → a ≢ b
-sameGate-false a b e q = true-false (sameGate a b) (rw (← q) (sameGate-refl a)) e
+sameGate-false = refl-false sameGate sameGate-refl
 
 pub sameAnnouncement-true : (a b : Announcement) → sameAnnouncement a b ≡ true → a ≡ b
 unfolding sameAnnouncement
 sameAnnouncement-true a b e =
-    let h = and-true (eqb (a .program) (b .program)) _ e in
-    let k = and-true (eqb (a .seq) (b .seq)) _ (h .1) in
-    let l = and-true (sameFlag (a .flag) (b .flag)) _ (k .1) in
-    let n = and-true (eqb (a .number) (b .number)) _ (l .1) in
-    let m = and-true (sameBool (a .fault) (b .fault)) _ (n .1) in
-    announcement-path (eqb-true _ _ (h .0)) (sameFlag-true _ _ (l .0)) (eqb-true _ _ (k .0)) (eqb-true _ _ (n .0)) (sameWords-true _ _ (m .1))
-    (sameBool-true _ _ (m .0))
+    let h = and-four (eqb (a .program) (b .program)) (eqb (a .seq) (b .seq)) (sameFlag (a .flag) (b .flag)) _ e in
+    let k = and-true (eqb (a .number) (b .number)) _ (h .3) in
+    let l = and-true (sameBool (a .fault) (b .fault)) _ (k .1) in
+    announcement-path (eqb-true _ _ (h .0)) (sameFlag-true _ _ (h .2)) (eqb-true _ _ (h .1)) (eqb-true _ _ (k .0)) (sameWords-true _ _ (l .1))
+    (sameBool-true _ _ (l .0))
 
 sameAnnouncement-refl : (a : Announcement) → sameAnnouncement a a ≡ true
 unfolding sameAnnouncement
 sameAnnouncement-refl a = rw (eqb-refl (a .program), eqb-refl (a .seq), sameFlag-refl, eqb-refl (a .number), sameBool-refl) (sameWords-refl (a .words))
 
 pub sameAnnouncement-false : (a b : Announcement) → sameAnnouncement a b ≡ false → a ≢ b
-sameAnnouncement-false a b e q = true-false (sameAnnouncement a b) (rw (← q) (sameAnnouncement-refl a)) e
+sameAnnouncement-false = refl-false sameAnnouncement sameAnnouncement-refl
 
 pub sameRecord-true : (a b : Record) → sameRecord a b ≡ true → a ≡ b
 unfolding sameRecord
 sameRecord-true a b e =
-    let h = and-true (eqb (a .val0) (b .val0)) _ e in
-    let k = and-true (eqb (a .val1) (b .val1)) _ (h .1) in
-    let l = and-true (sameBool (a .toggle) (b .toggle)) _ (k .1) in
-    λ i. record {
-      val0 = eqb-true (a .val0) (b .val0) (h .0) i;
-      val1 = eqb-true (a .val1) (b .val1) (k .0) i;
-      toggle = sameBool-true (a .toggle) (b .toggle) (l .0) i;
-      seq = eqb-true (a .seq) (b .seq) (l .1) i;
-    }
+    let h = and-four (eqb (a .val0) (b .val0)) (eqb (a .val1) (b .val1)) (sameBool (a .toggle) (b .toggle)) _ e in
+    record-path (eqb-true _ _ (h .0)) (eqb-true _ _ (h .1)) (sameBool-true _ _ (h .2)) (eqb-true _ _ (h .3))
 
 sameRecord-refl : (a : Record) → sameRecord a a ≡ true
 unfolding sameRecord
 sameRecord-refl a = rw (eqb-refl (a .val0), eqb-refl (a .val1), sameBool-refl) (eqb-refl (a .seq))
 
 pub sameRecord-false : (a b : Record) → sameRecord a b ≡ false → a ≢ b
-sameRecord-false a b e q = true-false (sameRecord a b) (rw (← q) (sameRecord-refl a)) e
+sameRecord-false = refl-false sameRecord sameRecord-refl
 
 -- holders told apart
 pub nobody-process : {h : Holder} {m : ℕ} → h ≡ Nobody → h ≡ Process m → ⊥

@@ -18,7 +18,7 @@ use Rattle.construction.proofs.Basics.{true-or-false, true-false, cond-
 use Rattle.construction.proofs.Observing.Histories.{turned-same}
 use Rattle.construction.proofs.Statements.OneAccess.{one-access}
 use Rattle.construction.proofs.Observing.Outcomes.{Outcome, outcome}
-use Rattle.construction.proofs.Invariant.World.{World, announcementIn, resultIn, ending, asking}
+use Rattle.construction.proofs.Invariant.World.{World, announcementIn, resultIn, WorldInvariant, ending, asking}
 use Rattle.construction.proofs.Invariant.Stages.{isAnnounced, stage, announced-busy, busy-stage, announced-next}
 use Rattle.construction.proofs.Invariant.Cards.{CardInvariant, Stepped, gate-is, announcements-is, inv-call, inv-exit, inv-step}
 use Rattle.construction.proofs.Invariant.Answers.{read-is, answer-is, holder-announced}
@@ -69,6 +69,12 @@ module _ (o : Card) (m : Observation) (O : Consistent o m) where
       none : withFinishes o (c .gate .seq) (finishing c d) s ≡ s
       none = rw (← z, turned-same 0 (c .announcements))
 
+  good : WorldInvariant (contentsOf c) w
+  good = O .inv .good
+
+  has-task : {i : ℕ} → i < c .processCount → i < length (c .tasks)
+  has-task lt = omega (arith, O .inv .sizes .tasks, good .fits .few)
+
   processes-is : c .processCount ≡ o .processCount
   processes-is = ap (λ (x : Contents). x .processCount) (O .text)
 
@@ -109,12 +115,12 @@ module _ (o : Card) (m : Observation) (O : Consistent o m) where
       let others : (j : ℕ) → j ≢ i → (isBusy d j ≡ isBusy c j) × (announcedIn d j ≡ announcedIn c j) =
       λ j ne. rw (getD-set-other (c .tasks) i j (record { place = P1; target = 0 }) idleTask ne) (refl, refl) in
       let here : localAt d i .task ≡ record { place = P1; target = 0 } =
-      getD-set-same (c .tasks) i _ idleTask (omega (arith, O .inv .sizes .tasks, O .inv .good .fits .few)) in
+      getD-set-same (c .tasks) i _ idleTask (has-task lt) in
       unturned d (Entry.Call i k inputs) Answer.Taken refl
       (record {
         world = asking w i (requestOf x);
         inv = inv-call c w i k inputs (O .inv) lt f;
-        tracks = tracks-called i others (O .tracks) x (O .inv .good) lt refl (ap (λ (t : Task). isAnnounced (t .place)) here);
+        tracks = tracks-called i others (O .tracks) x good lt refl (ap (λ (t : Task). isAnnounced (t .place)) here);
         text = O .text;
       })
 
@@ -140,7 +146,7 @@ module _ (o : Card) (m : Observation) (O : Consistent o m) where
         ap flag (sym (announcements-is (O .inv))) ∙ active-before c i t (ap flag (announcements-is (S .inv)) ∙ h)
 
     kind : NothingFinishes (announcedIn c) w (S .after) ⊎ OneFinishes (contentsOf c) w (S .after)
-    kind = kind-of (announcedIn c) (O .inv .good) (S .move) only
+    kind = kind-of (announcedIn c) good (S .move) only
 
     -- the operation that an ending move finishes
     module _ (E : OneFinishes (contentsOf c) w (S .after)) where
@@ -154,7 +160,7 @@ module _ (o : Card) (m : Observation) (O : Consistent o m) where
           (announced-busy (stage (localAt c (E .process) .task .place)) ends-announced))
 
       ends-one : finishing c d ≡ E .process ∷ []
-      ends-one = finishing-is ∙ turned-ends (O .inv .good) E
+      ends-one = finishing-is ∙ turned-ends good E
 
     -- the notes after the step and before its answer
     abbrev Moved : ℕ → List ℕ → World → Type 0
@@ -174,7 +180,7 @@ module _ (o : Card) (m : Observation) (O : Consistent o m) where
             subst (λ (is : List ℕ). Moved (c .gate .seq) is (S .after)) (sym (ends-one E))
             (subst (λ (v : World). Moved (c .gate .seq) (E .process ∷ []) v) (sym (E .becomes))
             (subst (λ (g : Gate). Moved (g .seq) (E .process ∷ []) (ending (contentsOf c) w (E .process))) (sym (gate-is (O .inv)))
-            (tracks-finished o (O .inv .good) (O .tracks) (E .process) (E .inside) (E .held) (E .undone) (ends-own E)
+            (tracks-finished o good (O .tracks) (E .process) (E .inside) (E .held) (E .undone) (ends-own E)
             (ap (λ (x : Contents). x .variableCount) (sym (O .text)))
             (ap (λ (x : Contents). x .programs) (sym (O .text))) (ends-announced E))))
 
@@ -196,18 +202,15 @@ module _ (o : Card) (m : Observation) (O : Consistent o m) where
     own-stage : (own-place ≡ P1) ⊎ (own-place ≡ P3) ⊎ (isAnnounced own-place ≡ true)
     own-stage = busy-stage (stage own-place) b
 
-    has-task : i < length (c .tasks)
-    has-task = omega (arith, O .inv .sizes .tasks, O .inv .good .fits .few)
-
     has-announcement : i < length (c .announcements)
     has-announcement =
-        omega (arith, O .inv .good .lengths .announcements, ap length (announcements-is (O .inv)), O .inv .good .fits .few)
+        omega (arith, good .lengths .announcements, ap length (announcements-is (O .inv)), good .fits .few)
 
     at-P1 : own-place ≡ P1 → next-place ≡ P3
-    at-P1 h = P1-next c i has-task h
+    at-P1 h = P1-next c i (has-task lt) h
 
     at-P3 : own-place ≡ P3 → next-place ≡ P5
-    at-P3 h = P3-next c i has-task h
+    at-P3 h = P3-next c i (has-task lt) h
 
     -- it was unannounced if it is so still
     unannounced : isBusy d i ≡ true → isAnnounced next-place ≡ false → isAnnounced own-place ≡ false
@@ -216,7 +219,7 @@ module _ (o : Card) (m : Observation) (O : Consistent o m) where
         ⊎-elim (λ z. ap isAnnounced z)
         (⊎-elim (λ z. ap isAnnounced z)
         (λ t. ⊎-elim (λ z. absurd (true-false _ z h)) (λ z. absurd (true-false _ busy (ap (λ (l : Place). not (isIdle l)) z)))
-        (announced-next c i has-task t))) own-stage
+        (announced-next c i (has-task lt) t))) own-stage
 
     -- it was announced before, or is active now
     newly : isAnnounced next-place ≡ true → (isAnnounced own-place ≡ true) ⊎ (announcementIn (S .after) i .flag ≡ Active)
@@ -225,7 +228,7 @@ module _ (o : Card) (m : Observation) (O : Consistent o m) where
         (⊎-elim
         (λ z. inr
         (ap (λ (x : List Announcement). getD x i openAnnouncement .flag) (sym (announcements-is (S .inv)))
-        ∙ ap (λ (a : Announcement). a .flag) (P3-active c i has-task has-announcement z)))
+        ∙ ap (λ (a : Announcement). a .flag) (P3-active c i (has-task lt) has-announcement z)))
         inl) own-stage
 
     -- one that returns was announced
@@ -310,7 +313,8 @@ pub read-shown : (o : Card) (m : Observation) → Consistent o m → (v : ℕ) �
 unfolding read
 read-shown o m O v l =
     let inside : v < m .card .variableCount = subst (λ (x : Contents). v < x .variableCount) (sym (O .text)) l in
-    let there : isVariable (m .card) v ≡ true = rw (lt-ltb v (m .card .variableCount) inside) (lt-ltb v 64 (omega (arith, O .inv .good .fits .narrow))) in
+    let narrow = good o m O .fits .narrow in
+    let there : isVariable (m .card) v ≡ true = rw (lt-ltb v (m .card .variableCount) inside) (lt-ltb v 64 (omega (arith, narrow))) in
     cond-false (not (isVariable (m .card) v)) _ _ (ap not there)
     ∙ ap (λ (x : ℕ). record { card = m .card; answer = Answer.Value x })
     (read-is (m .card) (O .world) (O .inv) v inside ∙ ap (λ (ws : List ℕ). getD ws v 0) (sym (O .tracks .words)))

@@ -3,15 +3,15 @@ use Prim.Native.Nat.{ℕ, _+_, _%_, _≤_, _<_}
 use mathlib.Core.Path.{_≡_, refl}
 use mathlib.Core.List.{List}
 use native.Mathlib.Omega.{arith}
-use Rattle.construction.specs.Types.{Gate, Announcement, Record, Dictionary, Simulation, Task, Card}
+use Rattle.construction.specs.Types.{Gate, Announcement, Record, Dictionary, Simulation, Place, Access, Task, Card}
 use Rattle.construction.specs.Dictionary.{noted}
 use Rattle.construction.specs.Parts.{Local, localAt, contentsOf, withCells, withLocal}
-use Rattle.construction.specs.Machine.{after}
+use Rattle.construction.specs.Machine.{perform, after}
 use Rattle.construction.proofs.Simulating.Dictionaries.{Keyed}
 use Rattle.construction.proofs.Invariant.World.{World, WorldInvariant, withShared, Move}
 use Rattle.construction.proofs.Invariant.World.Move.{stay}
 use Rattle.construction.proofs.Invariant.Locals.{Sizes}
-use Rattle.construction.proofs.Invariant.Assertions.{Loc}
+use Rattle.construction.proofs.Invariant.Assertions.{LocAt, Loc}
 
 -- a world whose shared cells are those of a card
 abbrev pub worldOf : Card → World → World
@@ -55,6 +55,10 @@ pub record Acted (c : Card) (w : World) (i : ℕ) (v : Card) : Type 0 where
   pub counted : local .steps ≡ (localAt c i .steps + 1) % 18446744073709551616
   pub tidy : WellFormed (local .dictionary)
   pub loc : Loc (contentsOf c) after i local
+
+-- from what it knows at the place l, process i comes by an access to what its next place asks for
+abbrev pub Step : Card → World → ℕ → Place → Access → Type 0
+Step c w i l a = LocAt l (contentsOf c) (worldOf c w) i (localAt c i) → Acted c (worldOf c w) i (perform a c i .card)
 
 module _ {c : Card} {w : World} {i : ℕ} (B : Before c w i) where
   pub place-fits : i < 8

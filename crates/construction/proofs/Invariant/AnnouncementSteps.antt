@@ -17,7 +17,7 @@ use Rattle.construction.proofs.Invariant.World.{endingIn, World, announ
 use Rattle.construction.proofs.Invariant.World.Move.{announce, leave, end}
 use Rattle.construction.proofs.Invariant.Claims.{viewOf, Change, end-change}
 use Rattle.construction.proofs.Invariant.Assertions.{Mine, Helper, Plan, Ready, LocAt, Loc, helper-stays, plan-stays, ready-stays}
-use Rattle.construction.proofs.Invariant.Acting.{worldOf, Before, Acted, acts, keeps, atTask, goes-on, atAnnouncement}
+use Rattle.construction.proofs.Invariant.Acting.{worldOf, Step, Before, Acted, acts, keeps, atTask, goes-on, atAnnouncement}
 
 -- line C1 names a process
 first-inside : (p i : ℕ) (g : Gate) → i < p → whose AnnouncementAccess.ReadFirst p i g < p
@@ -31,15 +31,12 @@ module _ {c : Card} {w : World} {i : ℕ} (B : Before c w i) where
   abbrev F : Contents
   F = contentsOf c
 
-  abbrev L : Place → Type 0
-  L l = LocAt l F W i (localAt c i)
-
   -- the announcement of m after it was set
   set-is : (m : ℕ) (a : Announcement) → m < c .processCount → getD (set (c .announcements) m a) m openAnnouncement ≡ a
   set-is m a lt =
       getD-set-same (c .announcements) m a openAnnouncement (omega (arith, B .good .fits .few, B .good .lengths .announcements))
 
-  pub at-P3 : L P3 → Acted c W i (perform (Access.Announcement AnnouncementAccess.Announce) c i .card)
+  pub at-P3 : Step c w i P3 (Access.Announcement AnnouncementAccess.Announce)
   unfolding perform accessAnnouncement
   at-P3 q =
       acts B (announce new (B .inside) (q .0) refl good) refl refl refl refl _ refl (B .tidy) (
@@ -90,10 +87,10 @@ module _ {c : Card} {w : World} {i : ℕ} (B : Before c w i) where
       go Active e = a e
       go Exit e = x e
 
-  pub at-P7 : L P7 → Acted c W i (perform (Access.Announcement (AnnouncementAccess.ReadOwn F1 P10 P10)) c i .card)
+  pub at-P7 : Step c w i P7 (Access.Announcement (AnnouncementAccess.ReadOwn F1 P10 P10))
   at-P7 q = at-own P10 P10 q (λ _. q) (λ _. q)
 
-  pub at-C4 : L C4 → Acted c W i (perform (Access.Announcement (AnnouncementAccess.ReadOwn F1 P13 P13)) c i .card)
+  pub at-C4 : Step c w i C4 (Access.Announcement (AnnouncementAccess.ReadOwn F1 P13 P13))
   at-C4 q = at-own P13 P13 (q .0) (λ e. self (active-not-done e)) (λ e. self (exit-not-done e))
     where
       self : announcementAt c i .flag ≢ Done → Loc F W i (read i P13)
@@ -105,7 +102,7 @@ module _ {c : Card} {w : World} {i : ℕ} (B : Before c w i) where
         q .3,
       )
 
-  pub at-P22 : L P22 → Acted c W i (perform (Access.Announcement (AnnouncementAccess.ReadOwn F1 P5 Idle)) c i .card)
+  pub at-P22 : Step c w i P22 (Access.Announcement (AnnouncementAccess.ReadOwn F1 P5 Idle))
   at-P22 q =
       at-own P5 Idle (q .0)
       (λ e. (
@@ -119,7 +116,7 @@ module _ {c : Card} {w : World} {i : ℕ} (B : Before c w i) where
       ))
 
   read-C2 :
-      (m : ℕ) → m < c .processCount → (f : Flag) → announcementAt c m .flag ≡ f → L C2 →
+      (m : ℕ) → m < c .processCount → (f : Flag) → announcementAt c m .flag ≡ f → LocAt C2 F W i (localAt c i) →
       Loc F W i (read m (byFlag f C4 P13 C4))
   read-C2 m ml Done e q = q
   read-C2 m ml Active e q = (
@@ -138,7 +135,7 @@ module _ {c : Card} {w : World} {i : ℕ} (B : Before c w i) where
   )
   read-C2 m ml Exit e q = q
 
-  pub at-C2 : L C2 → Acted c W i (perform (Access.Announcement AnnouncementAccess.ReadFirst) c i .card)
+  pub at-C2 : Step c w i C2 (Access.Announcement AnnouncementAccess.ReadFirst)
   unfolding perform accessAnnouncement
   at-C2 q =
       let m : ℕ = whose AnnouncementAccess.ReadFirst (c .processCount) i (localAt c i .gate) in
@@ -160,7 +157,7 @@ module _ {c : Card} {w : World} {i : ℕ} (B : Before c w i) where
   unmarked nd =
       ⊎-elim (λ t. absurd (nd (B .good .announced i .marked t .0))) (λ f. f) (true-or-false (announcementAt c i .fault))
 
-  pub at-P6 : L P5 → Acted c W i (perform (Access.Announcement AnnouncementAccess.Withdraw) c i .card)
+  pub at-P6 : Step c w i P5 (Access.Announcement AnnouncementAccess.Withdraw)
   unfolding perform accessAnnouncement swapAnnouncement
   at-P6 q =
       on-test (λ a. Acted c W i (swapped i a P7)) (sameAnnouncement (announcementAt c i) (localAt c i .announcement)) won
@@ -227,7 +224,7 @@ module _ {c : Card} {w : World} {i : ℕ} (B : Before c w i) where
   is-done : (m : ℕ) → m < c .processCount → announcementIn (ending F W m) m .flag ≡ Done
   is-done m ml = ap (λ (r : Announcement). r .flag) (set-is m _ ml)
 
-  pub at-P19 : L P19 → Acted c W i (perform (Access.Announcement (AnnouncementAccess.Finish Active P20)) c i .card)
+  pub at-P19 : Step c w i P19 (Access.Announcement (AnnouncementAccess.Finish Active P20))
   unfolding perform accessAnnouncement swapAnnouncement
   at-P19 q =
       on-test (λ a. Acted c W i (swapped helped a P20))
@@ -241,7 +238,7 @@ module _ {c : Card} {w : World} {i : ℕ} (B : Before c w i) where
       (λ e. lost helped P20
       (q .0, q .1, q .2, record { isnt = missed P20 Active (active-not-done refl) (q .0) (q .1) (q .2) e }))
 
-  pub at-P20 : L P20 → Acted c W i (perform (Access.Announcement (AnnouncementAccess.Finish Exit P21)) c i .card)
+  pub at-P20 : Step c w i P20 (Access.Announcement (AnnouncementAccess.Finish Exit P21))
   unfolding perform accessAnnouncement swapAnnouncement
   at-P20 q =
       on-test (λ a. Acted c W i (swapped helped a P21))

@@ -5,7 +5,7 @@ use mathlib.Core.Bool.{true, false}
 use mathlib.Core.Logic.{_≢_, inl, inr, ⊎-elim}
 use native.Mathlib.Omega.{arith}
 use native.Mathlib.Decide.{decLt}
-use Rattle.construction.specs.Types.{Holder, Nobody, Process, Gate, Done, Announcement, Place, Idle, P1, P3, C2, P13, P14, P16, P21, P22, F1, F3, GateAccess, Access, Operation, Card, Contents}
+use Rattle.construction.specs.Types.{Holder, Nobody, Process, Gate, Done, Announcement, Place, Idle, P1, P3, P10, C2, P13, P14, P16, P21, P22, F1, F3, GateAccess, Access, Operation, Card, Contents}
 use Rattle.construction.specs.Cells.{sameHolder, sameGate, swapGate, released}
 use Rattle.construction.specs.Parts.{announcementAt, withGate, localAt, Local, contentsOf, withLocal}
 use Rattle.construction.specs.Machine.{goTo, byHolder, holderOf, accessGate, perform}
@@ -13,8 +13,8 @@ use Rattle.construction.proofs.Basics.{on-test, true-false, gate-path, 
 use Rattle.construction.proofs.Invariant.World.{World, resultOf, leftIn, freeing, Quiet}
 use Rattle.construction.proofs.Invariant.World.Move.{take, free}
 use Rattle.construction.proofs.Invariant.Claims.{View, viewOf, gated, Limit, Returning, Rested, Eligible}
-use Rattle.construction.proofs.Invariant.Assertions.{Mine, Helper, LocAt, Loc}
-use Rattle.construction.proofs.Invariant.Acting.{worldOf, Before, Acted, acts, keeps, atTask, atGate, goes-on}
+use Rattle.construction.proofs.Invariant.Assertions.{Mine, Helper, Loc}
+use Rattle.construction.proofs.Invariant.Acting.{worldOf, Step, Before, Acted, acts, keeps, atTask, atGate, goes-on}
 
 -- what is known of an operation at its return
 rests :
@@ -39,9 +39,6 @@ module _ {c : Card} {w : World} {i : ℕ} (B : Before c w i) where
 
   abbrev F : Contents
   F = contentsOf c
-
-  abbrev L : Place → Type 0
-  L l = LocAt l F W i (localAt c i)
 
   -- process i with the gate that it has read
   abbrev read : Place → Local
@@ -75,21 +72,21 @@ module _ {c : Card} {w : World} {i : ℕ} (B : Before c w i) where
       go Nobody e = b e
       go (Process m) e = a m e
 
-  pub at-P1 : L P1 → Acted c W i (perform (Access.Gate (GateAccess.Read P3 P3)) c i .card)
+  pub at-P1 : Step c w i P1 (Access.Gate (GateAccess.Read P3 P3))
   at-P1 q = at-read P3 P3 (λ _ _. next) (λ _. next)
     where
       next : Loc F W i (read P3)
       next = (q .0, q .1, B .good .left-below i, omega arith)
 
-  pub at-P10 : Mine (viewOf W i) (localAt c i .operation) → Acted c W i (perform (Access.Gate (GateAccess.Read P16 C2)) c i .card)
+  pub at-P10 : Step c w i P10 (Access.Gate (GateAccess.Read P16 C2))
   at-P10 q = at-read P16 C2 (λ m e. helper-now m e q) (λ e. (q, e, omega arith, limit-now))
 
-  pub at-P14 : L P14 → Acted c W i (perform (Access.Gate (GateAccess.Read P16 P22)) c i .card)
+  pub at-P14 : Step c w i P14 (Access.Gate (GateAccess.Read P16 P22))
   at-P14 q =
       at-read P16 P22 (λ m e. helper-now m e (q .0))
       (λ e. (q .0, record { late = λ x. q .1 .past x e; free-of = λ _. nobody-process e }))
 
-  pub at-F1 : L F1 → Acted c W i (perform (Access.Gate GateAccess.ReadLast) c i .card)
+  pub at-F1 : Step c w i F1 (Access.Gate GateAccess.ReadLast)
   unfolding perform accessGate
   at-F1 q =
       on-test (λ l. Acted c W i (withLocal c i (read l))) (sameHolder (c .gate .holder) (Process i))
@@ -118,7 +115,7 @@ module _ {c : Card} {w : World} {i : ℕ} (B : Before c w i) where
       let few : c .gate .seq ≤ 1000000000000000000 = B .small in
       acts B (free m ml h d) refl (gate-path refl (omega arith)) refl refl _ refl (B .tidy) q
 
-  pub at-P13 : L P13 → Acted c W i (perform (Access.Gate GateAccess.Nominate) c i .card)
+  pub at-P13 : Step c w i P13 (Access.Gate GateAccess.Nominate)
   unfolding perform accessGate swapGate
   at-P13 q = on-test (λ g. Acted c W i (swapped g P14)) (sameGate (c .gate) (localAt c i .gate)) won (λ e. lost P14 (late e))
     where
@@ -162,7 +159,7 @@ module _ {c : Card} {w : World} {i : ℕ} (B : Before c w i) where
           absurd (sameGate-false _ _ e (gate-path (y .0 ∙ sym (q .named)) (y .1)))
       go (no l) = omega (arith, B .good .left-below m)
 
-  pub at-P21 : L P21 → Acted c W i (perform (Access.Gate (GateAccess.Release P22)) c i .card)
+  pub at-P21 : Step c w i P21 (Access.Gate (GateAccess.Release P22))
   unfolding perform accessGate swapGate
   at-P21 q =
       on-test (λ g. Acted c W i (swapped g P22)) (sameGate (c .gate) (localAt c i .gate)) won
@@ -185,7 +182,7 @@ module _ {c : Card} {w : World} {i : ℕ} (B : Before c w i) where
         record { late = λ x. omega (arith, q .0 .limit .low x); free-of = λ x h. omega (arith, q .0 .limit .high x h) },
       )
 
-  pub at-F3 : L F3 → Acted c W i (perform (Access.Gate (GateAccess.Release Idle)) c i .card)
+  pub at-F3 : Step c w i F3 (Access.Gate (GateAccess.Release Idle))
   unfolding perform accessGate swapGate
   at-F3 q = on-test (λ g. Acted c W i (swapped g Idle)) (sameGate (c .gate) (localAt c i .gate)) won (λ e. lost Idle (late e))
     where

@@ -7,7 +7,7 @@ use native.Mathlib.Omega.{arith}
 use lib.ListN.{length, set}
 use lib.Dec.{ltb, leb}
 use borrow.Author.Tests.{ltb-true, ltb-false, leb-true, leb-false, not-true, not-false}
-use Rattle.construction.specs.Types.{Holder, Process, Done, Announcement, Dictionary, Simulation, Pause, Ended, Faulted, Lacks, Simulated, Place, P16, H21, P19, P21, Access, Began, Helped, Operation, Card, Contents}
+use Rattle.construction.specs.Types.{Holder, Process, Done, Announcement, Dictionary, Simulation, Pause, Ended, Faulted, Lacks, Simulated, P16, H21, P19, P21, Access, Began, Helped, Operation, Card, Contents}
 use Rattle.construction.specs.Cells.{openAnnouncement, isDone, previous, openRecord}
 use Rattle.construction.specs.Instructions.{started}
 use Rattle.construction.specs.Dictionary.{empty, valueUnder, itemOf, insert}
@@ -23,7 +23,7 @@ use Rattle.construction.proofs.Invariant.WorldKept.{rounds-few}
 use Rattle.construction.proofs.Invariant.Claims.{Seen, Working}
 use Rattle.construction.proofs.Invariant.Assertions.{Helper, Plan, ItemNoted, programFor, CoreAt, LocAt, Loc}
 use Rattle.construction.proofs.Invariant.NextWrites.{pause-loc}
-use Rattle.construction.proofs.Invariant.Acting.{worldOf, WellFormed, Before, Acted, keeps, goes-on, atTask, atSimulation}
+use Rattle.construction.proofs.Invariant.Acting.{worldOf, Step, WellFormed, Before, Acted, keeps, goes-on, atTask, atSimulation}
 use lib.Seq.{set-getD}
 
 -- the ending of a round is the run of its call
@@ -49,9 +49,6 @@ module _ {c : Card} {w : World} {i : ℕ} (B : Before c w i) where
 
   abbrev F : Contents
   F = contentsOf c
-
-  abbrev L : Place → Type 0
-  L l = LocAt l F W i (localAt c i)
 
   abbrev s : ℕ
   s = localAt c i .gate .seq
@@ -93,7 +90,7 @@ module _ {c : Card} {w : World} {i : ℕ} (B : Before c w i) where
 
   -- line P17: an operation that is not done and not too new is the one that the gate is held for
   module _ (m : ℕ) (n : holderOf (localAt c i .gate .holder) ≡ m) (nd : announcementAt c m .flag ≢ Done)
-      (le : announcementAt c m .seq ≤ s) (q : L P16) where
+      (le : announcementAt c m .seq ≤ s) (q : LocAt P16 F W i (localAt c i)) where
     still : (c .gate .holder ≡ Process m) × (c .gate .seq ≡ s)
     still =
         let seen : Seen W m s = subst (λ (k : ℕ). Seen W k s) n (q .seen) in
@@ -134,7 +131,7 @@ module _ {c : Card} {w : World} {i : ℕ} (B : Before c w i) where
         (keeps B refl (set-getD (c .announcements) m openAnnouncement) refl _ refl (subst WellFormed z (r .0))
         (subst (λ (d : Dictionary). Loc F W i (atSimulation (localAt c i) a (begun m .task) (begun m .simulation) d 0)) z (r .1)))
 
-  at-P16-for : (m : ℕ) → holderOf (localAt c i .gate .holder) ≡ m → L P16 → Acted c W i (helping m (beginAs (helps (announcementAt c m) s) m))
+  at-P16-for : (m : ℕ) → holderOf (localAt c i .gate .holder) ≡ m → LocAt P16 F W i (localAt c i) → Acted c W i (helping m (beginAs (helps (announcementAt c m) s) m))
   at-P16-for m n q = ⊎-elim
       (λ e.
       let h = and-true (not (isDone (announcementAt c m .flag))) _ e in
@@ -150,11 +147,11 @@ module _ {c : Card} {w : World} {i : ℕ} (B : Before c w i) where
           (λ b. absurd (omega (arith, B .good .announced m .below, leb-false (announcementAt c m .seq) s (b .1))))
           (and-false (not (isDone (announcementAt c m .flag))) (leb (announcementAt c m .seq) s) e)
 
-  pub at-P16 : L P16 → Acted c W i (perform Access.Help c i .card)
+  pub at-P16 : Step c w i P16 Access.Help
   unfolding perform beginHelp
   at-P16 q = at-P16-for (holderOf (localAt c i .gate .holder)) refl q
 
-  pub at-H21 : L H21 → Acted c W i (perform Access.Note c i .card)
+  pub at-H21 : Step c w i H21 Access.Note
   unfolding perform note valueUnder
   at-H21 q =
       on-test

@@ -15,8 +15,8 @@ use Rattle.construction.specs.Machine.{goTo, byFlag, holderOf, firstChoi
 use Rattle.construction.proofs.Basics.{on-test, true-or-false, announcement-path, sameAnnouncement-true, sameAnnouncement-false, active-not-done, active-not-exit, exit-not-done, else-done}
 use Rattle.construction.proofs.Invariant.World.{endingIn, World, announcementIn, leftIn, callIn, roundIn, wordAt, operationOf, AnnouncementInvariant, ending, Move}
 use Rattle.construction.proofs.Invariant.World.Move.{announce, leave, end}
-use Rattle.construction.proofs.Invariant.Claims.{viewOf, Change, end-change}
-use Rattle.construction.proofs.Invariant.Assertions.{Mine, Helper, Plan, Ready, LocAt, Loc, helper-stays, plan-stays, ready-stays}
+use Rattle.construction.proofs.Invariant.Claims.{viewOf, Change, Mine, end-change}
+use Rattle.construction.proofs.Invariant.Assertions.{Helper, Plan, Ready, LocAt, Loc, helper-stays, plan-stays, ready-stays}
 use Rattle.construction.proofs.Invariant.Acting.{worldOf, Step, Before, Acted, acts, keeps, atTask, goes-on, atAnnouncement}
 
 -- line C1 names a process
@@ -41,10 +41,8 @@ module _ {c : Card} {w : World} {i : ℕ} (B : Before c w i) where
   at-P3 q =
       acts B (announce new (B .inside) (q .0) refl good) refl refl refl refl _ refl (B .tidy) (
         record {
-          own = record {
-            out = λ d. absurd (active-not-done (ap (λ (r : Announcement). r .flag) (set-is i new (B .inside))) d);
-            op = λ _. ap operationOf (set-is i new (B .inside)) ∙ q .1;
-          };
+          out = λ d. absurd (active-not-done (ap (λ (r : Announcement). r .flag) (set-is i new (B .inside))) d);
+          op = λ _. ap operationOf (set-is i new (B .inside)) ∙ q .1;
           called = q .1;
         },
         refl,
@@ -83,7 +81,7 @@ module _ {c : Card} {w : World} {i : ℕ} (B : Before c w i) where
   at-own active exit mine a x = reads i _ (go (announcementAt c i .flag) refl)
     where
       go : (f : Flag) → announcementAt c i .flag ≡ f → Loc F W i (read i (byFlag f F1 active exit))
-      go Done e = record { done = e; same = refl; out = mine .own .out e }
+      go Done e = record { done = e; same = refl; out = mine .out e }
       go Active e = a e
       go Exit e = x e
 
@@ -98,7 +96,7 @@ module _ {c : Card} {w : World} {i : ℕ} (B : Before c w i) where
         q .0,
         q .1,
         B .inside,
-        record { below = q .2; fit = λ _ _. record { alive = nd; op = q .0 .own .op nd; right = inl refl } },
+        record { below = q .2; fit = λ _ _. record { alive = nd; op = q .0 .op nd; right = inl refl } },
         q .3,
       )
 
@@ -108,11 +106,11 @@ module _ {c : Card} {w : World} {i : ℕ} (B : Before c w i) where
       (λ e. (
         q .0,
         e,
-        ap (λ (r : Operation). r .inputs) (q .0 .own .op (active-not-done e) ∙ sym (q .0 .called)),
+        ap (λ (r : Operation). r .inputs) (q .0 .op (active-not-done e) ∙ sym (q .0 .called)),
       ))
       (λ e. (
         record { not-active = λ a. active-not-exit a e; free-of = q .1 .free-of e; late = q .1 .late },
-        record { same = refl; out = q .0 .own .out },
+        record { same = refl; out = q .0 .out },
       ))
 
   read-C2 :
@@ -173,10 +171,8 @@ module _ {c : Card} {w : World} {i : ℕ} (B : Before c w i) where
           announcement-path (ap (λ (r : Announcement). r .program) (sym z)) refl (ap (λ (r : Announcement). r .seq) (sym z))
           (sym (B .good .announced i .unnumbered (active-not-done fa))) (sym zw) (sym (unmarked (active-not-done fa))) in
           acts B (leave (B .inside) fa) refl refl (ap (set (c .announcements) i) same) refl _ refl (B .tidy) (record {
-            own = record {
-              out = λ d. absurd (exit-not-done (ap (λ (r : Announcement). r .flag) y) d);
-              op = λ _. ap operationOf y ∙ q .0 .own .op (active-not-done fa);
-            };
+            out = λ d. absurd (exit-not-done (ap (λ (r : Announcement). r .flag) y) d);
+            op = λ _. ap operationOf y ∙ q .0 .op (active-not-done fa);
             called = q .0 .called;
           })
 

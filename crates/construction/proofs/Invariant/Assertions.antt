@@ -14,17 +14,9 @@ use Rattle.construction.proofs.Simulating.Dictionaries.{all-map}
 use Rattle.construction.proofs.Simulating.Simulations.{Core, Finished, Needing}
 use Rattle.construction.proofs.Invariant.World.{endingIn, World, recordIn, leftIn, callIn, roundIn, wordAt, WorldInvariant, Quiet, Move}
 use Rattle.construction.proofs.Invariant.World.Move.{stay, ask, announce, leave, take, write, end, free}
-use Rattle.construction.proofs.Invariant.Claims.{View, viewOf, Change, Owned, Limit, Past, Gone, Returning, Rested, Last, Seen, Nominated, Working, Halfway, Over}
-use Rattle.construction.proofs.Invariant.Claims.{change, call-change, owned-change, limit-change, past-change, gone-change, returning-change, rested-change, last-change, quiet-stays, seen-stays, nominated-stays, working-stays, halfway-stays, over-stays, below-stays, record-stays, round-stays}
+use Rattle.construction.proofs.Invariant.Claims.{viewOf, Change, Mine, Limit, Past, Gone, Returning, Rested, Last, Seen, Nominated, Working, Halfway, Over}
+use Rattle.construction.proofs.Invariant.Claims.{change, call-change, mine-change, silent-change, limit-change, past-change, gone-change, returning-change, rested-change, last-change, seen-stays, nominated-stays, working-stays, halfway-stays, over-stays, below-stays, record-stays, round-stays}
 use Rattle.construction.specs.Parts.{programOf, Local}
-
--- the operation o of a process is under way and announced
-pub record Mine (x : View) (o : Operation) : Type 0 where
-  pub own : Owned x
-  pub called : o ≡ x .call
-
-mine-change : {j : ℕ} {o : Operation} {x y : View} → Change j x y → Mine x o → Mine y o
-mine-change C q = record { own = owned-change C (q .own); called = q .called ∙ call-change C }
 
 -- process j, with its operation o, has read the gate g, held
 pub record Helper (F : Contents) (w : World) (j : ℕ) (o : Operation) (g : Gate) : Type 0 where
@@ -238,10 +230,10 @@ module _ {F : Contents} {i : ℕ} {w v : World} (G : WorldInvariant F w) (M : Mo
     C = change G ne M
 
     loc-at-stays : (l : Place) (t : Local) → LocAt l F w j t → LocAt l F v j t
-    loc-at-stays Idle t q = (quiet-stays G ne M (q .0), rested-change (q .0 .free-of) C (q .1))
-    loc-at-stays P1 t q = (quiet-stays G ne M (q .0), q .1 ∙ call-change C)
+    loc-at-stays Idle t q = (silent-change C (q .0), rested-change (q .0 .free-of) C (q .1))
+    loc-at-stays P1 t q = (silent-change C (q .0), q .1 ∙ call-change C)
     loc-at-stays P3 t q =
-        (quiet-stays G ne M (q .0), q .1 ∙ call-change C, left-stays j (t .gate .seq) M (q .0) (q .2), below-stays G M (q .3))
+        (silent-change C (q .0), q .1 ∙ call-change C, left-stays j (t .gate .seq) M (q .0) (q .2), below-stays G M (q .3))
     loc-at-stays P5 t q = (mine-change C (q .0), q .1, q .2)
     loc-at-stays P7 t q = mine-change C q
     loc-at-stays P10 t q = mine-change C q

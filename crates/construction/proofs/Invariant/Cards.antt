@@ -19,7 +19,7 @@ use Rattle.construction.specs.Requests.{isBusy, invoked, exiting}
 use Rattle.construction.specs.Opening.{fresh}
 use Rattle.construction.proofs.Basics.{getD-replicate-same, active-not-done, exit-not-done, nobody-process}
 use Rattle.construction.proofs.Simulating.Sequential.{Short}
-use Rattle.construction.proofs.Invariant.World.{World, noResult, resultOf, WorldInvariant, withShared, asking, Quiet, Move}
+use Rattle.construction.proofs.Invariant.World.{World, noResult, resultOf, WorldInvariant, withShared, asking, Move}
 use Rattle.construction.proofs.Invariant.World.Move.{ask, stay}
 use Rattle.construction.proofs.Invariant.WorldKept.{good-move, seq-move}
 use Rattle.construction.proofs.Invariant.Locals.{Sizes, local-same, local-other, sizes-put}
@@ -158,16 +158,13 @@ pub inv-call :
 inv-call c w i k inputs I lt b =
     moved I few (call-move c w i k inputs I lt b) (c .gate) (c .announcements) (c .records) (invoked (localAt c i) k inputs) (c .steps)
     (ap (λ (x : World). asking x i (called k inputs)) (I .cells)) (
-      record { not-active = Q .not-active; free-of = Q .free-of; late = Q .late },
+      at-rest I i lt b .0,
       sym (getD-set-same (w .calls) i (called k inputs) noOperation (omega (arith, few, I .good .lengths .calls))),
     )
     (I .tidy i) (subst (λ (g : Gate). g .seq ≤ suc (c .steps)) (gate-is I) (I .numbered)) (omega arith) (I .limited) (omega arith)
   where
     few : i < 8
     few = omega (arith, I .good .fits .few)
-
-    Q : Quiet w i
-    Q = at-rest I i lt b .0
 
 -- an exit request that is taken: no assertion speaks of it
 pub inv-exit : (c : Card) (w : World) (i : ℕ) → CardInvariant c w → i < c .processCount → CardInvariant (withLocal c i (exiting (localAt c i))) w

@@ -11,7 +11,7 @@ use Rattle.construction.specs.Cells.{openAnnouncement, openRecord, rewri
 use Rattle.construction.specs.Parts.{noOperation}
 use Rattle.construction.specs.Machine.{flagged, finished}
 use Rattle.construction.proofs.Basics.{on-set, active-not-done, active-not-exit, exit-not-done, nobody-process, process-same, else-exit}
-use Rattle.construction.proofs.Invariant.World.{noRound, endingIn, World, announcementIn, recordIn, leftIn, boundIn, callIn, Result, noResult, resultIn, resultOf, roundIn, operationOf, WorldInvariant, asking, announcing, leaving, ending, Quiet, Move}
+use Rattle.construction.proofs.Invariant.World.{noRound, endingIn, World, announcementIn, recordIn, leftIn, boundIn, callIn, Result, noResult, resultIn, resultOf, roundIn, operationOf, WorldInvariant, asking, announcing, leaving, ending, Silent, Quiet, Move}
 use Rattle.construction.proofs.Invariant.World.Move.{stay, ask, announce, leave, take, write, end, free}
 use Rattle.construction.proofs.Invariant.WorldKept.{announcements-set}
 
@@ -65,22 +65,14 @@ call-change (took m hn f) = refl
 call-change (ended o h d) = refl
 call-change (freed b) = refl
 
--- no operation of j is announced, in terms of its view
-abbrev Silent : View → ℕ → Type 0
-Silent x j =
-    (x .announcement .flag ≢ Active) × (x .gate .holder ≢ Process j) × (x .announcement .flag ≡ Exit → x .bound < x .gate .seq)
+-- the operation o of j is under way and announced: it is the latest call, and the announcement a has the result where it is done, and else asks for it
+pub record Owned (a : Announcement) (result : Result) (call o : Operation) : Type 0 where
+  pub out : a .flag ≡ Done → resultOf a ≡ result
+  pub op : a .flag ≢ Done → operationOf a ≡ call
+  pub called : o ≡ call
 
-silent-change : {j : ℕ} {x y : View} → Change j x y → Silent x j → Silent y j
-silent-change kept q = q
-silent-change (took m hn f) q =
-    (q .0, λ h. let z = f (process-same h) in let e = else-exit _ (z .0) (q .0) in omega (arith, z .1 e, q .2 e), q .2)
-silent-change (ended o h d) q = absurd (q .1 h)
-silent-change (freed b) q = (q .0, nobody-process refl, λ e. omega (arith, q .2 e))
-
--- what the announcement of j says: the result where it is done, and else the latest call
-pub record Owned (x : View) : Type 0 where
-  pub out : x .announcement .flag ≡ Done → resultOf (x .announcement) ≡ x .result
-  pub op : x .announcement .flag ≢ Done → operationOf (x .announcement) ≡ x .call
+abbrev pub Mine : View → Operation → Type 0
+Mine x o = Owned (x .announcement) (x .result) (x .call) o
 
 -- where j asks to exit, it holds the gate under no number past n
 pub record Limit (x : View) (j n : ℕ) : Type 0 where
@@ -111,11 +103,23 @@ pub record Rested (x : View) (a : Announcement) : Type 0 where
 pub record Last (x : View) (j n : ℕ) : Type 0 where
   pub only : x .gate .holder ≡ Process j → x .gate .seq ≡ n
 
-pub owned-change : {j : ℕ} {x y : View} → Change j x y → Owned x → Owned y
-owned-change kept q = q
-owned-change (took m hn f) q = record { out = q .out; op = q .op }
-owned-change (ended o h d) q = record { out = λ _. refl; op = λ n. absurd (n refl) }
-owned-change (freed b) q = record { out = q .out; op = q .op }
+pub silent-change :
+    {j : ℕ} {x y : View} → Change j x y → Silent (x .gate) (x .announcement) (x .bound) j → Silent (y .gate) (y .announcement) (y .bound) j
+silent-change kept q = q
+silent-change (took m hn f) q = record {
+  not-active = q .not-active;
+  free-of = λ h. let z = f (process-same h) in let e = else-exit _ (z .0) (q .not-active) in omega (arith, z .1 e, q .late e);
+  late = q .late;
+}
+silent-change (ended o h d) q = absurd (q .free-of h)
+silent-change (freed b) q =
+    record { not-active = q .not-active; free-of = nobody-process refl; late = λ e. omega (arith, q .late e) }
+
+pub mine-change : {j : ℕ} {o : Operation} {x y : View} → Change j x y → Mine x o → Mine y o
+mine-change kept q = q
+mine-change (took m hn f) q = q
+mine-change (ended o h d) q = record { out = λ _. refl; op = λ n. absurd (n refl); called = q .called }
+mine-change (freed b) q = q
 
 pub limit-change : {j n : ℕ} {x y : View} → Change j x y → Limit x j n → Limit y j n
 limit-change kept q = q
@@ -182,11 +186,6 @@ module _ {F : Contents} {w : World} (G : WorldInvariant F w) where
   change ne (write m u x vl hm fl below ex) = kept
   change {j = j} ne (end m lt hm fl all) = end-change m j lt hm fl
   change {j = j} ne (free m lt hm d) = freed (G .bound-below j)
-
-  pub quiet-stays : {i : ℕ} {v : World} {j : ℕ} → j ≢ i → Move F i w v → Quiet w j → Quiet v j
-  quiet-stays ne M q =
-      let z = silent-change (change ne M) (q .not-active, q .free-of, q .late) in
-      record { not-active = z .0; free-of = z .1; late = z .2 }
 
 -- the gate was (m, s): it still is, or m's operation has left it under s or later
 pub record Seen (w : World) (m s : ℕ) : Type 0 where

@@ -5,15 +5,15 @@ use mathlib.Core.Bool.{true, false}
 use mathlib.Core.Logic.{_≢_, inl, inr, ⊎-elim}
 use native.Mathlib.Omega.{arith}
 use native.Mathlib.Decide.{decLt}
-use Rattle.construction.specs.Types.{Holder, Nobody, Process, Gate, Done, Announcement, Place, Idle, P1, P3, P10, C2, P13, P14, P16, P21, P22, F1, F3, GateAccess, Access, Operation, Card, Contents}
+use Rattle.construction.specs.Types.{Holder, Nobody, Process, Gate, Done, Announcement, Place, Idle, P1, P3, P10, C2, P13, P14, P16, P21, P22, F1, F3, GateAccess, Access, Card, Contents}
 use Rattle.construction.specs.Cells.{sameHolder, sameGate, swapGate, released}
 use Rattle.construction.specs.Parts.{announcementAt, withGate, localAt, Local, contentsOf, withLocal}
 use Rattle.construction.specs.Machine.{goTo, byHolder, holderOf, accessGate, perform}
 use Rattle.construction.proofs.Basics.{on-test, true-false, gate-path, sameGate-true, sameGate-false, sameHolder-true, sameHolder-refl, nobody-process, active-not-done, exit-not-done}
 use Rattle.construction.proofs.Invariant.World.{World, resultOf, leftIn, freeing, Quiet}
 use Rattle.construction.proofs.Invariant.World.Move.{take, free}
-use Rattle.construction.proofs.Invariant.Claims.{View, viewOf, gated, Limit, Returning, Rested, Eligible}
-use Rattle.construction.proofs.Invariant.Assertions.{Mine, Helper, Loc}
+use Rattle.construction.proofs.Invariant.Claims.{viewOf, Mine, Limit, Returning, Rested, Eligible}
+use Rattle.construction.proofs.Invariant.Assertions.{Helper, Loc}
 use Rattle.construction.proofs.Invariant.Acting.{worldOf, Step, Before, Acted, acts, keeps, atTask, atGate, goes-on}
 
 -- what is known of an operation at its return
@@ -28,10 +28,6 @@ rests w i q ne = (
   },
   record { same = q .same; out = λ _. ap resultOf (q .same) ∙ q .out },
 )
-
--- the gate plays no part in what is known of one's own operation
-mine-gated : {x : View} {g : Gate} {o : Operation} → Mine x o → Mine (gated x g) o
-mine-gated q = record { own = record { out = q .own .out; op = q .own .op }; called = q .called }
 
 module _ {c : Card} {w : World} {i : ℕ} (B : Before c w i) where
   abbrev W : World
@@ -142,7 +138,7 @@ module _ {c : Card} {w : World} {i : ℕ} (B : Before c w i) where
           let E : Eligible W i m (localAt c i .gate .seq) = q .3 .fit zh zs in
           acts B (take m (q .2) zh (E .alive) (E .op) (⊎-elim inl (λ b. inr (λ x. rw zs (b x))) (E .right))) refl
           (gate-path refl (sym zs)) refl refl _ refl (B .tidy)
-          (mine-gated (q .0), record { past = λ _ h. absurd (nobody-process h refl) })
+          (q .0, record { past = λ _ h. absurd (nobody-process h refl) })
 
   -- a helper that does not find the gate as it read it comes after the release of that number
   pub released-since :
@@ -174,7 +170,7 @@ module _ {c : Card} {w : World} {i : ℕ} (B : Before c w i) where
           let zh : c .gate .holder ≡ Process m = ap (λ (g : Gate). g .holder) z ∙ q .0 .named in
           let zs : c .gate .seq ≡ localAt c i .gate .seq = ap (λ (g : Gate). g .seq) z in
           frees m P22 (q .0 .inside) zh (q .1 .over zh zs) z
-          (mine-gated (q .0 .mine), record { late = λ x. omega (arith, q .0 .limit .low x); free-of = λ _. nobody-process refl })
+          (q .0 .mine, record { late = λ x. omega (arith, q .0 .limit .low x); free-of = λ _. nobody-process refl })
 
       late : localAt c i .gate .seq < c .gate .seq → Loc F W i (at P22)
       late l = (

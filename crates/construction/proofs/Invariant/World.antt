@@ -221,11 +221,14 @@ freeing w m =
     withGhosts (withShared w (record { holder = Nobody; seq = w .gate .seq + 1 }) (w .announcements) (w .records))
     (w .words) (w .calls) (w .results) (set (w .left) m (w .gate .seq)) (w .bound) (w .rounds) (w .count)
 
--- no operation of j is announced: j does not hold the gate and will not be given it
-pub record Quiet (w : World) (j : ℕ) : Type 0 where
-  pub not-active : announcementIn w j .flag ≢ Active
-  pub free-of : w .gate .holder ≢ Process j
-  pub late : announcementIn w j .flag ≡ Exit → boundIn w j < w .gate .seq
+-- no operation of j is announced, by its announcement a and its bound: j does not hold the gate g and will not be given it
+pub record Silent (g : Gate) (a : Announcement) (bound j : ℕ) : Type 0 where
+  pub not-active : a .flag ≢ Active
+  pub free-of : g .holder ≢ Process j
+  pub late : a .flag ≡ Exit → bound < g .seq
+
+abbrev pub Quiet : World → ℕ → Type 0
+Quiet w j = Silent (w .gate) (announcementIn w j) (boundIn w j) j
 
 -- what an entry of process i may do to the world
 pub data Move (F : Contents) (i : ℕ) (w : World) : World → Type 0 where

@@ -89,18 +89,22 @@ operationOf a = record { program = a .program; inputs = a .words }
 abbrev pub resultOf : Announcement → Result
 resultOf a = record { number = a .number; yields = yieldOf a }
 
--- the gate is held for an operation of m that is not done
-pub record Pending (w : World) (m : ℕ) : Type 0 where
-  pub counted : w .count ≡ w .gate .seq
-  pub now : roundIn w (w .gate .seq) ≡ record { words = w .words; call = callIn w m }
-  pub asked : operationOf (announcementIn w m) ≡ callIn w m
+-- the gate is held under seq for an operation that is not done: called for as o, announced as a
+pub record Pending (seq count : ℕ) (words : List ℕ) (r : Round) (o : Operation) (a : Announcement) : Type 0 where
+  pub counted : count ≡ seq
+  pub now : r ≡ record { words = words; call = o }
+  pub asked : operationOf a ≡ o
+
+-- the gate is held for a process that called for o and announced a
+abbrev pub Held : World → Operation → Announcement → Type 0
+Held w o a =
+    (length (w .rounds) ≡ suc (w .gate .seq))
+    × (a .flag ≡ Done → w .count ≡ suc (w .gate .seq))
+    × (a .flag ≢ Done → Pending (w .gate .seq) (w .count) (w .words) (roundIn w (w .gate .seq)) o a)
 
 abbrev pub Phase : Holder → World → Type 0
 Phase Nobody w = (length (w .rounds) ≡ w .gate .seq) × (w .count ≡ w .gate .seq)
-Phase (Process m) w =
-    (length (w .rounds) ≡ suc (w .gate .seq))
-    × (announcementIn w m .flag ≡ Done → w .count ≡ suc (w .gate .seq))
-    × (announcementIn w m .flag ≢ Done → Pending w m)
+Phase (Process m) w = Held w (callIn w m) (announcementIn w m)
 
 -- the records: one below number s has the value from before s, one of number s has the values before and after s; what a finished
 -- operation altered is written; and where no operation is pending the records have the words of the sequential run

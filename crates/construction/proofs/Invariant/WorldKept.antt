@@ -8,13 +8,14 @@ use native.Mathlib.Omega.{arith}
 use native.Mathlib.Nat.{eq-or-lt-of-le}
 use lib.ListN.{length, getD, set, length-set, length-append, List·getD-append}
 use lib.Seq.{getD-set-other, getD-at}
-use Rattle.construction.specs.Types.{Holder, Nobody, Process, Done, Active, Announcement, Record, Operation, Contents}
+use Rattle.construction.specs.Types.{Holder, Nobody, Process, Done, Active, Exit, Announcement, Record, Operation, Contents}
+use Rattle.construction.specs.Machine.{flagged}
 use Rattle.construction.specs.Cells.{zeros, openAnnouncement, openRecord, current, previous, rewritten}
 use Rattle.construction.specs.Sequential.{Ending, sequential}
 use Rattle.construction.specs.Parts.{noOperation, programOf}
 use Rattle.construction.proofs.Basics.{on-set, active-not-done, active-not-exit, exit-not-done, nobody-process, process-same, done-or-not}
 use Rattle.construction.proofs.Simulating.Sequential.{sequential-length, sequential-fault}
-use Rattle.construction.proofs.Invariant.World.{Round, noRound, endingOf, endingIn, World, announcementIn, recordIn, leftIn, callIn, roundIn, wordAt, operationOf, Pending, Phase, Recorded, AnnouncementInvariant, WorldInvariant, asking, announcing, leaving, taking, storing, ending, freeing, Quiet, Move}
+use Rattle.construction.proofs.Invariant.World.{Round, noRound, endingOf, endingIn, World, announcementIn, recordIn, leftIn, callIn, roundIn, wordAt, operationOf, Held, Phase, Recorded, AnnouncementInvariant, WorldInvariant, asking, announcing, leaving, taking, storing, ending, freeing, Quiet, Move}
 use Rattle.construction.proofs.Invariant.World.Move.{stay, ask, announce, leave, take, write, end, free}
 
 ending-length : (F : Contents) (s : ℕ) (r : Round) → length (endingOf F s r .words) ≡ length (r .words)
@@ -72,8 +73,7 @@ module _ {F : Contents} {w : World} (G : WorldInvariant F w) where
   phase-ask : (i : ℕ) (q : Operation) (h : Holder) → h ≢ Process i → Phase h w → Phase h (asking w i q)
   phase-ask i q Nobody ne ph = ph
   phase-ask i q (Process m) ne ph =
-      let z = getD-set-other (w .calls) i m q noOperation (λ e. ne (ap Process e)) in
-      (ph .0, ph .1, λ d. record { counted = ph .2 d .counted; now = rw z (ph .2 d .now); asked = rw z (ph .2 d .asked) })
+      rw (getD-set-other (w .calls) i m q noOperation (λ e. ne (ap Process e))) ph
 
   good-ask : (i : ℕ) (q : Operation) → i < F .processCount → Quiet w i → WorldInvariant F (asking w i q)
   good-ask i q lt Q = record {
@@ -95,11 +95,7 @@ module _ {F : Contents} {w : World} (G : WorldInvariant F w) where
       (i : ℕ) (a : Announcement) (h : Holder) → h ≢ Process i → Phase h w → Phase h (announcing w i a)
   phase-announce i a Nobody ne ph = ph
   phase-announce i a (Process m) ne ph =
-      let z = getD-set-other (w .announcements) i m a openAnnouncement (λ e. ne (ap Process e)) in (
-        ph .0,
-        rw z (ph .1),
-        rw z (λ d. record { counted = ph .2 d .counted; now = ph .2 d .now; asked = rw z (ph .2 d .asked) }),
-      )
+      rw (getD-set-other (w .announcements) i m a openAnnouncement (λ e. ne (ap Process e))) ph
 
   good-announce :
       (i : ℕ) (a : Announcement) → i < F .processCount → Quiet w i → AnnouncementInvariant (w .gate .seq) (leftIn w i) (callIn w i) a →
@@ -120,21 +116,12 @@ module _ {F : Contents} {w : World} (G : WorldInvariant F w) where
   phase-leave :
       (i : ℕ) → i < F .processCount → announcementIn w i .flag ≡ Active → (h : Holder) → Phase h w → Phase h (leaving w i)
   phase-leave i lt fa Nobody ph = ph
-  phase-leave i lt fa (Process m) ph = (
-    ph .0,
-    announcements-set (λ r. r .flag ≡ Done → w .count ≡ suc (w .gate .seq)) i m _ lt
-        (λ _ q. absurd (exit-not-done refl q)) (λ _. ph .1),
-    announcements-set (λ r. r .flag ≢ Done → Pending (leaving w i) m) i m _ lt
-        (λ e _. busy (ph .2 (λ d. active-not-done fa (rw e at d)))) (λ _ d. busy (ph .2 d)),
-  )
+  phase-leave i lt fa (Process m) ph = announcements-set (Held w (callIn w m)) i m _ lt left (λ _. ph)
     where
-      busy : Pending w m → Pending (leaving w i) m
-      busy B = record {
-        counted = B .counted;
-        now = B .now;
-        asked = announcements-set (λ r. operationOf r ≡ callIn w m) i m _ lt
-            (λ e. rw e (rw e at (B .asked))) (λ _. B .asked);
-      }
+      left : m ≡ i → Held w (callIn w m) (flagged (announcementIn w i) Exit)
+      left e =
+          let B = ph .2 (λ d. active-not-done fa (rw e at d)) in
+          (ph .0, λ q. absurd (exit-not-done refl q), λ _. record { counted = B .counted; now = B .now; asked = rw (← e) (B .asked) })
 
   good-leave : (i : ℕ) → i < F .processCount → announcementIn w i .flag ≡ Active → WorldInvariant F (leaving w i)
   good-leave i lt fa = record {
@@ -209,14 +196,6 @@ module _ {F : Contents} {w : World} (G : WorldInvariant F w) where
         };
       }
 
-  phase-write : (v x : ℕ) (h : Holder) → Phase h w → Phase h (storing w v x)
-  phase-write v x Nobody ph = ph
-  phase-write v x (Process m) ph = (
-    ph .0,
-    ph .1,
-    λ d. let B = ph .2 d in record { counted = B .counted; now = B .now; asked = B .asked },
-  )
-
   -- the gate is held for an operation of m that is not done
   module _ (m : ℕ) (hm : w .gate .holder ≡ Process m) (fl : announcementIn w m .flag ≢ Done) where
     held : Phase (Process m) w
@@ -273,7 +252,7 @@ module _ {F : Contents} {w : World} (G : WorldInvariant F w) where
         bound-below = G .bound-below;
         announced = G .announced;
         inside = G .inside;
-        phase = phase-write v x (w .gate .holder) (G .phase);
+        phase = subst (λ (h : Holder). Phase h (storing w v x)) (sym hm) held;
         recorded = recorded-write;
       }
 

@@ -7,7 +7,7 @@ use mathlib.Core.List.{List, [], _∷_}
 use native.Mathlib.Omega.{arith}
 use native.Mathlib.Nat.{zero-add}
 use native.Mathlib.Decide.{ℕ-discrete}
-use lib.ListN.{length, getD}
+use lib.ListN.{length, getD, set}
 use lib.Seq.{getD-set-same, getD-set-other}
 use Rattle.construction.specs.Types.{Process, Flag, Done, Active, Exit, Announcement, Operation, Card, Contents}
 use Rattle.construction.specs.Cells.{isDone, openAnnouncement}
@@ -19,7 +19,7 @@ use Rattle.construction.proofs.Basics.{on-set, true-or-false, true-fals
 use Rattle.construction.proofs.Observing.Histories.{on-equal, chosen, passed, latest-below, latest-apart, agree-longer, caller-latest, latest-asked, turns, turned-same, turned-not, turned-one}
 use Rattle.construction.proofs.Invariant.World.{World, announcementIn, callIn, Result, noResult, resultIn, endingIn, WorldInvariant, asking, ending, Move}
 use Rattle.construction.proofs.Invariant.World.Move.{stay, ask, announce, leave, take, write, end, free}
-use Rattle.construction.proofs.Invariant.WorldKept.{ends-now}
+use Rattle.construction.proofs.Invariant.WorldKept.{announcements-set, ends-now}
 use Rattle.construction.specs.Machine.{finished}
 use Rattle.construction.specs.Linearizability.{times, finishOf, hasReturned, Numbered, Agrees, AllAgree, ReturnedOnce, UnderWay}
 use Rattle.construction.specs.Numbers.{callerOf, latestNumber}
@@ -80,10 +80,10 @@ pub record OneFinishes (F : Contents) (w v : World) : Type 0 where
   pub undone : announcementIn w process .flag ≢ Done
   pub becomes : v ≡ ending F w process
 
-turns-active : (f : Flag) → turns f Active ≡ false
-turns-active Done = refl
-turns-active Active = refl
-turns-active Exit = refl
+turns-undone : (f g : Flag) → isDone g ≡ false → turns f g ≡ false
+turns-undone Done g h = refl
+turns-undone Active g h = h
+turns-undone Exit g h = h
 
 module _ {F : Contents} {w : World} (announced : ℕ → Bool) (G : WorldInvariant F w) where
   -- a move that changes none of what the observer sees
@@ -98,6 +98,24 @@ module _ {F : Contents} {w : World} (announced : ℕ → Bool) (G : WorldInvaria
         kept = λ j t. ap (λ (l : List Announcement). getD l j openAnnouncement) a;
       }
 
+  -- a move that sets the announcement of i to one that is not done, where that of an announced operation was not done either
+  calm-set :
+      {v : World} (i : ℕ) (a : Announcement) → i < F .processCount → v .announcements ≡ set (w .announcements) i a → v .words ≡ w .words →
+      v .count ≡ w .count → v .results ≡ w .results → isDone (a .flag) ≡ false → (announced i ≡ true → doneIn w i ≡ false) →
+      NothingFinishes announced w v
+  calm-set i a lt z b c d undone before =
+      let size : i < length (w .announcements) = omega (arith, G .lengths .announcements, G .fits .few) in
+      record {
+        none = rw z (turned-not 0 (w .announcements) i a (turns-undone (announcementIn w i .flag) (a .flag) undone));
+        words = b;
+        count = c;
+        results = d;
+        done = λ j t. rw z (on-set (λ x. isDone (x .flag) ≡ doneIn w j) (w .announcements) i j a openAnnouncement size
+            (λ e. undone ∙ sym (rw e (before (rw (← e) t)))) (λ _. refl));
+        kept = λ j. rw z (on-set (λ x. isDone (x .flag) ≡ true → x ≡ announcementIn w j) (w .announcements) i j a openAnnouncement size
+            (λ e t. absurd (true-false _ t undone)) (λ _ _. refl));
+      }
+
   -- every move is one of the two, if a process that has announced its operation does not announce again
   pub kind-of :
       {i : ℕ} {v : World} → Move F i w v → (announced i ≡ true → announcementIn v i .flag ≡ Active → announcementIn w i .flag ≡ Active) →
@@ -105,29 +123,9 @@ module _ {F : Contents} {w : World} (announced : ℕ → Bool) (G : WorldInvaria
   kind-of stay only = inl (calm-same refl refl refl refl)
   kind-of (ask q lt Q) only = inl (calm-same refl refl refl refl)
   kind-of {i} (announce a lt Q fa A) only =
-      let size : i < length (w .announcements) = omega (arith, G .lengths .announcements, G .fits .few) in
-      inl (record {
-        none = turned-not 0 (w .announcements) i a (rw fa (turns-active (announcementIn w i .flag)));
-        words = refl;
-        count = refl;
-        results = refl;
-        done = λ j t. on-set (λ x. isDone (x .flag) ≡ doneIn w j) (w .announcements) i j a openAnnouncement size
-            (λ e. absurd (Q .not-active (only (rw (← e) t) (rw (getD-set-same (w .announcements) i a openAnnouncement size) fa)))) (λ ne. refl);
-        kept = λ j. on-set (λ x. isDone (x .flag) ≡ true → x ≡ announcementIn w j) (w .announcements) i j a openAnnouncement size
-            (λ e t. absurd (true-false _ t (ap isDone fa))) (λ ne t. refl);
-      })
-  kind-of {i} (leave lt fa) only =
-      let size : i < length (w .announcements) = omega (arith, G .lengths .announcements, G .fits .few) in
-      inl (record {
-        none = turned-not 0 (w .announcements) i _ (rw fa refl);
-        words = refl;
-        count = refl;
-        results = refl;
-        done = λ j t. on-set (λ x. isDone (x .flag) ≡ doneIn w j) (w .announcements) i j _ openAnnouncement size
-            (λ e. rw (e, fa) refl) (λ ne. refl);
-        kept = λ j. on-set (λ x. isDone (x .flag) ≡ true → x ≡ announcementIn w j) (w .announcements) i j _ openAnnouncement size
-            (λ e t. absurd (false≢true t)) (λ ne t. refl);
-      })
+      inl (calm-set i a lt refl refl refl refl (ap isDone fa) (λ t.
+      absurd (Q .not-active (only t (announcements-set G (λ x. x .flag ≡ Active) i i a lt (λ _. fa) (λ ne. absurd (ne refl)))))))
+  kind-of {i} (leave lt fa) only = inl (calm-set i _ lt refl refl refl refl refl (λ _. ap isDone fa))
   kind-of (take m lt hn fl op z) only = inl (calm-same refl refl refl refl)
   kind-of (write m u x vl hm fl below ex) only = inl (calm-same refl refl refl refl)
   kind-of (end m lt hm fl all) only = inr (record { process = m; inside = lt; held = hm; undone = fl; becomes = refl })

@@ -242,7 +242,7 @@ module _ (o : Card) (m : Observation) (O : Consistent o m) where
     text-moved = sym (one-access c i .text) ∙ O .text
 
     running : isBusy d i ≡ true → Follows o d (S .after) noticed
-    running busy = tracks-place i others moved (λ _. own-next (unannounced busy) newly own-moved)
+    running busy = tracks-place i others moved (λ _. own-next (S .after) (unannounced busy) newly own-moved)
 
     -- the notes after the step and what it brought
     abbrev Ended : Event → Type 0
@@ -250,10 +250,10 @@ module _ (o : Card) (m : Observation) (O : Consistent o m) where
 
     ended-done : isBusy d i ≡ false → announcementIn (S .after) i .flag ≡ Done → Ended (Event.returned (Return.done (resultIn (S .after) i .number) (resultIn (S .after) i .yields)))
     ended-done idle h =
-        tracks-returned i others moved (Return.done (resultIn (S .after) i .number) (resultIn (S .after) i .yields)) own-moved (own-moved .over (returning idle) (ap isDone h)) idle
+        tracks-returned i others moved (Return.done (resultIn (S .after) i .number) (resultIn (S .after) i .yields)) own-moved (own-moved .over (rw (returning idle) (ap isDone h))) idle
 
     ended-exited : isBusy d i ≡ false → announcementIn (S .after) i .flag ≡ Exit → Ended (Event.returned Return.exited)
-    ended-exited idle h = tracks-returned i others moved Return.exited own-moved (own-moved .pending (ap isDone h)) idle
+    ended-exited idle h = tracks-returned i others moved Return.exited own-moved (own-moved .pending (rw (returning idle) (ap isDone h))) idle
 
     answered : Ended (eventOf (answerOf (localAt d i)))
     answered =

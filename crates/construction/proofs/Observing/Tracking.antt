@@ -1,7 +1,7 @@
 -- What the observer's notes have to do with the world: how each move keeps it, and how a call and a return do.
 use Prim.Native.Nat.{ℕ, suc, _≤_, _<_}
 use mathlib.Core.Path.{_≡_, refl, sym, subst, ap, _∙_}
-use mathlib.Core.Bool.{Bool, true, false, cond, true≢false, false≢true}
+use mathlib.Core.Bool.{Bool, true, false, cond, _&&_, true≢false, false≢true}
 use mathlib.Core.Logic.{_≢_, _⊎_, inl, inr, ⊎-elim}
 use mathlib.Core.List.{List, [], _∷_}
 use native.Mathlib.Omega.{arith}
@@ -36,17 +36,20 @@ requestOf x = record { program = x .program; inputs = x .inputs }
 abbrev pub finishAs : ℕ → Result → Finish
 finishAs k r = record { operation = k; gate = r .number; yields = r .yields }
 
--- Process j has an operation under way, its latest taken call. That stands in the order once if it is announced and its flag is done,
+-- Process j has an operation under way, its latest taken call. That stands in the order once if it has ended,
 -- with its gate number and what the sequential run yields, and else not.
-pub record Own (announced : Bool) (w : World) (s : History) (j : ℕ) : Type 0 where
+pub record Operating (ended : Bool) (call : Operation) (result : Result) (s : History) (j : ℕ) : Type 0 where
   pub asked : hasCalled (s .operations) j ≡ true
-  pub request : requestOf (latestCall (s .operations) j) ≡ callIn w j
+  pub request : requestOf (latestCall (s .operations) j) ≡ call
   pub unreturned : hasReturned (latest (s .operations) j) (s .returns) ≡ false
-  pub early : announced ≡ false → times (latest (s .operations) j) (s .order) ≡ 0
-  pub pending : doneIn w j ≡ false → times (latest (s .operations) j) (s .order) ≡ 0
+  pub pending : ended ≡ false → times (latest (s .operations) j) (s .order) ≡ 0
   pub over :
-      announced ≡ true → doneIn w j ≡ true →
-      (times (latest (s .operations) j) (s .order) ≡ 1) × (finishOf (latest (s .operations) j) (s .order) ≡ finishAs (latest (s .operations) j) (resultIn w j))
+      ended ≡ true →
+      (times (latest (s .operations) j) (s .order) ≡ 1) × (finishOf (latest (s .operations) j) (s .order) ≡ finishAs (latest (s .operations) j) result)
+
+-- it has ended where it is announced and its flag is done
+abbrev pub Own : Bool → World → History → ℕ → Type 0
+Own announced w s j = Operating (announced && doneIn w j) (callIn w j) (resultIn w j) s j
 
 -- The notes go with the world of p processes, of which some are busy and some have announced their operations
 pub record Tracks (p : ℕ) (busy announced : ℕ → Bool) (w : World) (s : History) : Type 0 where
@@ -61,7 +64,7 @@ pub record Tracks (p : ℕ) (busy announced : ℕ → Bool) (w : World) (s : His
   pub own : (j : ℕ) → j < p → busy j ≡ true → Own (announced j) w s j
   pub last : (j : ℕ) → j < p → doneIn w j ≡ true → announcementIn w j .number ≡ latestNumber (s .operations) (s .order) j
 
-pub under-way : {a : Bool} {w : World} {s : History} {j : ℕ} → Own a w s j → UnderWay s j
+pub under-way : {ended : Bool} {call : Operation} {result : Result} {s : History} {j : ℕ} → Operating ended call result s j → UnderWay s j
 under-way O = record { called = O .asked; unreturned = O .unreturned }
 
 -- a move that finishes nothing, and one that finishes the operation of m
@@ -138,25 +141,19 @@ turned-ends {F} {w} G E =
     (rw (ne-isDone _ (E .undone)) refl) ∙ rw zero-add)
 
 -- a move that finishes nothing
+same-and : (a : Bool) {b c : Bool} → (a ≡ true → b ≡ c) → a && b ≡ a && c
+same-and true f = f refl
+same-and false f = refl
+
 own-calm :
-    {a : Bool} {w v : World} {s : History} {j : ℕ} → (a ≡ true → doneIn v j ≡ doneIn w j) → v .results ≡ w .results → v .calls ≡ w .calls →
+    (a : Bool) (w v : World) (s : History) (j : ℕ) → (a ≡ true → doneIn v j ≡ doneIn w j) → v .results ≡ w .results → v .calls ≡ w .calls →
     Own a w s j → Own a v s j
-own-calm {a} {w} {v} {s} {j} d e f O =
-    record {
-      asked = O .asked;
-      request = O .request ∙ ap (λ (l : List Operation). getD l j noOperation) (sym f);
-      unreturned = O .unreturned;
-      early = O .early;
-      pending = λ z. ⊎-elim (λ t. O .pending (sym (d t) ∙ z)) (O .early) (true-or-false a);
-      over = λ t z.
-          let q = O .over t (sym (d t) ∙ z) in
-          (q .0, q .1 ∙ ap (λ (l : List Result). finishAs (latest (s .operations) j) (getD l j noResult)) (sym e));
-    }
+own-calm a w v s j d e f O = rw (same-and a d, e, f) O
 
 pub tracks-calm :
     {p : ℕ} {busy announced : ℕ → Bool} {w v : World} {s : History} → NothingFinishes announced w v → v .calls ≡ w .calls →
     Tracks p busy announced w s → Tracks p busy announced v s
-tracks-calm C f T =
+tracks-calm {announced = announced} {w = w} {v} {s} C f T =
     record {
       words = T .words ∙ sym (C .words);
       count = T .count ∙ sym (C .count);
@@ -165,7 +162,7 @@ tracks-calm C f T =
       once = T .once;
       known = T .known;
       unborn = T .unborn;
-      own = λ j lt b. own-calm (C .done j) (C .results) f (T .own j lt b);
+      own = λ j lt b. own-calm (announced j) w v s j (C .done j) (C .results) f (T .own j lt b);
       single = T .single;
       last = λ j lt t.
           let e = C .kept j t in
@@ -188,21 +185,18 @@ module _
   size : m < 8
   size = omega (arith, G .fits .few)
 
-  own-ended : (j : ℕ) → j ≢ m → {a : Bool} → Own a w s j → Own a (ending F w m) (withFinish o (w .gate .seq) m s) j
+  own-ended : (j : ℕ) → j ≢ m → (a : Bool) → Own a w s j → Own a (ending F w m) (withFinish o (w .gate .seq) m s) j
   unfolding times finishOf
-  own-ended j ne Q =
+  own-ended j ne a Q =
       let far : latest (s .operations) m ≢ latest (s .operations) j = latest-apart (s .operations) m j (λ e. ne (sym e)) (O .asked) (Q .asked) in
-      let same : announcementIn (ending F w m) j ≡ announcementIn w j = getD-set-other (w .announcements) m j _ openAnnouncement ne in
-      record {
+      rw (getD-set-other (w .announcements) m j _ openAnnouncement ne, getD-set-other (w .results) m j _ noResult ne)
+      (record {
         asked = Q .asked;
         request = Q .request;
         unreturned = Q .unreturned;
-        early = λ t. passed _ _ _ _ far ∙ Q .early t;
-        pending = λ z. passed _ _ _ _ far ∙ Q .pending (ap (λ (x : Announcement). isDone (x .flag)) (sym same) ∙ z);
-        over = λ t z.
-            let q = Q .over t (ap (λ (x : Announcement). isDone (x .flag)) (sym same) ∙ z) in
-            (passed _ _ _ _ far ∙ q .0, passed _ _ _ _ far ∙ (q .1 ∙ ap (finishAs (latest (s .operations) j)) (sym (getD-set-other (w .results) m j _ noResult ne))));
-      }
+        pending = λ z. passed _ _ _ _ far ∙ Q .pending z;
+        over = λ z. let q = Q .over z in (passed _ _ _ _ far ∙ q .0, passed _ _ _ _ far ∙ q .1);
+      })
 
   finished-is : announcementIn (ending F w m) m ≡ finished (announcementIn w m) (w .gate) (endingIn F w (w .gate .seq) .yields)
   finished-is = getD-set-same (w .announcements) m _ openAnnouncement (omega (arith, size, G .lengths .announcements))
@@ -210,22 +204,18 @@ module _
   own-finished : Own true (ending F w m) (withFinish o (w .gate .seq) m s) m
   unfolding times finishOf
   own-finished =
-      record {
+      rw (finished-is, getD-set-same (w .results) m _ noResult (omega (arith, size, G .lengths .results)))
+      (record {
         asked = O .asked;
         request = O .request;
         unreturned = O .unreturned;
-        early = λ t. absurd (true≢false t);
-        pending = λ z. absurd (true≢false (ap (λ (x : Announcement). isDone (x .flag)) (sym finished-is) ∙ z));
-        over = λ t z. (
+        pending = λ z. absurd (true≢false z);
+        over = λ _. (
           chosen (latest (s .operations) m) _ _ (times (latest (s .operations) m) (s .order)) refl ∙ ap suc (O .pending (ne-isDone _ undone)),
           chosen (latest (s .operations) m) _ _ (finishOf (latest (s .operations) m) (s .order)) refl
-              ∙ (ap (λ (e : Ending). record { operation = latest (s .operations) m; gate = w .gate .seq; yields = e .yields }) same-run
-              ∙ ap (finishAs (latest (s .operations) m)) (sym out)),
+              ∙ ap (λ (e : Ending). record { operation = latest (s .operations) m; gate = w .gate .seq; yields = e .yields }) same-run,
         );
-      }
-    where
-      out : resultIn (ending F w m) m ≡ record { number = w .gate .seq; yields = endingIn F w (w .gate .seq) .yields }
-      out = getD-set-same (w .results) m _ noResult (omega (arith, size, G .lengths .results))
+      })
 
   pub tracks-finished : announced m ≡ true → Tracks p busy announced (ending F w m) (withFinish o (w .gate .seq) m s)
   unfolding times latestNumber
@@ -249,7 +239,7 @@ module _
     where
       one : (j : ℕ) → Dec (j ≡ m) → Own (announced j) w s j → Own (announced j) (ending F w m) (withFinish o (w .gate .seq) m s) j
       one j (yes e) Q = rw (e, ann) own-finished
-      one j (no ne) Q = own-ended j ne Q
+      one j (no ne) Q = own-ended j ne (announced j) Q
 
       caller : callerOf (s .operations) (latest (s .operations) m) ≡ m
       caller = caller-latest (s .operations) m (O .asked)
@@ -267,19 +257,16 @@ module _
 
 -- process i goes on at another place with its operation under way: unannounced only if it was, and announced only if it was or just then
 pub own-next :
-    {a b : Bool} {w : World} {s : History} {i : ℕ} → (b ≡ false → a ≡ false) → (b ≡ true → (a ≡ true) ⊎ (announcementIn w i .flag ≡ Active)) →
+    {a b : Bool} (w : World) {s : History} {i : ℕ} → (b ≡ false → a ≡ false) → (b ≡ true → (a ≡ true) ⊎ (announcementIn w i .flag ≡ Active)) →
     Own a w s i → Own b w s i
-own-next {w = w} {i = i} f g O =
-    record {
-      asked = O .asked;
-      request = O .request;
-      unreturned = O .unreturned;
-      early = λ t. O .early (f t);
-      pending = O .pending;
-      over = λ t z.
-          ⊎-elim (λ h. O .over h z)
-          (λ act. absurd (true-false _ z (ap isDone act))) (g t);
-    }
+own-next {a} {b} w {s} {i} f g O = rw (same a b f g) O
+  where
+    same :
+        (a b : Bool) → (b ≡ false → a ≡ false) → (b ≡ true → (a ≡ true) ⊎ (announcementIn w i .flag ≡ Active)) → b && doneIn w i ≡ a && doneIn w i
+    same true true f g = refl
+    same true false f g = absurd (true≢false (f refl))
+    same false true f g = ⊎-elim (λ t. absurd (false≢true t)) (ap isDone) (g refl)
+    same false false f g = refl
 
 -- the processes of another card, all but i as they were
 module _
@@ -337,36 +324,32 @@ module _
       new : Own (announced′ i) (asking w i (requestOf x)) after i
       new =
           let number : latest (x ∷ s .operations) i ≡ length (s .operations) = chosen (x .process) i _ (latest (s .operations) i) e in
-          let none : times (latest (x ∷ s .operations) i) (s .order) ≡ 0 = rw number (T .known (length (s .operations)) (omega arith)) in
-          record {
+          rw (quiet, getD-set-same (w .calls) i (requestOf x) noOperation (omega (arith, G .lengths .calls, G .fits .few)))
+          (record {
             asked = chosen (x .process) i true (hasCalled (s .operations) i) e;
-            request =
-                ap requestOf (chosen (x .process) i x (latestCall (s .operations) i) e)
-                ∙ sym (getD-set-same (w .calls) i (requestOf x) noOperation (omega (arith, G .lengths .calls, G .fits .few)));
+            request = ap requestOf (chosen (x .process) i x (latestCall (s .operations) i) e);
             unreturned = rw number (T .unborn (length (s .operations)) (omega arith));
-            early = λ t. none;
-            pending = λ t. none;
-            over = λ t. absurd (true-false _ t quiet);
-          }
+            pending = λ _. rw number (T .known (length (s .operations)) (omega arith));
+            over = λ t. absurd (false≢true t);
+          })
 
       old : (j : ℕ) → j ≢ i → Own (announced′ j) w s j → Own (announced′ j) (asking w i (requestOf x)) after j
       old j ne O =
           let q : x .process ≢ j = λ r. ne (sym r ∙ e) in
           let number : latest (x ∷ s .operations) j ≡ latest (s .operations) j = passed (x .process) j (length (s .operations)) _ q in
-          record {
+          rw (getD-set-other (w .calls) i j (requestOf x) noOperation ne)
+          (record {
             asked = passed (x .process) j true (hasCalled (s .operations) j) q ∙ O .asked;
-            request =
-                ap requestOf (passed (x .process) j x (latestCall (s .operations) j) q)
-                ∙ (O .request ∙ sym (getD-set-other (w .calls) i j (requestOf x) noOperation ne));
+            request = ap requestOf (passed (x .process) j x (latestCall (s .operations) j) q) ∙ O .request;
             unreturned = rw number (O .unreturned);
-            early = λ t. rw number (O .early t);
             pending = λ t. rw number (O .pending t);
-            over = λ t d. rw number (O .over t d);
-          }
+            over = λ t. rw number (O .over t);
+          })
 
   -- process i returns as the order says
   pub tracks-returned :
-      {b : Bool} (r : Return) → Own b w s i → Agrees (s .order) (latest (s .operations) i) r → busy′ i ≡ false →
+      {ended : Bool} {call : Operation} {result : Result} (r : Return) → Operating ended call result s i →
+      Agrees (s .order) (latest (s .operations) i) r → busy′ i ≡ false →
       Tracks p busy′ announced′ w (withResponse s i (Event.returned r))
   unfolding hasReturned
   tracks-returned r O agrees idle =
@@ -384,7 +367,6 @@ module _
           asked = Q .asked;
           request = Q .request;
           unreturned = passed _ _ _ _ (latest-apart (s .operations) i j (λ e. ne (sym e)) (O .asked) (Q .asked)) ∙ Q .unreturned;
-          early = Q .early;
           pending = Q .pending;
           over = Q .over;
         });

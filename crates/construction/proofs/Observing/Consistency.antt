@@ -13,7 +13,7 @@ use Rattle.construction.specs.Cells.{isDone, openAnnouncement}
 use Rattle.construction.specs.Parts.{idleTask, contentsOf, localAt, withLocal, Local}
 use Rattle.construction.specs.Machine.{advance, accessOf}
 use Rattle.construction.specs.Requests.{isVariable, isIdle, isBusy, refused, answerOf, read, invoked, exiting}
-use Rattle.construction.specs.History.{Entry, act, Steps, Invocation, History, turned, finishing, withFinishes, Return, Event, eventOf, withResponse, withEntry, Observation, observe}
+use Rattle.construction.specs.History.{Entry, act, Steps, Invocation, History, turned, finishing, withFinish, withFinishes, Return, Event, eventOf, withResponse, withEntry, Observation, observe}
 use Rattle.construction.proofs.Basics.{true-or-false, true-false, cond-false}
 use Rattle.construction.proofs.Observing.Histories.{turned-same}
 use Rattle.construction.proofs.Statements.OneAccess.{one-access}
@@ -156,33 +156,30 @@ module _ (o : Card) (m : Observation) (O : Consistent o m) where
       ends-own : Own true w s (E .process)
       ends-own =
           subst (λ (a : Bool). Own a w s (E .process)) ends-announced
-          (O .tracks .own (E .process) (subst (λ (n : ℕ). E .process < n) processes-is (E .inside))
+          (O .tracks .own (E .process) (rw processes-is at (E .inside))
           (announced-busy (stage (localAt c (E .process) .task .place)) ends-announced))
 
       ends-one : finishing c d ≡ E .process ∷ []
       ends-one = finishing-is ∙ turned-ends good E
 
     -- the notes after the step and before its answer
-    abbrev Moved : ℕ → List ℕ → World → Type 0
-    Moved gate is v = Tracks (o .processCount) (isBusy c) (announcedIn c) v (withFinishes o gate is s)
+    abbrev Moved : World → History → Type 0
+    Moved = Tracks (o .processCount) (isBusy c) (announcedIn c)
 
-    moved : Tracks (o .processCount) (isBusy c) (announcedIn c) (S .after) noticed
+    moved : Moved (S .after) noticed
     unfolding withFinishes
     moved = ⊎-elim calm ends kind
       where
-        calm : NothingFinishes (announcedIn c) w (S .after) → Moved (c .gate .seq) (finishing c d) (S .after)
-        calm C =
-            subst (λ (is : List ℕ). Moved (c .gate .seq) is (S .after)) (sym (finishing-is ∙ C .none))
-            (tracks-calm C (S .calls-is) (O .tracks))
+        calm : NothingFinishes (announcedIn c) w (S .after) → Moved (S .after) noticed
+        calm C = rw (finishing-is ∙ C .none) (tracks-calm C (S .calls-is) (O .tracks))
 
-        ends : OneFinishes (contentsOf c) w (S .after) → Moved (c .gate .seq) (finishing c d) (S .after)
+        ends : OneFinishes (contentsOf c) w (S .after) → Moved (S .after) noticed
         ends E =
-            subst (λ (is : List ℕ). Moved (c .gate .seq) is (S .after)) (sym (ends-one E))
-            (subst (λ (v : World). Moved (c .gate .seq) (E .process ∷ []) v) (sym (E .becomes))
-            (subst (λ (g : Gate). Moved (g .seq) (E .process ∷ []) (ending (contentsOf c) w (E .process))) (sym (gate-is (O .inv)))
+            rw (ends-one E, E .becomes)
+            (subst (λ (g : Gate). Moved (ending (contentsOf c) w (E .process)) (withFinish o (g .seq) (E .process) s)) (sym (gate-is (O .inv)))
             (tracks-finished o good (O .tracks) (E .process) (E .inside) (E .held) (E .undone) (ends-own E)
             (ap (λ (x : Contents). x .variableCount) (sym (O .text)))
-            (ap (λ (x : Contents). x .programs) (sym (O .text))) (ends-announced E))))
+            (ap (λ (x : Contents). x .programs) (sym (O .text))) (ends-announced E)))
 
     others : (j : ℕ) → j ≢ i → (isBusy d j ≡ isBusy c j) × (announcedIn d j ≡ announcedIn c j)
     others j ne =
@@ -197,7 +194,7 @@ module _ (o : Card) (m : Observation) (O : Consistent o m) where
 
     -- the operation of i itself
     own-moved : Own (announcedIn c i) (S .after) noticed i
-    own-moved = moved .own i (subst (λ (n : ℕ). i < n) processes-is lt) b
+    own-moved = moved .own i (rw processes-is at lt) b
 
     own-stage : (own-place ≡ P1) ⊎ (own-place ≡ P3) ⊎ (isAnnounced own-place ≡ true)
     own-stage = busy-stage (stage own-place) b

@@ -96,14 +96,7 @@ module _ (o : Card) (m : Observation) (O : Consistent o m) where
   exit-kept : (i : ℕ) → i < c .processCount → Consistent o (after o m (Entry.Exit i) (record { card = withLocal c i (exiting (localAt c i)); answer = Answer.Taken }))
   exit-kept i lt =
       unturned (withLocal c i (exiting (localAt c i))) (Entry.Exit i) Answer.Taken refl
-      (record { world = w; inv = inv-exit c w i (O .inv) lt; tracks = kept; text = O .text })
-    where
-      kept : Follows o (withLocal c i (exiting (localAt c i))) w s
-      kept =
-          subst
-          (λ (l : List Task).
-          Tracks (o .processCount) (λ j. not (isIdle (getD l j idleTask .place))) (λ j. isAnnounced (getD l j idleTask .place)) w s)
-          (sym (set-getD (c .tasks) i idleTask)) (O .tracks)
+      (record { world = w; inv = inv-exit c w i (O .inv) lt; tracks = simp set-getD (O .tracks); text = O .text })
 
   -- a call
   call-kept :

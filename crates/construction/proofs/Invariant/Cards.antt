@@ -51,6 +51,9 @@ module _ {c : Card} {w : World} (I : CardInvariant c w) where
   pub announcements-is : c .announcements ≡ w .announcements
   announcements-is = ap (λ (u : World). u .announcements) (I .cells)
 
+  numbered-is : w .gate .seq ≤ suc (c .steps)
+  numbered-is = rw gate-is at (I .numbered)
+
 -- a card after a move to the world u: other shared cells, process i with the own state t, and k accepted steps
 module _ {c : Card} {w : World} {i : ℕ} (I : CardInvariant c w) (lt : i < 8) {u : World} (M : Move (contentsOf c) i w u) (g : Gate) (l : List Announcement)
     (r : List Record) (t : Local) (k : ℕ) where
@@ -110,7 +113,7 @@ inv-step c w i I lt b h = record {
   inv = subst (λ (x : Card). CardInvariant (withSteps x k) (A .after)) (sym (A .put))
       (moved I few M (v .gate) (v .announcements) (v .records) (A .local) k
       (λ n. withShared (A .after) (A .gate-is n) (A .announcements-is n) (A .records-is n))
-      (A .loc) (A .tidy) (omega (arith, seq-move M, ap (λ (g : Gate). g .seq) (gate-is I), I .numbered, steps)) (omega (arith, steps))
+      (A .loc) (A .tidy) (omega (arith, seq-move M .1, numbered-is I, steps)) (omega (arith, steps))
       (omega (arith, steps)) (omega (arith, A .counted, I .counts i, I .capped, steps)));
   calls-is = A .calls-is;
   elsewhere = λ j ne. ap (λ (x : Card). localAt x j) (A .put) ∙ local-other c i j (A .local) ne;
@@ -161,7 +164,7 @@ inv-call c w i k inputs I lt b =
       at-rest I i lt b .0,
       sym (getD-set-same (w .calls) i (called k inputs) noOperation (omega (arith, few, I .good .lengths .calls))),
     )
-    (I .tidy i) (subst (λ (g : Gate). g .seq ≤ suc (c .steps)) (gate-is I) (I .numbered)) (omega arith) (I .limited) (omega arith)
+    (I .tidy i) (numbered-is I) (omega arith) (I .limited) (omega arith)
   where
     few : i < 8
     few = omega (arith, I .good .fits .few)
@@ -170,8 +173,7 @@ inv-call c w i k inputs I lt b =
 pub inv-exit : (c : Card) (w : World) (i : ℕ) → CardInvariant c w → i < c .processCount → CardInvariant (withLocal c i (exiting (localAt c i))) w
 inv-exit c w i I lt =
     moved I (omega (arith, I .good .fits .few)) stay (c .gate) (c .announcements) (c .records) (exiting (localAt c i)) (c .steps) (I .cells)
-    (I .locs i lt) (I .tidy i) (subst (λ (g : Gate). g .seq ≤ suc (c .steps)) (gate-is I) (I .numbered)) (omega arith) (I .limited)
-    (I .counts i)
+    (I .locs i lt) (I .tidy i) (numbered-is I) (omega arith) (I .limited) (I .counts i)
 
 -- a card as opened
 abbrev pub firstWorld : Contents → World

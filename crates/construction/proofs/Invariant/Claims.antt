@@ -13,7 +13,7 @@ use Rattle.construction.specs.Machine.{flagged, finished}
 use Rattle.construction.proofs.Basics.{on-set, active-not-done, active-not-exit, exit-not-done, nobody-process, process-same, else-exit}
 use Rattle.construction.proofs.Invariant.World.{noRound, endingIn, World, announcementIn, recordIn, leftIn, boundIn, callIn, Result, noResult, resultIn, resultOf, roundIn, operationOf, WorldInvariant, asking, announcing, leaving, ending, Silent, Quiet, Move}
 use Rattle.construction.proofs.Invariant.World.Move.{stay, ask, announce, leave, take, write, end, free}
-use Rattle.construction.proofs.Invariant.WorldKept.{announcements-set}
+use Rattle.construction.proofs.Invariant.WorldKept.{announcements-set, seq-move}
 
 -- what a process sees: the gate, and its own announcement, call, result and bound
 pub record View : Type 0 where
@@ -332,14 +332,7 @@ module _ {F : Contents} {i : ℕ} {w : World} (G : WorldInvariant F w) where
 
   -- the gate's number does not fall
   pub below-stays : {v : World} {n : ℕ} → Move F i w v → n ≤ w .gate .seq → n ≤ v .gate .seq
-  below-stays stay h = h
-  below-stays (ask c lt Q) h = h
-  below-stays (announce a lt Q fa A) h = h
-  below-stays (leave lt fa) h = h
-  below-stays (take m lt hn fl op z) h = h
-  below-stays (write m v x vl hm fl below ex) h = h
-  below-stays (end m lt hm fl all) h = h
-  below-stays (free m lt hm d) h = omega arith
+  below-stays M h = omega (arith, seq-move M .0)
 
   -- a record keeps, or gets the gate's number
   pub record-stays : {v : World} → Move F i w v → (u : ℕ) → (recordIn v u ≡ recordIn w u) ⊎ (recordIn v u .seq ≡ w .gate .seq)

@@ -19,7 +19,7 @@ use Rattle.construction.specs.Machine.{goTo, holderOf, helps, afterPause
 use Rattle.construction.proofs.Basics.{on-test, and-true, and-false, isDone-true, isDone-false, true-or-false}
 use Rattle.construction.proofs.Simulating.Simulations.{PausedAt, starts, noting, simulates, simulate-empty}
 use Rattle.construction.proofs.Invariant.World.{Round, endingOf, endingIn, World, callIn, roundIn, wordAt, operationOf, Phase}
-use Rattle.construction.proofs.Invariant.WorldKept.{rounds-few}
+use Rattle.construction.proofs.Invariant.WorldKept.{phase-at, rounds-few}
 use Rattle.construction.proofs.Invariant.Claims.{Seen, Working}
 use Rattle.construction.proofs.Invariant.Assertions.{Helper, Plan, ItemNoted, programFor, CoreAt, LocAt, Loc}
 use Rattle.construction.proofs.Invariant.NextWrites.{pause-loc}
@@ -97,7 +97,7 @@ module _ {c : Card} {w : World} {i : ℕ} (B : Before c w i) where
         seen .still (omega (arith, B .good .announced m .fresh nd))
 
     pending : Phase (Process m) W
-    pending = subst (λ (h : Holder). Phase h W) (still .0) (B .good .phase)
+    pending = phase-at (B .good) (still .0)
 
     many : s < length (W .rounds)
     many = omega (arith, pending .0, still .1)

@@ -64,6 +64,10 @@ module _ {F : Contents} {w : World} (G : WorldInvariant F w) where
       P (getD (set (w .announcements) i a) j openAnnouncement)
   announcements-set P i j a lt = on-set P (w .announcements) i j a openAnnouncement (omega arith)
 
+  -- the phase by the holder of the gate
+  pub phase-at : {h : Holder} → w .gate .holder ≡ h → Phase h w
+  phase-at e = subst (λ (h : Holder). Phase h w) e (G .phase)
+
   announced-set :
       (i : ℕ) (a : Announcement) → i < F .processCount → AnnouncementInvariant (w .gate .seq) (leftIn w i) (callIn w i) a → (m : ℕ) →
       AnnouncementInvariant (w .gate .seq) (leftIn w m) (callIn w m) (announcementIn (announcing w i a) m)
@@ -168,7 +172,7 @@ module _ {F : Contents} {w : World} (G : WorldInvariant F w) where
       operationOf (announcementIn w m) ≡ callIn w m → WorldInvariant F (taking w m)
   good-take m lt hn fl op =
       let R = G .recorded in
-      let ph : Phase Nobody w = subst (λ (h : Holder). Phase h w) hn (G .phase) in
+      let ph = phase-at hn in
       let more : length (taking w m .rounds) ≡ suc (length (w .rounds)) = rw length-append (omega arith) in
       record {
         fits = G .fits;
@@ -198,14 +202,11 @@ module _ {F : Contents} {w : World} (G : WorldInvariant F w) where
 
   -- the gate is held for an operation of m that is not done
   module _ (m : ℕ) (hm : w .gate .holder ≡ Process m) (fl : announcementIn w m .flag ≢ Done) where
-    held : Phase (Process m) w
-    held = subst (λ (h : Holder). Phase h w) hm (G .phase)
-
     many : length (w .rounds) ≡ suc (w .gate .seq)
-    many = held .0
+    many = phase-at hm .0
 
     counted : w .count ≡ w .gate .seq
-    counted = held .2 fl .counted
+    counted = phase-at hm .2 fl .counted
 
     -- variable v is written (H36)
     module _
@@ -252,7 +253,7 @@ module _ {F : Contents} {w : World} (G : WorldInvariant F w) where
         bound-below = G .bound-below;
         announced = G .announced;
         inside = G .inside;
-        phase = subst (λ (h : Holder). Phase h (storing w v x)) (sym hm) held;
+        phase = subst (λ (h : Holder). Phase h (storing w v x)) (sym hm) (phase-at hm);
         recorded = recorded-write;
       }
 
@@ -307,7 +308,7 @@ module _ {F : Contents} {w : World} (G : WorldInvariant F w) where
   good-free :
       (m : ℕ) → m < F .processCount → w .gate .holder ≡ Process m → announcementIn w m .flag ≡ Done → WorldInvariant F (freeing w m)
   good-free m lt hm d =
-      let ph : Phase (Process m) w = subst (λ (h : Holder). Phase h w) hm (G .phase) in
+      let ph = phase-at hm in
       let many : length (w .rounds) ≡ suc (w .gate .seq) = ph .0 in
       let counted : w .count ≡ suc (w .gate .seq) = ph .1 d in
       let set-left :
@@ -345,16 +346,16 @@ good-move G (write m v x vl hm fl below ex) = good-write G m hm fl v x vl below 
 good-move G (end m lt hm fl all) = good-end G m hm fl lt all
 good-move G (free m lt hm d) = good-free G m lt hm d
 
--- a move takes the gate's number up by one at most
-pub seq-move : {F : Contents} {i : ℕ} {w v : World} → Move F i w v → v .gate .seq ≤ suc (w .gate .seq)
-seq-move stay = omega arith
-seq-move (ask c lt Q) = omega arith
-seq-move (announce a lt Q fa A) = omega arith
-seq-move (leave lt fa) = omega arith
-seq-move (take m lt hn fl op z) = omega arith
-seq-move (write m v x vl hm fl below ex) = omega arith
-seq-move (end m lt hm fl all) = omega arith
-seq-move (free m lt hm d) = omega arith
+-- a move does not take the gate's number down, and up by one at most
+pub seq-move : {F : Contents} {i : ℕ} {w v : World} → Move F i w v → (w .gate .seq ≤ v .gate .seq) × (v .gate .seq ≤ suc (w .gate .seq))
+seq-move stay = (omega arith, omega arith)
+seq-move (ask c lt Q) = (omega arith, omega arith)
+seq-move (announce a lt Q fa A) = (omega arith, omega arith)
+seq-move (leave lt fa) = (omega arith, omega arith)
+seq-move (take m lt hn fl op z) = (omega arith, omega arith)
+seq-move (write m v x vl hm fl below ex) = (omega arith, omega arith)
+seq-move (end m lt hm fl all) = (omega arith, omega arith)
+seq-move (free m lt hm d) = (omega arith, omega arith)
 
 -- the operation that a gate is held for runs on the words so far, and its number is the next
 pub ends-now :
@@ -363,7 +364,7 @@ pub ends-now :
     × (endingIn F w (w .gate .seq)
     ≡ sequential (F .variableCount) (programOf F (callIn w m .program) (w .gate .seq)) (callIn w m .inputs) (w .words))
 unfolding endingOf
-ends-now {F} {w} G m hm fl = (counted G m hm fl, ap (endingOf F (w .gate .seq)) (held G m hm fl .2 fl .now))
+ends-now {F} {w} G m hm fl = (counted G m hm fl, ap (endingOf F (w .gate .seq)) (phase-at G hm .2 fl .now))
 
 -- how many rounds there are at most, and operations finished at least
 pub rounds-few : (h : Holder) (w : World) → Phase h w → length (w .rounds) ≤ suc (w .gate .seq)

@@ -20,7 +20,7 @@ use Rattle.construction.proofs.Basics.{on-test, true-false, and-true, s
 use Rattle.construction.proofs.Simulating.Dictionaries.{valueIn, all-at, value-at}
 use Rattle.construction.proofs.Invariant.World.{endingIn, World, leftIn, roundIn, wordAt, Phase, storing, Move}
 use Rattle.construction.proofs.Invariant.World.Move.{write}
-use Rattle.construction.proofs.Invariant.WorldKept.{count-many}
+use Rattle.construction.proofs.Invariant.WorldKept.{phase-at, count-many}
 use Rattle.construction.proofs.Invariant.Assertions.{ItemNoted, NoWriteDue, LocAt, helper-stays, plan-stays, fine-stays, finished-stays}
 use Rattle.construction.proofs.Invariant.Claims.Change.{kept}
 use Rattle.construction.proofs.Invariant.NextWrites.{write-loc}
@@ -120,7 +120,7 @@ module _ {c : Card} {w : World} {i : ℕ} (B : Before c w i) (q : LocAt H36 (con
 
     not-done : announcementAt c m .flag ≢ Done
     not-done f =
-        let ph : Phase (Process m) W = subst (λ (h : Holder). Phase h W) (held .0) (B .good .phase) in
+        let ph = phase-at (B .good) (held .0) in
         unfinished (omega (arith, ph .1 f, held .1))
 
     writes : Move F i W (storing W v (item .value))

@@ -55,7 +55,7 @@ module _ {c : Card} {w : World} (I : CardInvariant c w) where
   numbered-is = rw gate-is at (I .numbered)
 
 -- a card after a move to the world u: other shared cells, process i with the own state t, and k accepted steps
-module _ {c : Card} {w : World} {i : ℕ} (I : CardInvariant c w) (lt : i < 8) {u : World} (M : Move (contentsOf c) i w u) (g : Gate) (l : List Announcement)
+module _ {c : Card} {w : World} {i : ℕ} (I : CardInvariant c w) (lt : i < c .processCount) {u : World} (M : Move (contentsOf c) i w u) (g : Gate) (l : List Announcement)
     (r : List Record) (t : Local) (k : ℕ) where
   abbrev v : Card
   v = withSteps (withLocal (withCells c g l r) i t) k
@@ -64,7 +64,7 @@ module _ {c : Card} {w : World} {i : ℕ} (I : CardInvariant c w) (lt : i < 8) {
   at-process P a b j = go (ℕ-discrete j i)
     where
       go : Dec (j ≡ i) → P j (localAt v j)
-      go (yes e) = subst (λ (n : ℕ). P n (localAt v n)) (sym e) (subst (P i) (sym (local-same c i t (I .sizes) lt)) a)
+      go (yes e) = subst (λ (n : ℕ). P n (localAt v n)) (sym e) (subst (P i) (sym (local-same c i t (I .sizes) (omega (arith, I .good .fits .few)))) a)
       go (no ne) = subst (P j) (sym (local-other c i j t ne)) (b j ne)
 
   moved :
@@ -111,7 +111,7 @@ inv-step c w i I lt b h = record {
   after = A .after;
   move = M;
   inv = subst (λ (x : Card). CardInvariant (withSteps x k) (A .after)) (sym (A .put))
-      (moved I few M (v .gate) (v .announcements) (v .records) (A .local) k
+      (moved I lt M (v .gate) (v .announcements) (v .records) (A .local) k
       (λ n. withShared (A .after) (A .gate-is n) (A .announcements-is n) (A .records-is n))
       (A .loc) (A .tidy) (omega (arith, seq-move M .1, numbered-is I, steps)) (omega (arith, steps))
       (omega (arith, steps)) (omega (arith, A .counted, I .counts i, I .capped, steps)));
@@ -124,9 +124,6 @@ inv-step c w i I lt b h = record {
 
     k : ℕ
     k = (c .steps + 1) % 18446744073709551616
-
-    few : i < 8
-    few = omega (arith, I .good .fits .few)
 
     A : Acted c (worldOf c w) i v
     A =
@@ -150,29 +147,21 @@ at-rest {c} {w} I i lt b =
 abbrev pub called : ℕ → Words → Operation
 called k inputs = record { program = k; inputs = inputs }
 
-call-move :
-    (c : Card) (w : World) (i k : ℕ) (inputs : Words) → CardInvariant c w → i < c .processCount → isBusy c i ≡ false →
-    Move (contentsOf c) i w (asking w i (called k inputs))
-call-move c w i k inputs I lt b = ask (called k inputs) lt (at-rest I i lt b .0)
-
 pub inv-call :
     (c : Card) (w : World) (i k : ℕ) (inputs : Words) → CardInvariant c w → i < c .processCount → isBusy c i ≡ false →
     CardInvariant (withLocal c i (invoked (localAt c i) k inputs)) (asking w i (called k inputs))
 inv-call c w i k inputs I lt b =
-    moved I few (call-move c w i k inputs I lt b) (c .gate) (c .announcements) (c .records) (invoked (localAt c i) k inputs) (c .steps)
+    moved I lt (ask (called k inputs) lt (at-rest I i lt b .0)) (c .gate) (c .announcements) (c .records) (invoked (localAt c i) k inputs) (c .steps)
     (ap (λ (x : World). asking x i (called k inputs)) (I .cells)) (
       at-rest I i lt b .0,
-      sym (getD-set-same (w .calls) i (called k inputs) noOperation (omega (arith, few, I .good .lengths .calls))),
+      sym (getD-set-same (w .calls) i (called k inputs) noOperation (omega (arith, I .good .fits .few, I .good .lengths .calls))),
     )
     (I .tidy i) (numbered-is I) (omega arith) (I .limited) (omega arith)
-  where
-    few : i < 8
-    few = omega (arith, I .good .fits .few)
 
 -- an exit request that is taken: no assertion speaks of it
 pub inv-exit : (c : Card) (w : World) (i : ℕ) → CardInvariant c w → i < c .processCount → CardInvariant (withLocal c i (exiting (localAt c i))) w
 inv-exit c w i I lt =
-    moved I (omega (arith, I .good .fits .few)) stay (c .gate) (c .announcements) (c .records) (exiting (localAt c i)) (c .steps) (I .cells)
+    moved I lt stay (c .gate) (c .announcements) (c .records) (exiting (localAt c i)) (c .steps) (I .cells)
     (I .locs i lt) (I .tidy i) (numbered-is I) (omega arith) (I .limited) (I .counts i)
 
 -- a card as opened

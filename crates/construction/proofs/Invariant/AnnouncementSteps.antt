@@ -15,7 +15,7 @@ use Rattle.construction.specs.Machine.{goTo, byFlag, holderOf, firstChoi
 use Rattle.construction.proofs.Basics.{on-test, true-or-false, announcement-path, sameAnnouncement-true, sameAnnouncement-false, active-not-done, active-not-exit, exit-not-done, else-done}
 use Rattle.construction.proofs.Invariant.World.{endingIn, World, announcementIn, leftIn, callIn, roundIn, wordAt, operationOf, AnnouncementInvariant, ending, Move}
 use Rattle.construction.proofs.Invariant.World.Move.{announce, leave, end}
-use Rattle.construction.proofs.Invariant.Claims.{viewOf, Change, Mine, end-change}
+use Rattle.construction.proofs.Invariant.Claims.{viewOf, Change, Mine, Eligible, end-change}
 use Rattle.construction.proofs.Invariant.Assertions.{Helper, Plan, Ready, LocAt, Loc, helper-stays, plan-stays, ready-stays}
 use Rattle.construction.proofs.Invariant.Acting.{worldOf, Step, Before, Acted, acts, keeps, atTask, goes-on, atAnnouncement}
 
@@ -88,17 +88,16 @@ module _ {c : Card} {w : World} {i : ℕ} (B : Before c w i) where
   pub at-P7 : Step c w i P7 (Access.Announcement (AnnouncementAccess.ReadOwn F1 P10 P10))
   at-P7 q = at-own P10 P10 q (λ _. q) (λ _. q)
 
+  -- at C2 and C4: m is nominated
+  nominates :
+      (m : ℕ) → m < c .processCount → LocAt C2 F W i (localAt c i) → Eligible W i m (localAt c i .gate .seq) → Loc F W i (read m P13)
+  nominates m ml q E = (q .0, q .1, ml, record { below = q .2; fit = λ _ _. E }, q .3)
+
   pub at-C4 : Step c w i C4 (Access.Announcement (AnnouncementAccess.ReadOwn F1 P13 P13))
   at-C4 q = at-own P13 P13 (q .0) (λ e. self (active-not-done e)) (λ e. self (exit-not-done e))
     where
       self : announcementAt c i .flag ≢ Done → Loc F W i (read i P13)
-      self nd = (
-        q .0,
-        q .1,
-        B .inside,
-        record { below = q .2; fit = λ _ _. record { alive = nd; op = q .0 .op nd; right = inl refl } },
-        q .3,
-      )
+      self nd = nominates i (B .inside) q (record { alive = nd; op = q .0 .op nd; right = inl refl })
 
   pub at-P22 : Step c w i P22 (Access.Announcement (AnnouncementAccess.ReadOwn F1 P5 Idle))
   at-P22 q =
@@ -117,20 +116,9 @@ module _ {c : Card} {w : World} {i : ℕ} (B : Before c w i) where
       (m : ℕ) → m < c .processCount → (f : Flag) → announcementAt c m .flag ≡ f → LocAt C2 F W i (localAt c i) →
       Loc F W i (read m (byFlag f C4 P13 C4))
   read-C2 m ml Done e q = q
-  read-C2 m ml Active e q = (
-    q .0,
-    q .1,
-    ml,
-    record {
-      below = q .2;
-      fit = λ _ _. record {
-        alive = active-not-done e;
-        op = B .good .announced m .active-operation e;
-        right = inr (λ x. absurd (active-not-exit e x));
-      };
-    },
-    q .3,
-  )
+  read-C2 m ml Active e q =
+      nominates m ml q
+      (record { alive = active-not-done e; op = B .good .announced m .active-operation e; right = inr (λ x. absurd (active-not-exit e x)) })
   read-C2 m ml Exit e q = q
 
   pub at-C2 : Step c w i C2 (Access.Announcement AnnouncementAccess.ReadFirst)

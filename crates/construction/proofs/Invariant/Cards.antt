@@ -204,7 +204,6 @@ module _ (x : Contents) (few : x .processCount ≤ 8) (narrow : x .variableCount
       bound = refl;
     };
     size-words = open-words;
-    size-round = λ s l. let z : s ≡ 0 = omega arith in rw z open-words;
     left-below = λ m. rw (getD-replicate-same {A = ℕ} 8 m 0) (omega arith);
     bound-below = λ m. rw (getD-replicate-same {A = ℕ} 8 m 0) (omega arith);
     announced = λ m. rw (getD-replicate-same 8 m openAnnouncement) (record {
@@ -218,6 +217,7 @@ module _ (x : Contents) (few : x .processCount ≤ 8) (narrow : x .variableCount
     inside = λ m e. absurd (nobody-process refl e);
     phase = (refl, refl);
     recorded = record {
+      sized = λ s l. let z : s ≡ 0 = omega arith in rw z open-words;
       below = λ v. rw (open-record v) (omega arith);
       old = λ s v l vl h. absurd (omega arith);
       same = λ v vl h. absurd (omega (arith, rw (open-record v) at h));

@@ -125,7 +125,7 @@ module _ {c : Card} {w : World} {i : ℕ} (B : Before c w i) where
         let r =
         resumes a q plan started empty
         (starts (c .variableCount) (programFor F s a) (a .words) (roundIn W s .words) (endingIn F W s) (ItemNoted F W s)
-        (B .good .size-round s many) (run-is F s (roundIn W s) a called)) in
+        (B .good .recorded .sized s many) (run-is F s (roundIn W s) a called)) in
         let z = simulate-empty (c .variableCount) (programFor F s a) (a .words) in
         rw t
         (keeps B refl (set-getD (c .announcements) m openAnnouncement) refl _ refl (subst WellFormed z (r .0))

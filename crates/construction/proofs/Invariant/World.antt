@@ -106,9 +106,11 @@ abbrev pub Phase : Holder → World → Type 0
 Phase Nobody w = (length (w .rounds) ≡ w .gate .seq) × (w .count ≡ w .gate .seq)
 Phase (Process m) w = Held w (callIn w m) (announcementIn w m)
 
--- the records: one below number s has the value from before s, one of number s has the values before and after s; what a finished
--- operation altered is written; and where no operation is pending the records have the words of the sequential run
+-- the rounds and the records: a round has a word for each variable; a record below number s has the value from before s, one of number s
+-- has the values before and after s; what a finished operation altered is written; and where no operation is pending the records have the
+-- words of the sequential run
 pub record Recorded (F : Contents) (records : List Record) (rounds : List Round) (count : ℕ) (words : List ℕ) : Type 0 where
+  pub sized : (s : ℕ) → s < length rounds → length (roundOf rounds s .words) ≡ F .variableCount
   pub below : (v : ℕ) → recordOf records v .seq < length rounds
   pub old :
       (s v : ℕ) → s < length rounds → v < F .variableCount → recordOf records v .seq < s →
@@ -154,7 +156,6 @@ pub record WorldInvariant (F : Contents) (w : World) : Type 0 where
       Lengths (length (w .announcements)) (length (w .records)) (length (w .calls)) (length (w .results)) (length (w .left))
       (length (w .bound))
   pub size-words : length (w .words) ≡ F .variableCount
-  pub size-round : (s : ℕ) → s < length (w .rounds) → length (roundIn w s .words) ≡ F .variableCount
   pub left-below : (m : ℕ) → leftIn w m < w .gate .seq
   pub bound-below : (m : ℕ) → boundIn w m ≤ w .gate .seq
   pub announced : (m : ℕ) → AnnouncementInvariant (w .gate .seq) (leftIn w m) (callIn w m) (announcementIn w m)

@@ -84,7 +84,6 @@ module _ {F : Contents} {w : World} (G : WorldInvariant F w) where
     fits = G .fits;
     lengths = rw length-set (G .lengths);
     size-words = G .size-words;
-    size-round = G .size-round;
     left-below = G .left-below;
     bound-below = G .bound-below;
     announced = λ m.
@@ -108,7 +107,6 @@ module _ {F : Contents} {w : World} (G : WorldInvariant F w) where
     fits = G .fits;
     lengths = rw length-set (G .lengths);
     size-words = G .size-words;
-    size-round = G .size-round;
     left-below = G .left-below;
     bound-below = G .bound-below;
     announced = announced-set i a lt A;
@@ -132,7 +130,6 @@ module _ {F : Contents} {w : World} (G : WorldInvariant F w) where
     fits = G .fits;
     lengths = simp length-set (G .lengths);
     size-words = G .size-words;
-    size-round = G .size-round;
     left-below = G .left-below;
     bound-below = λ m.
         on-set (λ r. r ≤ w .gate .seq) (w .bound) i m (w .gate .seq) 0 (omega arith)
@@ -178,8 +175,6 @@ module _ {F : Contents} {w : World} (G : WorldInvariant F w) where
         fits = G .fits;
         lengths = G .lengths;
         size-words = G .size-words;
-        size-round = λ s sl.
-            ⊎-elim (λ e. rw (latest m s e) (G .size-words)) (λ l. rw (earlier m s l) (G .size-round s l)) (split-last m s sl);
         left-below = G .left-below;
         bound-below = G .bound-below;
         announced = G .announced;
@@ -190,6 +185,8 @@ module _ {F : Contents} {w : World} (G : WorldInvariant F w) where
           λ d. record { counted = ph .1; now = latest m (w .gate .seq) (omega arith); asked = op },
         );
         recorded = record {
+          sized = λ s sl.
+              ⊎-elim (λ e. rw (latest m s e) (G .size-words)) (λ l. rw (earlier m s l) (R .sized s l)) (split-last m s sl);
           below = λ v. omega (arith, R .below v);
           old = λ s v sl vl h.
               ⊎-elim (λ e. rw (latest m s e) (R .words-are v vl (omega arith)))
@@ -223,6 +220,7 @@ module _ {F : Contents} {w : World} (G : WorldInvariant F w) where
       recorded-write =
           let R = G .recorded in
           record {
+            sized = R .sized;
             below = λ u. set-record (λ q. q .seq < length (w .rounds)) u (λ _. omega (arith, many)) (λ _. R .below u);
             old = λ s u sl ul.
                 set-record (λ q. q .seq < s → current q ≡ wordAt (roundIn w s .words) u) u
@@ -248,7 +246,6 @@ module _ {F : Contents} {w : World} (G : WorldInvariant F w) where
         fits = G .fits;
         lengths = rw length-set (G .lengths);
         size-words = G .size-words;
-        size-round = G .size-round;
         left-below = G .left-below;
         bound-below = G .bound-below;
         announced = G .announced;
@@ -266,6 +263,7 @@ module _ {F : Contents} {w : World} (G : WorldInvariant F w) where
       recorded-end =
           let R = G .recorded in
           record {
+            sized = R .sized;
             below = R .below;
             old = R .old;
             same = R .same;
@@ -284,8 +282,7 @@ module _ {F : Contents} {w : World} (G : WorldInvariant F w) where
             fits = G .fits;
             lengths = simp length-set (G .lengths);
             size-words =
-                ending-length F (w .gate .seq) (roundIn w (w .gate .seq)) ∙ G .size-round (w .gate .seq) (omega (arith, many));
-            size-round = G .size-round;
+                ending-length F (w .gate .seq) (roundIn w (w .gate .seq)) ∙ G .recorded .sized (w .gate .seq) (omega (arith, many));
             left-below = G .left-below;
             bound-below = G .bound-below;
             announced = announced-set m _ lt (record {
@@ -318,7 +315,6 @@ module _ {F : Contents} {w : World} (G : WorldInvariant F w) where
         fits = G .fits;
         lengths = rw length-set (G .lengths);
         size-words = G .size-words;
-        size-round = G .size-round;
         left-below = λ j. set-left (λ b. b < w .gate .seq + 1) j (λ _. omega arith) (λ _. omega (arith, G .left-below j));
         bound-below = λ j. omega (arith, G .bound-below j);
         announced = λ j.

@@ -3,9 +3,6 @@ use borrow.Author.Needs.{needs}
 use Rattle.cells.proofs.released.Statement.{statement}
 use Rattle.cells.proofs.released.Tie as tie
 
-returns : tie.Need-returns
-unfolding released
-returns c = rw (c .wrapping-add-u64 .ensures)
-
 pub released-spec : {M : Type 1} → statement M
-released-spec = tie.close (tie.spec (λ c κs. search needs) returns)
+unfolding released
+released-spec = tie.close (tie.spec (λ c κs. search needs) (λ c. rw (c .wrapping-add-u64 .ensures)))

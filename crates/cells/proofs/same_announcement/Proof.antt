@@ -27,15 +27,8 @@ returns-4 c =
     rw
     (eq-eqb _ _ (c .before .before .before .before .before .if1 .taken), eq-eqb _ _ (c .before .before .if2 .taken), ← c .before .same-flag .ensures, c .if3 .left)
 
-returns-5 : tie.Need-returns-5
-unfolding sameAnnouncement
-returns-5 c = rw (eq-eqb _ _ (c .before .before .before .if1 .taken), ne-eqb _ _ (c .if2 .left))
-
-returns-6 : tie.Need-returns-6
-unfolding sameAnnouncement
-returns-6 c = rw (ne-eqb _ _ (c .if1 .left))
-
 pub same-announcement-spec : {M : Type 1} → statement M
+unfolding sameAnnouncement
 same-announcement-spec =
     tie.close
-    (tie.spec (λ c κs. search needs) (λ c κs. search needs) returns returns-2 returns-3 returns-4 returns-5 returns-6)
+    (tie.spec (λ c κs. search needs) (λ c κs. search needs) returns returns-2 returns-3 returns-4 (λ c. rw (eq-eqb _ _ (c .before .before .before .if1 .taken), ne-eqb _ _ (c .if2 .left))) (λ c. rw (ne-eqb _ _ (c .if1 .left))))

@@ -14,13 +14,6 @@ returns-2 c =
     by-toggle _ _ (c .before .before .before .before .before .before .if1 .taken)
     (c .before .before .before .if2 .taken) (c .if3 .left)
 
-returns-3 : tie.Need-returns-3
-unfolding sameRecord
-returns-3 c = rw (eq-eqb _ _ (c .before .before .before .if1 .taken), ne-eqb _ _ (c .if2 .left))
-
-returns-4 : tie.Need-returns-4
-unfolding sameRecord
-returns-4 c = rw (ne-eqb _ _ (c .if1 .left))
-
 pub same-record-spec : {M : Type 1} → statement M
-same-record-spec = tie.close (tie.spec returns returns-2 returns-3 returns-4)
+unfolding sameRecord
+same-record-spec = tie.close (tie.spec returns returns-2 (λ c. rw (eq-eqb _ _ (c .before .before .before .if1 .taken), ne-eqb _ _ (c .if2 .left))) (λ c. rw (ne-eqb _ _ (c .if1 .left))))

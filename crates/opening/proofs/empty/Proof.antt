@@ -2,8 +2,5 @@ use borrow.Author.Needs.{needs}
 use Rattle.opening.proofs.empty.Statement.{statement}
 use Rattle.opening.proofs.empty.Tie as tie
 
-returns : tie.Need-returns
-returns c = rw (c .no-item .ensures)
-
 pub empty-spec : {M : Type 1} → statement M
-empty-spec = tie.close (tie.spec (λ c κs. search needs) returns)
+empty-spec = tie.close (tie.spec (λ c κs. search needs) (λ c. rw (c .no-item .ensures)))

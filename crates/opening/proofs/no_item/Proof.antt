@@ -2,8 +2,5 @@ use borrow.Author.Needs.{needs}
 use Rattle.opening.proofs.no_item.Statement.{statement}
 use Rattle.opening.proofs.no_item.Tie as tie
 
-returns : tie.Need-returns
-returns c = rw (c .open-record .ensures)
-
 pub no-item-spec : {M : Type 1} → statement M
-no-item-spec = tie.close (tie.spec (λ c κs. search needs) returns)
+no-item-spec = tie.close (tie.spec (λ c κs. search needs) (λ c. rw (c .open-record .ensures)))

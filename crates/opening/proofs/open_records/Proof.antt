@@ -15,9 +15,6 @@ Inv-loop starts records₀ k₀ records k = (take k records ≡ map openRecord (
 abbrev μ-loop : tie.MeasureT-loop
 μ-loop starts records₀ k₀ records k = 64 - k
 
-loop-holds : tie.Need-loop-holds Inv-loop μ-loop
-loop-holds c = (refl, omega arith, refl)
-
 loop-again : tie.Need-loop-again Inv-loop μ-loop
 loop-again c = (mapping.map-turn openRecord (c .before .before .before .before .args .t1) (c .before .before .loop .records) (c .before .before .loop .k) 0 (c .open-record2 .result) (search needs) (omega arith) (c .open-record2 .ensures) (c .before .before .loop .inv .0), omega arith, simp length-set ((c .before .before .loop .inv .2)))
 
@@ -31,7 +28,7 @@ open-records-spec =
     Inv-loop
     μ-loop
     (λ c κs. search needs)
-    loop-holds
+    (λ c. (refl, omega arith, refl))
     (λ c. search needs)
     (λ c. search needs)
     (λ c κs. search needs)

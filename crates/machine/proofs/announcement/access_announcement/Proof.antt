@@ -3,27 +3,12 @@ use borrow.Author.Needs.{needs}
 use Rattle.machine.proofs.announcement.access_announcement.Statement.{statement}
 use Rattle.machine.proofs.announcement.access_announcement.Tie as tie
 
-returns : tie.Need-returns
-unfolding accessAnnouncement
-returns c = rw (c .before .enum-told .given .1, c .announced .ensures)
-
-returns-2 : tie.Need-returns-2
-unfolding accessAnnouncement
-returns-2 c = rw (c .before .before .enum-told2 .given .1, ← c .before .withdrawn .ensures) (c .replace-announcement .ensures)
-
-returns-3 : tie.Need-returns-3
-unfolding accessAnnouncement
-returns-3 c = rw (c .before .before .before .access .given .1, ← c .before .by-flag .ensures) (c .read-announcement .ensures)
-
-returns-4 : tie.Need-returns-4
-unfolding accessAnnouncement
-returns-4 c = rw (c .before .before .enum-told3 .given .1, ← c .before .by-flag2 .ensures) (c .read-announcement2 .ensures)
-
 returns-5 : tie.Need-returns-5
 unfolding accessAnnouncement
 returns-5 c = rw (c .before .before .before .before .access2 .given .1, ← c .before .before .flagged .ensures, ← c .before .finished .ensures) (c .replace-announcement2 .ensures)
 
 pub access-announcement-spec : {M : Type 1} → statement M
+unfolding accessAnnouncement
 access-announcement-spec =
     tie.close
     (tie.spec
@@ -42,8 +27,8 @@ access-announcement-spec =
     (λ c κs. search needs)
     (λ c κs. search needs)
     (λ c κs. search needs)
-    returns
-    returns-2
-    returns-3
-    returns-4
+    (λ c. rw (c .before .enum-told .given .1, c .announced .ensures))
+    (λ c. rw (c .before .before .enum-told2 .given .1, ← c .before .withdrawn .ensures) (c .replace-announcement .ensures))
+    (λ c. rw (c .before .before .before .access .given .1, ← c .before .by-flag .ensures) (c .read-announcement .ensures))
+    (λ c. rw (c .before .before .enum-told3 .given .1, ← c .before .by-flag2 .ensures) (c .read-announcement2 .ensures))
     returns-5)

@@ -2,9 +2,6 @@ use borrow.Author.Needs.{needs}
 use Rattle.machine.proofs.announcement.whose.Statement.{statement}
 use Rattle.machine.proofs.announcement.whose.Tie as tie
 
-returns-4 : tie.Need-returns-4
-returns-4 c = rw (c .before .enum-told4 .given .1) (c .first-choice .ensures)
-
 pub whose-spec : {M : Type 1} → statement M
 whose-spec =
     tie.close
@@ -19,5 +16,5 @@ whose-spec =
     (λ c. search needs)
     (λ c. search needs)
     (λ c. search needs)
-    returns-4
+    (λ c. rw (c .before .enum-told4 .given .1) (c .first-choice .ensures))
     (λ c. search needs))

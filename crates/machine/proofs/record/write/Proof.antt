@@ -2,8 +2,5 @@ use borrow.Author.Needs.{needs}
 use Rattle.machine.proofs.record.write.Statement.{statement}
 use Rattle.machine.proofs.record.write.Tie as tie
 
-returns : tie.Need-returns
-returns c = rw (c .swap-record .ensures, c .before .rewritten .ensures)
-
 pub write-spec : {M : Type 1} → statement M
-write-spec = tie.close (tie.spec (λ c κs. search needs) (λ c κs. search needs) returns)
+write-spec = tie.close (tie.spec (λ c κs. search needs) (λ c κs. search needs) (λ c. rw (c .swap-record .ensures, c .before .rewritten .ensures)))

@@ -6,29 +6,34 @@ use borrow.Author.Needs.{needs}
 use Rattle.cells.proofs.same_announcement.Statement.{statement}
 use Rattle.cells.proofs.same_announcement.Tie as tie
 
+-- in each need `flags` is the place where the flags were compared: programs and numbers of the gate before it
 returns : tie.Need-returns
 returns c =
+    let flags = c .before .before .before .before .before .before .before in
     c .same-words .ensures
-    ∙ by-words _ _ (c .before .before .before .before .before .before .before .before .before .before .before .before .if1 .taken) (c .before .before .before .before .before .before .before .before .before .if2 .taken) (sym (c .before .before .before .before .before .before .before .before .same-flag .ensures) ∙ c .before .before .before .before .before .before .before .if3 .taken) (c .before .before .before .before .if4 .taken) (c .before .if5 .taken)
+    ∙ by-words _ _ (flags .before .before .before .before .before .if1 .taken) (flags .before .before .if2 .taken) (sym (flags .before .same-flag .ensures) ∙ flags .if3 .taken) (c .before .before .before .before .if4 .taken) (c .before .if5 .taken)
 
 returns-2 : tie.Need-returns-2
 returns-2 c =
-    by-fault _ _ (c .before .before .before .before .before .before .before .before .before .before .before .if1 .taken) (c .before .before .before .before .before .before .before .before .if2 .taken) (sym (c .before .before .before .before .before .before .before .same-flag .ensures) ∙ c .before .before .before .before .before .before .if3 .taken) (c .before .before .before .if4 .taken) (c .if5 .left)
+    let flags = c .before .before .before .before .before .before in
+    by-fault _ _ (flags .before .before .before .before .before .if1 .taken) (flags .before .before .if2 .taken) (sym (flags .before .same-flag .ensures) ∙ flags .if3 .taken) (c .before .before .before .if4 .taken) (c .if5 .left)
 
 returns-3 : tie.Need-returns-3
 unfolding sameAnnouncement
 returns-3 c =
-    rw
-    (eq-eqb _ _ (c .before .before .before .before .before .before .before .before .if1 .taken), eq-eqb _ _ (c .before .before .before .before .before .if2 .taken), ← c .before .before .before .before .same-flag .ensures, c .before .before .before .if3 .taken, ne-eqb _ _ (c .if4 .left))
-
-returns-4 : tie.Need-returns-4
-unfolding sameAnnouncement
-returns-4 c =
-    rw
-    (eq-eqb _ _ (c .before .before .before .before .before .if1 .taken), eq-eqb _ _ (c .before .before .if2 .taken), ← c .before .same-flag .ensures, c .if3 .left)
+    let flags = c .before .before .before in
+    rw (eq-eqb _ _ (flags .before .before .before .before .before .if1 .taken), eq-eqb _ _ (flags .before .before .if2 .taken), ← flags .before .same-flag .ensures, flags .if3 .taken, ne-eqb _ _ (c .if4 .left))
 
 pub same-announcement-spec : {M : Type 1} → statement M
 unfolding sameAnnouncement
 same-announcement-spec =
     tie.close
-    (tie.spec (λ c κs. search needs) (λ c κs. search needs) returns returns-2 returns-3 returns-4 (λ c. rw (eq-eqb _ _ (c .before .before .before .if1 .taken), ne-eqb _ _ (c .if2 .left))) (λ c. rw (ne-eqb _ _ (c .if1 .left))))
+    (tie.spec
+    (λ c κs. search needs)
+    (λ c κs. search needs)
+    returns
+    returns-2
+    returns-3
+    (λ c. rw (eq-eqb _ _ (c .before .before .before .before .before .if1 .taken), eq-eqb _ _ (c .before .before .if2 .taken), ← c .before .same-flag .ensures, c .if3 .left))
+    (λ c. rw (eq-eqb _ _ (c .before .before .before .if1 .taken), ne-eqb _ _ (c .if2 .left)))
+    (λ c. rw (ne-eqb _ _ (c .if1 .left))))

@@ -3,10 +3,11 @@ use borrow.Author.Needs.{needs}
 use Rattle.cells.proofs.same_gate.Statement.{statement}
 use Rattle.cells.proofs.same_gate.Tie as tie
 
-returns : tie.Need-returns
-unfolding sameGate
-returns c = rw (← c .before .before .before .same-holder .ensures, c .before .before .if1 .taken)
-
 pub same-gate-spec : {M : Type 1} → statement M
 unfolding sameGate
-same-gate-spec = tie.close (tie.spec (λ c κs. search needs) returns (λ c. rw (← c .before .same-holder .ensures, c .if1 .left)))
+same-gate-spec =
+    tie.close
+    (tie.spec
+    (λ c κs. search needs)
+    (λ c. rw (← c .before .before .before .same-holder .ensures, c .before .before .if1 .taken))
+    (λ c. rw (← c .before .same-holder .ensures, c .if1 .left)))

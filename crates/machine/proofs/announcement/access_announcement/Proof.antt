@@ -3,10 +3,6 @@ use borrow.Author.Needs.{needs}
 use Rattle.machine.proofs.announcement.access_announcement.Statement.{statement}
 use Rattle.machine.proofs.announcement.access_announcement.Tie as tie
 
-returns-5 : tie.Need-returns-5
-unfolding accessAnnouncement
-returns-5 c = rw (c .before .before .before .before .access2 .given .1, ← c .before .before .flagged .ensures, ← c .before .finished .ensures) (c .replace-announcement2 .ensures)
-
 pub access-announcement-spec : {M : Type 1} → statement M
 unfolding accessAnnouncement
 access-announcement-spec =
@@ -31,4 +27,4 @@ access-announcement-spec =
     (λ c. rw (c .before .before .enum-told2 .given .1, ← c .before .withdrawn .ensures) (c .replace-announcement .ensures))
     (λ c. rw (c .before .before .before .access .given .1, ← c .before .by-flag .ensures) (c .read-announcement .ensures))
     (λ c. rw (c .before .before .enum-told3 .given .1, ← c .before .by-flag2 .ensures) (c .read-announcement2 .ensures))
-    returns-5)
+    (λ c. rw (c .before .before .before .before .access2 .given .1, ← c .before .before .flagged .ensures, ← c .before .finished .ensures) (c .replace-announcement2 .ensures)))

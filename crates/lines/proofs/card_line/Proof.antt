@@ -13,23 +13,19 @@ add-four-at c = omega (arith, bytes.word-within (c .before .before .before .befo
 returns : tie.Need-returns
 returns c = laws.card-malformed _ _ (c .before .before .before .before .has-word .ensures) (c .before .before .before .if1 .taken) (sym (c .enum-told .given .1) ∙ (c .before .before .four-at .ensures))
 
-cast-t18 : tie.Need-cast-t18
-cast-t18 c = let h = laws.card-fits (c .before .before .before .a .given .0 .0) (c .before .before .before .a .given .0 .1 .0) (c .before .before .before .a .given .0 .1 .1 .0) (c .before .before .before .a .given .0 .1 .1 .1 .0) (sym (c .before .card-fits .ensures) ∙ (c .if2 .taken)) in omega (arith, h .processCount)
-
-cast-t19 : tie.Need-cast-t19
-cast-t19 c = let h = laws.card-fits (c .before .before .before .a .given .0 .0) (c .before .before .before .a .given .0 .1 .0) (c .before .before .before .a .given .0 .1 .1 .0) (c .before .before .before .a .given .0 .1 .1 .1 .0) (sym (c .before .card-fits .ensures) ∙ (c .if2 .taken)) in omega (arith, h .variableCount)
-
-cast-t20 : tie.Need-cast-t20
-cast-t20 c = let h = laws.card-fits (c .before .before .before .a .given .0 .0) (c .before .before .before .a .given .0 .1 .0) (c .before .before .before .a .given .0 .1 .1 .0) (c .before .before .before .a .given .0 .1 .1 .1 .0) (sym (c .before .card-fits .ensures) ∙ (c .if2 .taken)) in omega (arith, h .programCount)
+-- the four numbers are within their ranges, where that was tested
+ranges : (c : tie.Then2) → let a = c .before .before .before .a .given .0 in laws.CardFits (a .0) (a .1 .0) (a .1 .1 .0) (a .1 .1 .1 .0)
+ranges c = laws.card-fits _ _ _ _ (sym (c .before .card-fits .ensures) ∙ c .if2 .taken)
 
 returns-2 : tie.Need-returns-2
-returns-2 c = laws.card-fields _ _ (c .before .before .before .before .before .before .before .has-word .ensures) (c .before .before .before .before .before .before .if1 .taken) (sym (c .before .before .before .a .given .1) ∙ (c .before .before .before .before .before .four-at .ensures)) (c .before .card-fits .ensures) (c .if2 .taken)
+returns-2 c =
+    let read = c .before .before .before in
+    laws.card-fields _ _ (read .before .before .before .before .has-word .ensures) (read .before .before .before .if1 .taken) (sym (read .a .given .1) ∙ (read .before .before .four-at .ensures)) (c .before .card-fits .ensures) (c .if2 .taken)
 
 returns-3 : tie.Need-returns-3
-returns-3 c = laws.card-out _ _ (c .before .before .before .before .before .before .before .has-word .ensures) (c .before .before .before .before .before .before .if1 .taken) (sym (c .before .before .before .a .given .1) ∙ (c .before .before .before .before .before .four-at .ensures)) (c .before .card-fits .ensures) (c .if2 .left)
-
-returns-4 : tie.Need-returns-4
-returns-4 c = laws.card-other _ _ (c .before .has-word .ensures) (c .if1 .left)
+returns-3 c =
+    let read = c .before .before .before in
+    laws.card-out _ _ (read .before .before .before .before .has-word .ensures) (read .before .before .before .if1 .taken) (sym (read .a .given .1) ∙ (read .before .before .four-at .ensures)) (c .before .card-fits .ensures) (c .if2 .left)
 
 pub card-line-spec : {M : Type 1} → statement M
 card-line-spec =
@@ -43,9 +39,9 @@ card-line-spec =
     (λ c. search needs)
     returns
     (λ c κs. search needs)
-    cast-t18
-    cast-t19
-    cast-t20
+    (λ c. omega (arith, ranges c .processCount))
+    (λ c. omega (arith, ranges c .variableCount))
+    (λ c. omega (arith, ranges c .programCount))
     returns-2
     returns-3
-    returns-4)
+    (λ c. laws.card-other _ _ (c .before .has-word .ensures) (c .if1 .left)))

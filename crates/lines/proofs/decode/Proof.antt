@@ -5,9 +5,6 @@ use borrow.Author.Needs.{needs}
 use Rattle.lines.proofs.decode.Statement.{statement}
 use Rattle.lines.proofs.decode.Tie as tie
 
-returns : tie.Need-returns
-returns c = laws.decode-unknown _ _ (c .before .before .format-of .ensures) (c .enum-told .given .1)
-
 returns-2 : tie.Need-returns-2
 returns-2 c =
     let found = c .before .before .before in
@@ -45,7 +42,7 @@ decode-spec =
     (λ c κs. search needs)
     (λ c. search needs)
     (λ c. search needs)
-    returns
+    (λ c. laws.decode-unknown _ _ (c .before .before .format-of .ensures) (c .enum-told .given .1))
     (λ c κs. search needs)
     returns-2
     (λ c κs. search needs)

@@ -6,11 +6,11 @@ use borrow.Author.Needs.{needs}
 use Rattle.lines.proofs.format_of.Statement.{statement}
 use Rattle.lines.proofs.format_of.Tie as tie
 
-returns : tie.Need-returns
-returns c = List·getD-map (λ (r : CodeRow). r .format) codes (c .before .before .args .code) noRow
-
-returns-2 : tie.Need-returns-2
-returns-2 c = ap (λ (r : CodeRow). r .format) (laws.past-rows _ (c .if1 .left))
-
 pub format-of-spec : {M : Type 1} → statement M
-format-of-spec = tie.close (tie.spec (λ c. search needs) (λ c. search needs) returns returns-2)
+format-of-spec =
+    tie.close
+    (tie.spec
+    (λ c. search needs)
+    (λ c. search needs)
+    (λ c. List·getD-map (λ (r : CodeRow). r .format) codes (c .before .before .args .code) noRow)
+    (λ c. ap (λ (r : CodeRow). r .format) (laws.past-rows _ (c .if1 .left))))

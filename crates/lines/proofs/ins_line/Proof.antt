@@ -14,10 +14,9 @@ returns : tie.Need-returns
 returns c = laws.ins-malformed _ _ _ (c .before .before .before .before .has-word .ensures) (c .before .before .before .if1 .taken) (sym (c .enum-told .given .1) ∙ (c .before .before .four-at .ensures))
 
 returns-2 : tie.Need-returns-2
-returns-2 c = laws.ins-decoded _ _ _ (c .before .before .before .before .before .before .before .has-word .ensures) (c .before .before .before .before .before .before .if1 .taken) (sym (c .before .before .before .a .given .1) ∙ (c .before .before .before .before .before .four-at .ensures)) (c .before .decode .ensures) (c .ins-of .ensures)
-
-returns-3 : tie.Need-returns-3
-returns-3 c = laws.ins-other _ _ _ (c .before .has-word .ensures) (c .if1 .left)
+returns-2 c =
+    let read = c .before .before .before in
+    laws.ins-decoded _ _ _ (read .before .before .before .before .has-word .ensures) (read .before .before .before .if1 .taken) (sym (read .a .given .1) ∙ (read .before .before .four-at .ensures)) (c .before .decode .ensures) (c .ins-of .ensures)
 
 pub ins-line-spec : {M : Type 1} → statement M
 ins-line-spec =
@@ -33,4 +32,4 @@ ins-line-spec =
     (λ c κs. search needs)
     (λ c κs. search needs)
     returns-2
-    returns-3)
+    (λ c. laws.ins-other _ _ _ (c .before .has-word .ensures) (c .if1 .left)))

@@ -17,13 +17,14 @@ cast-t15 : tie.Need-cast-t15
 cast-t15 c = let h = laws.range-true 1 32 (c .before .before .before .value .given .0 .0) (sym (c .before .in-range .ensures) ∙ (c .if2 .taken)) in omega arith
 
 returns-2 : tie.Need-returns-2
-returns-2 c = laws.sheet-length _ _ (c .before .before .before .before .before .before .before .has-word .ensures) (c .before .before .before .before .before .before .if1 .taken) (sym (c .before .before .before .value .given .1) ∙ (c .before .before .before .before .before .field-at .ensures)) (c .before .in-range .ensures) (c .if2 .taken)
+returns-2 c =
+    let read = c .before .before .before in
+    laws.sheet-length _ _ (read .before .before .before .before .has-word .ensures) (read .before .before .before .if1 .taken) (sym (read .value .given .1) ∙ (read .before .before .field-at .ensures)) (c .before .in-range .ensures) (c .if2 .taken)
 
 returns-3 : tie.Need-returns-3
-returns-3 c = laws.sheet-out _ _ (c .before .before .before .before .before .before .before .has-word .ensures) (c .before .before .before .before .before .before .if1 .taken) (sym (c .before .before .before .value .given .1) ∙ (c .before .before .before .before .before .field-at .ensures)) (c .before .in-range .ensures) (c .if2 .left)
-
-returns-4 : tie.Need-returns-4
-returns-4 c = laws.sheet-other _ _ (c .before .has-word .ensures) (c .if1 .left)
+returns-3 c =
+    let read = c .before .before .before in
+    laws.sheet-out _ _ (read .before .before .before .before .has-word .ensures) (read .before .before .before .if1 .taken) (sym (read .value .given .1) ∙ (read .before .before .field-at .ensures)) (c .before .in-range .ensures) (c .if2 .left)
 
 pub sheet-line-spec : {M : Type 1} → statement M
 sheet-line-spec =
@@ -40,4 +41,4 @@ sheet-line-spec =
     cast-t15
     returns-2
     returns-3
-    returns-4)
+    (λ c. laws.sheet-other _ _ (c .before .has-word .ensures) (c .if1 .left)))

@@ -14,13 +14,14 @@ returns : tie.Need-returns
 returns c = laws.var-malformed _ _ (c .before .before .before .before .has-word .ensures) (c .before .before .before .if1 .taken) (sym (c .enum-told .given .1) ∙ (c .before .before .field-at .ensures))
 
 returns-2 : tie.Need-returns-2
-returns-2 c = laws.var-start _ _ (c .before .before .before .before .before .before .has-word .ensures) (c .before .before .before .before .before .if1 .taken) (sym (c .before .before .value .given .1) ∙ (c .before .before .before .before .field-at .ensures)) (c .if2 .taken)
+returns-2 c =
+    let read = c .before .before in
+    laws.var-start _ _ (read .before .before .before .before .has-word .ensures) (read .before .before .before .if1 .taken) (sym (read .value .given .1) ∙ (read .before .before .field-at .ensures)) (c .if2 .taken)
 
 returns-3 : tie.Need-returns-3
-returns-3 c = laws.var-out _ _ (c .before .before .before .before .before .before .has-word .ensures) (c .before .before .before .before .before .if1 .taken) (sym (c .before .before .value .given .1) ∙ (c .before .before .before .before .field-at .ensures)) (c .if2 .left)
-
-returns-4 : tie.Need-returns-4
-returns-4 c = laws.var-other _ _ (c .before .has-word .ensures) (c .if1 .left)
+returns-3 c =
+    let read = c .before .before in
+    laws.var-out _ _ (read .before .before .before .before .has-word .ensures) (read .before .before .before .if1 .taken) (sym (read .value .given .1) ∙ (read .before .before .field-at .ensures)) (c .if2 .left)
 
 pub var-line-spec : {M : Type 1} → statement M
 var-line-spec =
@@ -36,4 +37,4 @@ var-line-spec =
     (λ c. search needs)
     returns-2
     returns-3
-    returns-4)
+    (λ c. laws.var-other _ _ (c .before .has-word .ensures) (c .if1 .left)))

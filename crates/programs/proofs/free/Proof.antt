@@ -7,11 +7,11 @@ use Rattle.programs.proofs.free.Tie as tie
 cast-t4 : tie.Need-cast-t4
 cast-t4 c = omega (arith, laws.cell-below (c .before .before .args .n) (c .before .before .args .number) (c .before .is-cell .ensures) (c .if1 .taken))
 
-returns : tie.Need-returns
-returns c = laws.free-there _ _ (c .before .is-cell .ensures) (c .if1 .taken)
-
-returns-2 : tie.Need-returns-2
-returns-2 c = laws.free-none _ _ (c .before .is-cell .ensures) (c .if1 .left)
-
 pub free-spec : {M : Type 1} → statement M
-free-spec = tie.close (tie.spec (λ c κs. search needs) cast-t4 returns returns-2)
+free-spec =
+    tie.close
+    (tie.spec
+    (λ c κs. search needs)
+    cast-t4
+    (λ c. laws.free-there _ _ (c .before .is-cell .ensures) (c .if1 .taken))
+    (λ c. laws.free-none _ _ (c .before .is-cell .ensures) (c .if1 .left)))

@@ -3,9 +3,6 @@ use borrow.Author.Needs.{needs}
 use Rattle.programs.proofs.with_register.Statement.{statement}
 use Rattle.programs.proofs.with_register.Tie as tie
 
-returns : tie.Need-returns
-unfolding withRegister
-returns c = cc
-
 pub with-register-spec : {M : Type 1} → statement M
-with-register-spec = tie.close (tie.spec (λ c κs. search needs) (λ c κs. search needs) returns)
+unfolding withRegister
+with-register-spec = tie.close (tie.spec (λ c κs. search needs) (λ c κs. search needs) (λ c. cc))

@@ -2,8 +2,5 @@ use borrow.Author.Needs.{needs}
 use Rattle.reader.proofs.begun_contents.Statement.{statement}
 use Rattle.reader.proofs.begun_contents.Tie as tie
 
-returns : tie.Need-returns
-returns c = cc
-
 pub begun-contents-spec : {M : Type 1} → statement M
-begun-contents-spec = tie.close (tie.spec (λ c κs. search needs) returns)
+begun-contents-spec = tie.close (tie.spec (λ c κs. search needs) (λ c. cc))

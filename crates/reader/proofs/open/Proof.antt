@@ -3,9 +3,6 @@ use borrow.Author.Needs.{needs}
 use Rattle.reader.proofs.open.Statement.{statement}
 use Rattle.reader.proofs.open.Tie as tie
 
-returns : tie.Need-returns
-unfolding opened
-returns c = rw (c .fresh .ensures, c .before .before .read-card .ensures)
-
 pub open-spec : {M : Type 1} → statement M
-open-spec = tie.close (tie.spec (λ c κs. search needs) (λ c κs. search needs) returns)
+unfolding opened
+open-spec = tie.close (tie.spec (λ c κs. search needs) (λ c κs. search needs) (λ c. rw (c .fresh .ensures, c .before .before .read-card .ensures)))

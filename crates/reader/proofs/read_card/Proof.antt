@@ -6,10 +6,6 @@ use borrow.Author.Needs.{needs}
 use Rattle.reader.proofs.read_card.Statement.{statement}
 use Rattle.reader.proofs.read_card.Tie as tie
 
-returns : tie.Need-returns
-unfolding readCard
-returns c = rw (lt-ltb _ _ (c .before .if1 .taken)) (c .refused-at .ensures)
-
 returns-2 : tie.Need-returns-2
 unfolding readCard
 returns-2 c = rw (le-ltb _ _ (c .before .before .before .before .before .if1 .left), c .refused-at2 .ensures, c .before .card-refusal .ensures, ← c .before .before .before .before .card-line .ensures, c .before .before .enum-told .given .1)
@@ -22,11 +18,12 @@ unfolding readCard
 returns-3 c = rw (le-ltb _ _ (c .before .before .before .before .before .before .if1 .left), c .read-body .ensures, c .before .begun-contents .ensures, ← c .before .before .before .before .before .card-line .ensures, c .before .before .before .line .given .1)
 
 pub read-card-spec : {M : Type 1} → statement M
+unfolding readCard
 read-card-spec =
     tie.close
     (tie.spec
     (λ c κs. search needs)
-    returns
+    (λ c. rw (lt-ltb _ _ (c .before .if1 .taken)) (c .refused-at .ensures))
     (λ c κs. search needs)
     (λ c. search needs)
     (λ c. search needs)

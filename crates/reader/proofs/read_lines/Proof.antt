@@ -18,9 +18,6 @@ Inv-loop variables text length start first lines₀ at₀ number₀ count k₀ l
 abbrev μ-loop : tie.MeasureT-loop
 μ-loop variables text length start first lines₀ at₀ number₀ count k₀ lines at number k = count - k
 
-loop-holds : tie.Need-loop-holds Inv-loop μ-loop
-loop-holds c = (rw (c .no-line .ensures, sub-zero), omega arith, omega arith, refl)
-
 returns : tie.Need-returns Inv-loop μ-loop
 unfolding insFrom
 returns c = rw (c .program-refused-at .ensures, c .before .ins-refusal .ensures, c .before .before .before .before .before .before .loop .inv .0, laws.one-less _ _ (c .before .before .before .before .before .loop-test .taken), ← c .before .before .before .before .ins-line .ensures, c .before .before .enum-told .given .1)
@@ -29,18 +26,15 @@ loop-again : tie.Need-loop-again Inv-loop μ-loop
 unfolding insFrom
 loop-again c = (rw (c .before .before .before .before .before .loop .inv .0, laws.one-less _ _ (c .before .before .before .before .loop-test .taken), ← c .before .before .before .ins-line .ensures, c .before .line .given .1) (simp add-one), omega arith, omega arith, simp length-set (c .before .before .before .before .before .loop .inv .3))
 
-returns-2 : tie.Need-returns-2 Inv-loop μ-loop
-unfolding insFrom
-returns-2 c = rw (c .before .loop .inv .0, sub-eq-zero-of-le (c .loop-test .left))
-
 pub read-lines-spec : {M : Type 1} → statement M
+unfolding insFrom
 read-lines-spec =
     tie.close
     (tie.spec
     Inv-loop
     μ-loop
     (λ c κs. search needs)
-    loop-holds
+    (λ c. (rw (c .no-line .ensures, sub-zero), omega arith, omega arith, refl))
     (λ c κs. search needs)
     (λ c. search needs)
     (λ c. search needs)
@@ -53,4 +47,4 @@ read-lines-spec =
     (λ c. search needs)
     (λ c. search needs)
     loop-again
-    returns-2)
+    (λ c. rw (c .before .loop .inv .0, sub-eq-zero-of-le (c .loop-test .left))))

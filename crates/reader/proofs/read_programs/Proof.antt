@@ -22,9 +22,6 @@ abbrev μ-loop : tie.MeasureT-loop
 loop-holds : tie.Need-loop-holds Inv-loop μ-loop
 loop-holds c = (rw sub-zero, omega arith, omega arith, (let e : list.length (c .before .before .args .contents .programs) ≡ 8 = simp length-map at (c .before .before .good .1 .1 .0 .1 .1 .1 .1 .1 .1 .1 .0 .1 .0 .1) in e))
 
-read-program-requires : tie.Need-read-program-requires Inv-loop μ-loop
-read-program-requires c κs = omega arith
-
 returns : tie.Need-returns Inv-loop μ-loop
 unfolding programsFrom
 returns c = rw (c .refused-at .ensures, c .before .before .before .before .before .before .loop .inv .0, laws.one-less _ _ (c .before .before .before .before .before .loop-test .taken), ← c .before .before .before .before .read-program .ensures, c .before .before .verdict .given .1)
@@ -33,18 +30,15 @@ loop-again : tie.Need-loop-again Inv-loop μ-loop
 unfolding programsFrom
 loop-again c = (rw (c .before .before .before .before .before .loop .inv .0, laws.one-less _ _ (c .before .before .before .before .loop-test .taken), ← c .before .before .before .read-program .ensures, c .before .enum-told .given .1, add-one), omega arith, omega (arith, ap (λ (y : ProgramReading). y .line) (c .before .before .before .read-program .ensures), laws.program-line (c .before .before .before .before .before .before .before .before .args .contents .variableCount) (c .before .before .before .before .before .before .before .before .args .text .now) (c .before .before .before .before .before .loop .at) (c .before .before .before .before .before .loop .number)), simp length-set ((c .before .before .before .before .before .loop .inv .3)))
 
-returns-2 : tie.Need-returns-2 Inv-loop μ-loop
-unfolding programsFrom
-returns-2 c = rw (c .before .before .loop .inv .0, sub-eq-zero-of-le (c .before .loop-test .left))
-
 pub read-programs-spec : {M : Type 1} → statement M
+unfolding programsFrom
 read-programs-spec =
     tie.close
     (tie.spec
     Inv-loop
     μ-loop
     loop-holds
-    read-program-requires
+    (λ c κs. omega arith)
     (λ c. search needs)
     (λ c κs. search needs)
     returns
@@ -54,4 +48,4 @@ read-programs-spec =
     (λ c. search needs)
     (λ c. search needs)
     loop-again
-    returns-2)
+    (λ c. rw (c .before .before .loop .inv .0, sub-eq-zero-of-le (c .before .loop-test .left))))

@@ -17,9 +17,6 @@ Inv-loop text count contents start first starts₀ at₀ number₀ all k₀ star
 abbrev μ-loop : tie.MeasureT-loop
 μ-loop text count contents start first starts₀ at₀ number₀ all k₀ starts at number k = all - k
 
-loop-holds : tie.Need-loop-holds Inv-loop μ-loop
-loop-holds c = (rw sub-zero, omega arith, omega arith, search needs)
-
 returns : tie.Need-returns Inv-loop μ-loop
 unfolding varsFrom
 returns c = rw (c .refused-at .ensures, c .before .var-refusal .ensures, c .before .before .before .before .before .before .loop .inv .0, laws.one-less _ _ (c .before .before .before .before .before .loop-test .taken), ← c .before .before .before .before .var-line .ensures, c .before .before .enum-told .given .1)
@@ -28,17 +25,14 @@ loop-again : tie.Need-loop-again Inv-loop μ-loop
 unfolding varsFrom
 loop-again c = (rw (c .before .before .before .before .before .loop .inv .0, laws.one-less _ _ (c .before .before .before .before .loop-test .taken), ← c .before .before .before .var-line .ensures, c .before .line .given .1) (simp add-one), omega arith, omega arith, simp length-set (c .before .before .before .before .before .loop .inv .3))
 
-returns-2 : tie.Need-returns-2 Inv-loop μ-loop
-unfolding varsFrom
-returns-2 c = rw (c .before .before .loop .inv .0, sub-eq-zero-of-le (c .before .loop-test .left))
-
 pub read-vars-spec : {M : Type 1} → statement M
+unfolding varsFrom
 read-vars-spec =
     tie.close
     (tie.spec
     Inv-loop
     μ-loop
-    loop-holds
+    (λ c. (rw sub-zero, omega arith, omega arith, search needs))
     (λ c κs. search needs)
     (λ c. search needs)
     (λ c. search needs)
@@ -51,4 +45,4 @@ read-vars-spec =
     (λ c. search needs)
     (λ c. search needs)
     loop-again
-    returns-2)
+    (λ c. rw (c .before .before .loop .inv .0, sub-eq-zero-of-le (c .before .loop-test .left))))

@@ -20,9 +20,13 @@ numbers =
     84 ∷ 100 ∷ 116 ∷ 132 ∷ 148 ∷ 164 ∷ 180 ∷ 196 ∷ 212 ∷ 228 ∷ 244 ∷ 260 ∷ 276 ∷ 292 ∷ 308 ∷ 324 ∷ 340 ∷ 356 ∷ 372 ∷ 388 ∷ 404 ∷ 420 ∷ 436 ∷ 452 ∷ 468 ∷ 484 ∷ 500 ∷ 516 ∷ 532 ∷ 548 ∷ 564 ∷ 580 ∷ 596 ∷
     94 ∷ 112 ∷ 130 ∷ 148 ∷ 166 ∷ 184 ∷ 202 ∷ 220 ∷ 238 ∷ 256 ∷ 274 ∷ 292 ∷ 310 ∷ 328 ∷ 346 ∷ 364 ∷ 382 ∷ 400 ∷ 418 ∷ 436 ∷ 454 ∷ 472 ∷ 490 ∷ 508 ∷ 526 ∷ 544 ∷ 562 ∷ 580 ∷ 598 ∷ 616 ∷ 634 ∷ 652 ∷ 670 ∷ []
 
-returns : tie.Need-returns
-unfolding numbers formula.right
-returns c = formula.carried numbers refl refl (c .args .row) (c .args .weight) (omega arith) (omega arith)
-
 pub entry-spec : {M : Type 1} → statement M
-entry-spec = tie.close (tie.spec (λ c. search needs) (λ c. search needs) (λ c. search needs) (λ c. search needs) returns)
+unfolding numbers formula.right
+entry-spec =
+    tie.close
+    (tie.spec
+    (λ c. search needs)
+    (λ c. search needs)
+    (λ c. search needs)
+    (λ c. search needs)
+    (λ c. formula.carried numbers refl refl (c .args .row) (c .args .weight) (omega arith) (omega arith)))

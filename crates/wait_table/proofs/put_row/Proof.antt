@@ -15,14 +15,8 @@ Inv-loop buffer₀ at row i₀ weight₀ buffer i weight =
 abbrev μ-loop : tie.MeasureT-loop
 μ-loop buffer₀ at row i₀ weight₀ buffer i weight = 33 - weight
 
-loop-holds : tie.Need-loop-holds Inv-loop μ-loop
-loop-holds c = (series.series-begin (laws.row-series ((c .before .args .row) + 1)) _ _ _ (omega arith), omega arith, omega arith)
-
 loop-again : tie.Need-loop-again Inv-loop μ-loop
 loop-again c = (series.series-turn (laws.row-series ((c .before .before .before .before .before .before .before .before .before .args .row) + 1)) _ _ (c .before .before .before .before .before .before .loop-test .taken) (c .before .before .before .before .before .before .before .loop .inv .0) (cc ((c .before .before .before .before .separator .ensures), (c .before .before .before .entry .ensures))) (c .before .before .put-field .ensures), omega arith, omega arith)
-
-same-length : tie.Need-same-length Inv-loop μ-loop
-same-length c = puts.rest-length (c .before .loop .inv .0)
 
 returns : tie.Need-returns Inv-loop μ-loop
 returns c = series.series-end (laws.row-series ((c .before .before .before .args .row) + 1)) _ _ (c .loop-test .left) (c .before .loop .inv .0)
@@ -33,12 +27,12 @@ put-row-spec =
     (tie.spec
     Inv-loop
     μ-loop
-    loop-holds
+    (λ c. (series.series-begin (laws.row-series ((c .before .args .row) + 1)) _ _ _ (omega arith), omega arith, omega arith))
     (λ c κs. search needs)
     (λ c κs. search needs)
     (λ c κs. search needs)
     (λ c. omega arith)
     (λ c. omega arith)
     loop-again
-    same-length
+    (λ c. puts.rest-length (c .before .loop .inv .0))
     returns)

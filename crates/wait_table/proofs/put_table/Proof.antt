@@ -17,17 +17,8 @@ Inv-loop buffer₀ at i₀ row₀ buffer i row =
 abbrev μ-loop : tie.MeasureT-loop
 μ-loop buffer₀ at i₀ row₀ buffer i row = 8 - row
 
-loop-holds : tie.Need-loop-holds Inv-loop μ-loop
-loop-holds c = (series.series-begin laws.rows-series _ _ 8 (omega arith), omega arith)
-
 loop-again : tie.Need-loop-again Inv-loop μ-loop
 loop-again c = (series.series-turn laws.rows-series 8 _ (c .before .before .before .before .loop-test .taken) (c .before .before .before .before .before .loop .inv .0) (ap (λ (p : ℕ). rowText p 33 0) (add-one (c .before .before .before .before .before .loop .row))) (c .before .before .put-row .ensures), omega arith)
-
-same-length : tie.Need-same-length Inv-loop μ-loop
-same-length c = puts.rest-length (c .before .loop .inv .0)
-
-returns : tie.Need-returns Inv-loop μ-loop
-returns c = series.series-end laws.rows-series 8 _ (c .loop-test .left) (c .before .loop .inv .0)
 
 pub put-table-spec : {M : Type 1} → statement M
 put-table-spec =
@@ -35,10 +26,10 @@ put-table-spec =
     (tie.spec
     Inv-loop
     μ-loop
-    loop-holds
+    (λ c. (series.series-begin laws.rows-series _ _ 8 (omega arith), omega arith))
     (λ c κs. search needs)
     (λ c. omega arith)
     (λ c. omega arith)
     loop-again
-    same-length
-    returns)
+    (λ c. puts.rest-length (c .before .loop .inv .0))
+    (λ c. series.series-end laws.rows-series 8 _ (c .loop-test .left) (c .before .loop .inv .0)))

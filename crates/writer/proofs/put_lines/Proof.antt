@@ -16,17 +16,8 @@ Inv-loop buffer₀ at count lines i₀ k₀ buffer i k = puts.Rest buffer₀ at 
 abbrev μ-loop : tie.MeasureT-loop
 μ-loop buffer₀ at count lines i₀ k₀ buffer i k = count - k
 
-loop-holds : tie.Need-loop-holds Inv-loop μ-loop
-loop-holds c = (laws.series-begin (laws.lines-series (c .before .args .lines)) _ _ _ (omega arith), omega arith)
-
 loop-again : tie.Need-loop-again Inv-loop μ-loop
 loop-again c = (laws.series-turn (laws.lines-series (c .before .before .before .before .before .before .before .before .args .lines)) _ _ (c .before .before .before .before .before .loop-test .taken) (c .before .before .before .before .before .before .loop .inv .0) (ap (λ (x : Line). insText (x .instruction)) (c .before .before .before .before .line-at .ensures)) (c .before .before .put-instruction .ensures), omega arith)
-
-same-length : tie.Need-same-length Inv-loop μ-loop
-same-length c = puts.rest-length (c .before .loop .inv .0)
-
-returns : tie.Need-returns Inv-loop μ-loop
-returns c = laws.series-end (laws.lines-series (c .before .before .before .args .lines)) _ _ (c .loop-test .left) (c .before .loop .inv .0)
 
 pub put-lines-spec : {M : Type 1} → statement M
 put-lines-spec =
@@ -34,11 +25,11 @@ put-lines-spec =
     (tie.spec
     Inv-loop
     μ-loop
-    loop-holds
+    (λ c. (laws.series-begin (laws.lines-series (c .before .args .lines)) _ _ _ (omega arith), omega arith))
     (λ c κs. search needs)
     (λ c κs. search needs)
     (λ c. search needs)
     (λ c. search needs)
     loop-again
-    same-length
-    returns)
+    (λ c. puts.rest-length (c .before .loop .inv .0))
+    (λ c. laws.series-end (laws.lines-series (c .before .before .before .args .lines)) _ _ (c .loop-test .left) (c .before .loop .inv .0)))

@@ -14,14 +14,8 @@ Inv-loop buffer₀ at count code i₀ k₀ buffer i k = puts.Rest buffer₀ at (
 abbrev μ-loop : tie.MeasureT-loop
 μ-loop buffer₀ at count code i₀ k₀ buffer i k = count - k
 
-loop-holds : tie.Need-loop-holds Inv-loop μ-loop
-loop-holds c = (laws.series-begin (laws.programs-series (c .before .args .programs)) _ _ _ (omega arith), omega arith)
-
 loop-again : tie.Need-loop-again Inv-loop μ-loop
 loop-again c = (laws.series-turn (laws.programs-series (c .before .before .before .before .before .before .before .before .args .programs)) _ _ (c .before .before .before .before .before .loop-test .taken) (c .before .before .before .before .before .before .loop .inv .0) (ap programText (c .before .before .before .before .program-at .ensures)) (c .before .before .put-program .ensures), omega arith)
-
-same-length : tie.Need-same-length Inv-loop μ-loop
-same-length c = puts.rest-length (c .before .loop .inv .0)
 
 returns : tie.Need-returns Inv-loop μ-loop
 returns c = laws.series-end (laws.programs-series (c .before .before .before .args .programs)) _ _ (c .loop-test .left) (c .before .loop .inv .0)
@@ -32,11 +26,11 @@ put-programs-spec =
     (tie.spec
     Inv-loop
     μ-loop
-    loop-holds
+    (λ c. (laws.series-begin (laws.programs-series (c .before .args .programs)) _ _ _ (omega arith), omega arith))
     (λ c κs. search needs)
     (λ c κs. search needs)
     (λ c. search needs)
     (λ c. search needs)
     loop-again
-    same-length
+    (λ c. puts.rest-length (c .before .loop .inv .0))
     returns)

@@ -15,17 +15,8 @@ Inv-loop buffer₀ at count starts i₀ k₀ buffer i k = puts.Rest buffer₀ at
 abbrev μ-loop : tie.MeasureT-loop
 μ-loop buffer₀ at count starts i₀ k₀ buffer i k = count - k
 
-loop-holds : tie.Need-loop-holds Inv-loop μ-loop
-loop-holds c = (laws.series-begin (laws.vars-series (c .before .args .starts)) _ _ _ (omega arith), omega arith)
-
 loop-again : tie.Need-loop-again Inv-loop μ-loop
 loop-again c = (laws.series-turn (laws.vars-series (c .before .before .before .before .before .before .before .before .args .starts)) _ _ (c .before .before .before .before .before .loop-test .taken) (c .before .before .before .before .before .before .loop .inv .0) (ap varText (c .before .before .before .start-at .ensures)) (c .before .before .put-var .ensures), omega arith)
-
-same-length : tie.Need-same-length Inv-loop μ-loop
-same-length c = puts.rest-length (c .before .loop .inv .0)
-
-returns : tie.Need-returns Inv-loop μ-loop
-returns c = laws.series-end (laws.vars-series (c .before .before .before .args .starts)) _ _ (c .loop-test .left) (c .before .loop .inv .0)
 
 pub put-vars-spec : {M : Type 1} → statement M
 put-vars-spec =
@@ -33,11 +24,11 @@ put-vars-spec =
     (tie.spec
     Inv-loop
     μ-loop
-    loop-holds
+    (λ c. (laws.series-begin (laws.vars-series (c .before .args .starts)) _ _ _ (omega arith), omega arith))
     (λ c κs. search needs)
     (λ c κs. search needs)
     (λ c. search needs)
     (λ c. search needs)
     loop-again
-    same-length
-    returns)
+    (λ c. puts.rest-length (c .before .loop .inv .0))
+    (λ c. laws.series-end (laws.vars-series (c .before .before .before .args .starts)) _ _ (c .loop-test .left) (c .before .loop .inv .0)))

@@ -5,8 +5,5 @@ use borrow.Author.Needs.{needs}
 use Rattle.writer.proofs.start_at.Statement.{statement}
 use Rattle.writer.proofs.start_at.Tie as tie
 
-returns-2 : tie.Need-returns-2
-returns-2 c = sym (List·getD-eq-default (c .before .args .t1) 0 (omega arith))
-
 pub start-at-spec : {M : Type 1} → statement M
-start-at-spec = tie.close (tie.spec (λ c. search needs) (λ c. search needs) (λ c. search needs) returns-2)
+start-at-spec = tie.close (tie.spec (λ c. search needs) (λ c. search needs) (λ c. search needs) (λ c. sym (List·getD-eq-default (c .before .args .t1) 0 (omega arith))))

@@ -14,9 +14,6 @@ Inv-loop programs most₀ k₀ most k = (most ≡ heaviest (drop k programs)) ×
 abbrev μ-loop : tie.MeasureT-loop
 μ-loop programs most₀ k₀ most k = k
 
-loop-holds : tie.Need-loop-holds Inv-loop μ-loop
-loop-holds c = (laws.none-left (c .args .t1) 8 (omega arith), omega arith)
-
 loop-again : tie.Need-loop-again Inv-loop μ-loop
 loop-again c = (laws.heavier-more (c .before .before .before .before .before .args .t1) (c .before .before .before .before .loop .k) _ (c .before .before .before .before .loop .inv .0) (c .before .before .before .loop-test .taken) (omega arith) (c .before .weight .ensures) (c .if1 .taken), omega arith)
 
@@ -32,7 +29,7 @@ heaviest-spec =
     (tie.spec
     Inv-loop
     μ-loop
-    loop-holds
+    (λ c. (laws.none-left (c .args .t1) 8 (omega arith), omega arith))
     (λ c. omega arith)
     (λ c. search needs)
     (λ c. search needs)

@@ -21,27 +21,17 @@ total-is c =
     laws.weight-turn (c .before .before .before .before .before .args .t1) (c .before .before .before .before .loop .k)
     (c .before .before .before .before .loop .inv .0) (c .before .before .before .loop-test .taken) (c .before .instruction-at .ensures) (c .weight-of .ensures)
 
-loop-holds : tie.Need-loop-holds Inv-loop μ-loop
-unfolding weightBefore
-loop-holds c = (refl, omega arith)
-
 add-total : tie.Need-add-total Inv-loop μ-loop
 add-total c = omega (arith, total-is c, laws.room (c .before .before .before .before .before .args .t1) (c .before .before .before .before .loop .k) (search needs))
 
-loop-again : tie.Need-loop-again Inv-loop μ-loop
-loop-again c = (total-is c, omega arith)
-
-returns : tie.Need-returns Inv-loop μ-loop
-returns c =
-    c .before .loop .inv .0 ∙ ap (weightBefore (c .before .before .args .t1)) (let z : c .before .loop .k ≡ 32 = omega arith in z)
-
 pub weight-spec : {M : Type 1} → statement M
+unfolding weightBefore
 weight-spec =
     tie.close
     (tie.spec
     Inv-loop
     μ-loop
-    loop-holds
+    (λ c. (refl, omega arith))
     (λ c. search needs)
     (λ c. search needs)
     (λ c. search needs)
@@ -50,5 +40,5 @@ weight-spec =
     add-total
     (λ c. omega arith)
     (λ c. omega arith)
-    loop-again
-    returns)
+    (λ c. (total-is c, omega arith))
+    (λ c. c .before .loop .inv .0 ∙ ap (weightBefore (c .before .before .args .t1)) (let z : c .before .loop .k ≡ 32 = omega arith in z)))

@@ -2,8 +2,5 @@ use borrow.Author.Needs.{needs}
 use Rattle.reader.proofs.refusals.refused_at.Statement.{statement}
 use Rattle.reader.proofs.refusals.refused_at.Tie as tie
 
-returns : tie.Need-returns
-returns c = cc
-
 pub refused-at-spec : {M : Type 1} → statement M
-refused-at-spec = tie.close (tie.spec (λ c κs. search needs) returns)
+refused-at-spec = tie.close (tie.spec (λ c κs. search needs) (λ c. cc))

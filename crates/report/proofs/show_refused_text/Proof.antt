@@ -4,9 +4,6 @@ use borrow.Author.Needs.{needs}
 use Rattle.report.proofs.show_refused_text.Statement.{statement}
 use Rattle.report.proofs.show_refused_text.Tie as tie
 
-slice-aggregate-write-2 : tie.Need-slice-aggregate-write-2
-slice-aggregate-write-2 c = simp length-take (omega arith)
-
 pub show-refused-text-spec : {M : Type 1} → statement M
 show-refused-text-spec =
     tie.close
@@ -16,7 +13,7 @@ show-refused-text-spec =
     (λ c. search needs)
     (λ c κs. search needs)
     (λ c. search needs)
-    slice-aggregate-write-2
+    (λ c. simp length-take (omega arith))
     (λ c κs. search needs)
     (λ c. search needs)
     (λ c κs. search needs)

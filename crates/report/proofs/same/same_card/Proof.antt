@@ -13,12 +13,6 @@ Inv-loop a b same₀ i₀ same i = (same ≡ allBelow i (sameAt a b)) × (i ≤ 
 abbrev μ-loop : tie.MeasureT-loop
 μ-loop a b same₀ i₀ same i = 8 - i
 
-loop-holds : tie.Need-loop-holds Inv-loop μ-loop
-loop-holds c = (laws.starts _, omega arith)
-
-loop-again : tie.Need-loop-again Inv-loop μ-loop
-loop-again c = (laws.goes-on _ _ (c .before .before .before .loop .inv .0) (c .before .same-at .ensures) (c .both .ensures), omega arith)
-
 returns : tie.Need-returns Inv-loop μ-loop
 unfolding sameCard
 returns c =
@@ -32,12 +26,12 @@ same-card-spec =
     (tie.spec
     Inv-loop
     μ-loop
-    loop-holds
+    (λ c. (laws.starts _, omega arith))
     (λ c κs. search needs)
     (λ c κs. search needs)
     (λ c. search needs)
     (λ c. search needs)
-    loop-again
+    (λ c. (laws.goes-on _ _ (c .before .before .before .loop .inv .0) (c .before .same-at .ensures) (c .both .ensures), omega arith))
     (λ c κs. search needs)
     (λ c κs. search needs)
     (λ c κs. search needs)

@@ -13,11 +13,8 @@ Inv-loop a b same₀ k₀ same k = (same ≡ allBelow k (sameItemAt a b)) × (k 
 abbrev μ-loop : tie.MeasureT-loop
 μ-loop a b same₀ k₀ same k = 32 - k
 
-loop-holds : tie.Need-loop-holds Inv-loop μ-loop
-loop-holds c = (laws.starts _, omega arith)
-
 loop-again : tie.Need-loop-again Inv-loop μ-loop
-loop-again c = (laws.goes-on _ _ (c .before .before .before .before .before .loop .inv .0) (cc) (c .both .ensures), omega arith)
+loop-again c = (laws.goes-on _ _ (c .before .before .before .before .before .loop .inv .0) (c .before .same-item .ensures) (c .both .ensures), omega arith)
 
 returns : tie.Need-returns Inv-loop μ-loop
 unfolding sameDictionary
@@ -29,7 +26,7 @@ same-dictionary-spec =
     (tie.spec
     Inv-loop
     μ-loop
-    loop-holds
+    (λ c. (laws.starts _, omega arith))
     (λ c. search needs)
     (λ c. search needs)
     (λ c. search needs)

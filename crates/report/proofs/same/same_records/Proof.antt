@@ -13,23 +13,17 @@ Inv-loop a b same₀ v₀ same v = (same ≡ allBelow v (sameRecordAt a b)) × (
 abbrev μ-loop : tie.MeasureT-loop
 μ-loop a b same₀ v₀ same v = 64 - v
 
-loop-holds : tie.Need-loop-holds Inv-loop μ-loop
-loop-holds c = (laws.starts _, omega arith)
-
 loop-again : tie.Need-loop-again Inv-loop μ-loop
-loop-again c = (laws.goes-on _ _ (c .before .before .before .before .before .loop .inv .0) (cc) (c .both .ensures), omega arith)
-
-returns : tie.Need-returns Inv-loop μ-loop
-unfolding sameRecords
-returns c = laws.ends _ _ _ (c .before .loop .inv .0) (omega arith)
+loop-again c = (laws.goes-on _ _ (c .before .before .before .before .before .loop .inv .0) (c .before .same-record .ensures) (c .both .ensures), omega arith)
 
 pub same-records-spec : {M : Type 1} → statement M
+unfolding sameRecords
 same-records-spec =
     tie.close
     (tie.spec
     Inv-loop
     μ-loop
-    loop-holds
+    (λ c. (laws.starts _, omega arith))
     (λ c. search needs)
     (λ c. search needs)
     (λ c. search needs)
@@ -39,4 +33,4 @@ same-records-spec =
     (λ c. search needs)
     (λ c. search needs)
     loop-again
-    returns)
+    (λ c. laws.ends _ _ _ (c .before .loop .inv .0) (omega arith)))

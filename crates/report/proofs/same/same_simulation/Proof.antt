@@ -1,13 +1,11 @@
+use Rattle.report.proofs.Laws as laws
 use Rattle.report.specs.Same.{sameSimulation}
 use borrow.Author.Needs.{needs}
 use Rattle.report.proofs.same.same_simulation.Statement.{statement}
 use Rattle.report.proofs.same.same_simulation.Tie as tie
 
-returns : tie.Need-returns
-unfolding sameSimulation
-returns c = cc
-
 pub same-simulation-spec : {M : Type 1} → statement M
+unfolding sameSimulation
 same-simulation-spec =
     tie.close
     (tie.spec
@@ -18,4 +16,4 @@ same-simulation-spec =
     (λ c κs. search needs)
     (λ c κs. search needs)
     (λ c κs. search needs)
-    returns)
+    (λ c. laws.joins (c .both2 .ensures) (c .before .before .before .before .same-number .ensures) (laws.joins (c .before .both .ensures) (c .before .before .before .same-words .ensures) (c .before .before .same-yield .ensures))))

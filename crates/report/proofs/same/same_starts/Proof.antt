@@ -13,23 +13,14 @@ Inv-loop a b same₀ v₀ same v = (same ≡ allBelow v (sameStartAt a b)) × (v
 abbrev μ-loop : tie.MeasureT-loop
 μ-loop a b same₀ v₀ same v = 64 - v
 
-loop-holds : tie.Need-loop-holds Inv-loop μ-loop
-loop-holds c = (laws.starts _, omega arith)
-
-loop-again : tie.Need-loop-again Inv-loop μ-loop
-loop-again c = (laws.goes-on _ _ (c .before .before .before .loop .inv .0) (cc) (c .both .ensures), omega arith)
-
-returns : tie.Need-returns Inv-loop μ-loop
-unfolding sameStarts
-returns c = laws.ends _ _ _ (c .before .loop .inv .0) (omega arith)
-
 pub same-starts-spec : {M : Type 1} → statement M
+unfolding sameStarts
 same-starts-spec =
     tie.close
     (tie.spec
     Inv-loop
     μ-loop
-    loop-holds
+    (λ c. (laws.starts _, omega arith))
     (λ c. search needs)
     (λ c. search needs)
     (λ c. search needs)
@@ -40,5 +31,5 @@ same-starts-spec =
     (λ c κs. search needs)
     (λ c. search needs)
     (λ c. search needs)
-    loop-again
-    returns)
+    (λ c. (laws.goes-on _ _ (c .before .before .before .loop .inv .0) (c .before .same-number .ensures) (c .both .ensures), omega arith))
+    (λ c. laws.ends _ _ _ (c .before .loop .inv .0) (omega arith)))

@@ -1,13 +1,11 @@
+use Rattle.report.proofs.Laws as laws
 use Rattle.report.specs.Same.{sameTask}
 use borrow.Author.Needs.{needs}
 use Rattle.report.proofs.same.same_task.Statement.{statement}
 use Rattle.report.proofs.same.same_task.Tie as tie
 
-returns : tie.Need-returns
-unfolding sameTask
-returns c = cc
-
 pub same-task-spec : {M : Type 1} → statement M
+unfolding sameTask
 same-task-spec =
     tie.close
     (tie.spec
@@ -18,4 +16,4 @@ same-task-spec =
     (λ c. search needs)
     (λ c κs. search needs)
     (λ c κs. search needs)
-    returns)
+    (λ c. rw (← c .before .before .before .before .before .before .place-number .ensures, ← c .before .before .before .before .before .place-number2 .ensures) (laws.joins (c .both .ensures) (c .before .before .before .before .same-number .ensures) (c .before .same-number2 .ensures))))

@@ -1,4 +1,4 @@
-use mathlib.Core.Path.{_∙_}
+use Rattle.report.proofs.Laws as laws
 use Rattle.report.specs.Same.{sameWork}
 use borrow.Author.Needs.{needs}
 use Rattle.report.proofs.same.same_work.Statement.{statement}
@@ -7,8 +7,10 @@ use Rattle.report.proofs.same.same_work.Tie as tie
 returns : tie.Need-returns
 unfolding sameWork
 returns c =
-    c .both4 .ensures
-    ∙ rw (c .before .both3 .ensures, c .before .before .both2 .ensures, c .before .before .before .both .ensures, c .before .before .before .before .same-number2 .ensures, c .before .before .before .before .before .before .before .same-number .ensures, c .before .before .before .before .before .before .before .before .before .before .same-bool .ensures, c .before .before .before .before .before .before .before .before .before .before .before .before .before .same-operation .ensures, c .before .before .before .before .before .before .before .before .before .before .before .before .before .before .before .before .same-task .ensures)
+    let compared = c .before .before .before .before in
+    laws.joins (c .both4 .ensures) (compared .before .before .before .before .before .before .before .before .before .before .before .before .same-task .ensures)
+    (laws.joins (c .before .both3 .ensures) (compared .before .before .before .before .before .before .before .before .before .same-operation .ensures)
+    (laws.joins (c .before .before .both2 .ensures) (compared .before .before .before .before .before .before .same-bool .ensures) (laws.joins (c .before .before .before .both .ensures) (compared .before .before .before .same-number .ensures) (compared .same-number2 .ensures))))
 
 pub same-work-spec : {M : Type 1} → statement M
 same-work-spec =

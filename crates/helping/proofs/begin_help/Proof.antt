@@ -14,10 +14,13 @@ returns c =
     (rw (started .started .ensures) at (ran .simulate .ensures .left empty (record { keyed = refl; valued = refl; count = refl }))) _
     (c .after-pause .ensures)
 
-returns-2 : tie.Need-returns-2
-returns-2 c = lines.helps-not _ _ _ _ _ _ _ (c .before .helps .ensures) (c .if1 .left)
-
 pub begin-help-spec : {M : Type 1} → statement M
 begin-help-spec =
     tie.close
-    (tie.spec (λ c κs. search needs) (λ c κs. search needs) (λ c κs. search needs) (λ c κs. search needs) returns returns-2)
+    (tie.spec
+    (λ c κs. search needs)
+    (λ c κs. search needs)
+    (λ c κs. search needs)
+    (λ c κs. search needs)
+    returns
+    (λ c. lines.helps-not _ _ _ _ _ _ _ (c .before .helps .ensures) (c .if1 .left)))

@@ -28,12 +28,6 @@ numbered c =
       count = c .before .noted .ensures ∙ rooms.count (after .result) _ (after .ok);
     }
 
-returns : tie.Need-returns Inv-loop μ-loop
-returns c = lines.passed-by _ _ _ _ _ _ _ _ _ (c .if1 .taken)
-
-simulate-requires : tie.Need-simulate-requires Inv-loop μ-loop
-simulate-requires c κs = (omega arith, laws.enough (numbered (c .before .before .before .before)))
-
 loop-holds : tie.Need-loop-holds Inv-loop μ-loop
 loop-holds c =
     let ran = c .before in
@@ -64,13 +58,13 @@ note-spec =
     (tie.spec
     Inv-loop
     μ-loop
-    returns
+    (λ c. lines.passed-by _ _ _ _ _ _ _ _ _ (c .if1 .taken))
     (λ c κs. search needs)
     (λ c κs. search needs)
     (λ c κs. search needs)
     (λ c κs. search needs)
     (λ c κs. search needs)
-    simulate-requires
+    (λ c κs. (omega arith, laws.enough (numbered (c .before .before .before .before))))
     loop-holds
     (λ c. omega arith)
     (λ c. omega arith)

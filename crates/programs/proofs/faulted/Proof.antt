@@ -1,3 +1,4 @@
+use mathlib.Core.Path.{refl}
 use Rattle.construction.specs.Instructions.{faulted}
 use borrow.Author.Needs.{needs}
 use Rattle.programs.proofs.faulted.Statement.{statement}
@@ -5,4 +6,4 @@ use Rattle.programs.proofs.faulted.Tie as tie
 
 pub faulted-spec : {M : Type 1} → statement M
 unfolding faulted
-faulted-spec = tie.close (tie.spec (λ c. cc))
+faulted-spec = tie.close (tie.spec (λ c. refl))

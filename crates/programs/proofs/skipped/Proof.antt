@@ -5,4 +5,4 @@ use Rattle.programs.proofs.skipped.Tie as tie
 
 pub skipped-spec : {M : Type 1} → statement M
 unfolding skipped
-skipped-spec = tie.close (tie.spec (λ c κs. search needs) (λ c. cc))
+skipped-spec = tie.close (tie.spec (λ c κs. search needs) (λ c. rw (c .forward .ensures)))

@@ -6,8 +6,5 @@ use Rattle.helping.proofs.dictionary.altered.Tie as tie
 returns : tie.Need-returns
 returns c = laws.altered-by _ (c .before .before .before .before .before .args .item) _ (c .before .before .if1 .taken) (c .before .current .ensures)
 
-returns-2 : tie.Need-returns-2
-returns-2 c = laws.altered-not _ (c .before .before .before .args .item) (c .if1 .left)
-
 pub altered-spec : {M : Type 1} → statement M
-altered-spec = tie.close (tie.spec (λ c κs. search needs) returns returns-2)
+altered-spec = tie.close (tie.spec (λ c κs. search needs) returns (λ c. laws.altered-not _ (c .before .before .before .args .item) (c .if1 .left)))

@@ -2,8 +2,5 @@ use borrow.Author.Needs.{needs}
 use Rattle.helping.proofs.dictionary.item_of.Statement.{statement}
 use Rattle.helping.proofs.dictionary.item_of.Tie as tie
 
-returns : tie.Need-returns
-returns c = cc
-
 pub item-of-spec : {M : Type 1} → statement M
-item-of-spec = tie.close (tie.spec (λ c κs. search needs) returns)
+item-of-spec = tie.close (tie.spec (λ c κs. search needs) (λ c. rw (c .value-under .ensures)))

@@ -21,9 +21,6 @@ abbrev μ-loop : tie.MeasureT-loop
 end-is : (c : tie.After-noted Inv-loop μ-loop) → c .noted .result ≡ length (noted (c .before .args .t2))
 end-is c = c .noted .ensures ∙ rooms.count (c .before .args .t2) _ (c .before .good .1 .0)
 
-loop-holds : tie.Need-loop-holds Inv-loop μ-loop
-loop-holds c = refl
-
 returns : tie.Need-returns Inv-loop μ-loop
 returns c = laws.write-here _ (c .before .before .before .before .before .before .args .t2) _ _ (c .before .before .before .before .loop .inv) (omega (arith, end-is (c .before .before .before .before .before))) (sym (c .before .altered .ensures) ∙ (c .if1 .taken))
 
@@ -40,7 +37,7 @@ next-write-spec =
     Inv-loop
     μ-loop
     (λ c κs. search needs)
-    loop-holds
+    (λ c. refl)
     (λ c. omega arith)
     (λ c. omega arith)
     (λ c. omega arith)

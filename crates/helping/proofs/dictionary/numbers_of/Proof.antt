@@ -19,9 +19,6 @@ Inv-loop end dictionary keys₀ values₀ k₀ keys values k =
 abbrev μ-loop : tie.MeasureT-loop
 μ-loop end dictionary keys₀ values₀ k₀ keys values k = end - k
 
-loop-holds : tie.Need-loop-holds Inv-loop μ-loop
-loop-holds c = (refl, refl, refl, refl, omega arith)
-
 loop-again : tie.Need-loop-again Inv-loop μ-loop
 loop-again c =
     let start = c .before .before in
@@ -49,7 +46,7 @@ numbers-of-spec =
     (tie.spec
     Inv-loop
     μ-loop
-    loop-holds
+    (λ c. (refl, refl, refl, refl, omega arith))
     (λ c. omega arith)
     (λ c. omega arith)
     (λ c. omega arith)

@@ -3,11 +3,11 @@ use borrow.Author.Needs.{needs}
 use Rattle.helping.proofs.dictionary.value_under.Statement.{statement}
 use Rattle.helping.proofs.dictionary.value_under.Tie as tie
 
-returns : tie.Need-returns
-returns c = laws.under-lower _ _ _ (c .before .if1 .taken) (c .current .ensures)
-
-returns-2 : tie.Need-returns-2
-returns-2 c = laws.under-equal _ _ _ (c .before .if1 .left) (c .previous .ensures)
-
 pub value-under-spec : {M : Type 1} → statement M
-value-under-spec = tie.close (tie.spec (λ c κs. search needs) (λ c κs. search needs) returns returns-2)
+value-under-spec =
+    tie.close
+    (tie.spec
+    (λ c κs. search needs)
+    (λ c κs. search needs)
+    (λ c. laws.under-lower _ _ _ (c .before .if1 .taken) (c .current .ensures))
+    (λ c. laws.under-equal _ _ _ (c .before .if1 .left) (c .previous .ensures)))

@@ -14,17 +14,11 @@ Inv-loop keys end variable k₀ k =
 abbrev μ-loop : tie.MeasureT-loop
 μ-loop keys end variable k₀ k = end - k
 
-loop-holds : tie.Need-loop-holds Inv-loop μ-loop
-loop-holds c = (omega arith, omega arith)
-
 returns : tie.Need-returns Inv-loop μ-loop
 returns c = laws.key-here _ _ _ _ _ (omega arith) (c .before .before .before .loop .inv .0) (c .before .before .loop-test .taken) (c .if1 .taken)
 
 loop-again : tie.Need-loop-again Inv-loop μ-loop
 loop-again c = (laws.key-more _ _ _ _ _ (omega arith) (c .before .before .before .loop .inv .0) (c .before .before .loop-test .taken) (c .if1 .left), omega arith)
-
-returns-2 : tie.Need-returns-2 Inv-loop μ-loop
-returns-2 c = laws.key-end _ _ _ _ _ (omega arith) (c .before .loop .inv .0) (c .loop-test .left)
 
 pub find-spec : {M : Type 1} → statement M
 find-spec =
@@ -32,11 +26,11 @@ find-spec =
     (tie.spec
     Inv-loop
     μ-loop
-    loop-holds
+    (λ c. (omega arith, omega arith))
     (λ c. omega arith)
     (λ c. omega arith)
     returns
     (λ c. omega arith)
     (λ c. omega arith)
     loop-again
-    returns-2)
+    (λ c. laws.key-end _ _ _ _ _ (omega arith) (c .before .loop .inv .0) (c .loop-test .left)))

@@ -34,80 +34,85 @@ here c d h =
       next = laws.effect-is (start .args .n) (start .args .t2) (start .args .inputs) (l .s) _ (rooms.lines (start .args .t2) _ (start .good .1 .0)) (c .next-effect .ensures);
     }
 
-loop-holds : tie.Need-loop-holds Inv-loop μ-loop
-loop-holds c = (refl, λ d h. (laws.simulate-start _ _ _ _ _ ∙ rw (laws.own-values h), laws.keyed h _))
-
-returns : tie.Need-returns Inv-loop μ-loop
-returns c = record { long = c .before .before .before .before .before .before .loop .inv .0; left = λ d h. sym (laws.stops (here (c .before .before) d h) (c .enum-told .given .1)) }
+-- the values are as many as at the start
+long :
+    (c : tie.After-next-effect Inv-loop μ-loop) →
+    length (c .before .before .before .before .loop .values) ≡ length (c .before .before .before .before .before .args .values .now)
+long c = c .before .before .before .before .loop .inv .0
 
 returns-2 : tie.Need-returns-2 Inv-loop μ-loop
-returns-2 c = record { long = c .before .before .before .before .before .before .before .loop .inv .0; left = λ d h. sym (rw (c .faulted .ensures) (laws.faulted-at (here (c .before .before .before) d h) (c .before .enum-told2 .given .1))) }
-
-loop-again : tie.Need-loop-again Inv-loop μ-loop
-loop-again c = ((c .before .before .before .before .before .before .before .before .loop .inv .0), λ d h. laws.sets (here (c .before .before .before .before) d h) _ _ _ (c .before .before .effect .given .1) (c .with-register .ensures))
-
-find-requires : tie.Need-find-requires Inv-loop μ-loop
-find-requires c κs = c .before .before .before .before .before .before .before .before .pre
+returns-2 c = let at = c .before .before .before in record { long = long at; left = λ d h. sym (rw (c .faulted .ensures) (laws.faulted-at (here at d h) (c .before .enum-told2 .given .1))) }
 
 returns-3 : tie.Need-returns-3 Inv-loop μ-loop
-returns-3 c = record { long = c .before .before .before .before .before .before .before .before .before .loop .inv .0; left = λ d h. sym (laws.load-lacks (here (c .before .before .before .before .before) d h) _ _ (c .before .find .ensures) _ (c .before .before .before .effect2 .given .1) (c .if1 .taken)) }
+returns-3 c =
+    let at = c .before .before .before .before .before in
+    record { long = long at; left = λ d h. sym (laws.load-lacks (here at d h) _ _ (c .before .find .ensures) _ (c .before .before .before .effect2 .given .1) (c .if1 .taken)) }
 
 loop-again-2 : tie.Need-loop-again-2 Inv-loop μ-loop
-loop-again-2 c = ((c .before .before .before .before .before .before .before .before .before .before .before .loop .inv .0), λ d h. laws.loads (here (c .before .before .before .before .before .before .before) d h) _ _ (c .before .before .before .find .ensures) _ _ _ (c .before .before .before .before .before .effect2 .given .1) (c .before .before .if1 .left) (laws.value-is h _ (c .before .before .before .before .before .before .before .before .before .before .before .loop .inv .0) _ (c .before .before .if1 .left)) (c .with-register2 .ensures))
-
-find-requires-2 : tie.Need-find-requires-2 Inv-loop μ-loop
-find-requires-2 c κs = c .before .before .before .before .before .before .before .before .pre
+loop-again-2 c =
+    let at = c .before .before .before .before .before .before .before in
+    (long at, λ d h. laws.loads (here at d h) _ _ (c .before .before .before .find .ensures) _ _ _ (c .before .before .before .before .before .effect2 .given .1) (c .before .before .if1 .left) (laws.value-is h _ (long at) _ (c .before .before .if1 .left)) (c .with-register2 .ensures))
 
 returns-4 : tie.Need-returns-4 Inv-loop μ-loop
-returns-4 c = record { long = c .before .before .before .before .before .before .before .before .before .loop .inv .0; left = λ d h. sym (laws.store-lacks (here (c .before .before .before .before .before) d h) _ _ (c .before .find2 .ensures) _ (c .before .before .before .effect3 .given .1) (c .if2 .taken)) }
+returns-4 c =
+    let at = c .before .before .before .before .before in
+    record { long = long at; left = λ d h. sym (laws.store-lacks (here at d h) _ _ (c .before .find2 .ensures) _ (c .before .before .before .effect3 .given .1) (c .if2 .taken)) }
 
 loop-again-3 : tie.Need-loop-again-3 Inv-loop μ-loop
-loop-again-3 c = (simp length-set (c .before .before .before .before .before .before .before .before .before .before .loop .inv .0), λ d h. laws.stores (here (c .before .before .before .before .before .before) d h) _ _ (c .before .before .find2 .ensures) _ _ _ (c .before .before .before .before .effect3 .given .1) (c .before .if2 .left) (laws.assigned h _ (c .before .before .before .before .before .before .before .before .before .before .loop .inv .0) _ (c .before .if2 .left) _) (c .skipped .ensures))
-
-loop-again-4 : tie.Need-loop-again-4 Inv-loop μ-loop
-loop-again-4 c = ((c .before .before .before .before .before .before .before .before .loop .inv .0), λ d h. laws.outputs (here (c .before .before .before .before) d h) _ _ _ (c .before .before .effect4 .given .1) (c .with-output .ensures))
-
-loop-again-5 : tie.Need-loop-again-5 Inv-loop μ-loop
-loop-again-5 c = ((c .before .before .before .before .before .before .before .before .loop .inv .0), λ d h. laws.skips (here (c .before .before .before .before) d h) _ _ (c .before .before .effect5 .given .1) (c .skipped2 .ensures))
-
-find-requires-3 : tie.Need-find-requires-3 Inv-loop μ-loop
-find-requires-3 c κs = (c .before .before .before .before .before .before .before .before .pre)
+loop-again-3 c =
+    let at = c .before .before .before .before .before .before in
+    (simp length-set (long at), λ d h. laws.stores (here at d h) _ _ (c .before .before .find2 .ensures) _ _ _ (c .before .before .before .before .effect3 .given .1) (c .before .if2 .left) (laws.assigned h _ (long at) _ (c .before .if2 .left) _) (c .skipped .ensures))
 
 returns-5 : tie.Need-returns-5 Inv-loop μ-loop
-returns-5 c = record { long = (c .before .before .before .before .before .before .before .before .before .loop .inv .0); left = λ d h. sym (laws.allocate-lacks (here (c .before .before .before .before .before) d h) _ (c .before .find3 .ensures) _ (c .before .before .before .effect6 .given .1) (c .if3 .taken)) }
+returns-5 c =
+    let at = c .before .before .before .before .before in
+    record { long = long at; left = λ d h. sym (laws.allocate-lacks (here at d h) _ (c .before .find3 .ensures) _ (c .before .before .before .effect6 .given .1) (c .if3 .taken)) }
 
+-- in the arms with two variables `first` is the place where the first of them was found
 returns-6 : tie.Need-returns-6 Inv-loop μ-loop
-returns-6 c = record { long = (c .before .before .before .before .before .before .before .before .before .before .before .before .before .loop .inv .0); left = λ d h. sym (rw (c .faulted2 .ensures) (laws.allocate-faults (here (c .before .before .before .before .before .before .before .before .before) d h) _ (c .before .before .before .before .before .find3 .ensures) (c .before .before .before .before .if3 .left) _ (laws.value-is h _ (c .before .before .before .before .before .before .before .before .before .before .before .before .before .loop .inv .0) _ (c .before .before .before .before .if3 .left)) (c .before .before .is-astray .ensures) _ (c .before .before .before .before .before .before .before .effect6 .given .1) (c .before .if4 .taken))) }
+returns-6 c =
+    let first = c .before .before .before .before in
+    let at = first .before .before .before .before .before in
+    record { long = long at; left = λ d h. sym (rw (c .faulted2 .ensures) (laws.allocate-faults (here at d h) _ (first .before .find3 .ensures) (first .if3 .left) _ (laws.value-is h _ (long at) _ (first .if3 .left)) (c .before .before .is-astray .ensures) _ (first .before .before .before .effect6 .given .1) (c .before .if4 .taken))) }
 
 cast-cell : tie.Need-cast-cell Inv-loop μ-loop
-cast-cell c = omega (arith, laws.astray-most (c .before .before .before .before .before .before .before .before .before .before .before .before .before .args .n) (getD (c .before .before .before .before .before .before .before .before .before .before .before .before .loop .values) (c .before .before .before .before .find3 .result) 0) (c .before .is-astray .ensures) (c .if4 .left))
-
-find-requires-4 : tie.Need-find-requires-4 Inv-loop μ-loop
-find-requires-4 c κs = (c .before .before .before .before .before .before .before .before .before .before .before .before .before .pre)
+cast-cell c =
+    let first = c .before .before .before in
+    let start = first .before .before .before .before .before .before .before .before .before .before in
+    omega (arith, laws.astray-most (start .args .n) (getD (first .before .before .before .before .before .before .before .before .before .loop .values) (first .before .find3 .result) 0) (c .before .is-astray .ensures) (c .if4 .left))
 
 returns-7 : tie.Need-returns-7 Inv-loop μ-loop
-returns-7 c = record { long = (c .before .before .before .before .before .before .before .before .before .before .before .before .before .before .loop .inv .0); left = λ d h. sym (laws.allocate-lacks-cell (here (c .before .before .before .before .before .before .before .before .before .before) d h) _ (c .before .before .before .before .before .before .find3 .ensures) (c .before .before .before .before .before .if3 .left) _ (laws.value-is h _ (c .before .before .before .before .before .before .before .before .before .before .before .before .before .before .loop .inv .0) _ (c .before .before .before .before .before .if3 .left)) (c .before .before .before .is-astray .ensures) _ (c .before .before .before .before .before .before .before .before .effect6 .given .1) (c .before .before .if4 .left) _ (c .before .find4 .ensures) (c .if5 .taken)) }
+returns-7 c =
+    let first = c .before .before .before .before .before in
+    let at = first .before .before .before .before .before in
+    record { long = long at; left = λ d h. sym (laws.allocate-lacks-cell (here at d h) _ (first .before .find3 .ensures) (first .if3 .left) _ (laws.value-is h _ (long at) _ (first .if3 .left)) (c .before .before .before .is-astray .ensures) _ (first .before .before .before .effect6 .given .1) (c .before .before .if4 .left) _ (c .before .find4 .ensures) (c .if5 .taken)) }
 
 loop-again-6 : tie.Need-loop-again-6 Inv-loop μ-loop
-loop-again-6 c = (simp length-set (c .before .before .before .before .before .before .before .before .before .before .before .before .before .before .before .before .loop .inv .0), λ d h. laws.allocates (here (c .before .before .before .before .before .before .before .before .before .before .before .before) d h) _ (c .before .before .before .before .before .before .before .before .find3 .ensures) (c .before .before .before .before .before .before .before .if3 .left) _ (laws.value-is h _ (c .before .before .before .before .before .before .before .before .before .before .before .before .before .before .before .before .loop .inv .0) _ (c .before .before .before .before .before .before .before .if3 .left)) (c .before .before .before .before .before .is-astray .ensures) _ (c .before .before .before .before .before .before .before .before .before .before .effect6 .given .1) (c .before .before .before .before .if4 .left) _ (c .before .before .before .find4 .ensures) _ _ _ (c .before .before .if5 .left) (laws.value-is h _ (c .before .before .before .before .before .before .before .before .before .before .before .before .before .before .before .before .loop .inv .0) _ (c .before .before .if5 .left)) (laws.assigned-twice h _ (c .before .before .before .before .before .before .before .before .before .before .before .before .before .before .before .before .loop .inv .0) _ (c .before .before .before .before .before .before .before .if3 .left) _ _ (c .before .before .if5 .left) _) (c .with-register3 .ensures))
-
-find-requires-5 : tie.Need-find-requires-5 Inv-loop μ-loop
-find-requires-5 c κs = (c .before .before .before .before .before .before .before .before .pre)
+loop-again-6 c =
+    let first = c .before .before .before .before .before .before .before in
+    let at = first .before .before .before .before .before in (
+      simp length-set (long at),
+      λ d h. laws.allocates (here at d h) _ (first .before .find3 .ensures) (first .if3 .left) _ (laws.value-is h _ (long at) _ (first .if3 .left)) (c .before .before .before .before .before .is-astray .ensures) _ (first .before .before .before .effect6 .given .1) (c .before .before .before .before .if4 .left) _ (c .before .before .before .find4 .ensures) _ _ _ (c .before .before .if5 .left) (laws.value-is h _ (long at) _ (c .before .before .if5 .left)) (laws.assigned-twice h _ (long at) _ (first .if3 .left) _ _ (c .before .before .if5 .left) _) (c .with-register3 .ensures),
+    )
 
 returns-8 : tie.Need-returns-8 Inv-loop μ-loop
-returns-8 c = record { long = (c .before .before .before .before .before .before .before .before .before .loop .inv .0); left = λ d h. sym (laws.free-lacks (here (c .before .before .before .before .before) d h) _ (c .before .find5 .ensures) _ (c .before .before .before .effect7 .given .1) (c .if6 .taken)) }
-
-find-requires-6 : tie.Need-find-requires-6 Inv-loop μ-loop
-find-requires-6 c κs = (c .before .before .before .before .before .before .before .before .before .before .pre)
+returns-8 c =
+    let at = c .before .before .before .before .before in
+    record { long = long at; left = λ d h. sym (laws.free-lacks (here at d h) _ (c .before .find5 .ensures) _ (c .before .before .before .effect7 .given .1) (c .if6 .taken)) }
 
 returns-9 : tie.Need-returns-9 Inv-loop μ-loop
-returns-9 c = record { long = (c .before .before .before .before .before .before .before .before .before .before .before .loop .inv .0); left = λ d h. sym (laws.free-lacks-cell (here (c .before .before .before .before .before .before .before) d h) _ (c .before .before .before .find5 .ensures) (c .before .before .if6 .left) _ (c .before .before .before .before .before .effect7 .given .1) _ (c .before .find6 .ensures) (c .if7 .taken)) }
+returns-9 c =
+    let first = c .before .before in
+    let at = first .before .before .before .before .before in
+    record { long = long at; left = λ d h. sym (laws.free-lacks-cell (here at d h) _ (first .before .find5 .ensures) (first .if6 .left) _ (first .before .before .before .effect7 .given .1) _ (c .before .find6 .ensures) (c .if7 .taken)) }
 
 loop-again-7 : tie.Need-loop-again-7 Inv-loop μ-loop
-loop-again-7 c = (simp length-set (c .before .before .before .before .before .before .before .before .before .before .before .before .before .loop .inv .0), λ d h. laws.frees (here (c .before .before .before .before .before .before .before .before .before) d h) _ (c .before .before .before .before .before .find5 .ensures) (c .before .before .before .before .if6 .left) _ (c .before .before .before .before .before .before .before .effect7 .given .1) _ (c .before .before .before .find6 .ensures) _ _ _ (c .before .before .if7 .left) (laws.value-is h _ (c .before .before .before .before .before .before .before .before .before .before .before .before .before .loop .inv .0) _ (c .before .before .before .before .if6 .left)) (laws.assigned-twice h _ (c .before .before .before .before .before .before .before .before .before .before .before .before .before .loop .inv .0) _ (c .before .before .if7 .left) _ _ (c .before .before .before .before .if6 .left) _) (c .skipped3 .ensures))
-
-returns-10 : tie.Need-returns-10 Inv-loop μ-loop
-returns-10 c = record { long = c .before .loop .inv .0; left = λ d h. sym (laws.simulate-end _ _ _ _ _ _ _ ((c .before .loop .inv .1) d h .0) (c .loop-test .left)) }
+loop-again-7 c =
+    let first = c .before .before .before .before in
+    let at = first .before .before .before .before .before in (
+      simp length-set (long at),
+      λ d h. laws.frees (here at d h) _ (first .before .find5 .ensures) (first .if6 .left) _ (first .before .before .before .effect7 .given .1) _ (c .before .before .before .find6 .ensures) _ _ _ (c .before .before .if7 .left) (laws.value-is h _ (long at) _ (first .if6 .left)) (laws.assigned-twice h _ (long at) _ (c .before .before .if7 .left) _ _ (first .if6 .left) _) (c .skipped3 .ensures),
+    )
 
 pub simulate-spec : {M : Type 1} → statement M
 simulate-spec =
@@ -115,23 +120,23 @@ simulate-spec =
     (tie.spec
     Inv-loop
     μ-loop
-    loop-holds
+    (λ c. (refl, λ d h. (laws.simulate-start _ _ _ _ _ ∙ rw (laws.own-values h), laws.keyed h _)))
     (λ c. omega arith)
     (λ c. omega arith)
     (λ c. omega arith)
     (λ c. omega arith)
     (λ c κs. search needs)
     (λ c. search needs)
-    returns
+    (λ c. let at = c .before .before in record { long = long at; left = λ d h. sym (laws.stops (here at d h) (c .enum-told .given .1)) })
     (λ c. search needs)
     (λ c κs. search needs)
     returns-2
     (λ c. search needs)
     (λ c κs. search needs)
     (λ c. omega arith)
-    loop-again
+    (λ c. let at = c .before .before .before .before in (long at, λ d h. laws.sets (here at d h) _ _ _ (c .before .before .effect .given .1) (c .with-register .ensures)))
     (λ c. search needs)
-    find-requires
+    (λ c κs. c .before .before .before .before .before .before .before .before .pre)
     returns-3
     (λ c. omega arith)
     (λ c. omega arith)
@@ -140,7 +145,7 @@ simulate-spec =
     (λ c. omega arith)
     loop-again-2
     (λ c. search needs)
-    find-requires-2
+    (λ c κs. c .before .before .before .before .before .before .before .before .pre)
     returns-4
     (λ c. omega arith)
     (λ c. omega arith)
@@ -151,13 +156,13 @@ simulate-spec =
     (λ c. search needs)
     (λ c κs. search needs)
     (λ c. omega arith)
-    loop-again-4
+    (λ c. let at = c .before .before .before .before in (long at, λ d h. laws.outputs (here at d h) _ _ _ (c .before .before .effect4 .given .1) (c .with-output .ensures)))
     (λ c. search needs)
     (λ c κs. search needs)
     (λ c. omega arith)
-    loop-again-5
+    (λ c. let at = c .before .before .before .before in (long at, λ d h. laws.skips (here at d h) _ _ (c .before .before .effect5 .given .1) (c .skipped2 .ensures)))
     (λ c. search needs)
-    find-requires-3
+    (λ c κs. (c .before .before .before .before .before .before .before .before .pre))
     returns-5
     (λ c. omega arith)
     (λ c. omega arith)
@@ -166,7 +171,7 @@ simulate-spec =
     (λ c κs. search needs)
     returns-6
     cast-cell
-    find-requires-4
+    (λ c κs. (c .before .before .before .before .before .before .before .before .before .before .before .before .before .pre))
     returns-7
     (λ c. omega arith)
     (λ c. omega arith)
@@ -181,9 +186,9 @@ simulate-spec =
     (λ c. omega arith)
     loop-again-6
     (λ c. search needs)
-    find-requires-5
+    (λ c κs. (c .before .before .before .before .before .before .before .before .pre))
     returns-8
-    find-requires-6
+    (λ c κs. (c .before .before .before .before .before .before .before .before .before .before .pre))
     returns-9
     (λ c. omega arith)
     (λ c. omega arith)
@@ -198,4 +203,4 @@ simulate-spec =
     (λ c κs. search needs)
     (λ c. omega arith)
     loop-again-7
-    returns-10)
+    (λ c. record { long = c .before .loop .inv .0; left = λ d h. sym (laws.simulate-end _ _ _ _ _ _ _ ((c .before .loop .inv .1) d h .0) (c .loop-test .left)) }))

@@ -16,6 +16,7 @@ pub mod Sums
 pub mod Counters
 pub mod NotedSets
 pub mod Paths
+pub mod Computing
 pub mod Examples
 pub mod LinearizabilityExample
 pub mod AllocationExample

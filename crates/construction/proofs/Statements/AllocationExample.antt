@@ -6,24 +6,14 @@ use mathlib.Core.Bool.{true, false}
 use mathlib.Core.List.{List, [], _∷_, _++_}
 use lib.ListN.{getD, replicate}
 use Rattle.construction.specs.Types.{Words, Card}
-use Rattle.grammar.specs.Reading.{four, field, number, digits, hasWord}
-use Rattle.construction.specs.Opening.{opened, readCard, varsFrom, programsFrom, readProgram, insFrom, fresh}
-use Rattle.construction.specs.Lines.{cardLine, judgeCard, varLine, judgeVar, sheetLine, judgeSheet, insLine, judgeIns}
-use Rattle.construction.specs.Instructions.{decode, effectOf, fetch, word, withWord, load, store, free, forward, withRegister, withOutput, skipped, faulted}
-use Rattle.construction.specs.Sequential.{sequential, runFrom}
-use Rattle.construction.specs.Requests.{call, requestExit, step, read, valueOf}
-use Rattle.construction.specs.Machine.{advance, perform, accessOf, accessGate, accessAnnouncement, firstChoice, beginHelp, note, writing}
-use Rattle.construction.specs.Helping.{simulate, simulateFrom}
-use Rattle.construction.specs.Effects.{allocated}
-use Rattle.construction.specs.Weight.{weightBefore}
-use Rattle.construction.specs.Dictionary.{position, assign, valueUnder, insert, altered, unaltered, nextWrite}
-use Rattle.construction.specs.Cells.{sameWords, sameGate, sameAnnouncement, sameRecord, swapGate, swapAnnouncement, swapRecord, released, current, previous, rewritten}
+use Rattle.construction.specs.Opening.{opened}
 use Rattle.construction.specs.Answers.{bytes}
 use Rattle.construction.specs.Examples.{one}
-use Rattle.construction.specs.History.{Entry, run, observe, observeAll, withFinishes, latest, latestCall, turned}
+use Rattle.construction.specs.History.{Entry}
 use Rattle.construction.specs.Allocation.{among, without, Action, Performed, wordsAfter, chainFrom, chain, hand, givenBack, performedFrom, operationAt, performedAll, startWords, performed}
 use Rattle.construction.specs.Allocation.{ChainWithoutRepeats, OnlyByCodes, OnlyFromHands, Disciplined, Allocating}
 use Rattle.construction.proofs.Statements.Allocation.{allocation}
+use Rattle.construction.proofs.Statements.Computing.{observing}
 
 -- three programs: take a cell, give back the one that the input names, store the input in variable 0
 abbrev body : List ℕ
@@ -88,13 +78,18 @@ pub record Computed : Type 0 where
   pub stored : performed card takeStored ≡ by 1 (Action.Took 1) ∷ by 0 (Action.Stored 0 1) ∷ by 0 (Action.Took 1) ∷ []
   pub foreign : performed card takeForeign ≡ by 1 (Action.Took 1) ∷ by 1 (Action.Gave 1) ∷ by 0 (Action.Took 1) ∷ []
 
+-- what every theorem below computes with
+allocates : Unit {0}
+unfolding observing performedFrom performedAll operationAt wordsAfter chainFrom hand among without givenBack
+allocates = tt
+
 pub computed : Computed
-unfolding opened readCard cardLine judgeCard four field number digits hasWord varsFrom varLine judgeVar programsFrom readProgram sheetLine judgeSheet insFrom insLine judgeIns decode weightBefore fresh call requestExit step read valueOf advance perform accessOf accessGate accessAnnouncement firstChoice beginHelp note writing simulate simulateFrom allocated effectOf fetch word withWord load store free forward withRegister withOutput skipped faulted position assign valueUnder insert altered unaltered nextWrite sameWords sameGate sameAnnouncement sameRecord swapGate swapAnnouncement swapRecord released current previous rewritten observe observeAll withFinishes latest latestCall turned sequential runFrom performedFrom performedAll operationAt wordsAfter chainFrom hand among without givenBack
+unfolding allocates
 computed =
     record { actions = refl; own = refl; other = refl; free = refl; back = refl; repeated = refl; stored = refl; foreign = refl }
 
 pub disciplined : Disciplined card entries
-unfolding opened readCard cardLine judgeCard four field number digits hasWord varsFrom varLine judgeVar programsFrom readProgram sheetLine judgeSheet insFrom insLine judgeIns decode weightBefore fresh call requestExit step read valueOf advance perform accessOf accessGate accessAnnouncement firstChoice beginHelp note writing simulate simulateFrom allocated effectOf fetch word withWord load store free forward withRegister withOutput skipped faulted position assign valueUnder insert altered unaltered nextWrite sameWords sameGate sameAnnouncement sameRecord swapGate swapAnnouncement swapRecord released current previous rewritten observe observeAll withFinishes latest latestCall turned sequential runFrom performedFrom performedAll operationAt wordsAfter chainFrom hand among without givenBack
+unfolding allocates
 disciplined = record { chain = (refl, (refl, tt)); touches = (tt, (tt, (tt, tt))); gives = (refl, (tt, (tt, tt))) }
 
 pub allocating : Allocating card entries
@@ -102,25 +97,25 @@ allocating = allocation text entries disciplined
 
 -- each premise broken alone
 pub loop-breaks : InBoth looped takeBoth
-unfolding opened readCard cardLine judgeCard four field number digits hasWord varsFrom varLine judgeVar programsFrom readProgram sheetLine judgeSheet insFrom insLine judgeIns decode weightBefore fresh call requestExit step read valueOf advance perform accessOf accessGate accessAnnouncement firstChoice beginHelp note writing simulate simulateFrom allocated effectOf fetch word withWord load store free forward withRegister withOutput skipped faulted position assign valueUnder insert altered unaltered nextWrite sameWords sameGate sameAnnouncement sameRecord swapGate swapAnnouncement swapRecord released current previous rewritten observe observeAll withFinishes latest latestCall turned sequential runFrom performedFrom performedAll operationAt wordsAfter chainFrom hand among without givenBack
+unfolding allocates
 loop-breaks = record { first = refl; second = refl }
 
 pub loop-keeps : OnlyByCodes (startWords (opened looped .card)) (performed (opened looped .card) takeBoth) × OnlyFromHands (performed (opened looped .card) takeBoth)
-unfolding opened readCard cardLine judgeCard four field number digits hasWord varsFrom varLine judgeVar programsFrom readProgram sheetLine judgeSheet insFrom insLine judgeIns decode weightBefore fresh call requestExit step read valueOf advance perform accessOf accessGate accessAnnouncement firstChoice beginHelp note writing simulate simulateFrom allocated effectOf fetch word withWord load store free forward withRegister withOutput skipped faulted position assign valueUnder insert altered unaltered nextWrite sameWords sameGate sameAnnouncement sameRecord swapGate swapAnnouncement swapRecord released current previous rewritten observe observeAll withFinishes latest latestCall turned sequential runFrom performedFrom performedAll operationAt wordsAfter chainFrom hand among without givenBack
+unfolding allocates
 loop-keeps = ((tt, (tt, tt)), (tt, (tt, tt)))
 
 pub store-breaks : InBoth text takeStored
-unfolding opened readCard cardLine judgeCard four field number digits hasWord varsFrom varLine judgeVar programsFrom readProgram sheetLine judgeSheet insFrom insLine judgeIns decode weightBefore fresh call requestExit step read valueOf advance perform accessOf accessGate accessAnnouncement firstChoice beginHelp note writing simulate simulateFrom allocated effectOf fetch word withWord load store free forward withRegister withOutput skipped faulted position assign valueUnder insert altered unaltered nextWrite sameWords sameGate sameAnnouncement sameRecord swapGate swapAnnouncement swapRecord released current previous rewritten observe observeAll withFinishes latest latestCall turned sequential runFrom performedFrom performedAll operationAt wordsAfter chainFrom hand among without givenBack
+unfolding allocates
 store-breaks = record { first = refl; second = refl }
 
 pub store-keeps : ChainWithoutRepeats (startWords card) × OnlyFromHands (performed card takeStored)
-unfolding opened readCard cardLine judgeCard four field number digits hasWord varsFrom varLine judgeVar programsFrom readProgram sheetLine judgeSheet insFrom insLine judgeIns decode weightBefore fresh call requestExit step read valueOf advance perform accessOf accessGate accessAnnouncement firstChoice beginHelp note writing simulate simulateFrom allocated effectOf fetch word withWord load store free forward withRegister withOutput skipped faulted position assign valueUnder insert altered unaltered nextWrite sameWords sameGate sameAnnouncement sameRecord swapGate swapAnnouncement swapRecord released current previous rewritten observe observeAll withFinishes latest latestCall turned sequential runFrom performedFrom performedAll operationAt wordsAfter chainFrom hand among without givenBack
+unfolding allocates
 store-keeps = ((refl, (refl, tt)), (tt, (tt, (tt, tt))))
 
 pub foreign-breaks : InBoth text takeForeign
-unfolding opened readCard cardLine judgeCard four field number digits hasWord varsFrom varLine judgeVar programsFrom readProgram sheetLine judgeSheet insFrom insLine judgeIns decode weightBefore fresh call requestExit step read valueOf advance perform accessOf accessGate accessAnnouncement firstChoice beginHelp note writing simulate simulateFrom allocated effectOf fetch word withWord load store free forward withRegister withOutput skipped faulted position assign valueUnder insert altered unaltered nextWrite sameWords sameGate sameAnnouncement sameRecord swapGate swapAnnouncement swapRecord released current previous rewritten observe observeAll withFinishes latest latestCall turned sequential runFrom performedFrom performedAll operationAt wordsAfter chainFrom hand among without givenBack
+unfolding allocates
 foreign-breaks = record { first = refl; second = refl }
 
 pub foreign-keeps : ChainWithoutRepeats (startWords card) × OnlyByCodes (startWords card) (performed card takeForeign)
-unfolding opened readCard cardLine judgeCard four field number digits hasWord varsFrom varLine judgeVar programsFrom readProgram sheetLine judgeSheet insFrom insLine judgeIns decode weightBefore fresh call requestExit step read valueOf advance perform accessOf accessGate accessAnnouncement firstChoice beginHelp note writing simulate simulateFrom allocated effectOf fetch word withWord load store free forward withRegister withOutput skipped faulted position assign valueUnder insert altered unaltered nextWrite sameWords sameGate sameAnnouncement sameRecord swapGate swapAnnouncement swapRecord released current previous rewritten observe observeAll withFinishes latest latestCall turned sequential runFrom performedFrom performedAll operationAt wordsAfter chainFrom hand among without givenBack
+unfolding allocates
 foreign-keeps = ((refl, (refl, tt)), (tt, (tt, (tt, tt))))

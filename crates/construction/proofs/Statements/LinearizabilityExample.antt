@@ -5,23 +5,14 @@ use mathlib.Core.Bool.{true, false}
 use mathlib.Core.List.{List, [], _∷_, _++_}
 use native.Mathlib.Omega.{arith}
 use lib.ListN.{length, replicate}
-use Rattle.grammar.specs.Reading.{four, field, number, digits, hasWord}
 use Rattle.construction.specs.Types.{Words, Yield, Card}
-use Rattle.construction.specs.Opening.{opened, readCard, varsFrom, programsFrom, readProgram, insFrom, fresh}
-use Rattle.construction.specs.Lines.{cardLine, judgeCard, varLine, judgeVar, sheetLine, judgeSheet, insLine, judgeIns}
-use Rattle.construction.specs.Instructions.{decode, effectOf, fetch, word, withWord, load, store, free, forward, withRegister, withOutput, skipped, faulted}
-use Rattle.construction.specs.Sequential.{sequential, runFrom}
-use Rattle.construction.specs.Requests.{call, requestExit, step, read, valueOf}
-use Rattle.construction.specs.Machine.{advance, perform, accessOf, accessGate, accessAnnouncement, firstChoice, beginHelp, note, writing}
-use Rattle.construction.specs.Helping.{simulate, simulateFrom}
-use Rattle.construction.specs.Effects.{allocated}
-use Rattle.construction.specs.Weight.{weightBefore}
-use Rattle.construction.specs.Dictionary.{position, assign, valueUnder, insert, altered, unaltered, nextWrite}
-use Rattle.construction.specs.Cells.{faultYield, sameWords, sameGate, sameAnnouncement, sameRecord, swapGate, swapAnnouncement, swapRecord, released, current, previous, rewritten}
-use Rattle.construction.specs.History.{Entry, Finish, Return, run, observe, observeAll, withFinishes, latest, latestCall, turned}
+use Rattle.construction.specs.Opening.{opened}
+use Rattle.construction.specs.Cells.{faultYield}
+use Rattle.construction.specs.History.{Entry, Finish, Return, run}
 use Rattle.construction.specs.Log.{logOf, insertByNumber, sorted}
 use Rattle.construction.specs.Examples.{one, cardK, twoProcesses, unwritten}
 use Rattle.construction.proofs.Statements.Linearizability.{linearizability}
+use Rattle.construction.proofs.Statements.Computing.{observing}
 use Rattle.construction.specs.Linearizability.{Linearizable, hasReturned, rank}
 
 -- card K with two processes, both called, one with an exit request
@@ -80,7 +71,7 @@ pub record Computed : Type 0 where
   pub sorted-both : sorted (former ∷ latter ∷ []) ≡ latter ∷ former ∷ []
 
 pub computed : Computed
-unfolding opened readCard cardLine judgeCard four field number digits hasWord varsFrom varLine judgeVar programsFrom readProgram sheetLine judgeSheet insFrom insLine judgeIns decode weightBefore fresh call requestExit step read valueOf advance perform accessOf accessGate accessAnnouncement firstChoice beginHelp note writing simulate simulateFrom allocated effectOf fetch word withWord load store free forward withRegister withOutput skipped faulted position assign valueUnder insert altered unaltered nextWrite sameWords sameGate sameAnnouncement sameRecord swapGate swapAnnouncement swapRecord released current previous rewritten observe observeAll withFinishes latest latestCall turned sequential runFrom hasReturned logOf insertByNumber sorted
+unfolding observing hasReturned logOf insertByNumber sorted
 computed = record { notes-two = refl; notes-fault = refl; returned-first = refl; called-first = refl; order-both = refl; log-both = refl; sorted-both = refl }
 
 -- the theorem of both

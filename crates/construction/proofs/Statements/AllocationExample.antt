@@ -13,7 +13,7 @@ use Rattle.construction.specs.History.{Entry}
 use Rattle.construction.specs.Allocation.{among, without, Action, Performed, wordsAfter, chainFrom, chain, hand, givenBack, performedFrom, operationAt, performedAll, startWords, performed}
 use Rattle.construction.specs.Allocation.{ChainWithoutRepeats, OnlyByCodes, OnlyFromHands, Disciplined, Allocating}
 use Rattle.construction.proofs.Statements.Allocation.{allocation}
-use Rattle.construction.proofs.Statements.Computing.{observing}
+use Rattle.construction.proofs.Statements.Computing.{reading, observing}
 
 -- three programs: take a cell, give back the one that the input names, store the input in variable 0
 abbrev body : List ℕ
@@ -78,44 +78,73 @@ pub record Computed : Type 0 where
   pub stored : performed card takeStored ≡ by 1 (Action.Took 1) ∷ by 0 (Action.Stored 0 1) ∷ by 0 (Action.Took 1) ∷ []
   pub foreign : performed card takeForeign ≡ by 1 (Action.Took 1) ∷ by 1 (Action.Gave 1) ∷ by 0 (Action.Took 1) ∷ []
 
--- what every theorem below computes with
-allocates : Unit {0}
-unfolding observing performedFrom performedAll operationAt wordsAfter chainFrom hand among without givenBack
-allocates = tt
+-- what is computed from actions, and the actions themselves, which are computed once for each list of entries
+counting : Unit {0}
+unfolding wordsAfter chainFrom hand among without givenBack
+counting = tt
+
+performing : Unit {0}
+unfolding observing counting performedFrom performedAll operationAt
+performing = tt
+
+acted : performed card entries ≡ by 1 (Action.Gave 1) ∷ by 0 (Action.Took 2) ∷ by 1 (Action.Took 1) ∷ []
+unfolding performing
+acted = refl
+
+acted-looped : performed (opened looped .card) takeBoth ≡ by 1 (Action.Took 1) ∷ by 0 (Action.Took 1) ∷ []
+unfolding performing
+acted-looped = refl
+
+acted-stored : performed card takeStored ≡ by 1 (Action.Took 1) ∷ by 0 (Action.Stored 0 1) ∷ by 0 (Action.Took 1) ∷ []
+unfolding performing
+acted-stored = refl
+
+acted-foreign : performed card takeForeign ≡ by 1 (Action.Took 1) ∷ by 1 (Action.Gave 1) ∷ by 0 (Action.Took 1) ∷ []
+unfolding performing
+acted-foreign = refl
 
 pub computed : Computed
-unfolding allocates
-computed =
-    record { actions = refl; own = refl; other = refl; free = refl; back = refl; repeated = refl; stored = refl; foreign = refl }
+unfolding counting
+computed = record {
+  actions = acted;
+  own = rw acted;
+  other = rw acted;
+  free = rw acted (unfold reading in refl);
+  back = rw acted;
+  repeated = unfold reading in refl;
+  stored = acted-stored;
+  foreign = acted-foreign;
+}
+
+chain-alone : ChainWithoutRepeats (startWords card)
+unfolding counting reading
+chain-alone = (refl, (refl, tt))
 
 pub disciplined : Disciplined card entries
-unfolding allocates
-disciplined = record { chain = (refl, (refl, tt)); touches = (tt, (tt, (tt, tt))); gives = (refl, (tt, (tt, tt))) }
+unfolding counting
+disciplined = record { chain = chain-alone; touches = rw acted (tt, (tt, (tt, tt))); gives = rw acted (refl, (tt, (tt, tt))) }
 
 pub allocating : Allocating card entries
 allocating = allocation text entries disciplined
 
 -- each premise broken alone
 pub loop-breaks : InBoth looped takeBoth
-unfolding allocates
-loop-breaks = record { first = refl; second = refl }
+unfolding counting
+loop-breaks = record { first = rw acted-looped; second = rw acted-looped }
 
 pub loop-keeps : OnlyByCodes (startWords (opened looped .card)) (performed (opened looped .card) takeBoth) × OnlyFromHands (performed (opened looped .card) takeBoth)
-unfolding allocates
-loop-keeps = ((tt, (tt, tt)), (tt, (tt, tt)))
+loop-keeps = (rw acted-looped (tt, (tt, tt)), rw acted-looped (tt, (tt, tt)))
 
 pub store-breaks : InBoth text takeStored
-unfolding allocates
-store-breaks = record { first = refl; second = refl }
+unfolding counting
+store-breaks = record { first = rw acted-stored; second = rw acted-stored }
 
 pub store-keeps : ChainWithoutRepeats (startWords card) × OnlyFromHands (performed card takeStored)
-unfolding allocates
-store-keeps = ((refl, (refl, tt)), (tt, (tt, (tt, tt))))
+store-keeps = (chain-alone, rw acted-stored (tt, (tt, (tt, tt))))
 
 pub foreign-breaks : InBoth text takeForeign
-unfolding allocates
-foreign-breaks = record { first = refl; second = refl }
+unfolding counting
+foreign-breaks = record { first = rw acted-foreign; second = rw acted-foreign }
 
 pub foreign-keeps : ChainWithoutRepeats (startWords card) × OnlyByCodes (startWords card) (performed card takeForeign)
-unfolding allocates
-foreign-keeps = ((refl, (refl, tt)), (tt, (tt, (tt, tt))))
+foreign-keeps = (chain-alone, rw acted-foreign (tt, (tt, (tt, tt))))

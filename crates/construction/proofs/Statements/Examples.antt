@@ -1,19 +1,43 @@
 -- Every row of the tables of worked pieces and of small examples (document 01, 'Proving pieces' and 'Turned back') holds, by computation.
-use mathlib.Core.Path.{refl}
+use mathlib.Core.Path.{_≡_, refl, ap}
+use mathlib.Core.List.{List, [], _∷_, map}
+use lib.ListN.{take, getD}
 use native.Mathlib.Omega.{arith}
+use Rattle.construction.specs.Types.{Gate, Announcement, Record, Answer}
+use Rattle.construction.specs.Cells.{openRecord}
+use Rattle.construction.specs.Opening.{opened}
 use Rattle.construction.specs.Lines.{cardText, varText, sheetText, insText}
 use Rattle.construction.specs.Instructions.{encode}
 use Rattle.construction.specs.Tracing.{trace}
 use Rattle.construction.specs.Answers.{answerFields, verdictFields, writtenFields, cardLineFields, varLineFields, sheetLineFields, decodedFields, insLineFields}
 use Rattle.construction.specs.Writing.{written, textOf, varsText, programsText, linesText}
-use Rattle.construction.specs.Examples.{AllHold, rows, AllTold, tracedRows, AllTextsRefused, refusedTexts, FullOpens, AllYielded, yieldedLines, AllEntriesRefused, refusedEntries, BufferRefused}
+use Rattle.construction.specs.Examples.{Row, cardAfter, answersTo, AllHold, rows, AllTold, tracedRows, AllTextsRefused, refusedTexts, FullOpens, AllYielded, yieldedLines, AllEntriesRefused, refusedEntries, BufferRefused}
 use Rattle.construction.proofs.Statements.Refusals.{call-no-program, call-busy, step-no-process, step-not-busy, step-limit, read-no-place}
 use Rattle.construction.proofs.Statements.Computing.{reading, answering}
 
+-- what a row shows, and what it is to show: one equation, so that the card is computed once for its parts
+abbrev Shown : Type 0
+Shown = List Answer × Gate × List Announcement × Record
+
+shown : Row → Shown
+shown r =
+    let o = opened (r .text) .card in
+    let c = cardAfter o (r .entries) in
+    (answersTo o (r .entries), c .gate, take (c .processCount) (c .announcements), getD (c .records) (r .variable) (openRecord 0))
+
+abbrev expected : Row → Shown
+expected r = (r .answers, r .gate, r .announcements, r .cell)
+
+all-hold : (rs : List Row) → map shown rs ≡ map expected rs → AllHold rs
+unfolding shown
+all-hold [] e = tt
+all-hold (r ∷ rs) e =
+    let h : shown r ≡ expected r = cc in
+    ((ap (λ (s : Shown). s .0) h, (ap (λ (s : Shown). s .1) h, ap (λ (s : Shown). s .2) h, ap (λ (s : Shown). s .3) h)), all-hold rs (cc))
+
 pub rows-hold : AllHold rows
-unfolding answering
-rows-hold =
-    ((refl, (refl, refl, refl)), ((refl, (refl, refl, refl)), ((refl, (refl, refl, refl)), ((refl, (refl, refl, refl)), ((refl, (refl, refl, refl)), ((refl, (refl, refl, refl)), ((refl, (refl, refl, refl)), ((refl, (refl, refl, refl)), ((refl, (refl, refl, refl)), ((refl, (refl, refl, refl)), ((refl, (refl, refl, refl)), ((refl, (refl, refl, refl)), ((refl, (refl, refl, refl)), ((refl, (refl, refl, refl)), ((refl, (refl, refl, refl)), ((refl, (refl, refl, refl)), ((refl, (refl, refl, refl)), ((refl, (refl, refl, refl)), ((refl, (refl, refl, refl)), ((refl, (refl, refl, refl)), ((refl, (refl, refl, refl)), ((refl, (refl, refl, refl)), ((refl, (refl, refl, refl)), ((refl, (refl, refl, refl)), ((refl, (refl, refl, refl)), ((refl, (refl, refl, refl)), ((refl, (refl, refl, refl)), tt)))))))))))))))))))))))))))
+unfolding answering shown
+rows-hold = all-hold rows refl
 
 -- the pieces that speak of lines
 pub rows-told : AllTold tracedRows
@@ -37,14 +61,28 @@ pub entries-refused : AllEntriesRefused refusedEntries
 unfolding trace
 entries-refused = (
   step-no-process _ _ (unfold answering in refl),
-  (call-no-program _ _ _ _ (unfold answering in refl) (unfold answering in refl),
-  (call-busy _ _ _ _ (unfold answering in refl) (unfold answering in refl) (unfold answering in refl),
-  (step-not-busy _ _ (unfold answering in refl) (unfold answering in refl),
-  (read-no-place _ _ (unfold answering in refl),
-  (step-limit _ _ (unfold answering in refl) (unfold answering in refl) (unfold answering in (omega arith)),
-  (step-no-process _ _ (unfold answering in refl),
-  (step-not-busy _ _ (unfold answering in refl) (unfold answering in refl),
-  (step-limit _ _ (unfold answering in refl) (unfold answering in refl) (unfold answering in (omega arith)), tt)))))))),
+  (
+    call-no-program _ _ _ _ (unfold answering in refl) (unfold answering in refl),
+    (
+      call-busy _ _ _ _ (unfold answering in refl) (unfold answering in refl) (unfold answering in refl),
+      (
+        step-not-busy _ _ (unfold answering in refl) (unfold answering in refl),
+        (
+          read-no-place _ _ (unfold answering in refl),
+          (
+            step-limit _ _ (unfold answering in refl) (unfold answering in refl) (unfold answering in (omega arith)),
+            (
+              step-no-process _ _ (unfold answering in refl),
+              (
+                step-not-busy _ _ (unfold answering in refl) (unfold answering in refl),
+                (step-limit _ _ (unfold answering in refl) (unfold answering in refl) (unfold answering in (omega arith)), tt),
+              ),
+            ),
+          ),
+        ),
+      ),
+    ),
+  ),
 )
 
 pub buffer-refused : BufferRefused

@@ -13,7 +13,7 @@ use Rattle.construction.specs.Instructions.{isCell}
 use Rattle.construction.specs.Allocation.{among, without, NoRepeats, Action, Performed, after, wordsAfter, chain, inHand, hand, givenBackBy, givenBack}
 use Rattle.construction.specs.Allocation.{Possible, ChainWithoutRepeats, Outside, TouchesOutside, OnlyByCodes, GivesOwn, OnlyFromHands, InHands}
 use Rattle.construction.proofs.Basics.{true-or-false, true-false, eqb-refl}
-use Rattle.construction.proofs.Allocating.Chains.{among-head, among-cons, apart-cons, without-apart, without-none, without-among, cell-inside, Linked, linked-cells, linked-whole, chain-linked, linked-set}
+use Rattle.construction.proofs.Allocating.Chains.{among-cons, apart-cons, without-apart, without-none, without-among, cell-inside, Linked, linked-cells, linked-whole, chain-linked, linked-set}
 
 cond-same {ℓ} : {A : Type ℓ} (b : Bool) (x : A) → cond b x x ≡ x
 cond-same true x = refl

@@ -1,20 +1,17 @@
 -- The bench's runs in the order of finishing (document 02, order 9): what they do to the words, and that this leaves the observer's words.
-use Prim.Native.Nat.{ℕ, suc, _<_, _≤_}
-use mathlib.Core.Path.{_≡_, refl, sym, subst, ap, _∙_}
-use mathlib.Core.Bool.{Bool, true, false, cond, false≢true}
-use mathlib.Core.Logic.{_≢_, _⊎_, inl, inr, ⊎-elim}
-use mathlib.Core.List.{List, [], _∷_, _++_}
+use Prim.Native.Nat.{ℕ, suc, _<_}
+use mathlib.Core.Path.{_≡_, refl, sym, _∙_}
+use mathlib.Core.Bool.{true, cond, false≢true}
+use mathlib.Core.Logic.{inl, inr}
+use mathlib.Core.List.{List, [], _∷_}
 use native.Mathlib.Omega.{arith}
-use lib.Dec.{eqb}
-use lib.ListN.{length, take}
-use Rattle.construction.specs.Types.{Card, Answer}
-use Rattle.construction.specs.Sequential.{sequential}
-use Rattle.construction.specs.History.{Entry, act, Invocation, Finish, Event, eventOf, History, hasCalled, latest, latestCall, finishing, benchRun, withFinish, withFinishes, withEntry, Observation, opening, observe, observeAll, run}
-use Rattle.construction.specs.Linearizability.{FinishesOne, FinishesAtMostOne}
-use Rattle.construction.specs.Allocation.{Performed, wordsAfter, performedIn, operationAt, startWords, performedAs, performedAll}
+use lib.ListN.{length}
+use Rattle.construction.specs.Types.{Card}
+use Rattle.construction.specs.History.{Entry, act, Invocation, Finish, Event, History, hasCalled, latest, latestCall, finishing, withFinish, withFinishes, withEntry, Observation, opening, observe, observeAll, run}
+use Rattle.construction.specs.Linearizability.{FinishesAtMostOne}
+use Rattle.construction.specs.Allocation.{wordsAfter, operationAt, startWords, performedAs, performedAll}
 use Rattle.construction.proofs.Observing.Histories.{on-equal, chosen, passed, latest-below}
 use Rattle.construction.proofs.Observing.Consistency.{Consistent, entry-kept, finishes-one}
-use Rattle.construction.proofs.Simulating.Sequential.{sequential-length}
 use Rattle.construction.proofs.Allocating.Hands.{AllPossible}
 use Rattle.construction.proofs.Allocating.Runs.{words-append, words-length, possible-append, in-words, in-possible}
 

@@ -1,20 +1,18 @@
 -- What a run of the bench does to its words, action by action (document 02, order 9): every action is one that the codes can make there, and
 -- together they leave the words of the run.
-use Prim.Native.Nat.{ℕ, zero, suc, _<_}
+use Prim.Native.Nat.{ℕ, zero, suc}
 use mathlib.Core.Path.{_≡_, refl, sym, subst, ap, _∙_}
 use mathlib.Core.Bool.{Bool, true, false, cond}
-use mathlib.Core.Logic.{⊎-elim}
 use mathlib.Core.List.{List, [], _∷_, _++_}
-use native.Mathlib.Omega.{arith}
 use lib.Dec.{eqb, ltb}
-use lib.ListN.{length, getD, set, length-set}
+use lib.ListN.{length, length-set}
 use borrow.Author.Tests.{eqb-true}
 use Rattle.construction.specs.Types.{Words, Instruction, Program, Effect, Simulation}
 use Rattle.construction.specs.Instructions.{word, isCell, load, store, free, effectOf, nextEffect, fetch, faulted, withRegister, started}
 use Rattle.construction.specs.Effects.{Store, put, Executed, allocated, execute, onExecuted}
 use Rattle.construction.specs.Sequential.{ending, wordAt, withStores, nextExecuted, runFrom, sequential}
-use Rattle.construction.specs.Allocation.{Action, Performed, after, wordsAfter, Possible, actionsOf, performedBy, performedFrom, performedIn, OnlyByCodes, OnlyFromHands}
-use Rattle.construction.proofs.Basics.{on-test, true-or-false, true-false}
+use Rattle.construction.specs.Allocation.{Action, Performed, after, wordsAfter, actionsOf, performedBy, performedFrom, performedIn, OnlyByCodes, OnlyFromHands}
+use Rattle.construction.proofs.Basics.{on-test}
 use Rattle.construction.proofs.Simulating.Effects.{on-executed}
 use Rattle.construction.proofs.Simulating.Sequential.{stores-length}
 use Rattle.construction.proofs.Allocating.Hands.{AllPossible}

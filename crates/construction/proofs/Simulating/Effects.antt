@@ -1,7 +1,7 @@
 -- Effects (specs/Effects): outcomes by cases; an outcome moves the counter forward and stores only to variables that the effect touched; where
 -- two readings of the variables agree on those, the effect touches the same and has the same outcome.
-use Prim.Native.Nat.{ℕ, suc, _≤_, _<_, min}
-use mathlib.Core.Path.{_≡_, refl, sym, subst, ap, _∙_}
+use Prim.Native.Nat.{ℕ, _≤_, _<_}
+use mathlib.Core.Path.{_≡_, refl, subst}
 use mathlib.Core.Bool.{Bool, true, false, cond, not}
 use mathlib.Core.Logic.{⊎-elim}
 use mathlib.Core.List.{List, [], _∷_}

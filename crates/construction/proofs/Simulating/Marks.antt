@@ -19,7 +19,7 @@ use Rattle.construction.specs.Effects.{Store, touched, execute}
 use Rattle.construction.specs.Dictionary.{noted, find, has, assign, insert}
 use Rattle.construction.specs.Helping.{noteOf, withNotes, simulate, simulateFrom}
 use Rattle.construction.specs.Marks.{withBit, bit, Marks}
-use Rattle.construction.proofs.Basics.{on-test, true-or-false, true-false, eqb-refl}
+use Rattle.construction.proofs.Basics.{true-or-false, true-false, eqb-refl}
 use Rattle.construction.proofs.Simulating.Effects.{on-executed, EachStore, Storing, execute-stores}
 use Rattle.construction.proofs.Simulating.Simulations.{Noted, on-lacking}
 use Rattle.construction.proofs.Simulating.Dictionaries.{hasIn, has-put, has-snoc, has-more, has-position, noted-assign, noted-insert, insert-length}

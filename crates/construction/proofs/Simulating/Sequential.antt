@@ -6,13 +6,13 @@ use mathlib.Core.Logic.{⊎-elim}
 use mathlib.Core.List.{List, [], _∷_}
 use native.Mathlib.Omega.{arith}
 use lib.Dec.{ltb}
-use lib.ListN.{length, getD, set, length-set, List·getD-eq-default}
+use lib.ListN.{length, set, length-set, List·getD-eq-default}
 use borrow.Author.Tests.{ltb-true, ltb-false}
 use Rattle.construction.specs.Types.{Words, Instruction, Line, Program, Effect, Simulation}
 use Rattle.construction.specs.Instructions.{effectOf, nextEffect, fetch, noLine, faulted, started}
 use Rattle.construction.specs.Effects.{Store, Executed, execute, onExecuted}
 use Rattle.construction.specs.Weight.{weight}
-use Rattle.construction.specs.Sequential.{Ending, ending, wordAt, withStores, nextExecuted, runFrom, committed, sequential}
+use Rattle.construction.specs.Sequential.{Ending, ending, wordAt, withStores, nextExecuted, runFrom, sequential}
 use Rattle.construction.specs.Cells.{faultYield}
 use Rattle.construction.proofs.Basics.{on-test, true-or-false, true-false, cond-true, clash}
 use Rattle.construction.proofs.Simulating.Effects.{on-executed, Forward, execute-forward, MarkKept, execute-mark}

@@ -11,11 +11,11 @@ use Rattle.construction.specs.Types.{Words, Program, Effect, Item, Dicti
 use Rattle.construction.specs.Instructions.{isCell, nextEffect, fetch, faulted, started}
 use Rattle.construction.specs.Effects.{Store, Executed, touched, execute, onExecuted}
 use Rattle.construction.specs.Sequential.{Ending, ending, wordAt, withStores, nextExecuted, runFrom, committed, sequential}
-use Rattle.construction.specs.Dictionary.{noItem, empty, noted, find, has, valueAt, withValue, assign, insert}
+use Rattle.construction.specs.Dictionary.{noItem, empty, noted, find, has, withValue, assign, insert}
 use Rattle.construction.specs.Helping.{noteOf, withNotes, onLacking, simulateFrom, simulate}
 use Rattle.construction.proofs.Basics.{on-test, on-set, true-or-false, cond-false, eqb-refl}
 use Rattle.construction.proofs.Simulating.Sequential.{Short, fetch-end, past-end, advances, run-step}
-use Rattle.construction.proofs.Simulating.Effects.{on-executed, MarkKept, execute-mark, Each, each-map, each-both, EachStore, Storing, execute-stores, Same, same-touched, same-executed, Touching, touches}
+use Rattle.construction.proofs.Simulating.Effects.{on-executed, MarkKept, execute-mark, Each, each-map, each-both, EachStore, Storing, execute-stores, Same, same-executed, Touching, touches}
 use Rattle.construction.proofs.Simulating.Dictionaries.{hasIn, valueIn, putIn, AllIn, all-put, all-snoc, Keyed, keyed-put, keyed-snoc}
 use Rattle.construction.proofs.Simulating.Dictionaries.{value-none, value-put-same, value-put-other, value-snoc-same, value-snoc-other}
 use Rattle.construction.proofs.Simulating.Dictionaries.{has-put, has-position, has-snoc, has-more, found, noted-assign, noted-insert, insert-length, insert-items, assign-items}

@@ -1,11 +1,8 @@
 -- The theorem on hands (document 02, order 9), for every text and every list of entries, hence under every schedule.
-use Prim.Native.Nat.{ℕ, _<_, _≤_}
-use mathlib.Core.Path.{_≡_, refl, sym, subst, ap, _∙_}
+use Prim.Native.Nat.{ℕ}
+use mathlib.Core.Path.{_≡_, sym, subst, _∙_}
 use mathlib.Core.List.{List, [], _∷_, _++_, append-assoc}
-use native.Mathlib.Omega.{arith}
-use lib.ListN.{length, take, length-take}
-use Rattle.construction.specs.Types.{Card}
-use Rattle.construction.specs.Opening.{opened, fresh}
+use Rattle.construction.specs.Opening.{opened}
 use Rattle.construction.specs.History.{Entry, observeAll, run}
 use Rattle.construction.specs.Allocation.{Action, Performed, wordsAfter, startWords, performed, OnlyByCodes, OnlyFromHands, InHands, Disciplined, Allocating}
 use Rattle.construction.proofs.Statements.Linearizability.{linearizability, opened-consistent, bench-words}

@@ -2,10 +2,10 @@
 -- conclusions computed; and for each premise a card that breaks it alone, on which a cell comes into two hands.
 use Prim.Native.Nat.{ℕ}
 use mathlib.Core.Path.{_≡_, refl}
-use mathlib.Core.Bool.{true, false}
+use mathlib.Core.Bool.{true}
 use mathlib.Core.List.{List, [], _∷_, _++_}
-use lib.ListN.{getD, replicate}
-use Rattle.construction.specs.Types.{Words, Card}
+use lib.ListN.{replicate}
+use Rattle.construction.specs.Types.{Card}
 use Rattle.construction.specs.Opening.{opened}
 use Rattle.construction.specs.Answers.{bytes}
 use Rattle.construction.specs.Examples.{one}

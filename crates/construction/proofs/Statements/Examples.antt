@@ -9,7 +9,7 @@ use Rattle.construction.specs.Opening.{opened}
 use Rattle.construction.specs.Lines.{cardText, varText, sheetText, insText}
 use Rattle.construction.specs.Instructions.{encode}
 use Rattle.construction.specs.Tracing.{trace}
-use Rattle.construction.specs.Answers.{answerFields, verdictFields, writtenFields, cardLineFields, varLineFields, sheetLineFields, decodedFields, insLineFields}
+use Rattle.construction.specs.Answers.{verdictFields, writtenFields, cardLineFields, varLineFields, sheetLineFields, decodedFields, insLineFields}
 use Rattle.construction.specs.Writing.{written, textOf, varsText, programsText, linesText}
 use Rattle.construction.specs.Examples.{Row, cardAfter, answersTo, AllHold, rows, AllTold, tracedRows, AllTextsRefused, refusedTexts, FullOpens, AllYielded, yieldedLines, AllEntriesRefused, refusedEntries, BufferRefused}
 use Rattle.construction.proofs.Statements.Refusals.{call-no-program, call-busy, step-no-process, step-not-busy, step-limit, read-no-place}

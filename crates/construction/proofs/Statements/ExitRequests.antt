@@ -4,7 +4,6 @@ use mathlib.Core.Path.{_≡_, refl, ap, _∙_, subst, sym}
 use mathlib.Core.Bool.{Bool, true, false, not}
 use mathlib.Core.List.{List}
 use mathlib.Core.Logic.{⊎-elim}
-use native.Mathlib.Decide.{ℕ-discrete}
 use lib.ListN.{getD, set}
 use lib.Seq.{set-getD, set-set}
 use Rattle.construction.specs.Types.{Words, P1, Access, Task, Card, Answer, Answered}

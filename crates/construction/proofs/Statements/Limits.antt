@@ -1,5 +1,5 @@
 -- After any list of entries numbers stay within their 64 bits and dictionaries within their items, no variable twice (specs/Limits).
-use Prim.Native.Nat.{ℕ, zero, suc, _≤_, _<_}
+use Prim.Native.Nat.{ℕ, zero, suc, _<_}
 use mathlib.Core.Path.{_≡_, refl, sym, ap, subst}
 use mathlib.Core.Bool.{false}
 use mathlib.Core.List.{List, [], _∷_}

@@ -1,8 +1,7 @@
 -- Over every list of entries the word of a process is the set of the variables that its dictionary notes (document 02, order 1), and a report tells it.
 use Prim.Native.Nat.{ℕ, _<_}
-use mathlib.Core.Path.{_≡_, refl, sym, subst, _∙_}
+use mathlib.Core.Path.{_≡_, refl, sym, _∙_}
 use mathlib.Core.Bool.{Bool, true, false, cond, true≢false, false≢true}
-use mathlib.Core.Logic.{_≢_}
 use mathlib.Core.List.{List, [], _∷_}
 use native.Mathlib.Omega.{arith}
 use native.Mathlib.Decide.{ℕ-discrete}
@@ -11,22 +10,21 @@ use lib.Dec.{ltb}
 use lib.ListN.{length, getD, set}
 use lib.Seq.{getD-set-same, getD-set-other}
 use borrow.Author.Tests.{le-ltb}
-use Rattle.construction.specs.Types.{Gate, Words, Announcement, Record, Program, Dictionary, Simulation, Place, Idle, P1, P3, P5, P7, P10, C2, C4, P13, P14, P16, H21, H36, P19, P20, P21, P22, F1, F3, Access, Task, Helped, Card, Answered, Contents}
-use Rattle.construction.specs.Dictionary.{empty, noted, find, has, insert, itemOf}
-use Rattle.construction.specs.Marks.{withBit, Marks}
+use Rattle.construction.specs.Types.{Gate, Words, Announcement, Record, Program, Dictionary, Simulation, Place, Idle, P1, P3, P5, P7, P10, C2, C4, P13, P14, P16, H21, H36, P19, P20, P21, P22, F1, F3, Access, Task, Helped, Card, Answered}
+use Rattle.construction.specs.Dictionary.{empty, noted, find, has, itemOf}
+use Rattle.construction.specs.Marks.{Marks}
 use Rattle.construction.specs.Parts.{Local, localAt, contentsOf, announcementAt, programOf}
 use Rattle.construction.specs.Machine.{accessOf, accessIn, holderOf, beginHelp, note, perform, advance}
-use Rattle.construction.specs.Requests.{isBusy}
 use Rattle.construction.specs.Tracing.{labelOf, isNoting, reportOf, TellsNoted}
 use Rattle.construction.specs.Opening.{fresh, opened}
 use Rattle.construction.specs.History.{Entry, Observation, observe, observeAll, opening, run}
-use Rattle.construction.proofs.Basics.{on-test, clash, cond-true, cond-false, getD-replicate-same}
+use Rattle.construction.proofs.Basics.{on-test, clash, getD-replicate-same}
 use Rattle.construction.proofs.Simulating.Dictionaries.{hasIn}
 use Rattle.construction.proofs.Simulating.Simulations.{needing-absent}
 use Rattle.construction.proofs.Simulating.Marks.{no-bits, marks-insert, marks-simulated}
 use Rattle.construction.proofs.Invariant.World.{World}
 use Rattle.construction.proofs.Invariant.Locals.{Sizes}
-use Rattle.construction.proofs.Invariant.Assertions.{LocAt, Loc, known}
+use Rattle.construction.proofs.Invariant.Assertions.{LocAt, known}
 use Rattle.construction.proofs.Invariant.Cards.{CardInvariant}
 use Rattle.construction.proofs.Observing.Outcomes.{Outcome, outcome}
 use Rattle.construction.proofs.Observing.Consistency.{Consistent, entry-kept}

@@ -1,36 +1,14 @@
 -- Cases on what a line of a card text yields (document 01, 'The card text').
 use mathlib.Core.Path.{_≡_, refl}
 use mathlib.Core.List.{List}
-use native.Mathlib.Omega.{arith}
 use lib.Dec.{ltb}
 use Prim.Native.Nat.{ℕ, suc, _+_, _≤_}
 use lib.ListN.{replicate}
 use borrow.Author.Tests.{ltb-false}
 use Rattle.construction.specs.Types.{Instruction, Refusal, TooHeavy, CardLine, VarLine, SheetLine, InsLine, Verdict, ProgramReading, Reading}
-use Rattle.construction.specs.Instructions.{noLine, noProgram}
+use Rattle.construction.specs.Instructions.{noLine}
 use Rattle.construction.specs.Weight.{weight}
-use Rattle.construction.specs.Opening.{
-  refusedAt,
-  programRefusedAt,
-  withLine,
-  nextIns,
-  insFrom,
-  judgeWeight,
-  weighed,
-  programAfter,
-  withProgram,
-  nextProgram,
-  withStart,
-  nextVar,
-  varsFrom,
-  begun,
-  programSoFar,
-  soFar,
-  ifAccepted,
-  thenEnd,
-  thenPrograms,
-  afterCard,
-}
+use Rattle.construction.specs.Opening.{refusedAt, programRefusedAt, withLine, nextIns, insFrom, judgeWeight, weighed, programAfter, withProgram, nextProgram, withStart, nextVar, varsFrom, begun, programSoFar, soFar, ifAccepted, thenEnd, thenPrograms, afterCard}
 use Rattle.construction.proofs.Basics.{on-test, clash}
 
 -- ---- what is read after the `card` line and after a `sheet` line

@@ -14,37 +14,8 @@ use Rattle.grammar.proofs.Bytes.{word-text}
 use Rattle.grammar.proofs.RoundTrip.{Small, field-text, four-text}
 use Rattle.construction.specs.Types.{Instruction, Encoded, Line, CardLine, VarLine, SheetLine, InsLine, Contents, Verdict, ProgramReading, Reading}
 use Rattle.construction.specs.Instructions.{noLine, noProgram}
-use Rattle.construction.specs.Lines.{
-  cardWord,
-  varWord,
-  sheetWord,
-  insWord,
-  cardLine,
-  varLine,
-  sheetLine,
-  insLine,
-  cardText,
-  varText,
-  sheetText,
-  encodedText,
-  insText,
-}
-use Rattle.construction.specs.Opening.{
-  noContents,
-  fresh,
-  withLine,
-  insFrom,
-  readProgram,
-  withProgram,
-  programsFrom,
-  withStart,
-  varsFrom,
-  atEnd,
-  thenEnd,
-  thenPrograms,
-  readCard,
-  opened,
-}
+use Rattle.construction.specs.Lines.{cardWord, varWord, sheetWord, insWord, cardLine, varLine, sheetLine, insLine, cardText, varText, sheetText, encodedText, insText}
+use Rattle.construction.specs.Opening.{noContents, fresh, withLine, insFrom, readProgram, withProgram, programsFrom, withStart, varsFrom, atEnd, thenEnd, thenPrograms, readCard, opened}
 use Rattle.construction.specs.Writing.{varsText, linesText, programText, programsText, textOf}
 use Rattle.construction.proofs.Text.Lines.{card-read, var-read, sheet-read, ins-read}
 use Rattle.construction.proofs.Text.Decoding.{decoded-encodes}

@@ -7,8 +7,8 @@ use mathlib.Core.Path.{_≡_}
 use mathlib.Core.Bool.{true, false}
 use mathlib.Core.List.{List, [], _∷_, _++_}
 use lib.ListN.{take, getD, replicate}
-use Rattle.construction.specs.Types.{Nobody, Process, Gate, Flag, Done, Active, Exit, Words, Announcement, Record, Cell, Swap, Card, Refusal, NotBusy, LimitReached, Answer, Label, Report}
-use Rattle.construction.specs.Cells.{zeros, faultYield, openRecord}
+use Rattle.construction.specs.Types.{Nobody, Process, Gate, Flag, Done, Active, Exit, Words, Yield, Announcement, Record, Cell, Swap, Card, Refusal, NotBusy, LimitReached, Answer, Label, Report}
+use Rattle.construction.specs.Cells.{faultYield, openRecord}
 use Rattle.construction.specs.Answers.{bytes, Fields, fields, refusedWith, verdictFields, writtenFields, cardLineFields, varLineFields, sheetLineFields, insLineFields, Refuses}
 use Rattle.grammar.specs.Writing.{decimal}
 use Rattle.construction.specs.Lines.{cardLine, varLine, sheetLine, insLine}
@@ -73,8 +73,11 @@ taken = Answer.Taken ∷ []
 abbrev pub runs : ℕ → List Answer
 runs n = replicate n Answer.Run
 
+abbrev pub plain : Words → Yield
+plain outputs = record { outputs = outputs; fault = false }
+
 abbrev pub done : ℕ → Words → ℕ → List Answer
-done number outputs own = Answer.Done number (record { outputs = outputs; fault = false }) own ∷ []
+done number outputs own = Answer.Done number (plain outputs) own ∷ []
 
 abbrev pub fault : ℕ → ℕ → List Answer
 fault number own = Answer.Done number faultYield own ∷ []
@@ -91,8 +94,41 @@ refused r = Answer.Refused r ∷ []
 abbrev pub announced : Flag → ℕ → ℕ → ℕ → Announcement
 announced flag seq number x = record { program = 0; flag = flag; seq = seq; number = number; words = one x; fault = false }
 
-abbrev pub announcedFault : ℕ → ℕ → Announcement
-announcedFault seq number = record { program = 0; flag = Done; seq = seq; number = number; words = zeros; fault = true }
+-- the gate, free or held by a process, with its number
+abbrev pub free : ℕ → Gate
+free seq = record { holder = Nobody; seq = seq }
+
+abbrev pub held : ℕ → ℕ → Gate
+held i seq = record { holder = Process i; seq = seq }
+
+-- an operation done under number 1, the first that its process announced
+abbrev pub finished : Yield → Announcement
+finished y = record { program = 0; flag = Done; seq = 1; number = 1; words = y .outputs; fault = y .fault }
+
+-- an operation alone on its card: after the call its last step is answered done, under number 1, with what it yields, and the gate is free again
+pub record Alone : Type 0 where
+  pub text : List ℕ
+  pub inputs : Words
+  pub steps : ℕ
+  pub yields : Yield
+  pub variable : ℕ
+  pub cell : Record
+
+abbrev pub runsBefore : ℕ → List Answer → List Answer
+runsBefore zero last = last
+runsBefore (suc n) last = runs n ++ last
+
+abbrev pub alone : Alone → Row
+alone a =
+    record {
+      text = a .text;
+      entries = call 0 (a .inputs) ++ steps 0 (a .steps);
+      answers = taken ++ runsBefore (a .steps) (Answer.Done 1 (a .yields) (a .steps) ∷ []);
+      gate = free 2;
+      announcements = finished (a .yields) ∷ [];
+      variable = a .variable;
+      cell = a .cell;
+    }
 
 -- the text of card K after its first line: store the input, output the old value
 abbrev pub bodyK : List ℕ
@@ -115,7 +151,7 @@ listing =
       text = cardK;
       entries = readFirst ++ (call 0 (one 9) ++ (steps 0 14 ++ (readFirst ++ steps 0 1)));
       answers = shown 7 ++ (taken ++ (runs 13 ++ (done 1 (one 7) 14 ++ (shown 9 ++ refused NotBusy))));
-      gate = record { holder = Nobody; seq = 2 };
+      gate = free 2;
       announcements = announced Done 1 1 7 ∷ [];
       variable = 0;
       cell = nine;
@@ -128,7 +164,7 @@ afterNine =
       text = cardK;
       entries = call 0 (one 9) ++ (steps 0 9 ++ readFirst);
       answers = taken ++ (runs 9 ++ shown 7);
-      gate = record { holder = Process 0; seq = 1 };
+      gate = held 0 1;
       announcements = announced Active 1 0 9 ∷ [];
       variable = 0;
       cell = nine;
@@ -141,7 +177,7 @@ afterTen =
       text = cardK;
       entries = call 0 (one 9) ++ (steps 0 10 ++ readFirst);
       answers = taken ++ (runs 10 ++ shown 9);
-      gate = record { holder = Process 0; seq = 1 };
+      gate = held 0 1;
       announcements = announced Done 1 1 7 ∷ [];
       variable = 0;
       cell = nine;
@@ -149,16 +185,7 @@ afterTen =
 
 -- 'K with input 7: no H36, 13 steps, record (7, 0, 0, 0)'
 abbrev pub sameInput : Row
-sameInput =
-    record {
-      text = cardK;
-      entries = call 0 (one 7) ++ steps 0 13;
-      answers = taken ++ (runs 12 ++ done 1 (one 7) 13);
-      gate = record { holder = Nobody; seq = 2 };
-      announcements = announced Done 1 1 7 ∷ [];
-      variable = 0;
-      cell = openRecord 7;
-    }
+sameInput = alone (record { text = cardK; inputs = one 7; steps = 13; yields = plain (one 7); variable = 0; cell = openRecord 7 })
 
 -- 'K with a wish right after the call: done after 17 steps, by C4, C6 and P20'
 abbrev pub exitRequested : Row
@@ -167,7 +194,7 @@ exitRequested =
       text = cardK;
       entries = call 0 (one 9) ++ (exit 0 ++ steps 0 17);
       answers = taken ++ (taken ++ (runs 16 ++ done 1 (one 7) 17));
-      gate = record { holder = Nobody; seq = 2 };
+      gate = free 2;
       announcements = announced Done 1 1 7 ∷ [];
       variable = 0;
       cell = nine;
@@ -180,7 +207,7 @@ twoProcesses =
       text = cardK2;
       entries = call 0 (one 5) ++ (call 1 (one 9) ++ (steps 0 2 ++ (steps 1 5 ++ (exit 0 ++ (steps 0 10 ++ (steps 1 3 ++ readFirst))))));
       answers = taken ++ (taken ++ (runs 7 ++ (taken ++ (runs 9 ++ (exited 12 ++ (runs 2 ++ (done 1 (one 7) 8 ++ shown 9)))))));
-      gate = record { holder = Nobody; seq = 2 };
+      gate = free 2;
       announcements = announced Exit 1 0 5 ∷ announced Done 1 1 7 ∷ [];
       variable = 0;
       cell = nine;
@@ -193,7 +220,7 @@ limited =
       text = bytes "card,1,1,1,13\n" ++ bodyK;
       entries = call 0 (one 9) ++ (steps 0 14 ++ readFirst);
       answers = taken ++ (runs 13 ++ (refused LimitReached ++ shown 9));
-      gate = record { holder = Nobody; seq = 2 };
+      gate = free 2;
       announcements = announced Done 1 1 7 ∷ [];
       variable = 0;
       cell = nine;
@@ -209,69 +236,32 @@ two x y = record { w0 = x; w1 = y; w2 = 0; w3 = 0 }
 
 -- '4,294,967,295 plus 1' gives 4,294,967,295; '0 minus 1' gives 0 (document 02, order 2)
 abbrev pub stopped : Row
-stopped =
-    record {
-      text = cardSums;
-      entries = call 0 (two 4294967295 1) ++ steps 0 12;
-      answers = taken ++ (runs 11 ++ done 1 (two 4294967295 0) 12);
-      gate = record { holder = Nobody; seq = 2 };
-      announcements = record { program = 0; flag = Done; seq = 1; number = 1; words = two 4294967295 0; fault = false } ∷ [];
-      variable = 0;
-      cell = openRecord 7;
-    }
+stopped = alone (record { text = cardSums; inputs = two 4294967295 1; steps = 12; yields = plain (two 4294967295 0); variable = 0; cell = openRecord 7 })
 
--- 64 variables, the last of them 8; the program reads the variable that its input names
-abbrev pub zeroLines : ℕ → List ℕ
-zeroLines zero = []
-zeroLines (suc n) = bytes "var,0\n" ++ zeroLines n
+-- a line again and again
+abbrev pub lines : ℕ → String → List ℕ
+lines zero line = []
+lines (suc n) line = bytes line ++ lines n line
 
-abbrev pub takeLines : ℕ → List ℕ
-takeLines zero = []
-takeLines (suc n) = bytes "ins,13,0,0,0\n" ++ takeLines n
+-- 64 variables, the last of them 8, and the lines of a program
+abbrev pub card64 : String → List ℕ
+card64 program = bytes "card,1,64,1,100\n" ++ (lines 63 "var,0\n" ++ (bytes "var,8\n" ++ bytes program))
 
-abbrev pub card64 : List ℕ
-card64 =
-    bytes "card,1,64,1,100\n"
-    ++ (zeroLines 63 ++ bytes "var,8\nsheet,3\nins,1,0,0,0\nins,5,1,0,0\nins,11,0,1,0\n")
+-- one that reads the variable that its input names
+abbrev pub cardReadAt : List ℕ
+cardReadAt = card64 "sheet,3\nins,1,0,0,0\nins,5,1,0,0\nins,11,0,1,0\n"
 
 -- 'Code 5 with 63 of 64 variables reads it'
 abbrev pub indirect : Row
-indirect =
-    record {
-      text = card64;
-      entries = call 0 (one 63) ++ steps 0 13;
-      answers = taken ++ (runs 12 ++ done 1 (one 8) 13);
-      gate = record { holder = Nobody; seq = 2 };
-      announcements = announced Done 1 1 8 ∷ [];
-      variable = 63;
-      cell = openRecord 8;
-    }
+indirect = alone (record { text = cardReadAt; inputs = one 63; steps = 13; yields = plain (one 8); variable = 63; cell = openRecord 8 })
 
 -- 'with 64' a fault (document 02, order 6), 'no access': one step less
 abbrev pub indirectPast : Row
-indirectPast =
-    record {
-      text = card64;
-      entries = call 0 (one 64) ++ steps 0 12;
-      answers = taken ++ (runs 11 ++ fault 1 12);
-      gate = record { holder = Nobody; seq = 2 };
-      announcements = announcedFault 1 1 ∷ [];
-      variable = 63;
-      cell = openRecord 8;
-    }
+indirectPast = alone (record { text = cardReadAt; inputs = one 64; steps = 12; yields = faultYield; variable = 63; cell = openRecord 8 })
 
 -- code 6 with 64: a fault, no access
 abbrev pub storedPast : Row
-storedPast =
-    record {
-      text = bytes "card,1,64,1,100\n" ++ (zeroLines 63 ++ bytes "var,8\nsheet,2\nins,1,0,0,0\nins,6,0,0,0\n");
-      entries = call 0 (one 64) ++ steps 0 12;
-      answers = taken ++ (runs 11 ++ fault 1 12);
-      gate = record { holder = Nobody; seq = 2 };
-      announcements = announcedFault 1 1 ∷ [];
-      variable = 63;
-      cell = openRecord 8;
-    }
+storedPast = alone (record { text = card64 "sheet,2\nins,1,0,0,0\nins,6,0,0,0\n"; inputs = one 64; steps = 12; yields = faultYield; variable = 63; cell = openRecord 8 })
 
 -- the text of a card whose program stores its input, outputs it, and reads the variable that it names
 abbrev pub bodyFault : List ℕ
@@ -293,8 +283,8 @@ unwritten =
       text = bytes "card,1,1,1,100\n" ++ bodyFault;
       entries = call 0 (one 9) ++ watched 13;
       answers = taken ++ (seven 12 ++ (fault 1 13 ++ shown 7));
-      gate = record { holder = Nobody; seq = 2 };
-      announcements = announcedFault 1 1 ∷ [];
+      gate = free 2;
+      announcements = finished faultYield ∷ [];
       variable = 0;
       cell = openRecord 7;
     }
@@ -306,7 +296,7 @@ lateFault =
       text = bytes "card,2,1,1,100\n" ++ bodyFault;
       entries = call 0 (one 0) ++ (call 1 (one 9) ++ (steps 0 2 ++ (steps 1 7 ++ (steps 0 3 ++ (steps 1 6 ++ (call 1 (one 0) ++ (steps 1 2 ++ (steps 0 3 ++ readFirst))))))));
       answers = taken ++ (taken ++ (runs 17 ++ (fault 1 13 ++ (taken ++ (runs 5 ++ shown 7)))));
-      gate = record { holder = Nobody; seq = 2 };
+      gate = free 2;
       announcements = announced Active 1 0 0 ∷ announced Active 2 0 0 ∷ [];
       variable = 0;
       cell = openRecord 7;
@@ -314,16 +304,7 @@ lateFault =
 
 -- 'Skip 31 at the second instruction of three, its test true, stops': the output stays 0
 abbrev pub skipPast : Row
-skipPast =
-    record {
-      text = bytes "card,1,1,1,100\nvar,7\nsheet,3\nins,2,0,5,0\nins,9,1,1,31\nins,11,0,0,0\n";
-      entries = call 0 (one 0) ++ steps 0 12;
-      answers = taken ++ (runs 11 ++ done 1 (one 0) 12);
-      gate = record { holder = Nobody; seq = 2 };
-      announcements = announced Done 1 1 0 ∷ [];
-      variable = 0;
-      cell = openRecord 7;
-    }
+skipPast = alone (record { text = bytes "card,1,1,1,100\nvar,7\nsheet,3\nins,2,0,5,0\nins,9,1,1,31\nins,11,0,0,0\n"; inputs = one 0; steps = 12; yields = plain (one 0); variable = 0; cell = openRecord 7 })
 
 -- 'Process i takes part in choosing with i, not seq mod p, first': number 1 is process 1's turn, so 0 helps 1 before itself
 abbrev pub turnOfOther : Row
@@ -332,7 +313,7 @@ turnOfOther =
       text = cardK2;
       entries = call 1 (one 9) ++ (call 0 (one 5) ++ (steps 1 2 ++ (steps 0 25 ++ readFirst)));
       answers = taken ++ (taken ++ (runs 26 ++ (done 2 (one 9) 25 ++ shown 5)));
-      gate = record { holder = Nobody; seq = 3 };
+      gate = free 3;
       announcements = announced Done 1 2 9 ∷ announced Done 1 1 7 ∷ [];
       variable = 0;
       cell = record { val0 = 5; val1 = 9; toggle = false; seq = 2 };
@@ -345,7 +326,7 @@ equalSeq =
       text = cardK2;
       entries = call 0 (one 5) ++ (call 1 (one 9) ++ (steps 0 2 ++ (steps 1 9 ++ (steps 0 4 ++ steps 1 5))));
       answers = taken ++ (taken ++ (runs 19 ++ done 1 (one 7) 14));
-      gate = record { holder = Nobody; seq = 2 };
+      gate = free 2;
       announcements = announced Active 1 0 5 ∷ announced Done 1 1 7 ∷ [];
       variable = 0;
       cell = nine;
@@ -365,7 +346,7 @@ earlyExit =
       text = cardFlip;
       entries = call 0 (one 0) ++ (steps 0 3 ++ (call 1 (one 0) ++ (steps 1 2 ++ (steps 0 6 ++ (exit 1 ++ (steps 1 1 ++ (steps 0 1 ++ (steps 1 1 ++ (steps 0 1 ++ readFirst)))))))));
       answers = taken ++ (runs 3 ++ (taken ++ (runs 8 ++ (taken ++ (runs 4 ++ shown 1)))));
-      gate = record { holder = Process 1; seq = 1 };
+      gate = held 1 1;
       announcements = announced Active 1 0 0 ∷ announced Done 1 1 0 ∷ [];
       variable = 0;
       cell = flipped 1;
@@ -378,7 +359,7 @@ lateMark =
       text = cardFlip;
       entries = call 0 (one 0) ++ (steps 0 3 ++ (call 1 (one 0) ++ (steps 1 2 ++ (steps 0 3 ++ (steps 1 9 ++ (call 1 (one 0) ++ (steps 1 2 ++ steps 0 3)))))));
       answers = taken ++ (runs 3 ++ (taken ++ (runs 13 ++ (done 1 (one 0) 11 ++ (taken ++ runs 5)))));
-      gate = record { holder = Nobody; seq = 2 };
+      gate = free 2;
       announcements = announced Active 1 0 0 ∷ announced Active 2 0 0 ∷ [];
       variable = 0;
       cell = flipped 1;
@@ -391,7 +372,7 @@ lateSwap =
       text = cardFlip;
       entries = call 0 (one 0) ++ (steps 0 3 ++ (call 1 (one 0) ++ (steps 1 2 ++ (steps 0 16 ++ (steps 1 9 ++ (call 1 (one 0) ++ (steps 1 9 ++ (steps 0 1 ++ (steps 1 1 ++ readFirst)))))))));
       answers = taken ++ (runs 3 ++ (taken ++ (runs 26 ++ (done 1 (one 0) 11 ++ (taken ++ (runs 11 ++ shown 1))))));
-      gate = record { holder = Process 1; seq = 3 };
+      gate = held 1 3;
       announcements = announced Done 1 2 0 ∷ announced Done 3 3 0 ∷ [];
       variable = 0;
       cell = flipped 3;
@@ -412,7 +393,7 @@ takenLast =
       text = cardTake 1 0;
       entries = call 0 (one 0) ++ (steps 0 15 ++ readFirst);
       answers = taken ++ (runs 14 ++ (done 1 (one 1) 15 ++ shown 0));
-      gate = record { holder = Nobody; seq = 2 };
+      gate = free 2;
       announcements = announced Done 1 1 1 ∷ [];
       variable = 0;
       cell = record { val0 = 1; val1 = 0; toggle = true; seq = 1 };
@@ -420,54 +401,18 @@ takenLast =
 
 -- taking from an empty chain: 0, and no further access
 abbrev pub takenNone : Row
-takenNone =
-    record {
-      text = cardTake 0 5;
-      entries = call 0 (one 0) ++ steps 0 13;
-      answers = taken ++ (runs 12 ++ done 1 (one 0) 13);
-      gate = record { holder = Nobody; seq = 2 };
-      announcements = announced Done 1 1 0 ∷ [];
-      variable = 1;
-      cell = openRecord 5;
-    }
+takenNone = alone (record { text = cardTake 0 5; inputs = one 0; steps = 13; yields = plain (one 0); variable = 1; cell = openRecord 5 })
 
 -- a chain with a number past the variables: variable 0 is touched, then a fault
 abbrev pub takenPast : Row
-takenPast =
-    record {
-      text = cardTake 2 5;
-      entries = call 0 (one 0) ++ steps 0 13;
-      answers = taken ++ (runs 12 ++ fault 1 13);
-      gate = record { holder = Nobody; seq = 2 };
-      announcements = announcedFault 1 1 ∷ [];
-      variable = 0;
-      cell = openRecord 2;
-    }
+takenPast = alone (record { text = cardTake 2 5; inputs = one 0; steps = 13; yields = faultYield; variable = 0; cell = openRecord 2 })
 
 -- giving back 0, and n: a fault before any touch
 abbrev pub givenZero : Row
-givenZero =
-    record {
-      text = cardGive;
-      entries = call 0 (one 0) ++ steps 0 12;
-      answers = taken ++ (runs 11 ++ fault 1 12);
-      gate = record { holder = Nobody; seq = 2 };
-      announcements = announcedFault 1 1 ∷ [];
-      variable = 0;
-      cell = openRecord 0;
-    }
+givenZero = alone (record { text = cardGive; inputs = one 0; steps = 12; yields = faultYield; variable = 0; cell = openRecord 0 })
 
 abbrev pub givenPast : Row
-givenPast =
-    record {
-      text = cardGive;
-      entries = call 0 (one 2) ++ steps 0 12;
-      answers = taken ++ (runs 11 ++ fault 1 12);
-      gate = record { holder = Nobody; seq = 2 };
-      announcements = announcedFault 1 1 ∷ [];
-      variable = 1;
-      cell = openRecord 5;
-    }
+givenPast = alone (record { text = cardGive; inputs = one 2; steps = 12; yields = faultYield; variable = 1; cell = openRecord 5 })
 
 -- 'Both codes touch variable 0, then the cell': so the first write, after nine steps, is that of variable 0; given back cell 1, which holds 0 then
 abbrev pub givenFirst : Row
@@ -476,7 +421,7 @@ givenFirst =
       text = cardGive;
       entries = call 0 (one 1) ++ steps 0 10;
       answers = taken ++ runs 10;
-      gate = record { holder = Process 0; seq = 1 };
+      gate = held 0 1;
       announcements = announced Active 1 0 1 ∷ [];
       variable = 0;
       cell = record { val0 = 0; val1 = 1; toggle = true; seq = 1 };
@@ -489,7 +434,7 @@ takenCleared =
       text = bytes "card,1,3,1,100\nvar,1\nvar,2\nvar,0\nsheet,2\nins,13,0,0,0\nins,11,0,0,0\n";
       entries = call 0 (one 0) ++ (steps 0 16 ++ (Entry.Read 0 ∷ Entry.Read 1 ∷ Entry.Read 2 ∷ []));
       answers = taken ++ (runs 15 ++ (done 1 (one 1) 16 ++ (shown 2 ++ (shown 0 ++ shown 0))));
-      gate = record { holder = Nobody; seq = 2 };
+      gate = free 2;
       announcements = announced Done 1 1 1 ∷ [];
       variable = 1;
       cell = record { val0 = 2; val1 = 0; toggle = true; seq = 1 };
@@ -497,16 +442,7 @@ takenCleared =
 
 -- both codes in one operation: a cell is taken and given back, so that nothing is altered
 abbrev pub takenGiven : Row
-takenGiven =
-    record {
-      text = bytes "card,1,2,1,100\nvar,1\nvar,0\nsheet,3\nins,13,0,0,0\nins,14,0,0,0\nins,11,0,0,0\n";
-      entries = call 0 (one 0) ++ steps 0 14;
-      answers = taken ++ (runs 13 ++ done 1 (one 1) 14);
-      gate = record { holder = Nobody; seq = 2 };
-      announcements = announced Done 1 1 1 ∷ [];
-      variable = 0;
-      cell = openRecord 1;
-    }
+takenGiven = alone (record { text = bytes "card,1,2,1,100\nvar,1\nvar,0\nsheet,3\nins,13,0,0,0\nins,14,0,0,0\nins,11,0,0,0\n"; inputs = one 0; steps = 14; yields = plain (one 1); variable = 0; cell = openRecord 1 })
 
 abbrev pub rows : List Row
 rows =
@@ -610,7 +546,7 @@ tracedRows = listingTold ∷ sameInputTold ∷ exitRequestedTold ∷ refusedTold
 
 -- sixteen lines of code 13, which count 32, and one more (document 02, order 9)
 abbrev pub heavy : ℕ → String → List ℕ
-heavy length last = bytes "card,1,1,1,5\nvar,0\nsheet," ++ (decimal length ++ (bytes "\n" ++ (takeLines 16 ++ bytes last)))
+heavy length last = bytes "card,1,1,1,5\nvar,0\nsheet," ++ (decimal length ++ (bytes "\n" ++ (lines 16 "ins,13,0,0,0\n" ++ bytes last)))
 
 -- 'Turned back', column 'small example'. Rows 2 to 4, 12 and 13 (document 02, order 8) and 14 (order 9): a text, and the number and line that it is refused with
 pub record RefusedText : Type 0 where

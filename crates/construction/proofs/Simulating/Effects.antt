@@ -1,5 +1,5 @@
 -- Effects (specs/Effects): outcomes by cases; an outcome moves the counter forward and stores only to variables that the effect touched; where
--- two readings of the variables agree on those, the effect touches the same and has the same outcome.
+-- two readings of the variables agree on those, the effect has the same outcome.
 use Prim.Native.Nat.{ℕ, _≤_, _<_}
 use mathlib.Core.Path.{_≡_, refl, subst}
 use mathlib.Core.Bool.{Bool, true, false, cond, not}
@@ -111,17 +111,6 @@ execute-stores P n look s (Effect.Free c) q = (q .1 .0, (q .0, tt))
 module _ (n : ℕ) (look other : ℕ → ℕ) where
   abbrev pub Same : ℕ → Type 0
   Same v = look v ≡ other v
-
-  pub same-touched : (e : Effect) → Each Same (touched n look e) → touched n look e ≡ touched n other e
-  same-touched Effect.Stop q = refl
-  same-touched Effect.Fault q = refl
-  same-touched (Effect.Set a x) q = refl
-  same-touched (Effect.Load a v) q = refl
-  same-touched (Effect.Store v x) q = refl
-  same-touched (Effect.Output a x) q = refl
-  same-touched (Effect.Skip c) q = refl
-  same-touched (Effect.Allocate a) q = rw (q .0)
-  same-touched (Effect.Free c) q = refl
 
   pub same-executed : (s : Simulation) (e : Effect) → Each Same (touched n look e) → execute n look s e ≡ execute n other s e
   unfolding allocated

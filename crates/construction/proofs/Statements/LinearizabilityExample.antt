@@ -1,16 +1,16 @@
 -- Demand 3 is not empty: card K with two processes, one exited and one done, and with one process that calls twice; notes and log by computation.
 use Prim.Native.Nat.{_<_}
 use mathlib.Core.Path.{_≡_, refl}
-use mathlib.Core.Bool.{true, false}
+use mathlib.Core.Bool.{true}
 use mathlib.Core.List.{List, [], _∷_, _++_}
 use native.Mathlib.Omega.{arith}
 use lib.ListN.{length, replicate}
-use Rattle.construction.specs.Types.{Words, Yield, Card}
+use Rattle.construction.specs.Types.{Card}
 use Rattle.construction.specs.Opening.{opened}
 use Rattle.construction.specs.Cells.{faultYield}
 use Rattle.construction.specs.History.{Entry, Finish, Return, run}
 use Rattle.construction.specs.Log.{logOf, insertByNumber, sorted}
-use Rattle.construction.specs.Examples.{one, cardK, twoProcesses, unwritten}
+use Rattle.construction.specs.Examples.{one, plain, cardK, twoProcesses, unwritten}
 use Rattle.construction.proofs.Statements.Linearizability.{linearizability}
 use Rattle.construction.proofs.Statements.Computing.{observing}
 use Rattle.construction.specs.Linearizability.{Linearizable, hasReturned, rank}
@@ -28,10 +28,6 @@ first = Entry.Call 0 0 (one 9) ∷ replicate 14 (Entry.Step 0)
 
 abbrev second : List Entry
 second = Entry.Call 0 0 (one 5) ∷ replicate 14 (Entry.Step 0)
-
--- what an operation yields that is no fault
-abbrev plain : Words → Yield
-plain o = record { outputs = o; fault = false }
 
 -- the lines of the single one's log
 abbrev former : Finish

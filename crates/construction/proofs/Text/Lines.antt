@@ -4,7 +4,6 @@ use mathlib.Core.Path.{_≡_, refl, _∙_}
 use mathlib.Core.List.{List}
 use Prim.Native.Nat.{ℕ, _+_, _<_, _≤_}
 use lib.Dec.{ltb, leb}
-use native.Mathlib.Omega.{arith}
 use borrow.Author.Tests.{lt-ltb, le-ltb, ltb-true, leb-true}
 use Rattle.grammar.specs.declared.Number.{Number}
 use Rattle.grammar.specs.declared.Numbers.{Numbers}
@@ -69,14 +68,7 @@ card-read t at p n s l i =
     go : hasWord t at cardWord ≡ true → (f : Numbers) → four t (at + 5) ≡ f → judgeCard f ≡ CardLine.Fields p n s l i → CardRead t at p n s l i
     go h (Numbers.Values a b c d j) q =
         on-test (λ (z : CardLine). z ≡ CardLine.Fields p n s l i → CardRead t at p n s l i) (cardFits a b c d)
-        (λ k e.
-        let x₁ : a ≡ p = cc in
-        let x₂ : b ≡ n = cc in
-        let x₃ : c ≡ s = cc in
-        let x₄ : d ≡ l = cc in
-        let x₅ : j ≡ i = cc in
-        record { word-there = h; numbers-there = q ∙ rw (x₁, x₂, x₃, x₄, x₅); fits = card-fits p n s l (rw (← x₁, ← x₂, ← x₃, ← x₄) k) })
-        (λ k e. clash (cc))
+        (λ k e. record { word-there = h; numbers-there = cc; fits = card-fits p n s l (cc) }) (λ k e. clash (cc))
     go h Numbers.Malformed q = λ e. clash (cc)
 
 -- ---- a `var` line
@@ -112,12 +104,7 @@ var-read t at v i =
     go : hasWord t at varWord ≡ true → (f : Number) → field t 10 (at + 4) ≡ f → judgeVar f ≡ VarLine.Start v i → VarRead t at v i
     go h (Number.Value w j) q =
         on-test (λ (z : VarLine). z ≡ VarLine.Start v i → VarRead t at v i) (ltb w 4294967296)
-        (λ k e.
-        let x₁ : w ≡ v = cc in
-        let x₂ : j ≡ i = cc in
-        let y = ltb-true w 4294967296 k in
-        record { word-there = h; field-there = q ∙ rw (x₁, x₂); fits = omega arith })
-        (λ k e. clash (cc))
+        (λ k e. record { word-there = h; field-there = cc; fits = ltb-true v 4294967296 (cc) }) (λ k e. clash (cc))
     go h Number.Malformed q = λ e. clash (cc)
 
 -- ---- a `sheet` line
@@ -153,12 +140,7 @@ sheet-read t at m i =
     go : hasWord t at sheetWord ≡ true → (f : Number) → field t 10 (at + 6) ≡ f → judgeSheet f ≡ SheetLine.Length m i → SheetRead t at m i
     go h (Number.Value w j) q =
         on-test (λ (z : SheetLine). z ≡ SheetLine.Length m i → SheetRead t at m i) (inRange 1 32 w)
-        (λ k e.
-        let x₁ : w ≡ m = cc in
-        let x₂ : j ≡ i = cc in
-        let y = range-true 1 32 w k in
-        record { word-there = h; field-there = q ∙ rw (x₁, x₂); fits = omega arith })
-        (λ k e. clash (cc))
+        (λ k e. record { word-there = h; field-there = cc; fits = range-true 1 32 m (cc) }) (λ k e. clash (cc))
     go h Number.Malformed q = λ e. clash (cc)
 
 -- ---- an `ins` line
@@ -190,9 +172,7 @@ ins-read n t at x i =
     good :
         hasWord t at insWord ≡ true → (k a b c j : ℕ) → four t (at + 4) ≡ Numbers.Values k a b c j → (d : Decoded) → decode n (encoded k a b c) ≡ d →
         insOf d j ≡ InsLine.Ins x i → InsRead n t at x i
-    good h k a b c j q (Decoded.Valid y) f e =
-        let u : j ≡ i = cc in
-        record { numbers = encoded k a b c; word-there = h; numbers-there = q ∙ rw u; fits = f ∙ cc }
+    good h k a b c j q (Decoded.Valid y) f e = record { numbers = encoded k a b c; word-there = h; numbers-there = cc; fits = cc }
     good h k a b c j q (Decoded.Refused y) f e = clash (cc)
 
     go : hasWord t at insWord ≡ true → (f : Numbers) → four t (at + 4) ≡ f → judgeIns n f ≡ InsLine.Ins x i → InsRead n t at x i

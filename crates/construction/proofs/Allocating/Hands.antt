@@ -12,7 +12,7 @@ use borrow.Author.Tests.{eqb-true, eqb-false}
 use Rattle.construction.specs.Instructions.{isCell}
 use Rattle.construction.specs.Allocation.{among, without, NoRepeats, Action, Performed, after, wordsAfter, chain, inHand, hand, givenBackBy, givenBack}
 use Rattle.construction.specs.Allocation.{Possible, ChainWithoutRepeats, Outside, TouchesOutside, OnlyByCodes, GivesOwn, OnlyFromHands, InHands}
-use Rattle.construction.proofs.Basics.{true-or-false, true-false, eqb-refl}
+use Rattle.construction.proofs.Basics.{true-or-false, true-false, eqb-refl, clash}
 use Rattle.construction.proofs.Allocating.Chains.{among-cons, apart-cons, without-apart, without-none, without-among, cell-inside, Linked, linked-cells, linked-whole, chain-linked, linked-set}
 
 cond-same {ℓ} : {A : Type ℓ} (b : Bool) (x : A) → cond b x x ≡ x
@@ -31,9 +31,9 @@ apart-front c (x ∷ l) m h =
     not-among c (x ∷ l) (λ t. ⊎-elim (a .0) (λ k. true-false _ k (apart-front c l m (a .1))) (among-cons c x l t))
 
 drop-next : (k : ℕ) (l : List ℕ) (x : ℕ) (r : List ℕ) → drop k l ≡ x ∷ r → drop (suc k) l ≡ r
-drop-next zero [] x r e = let z : _≡_ {A = ℕ} 0 1 = cc in absurd (omega arith)
+drop-next zero [] x r e = clash (cc)
 drop-next zero (y ∷ l) x r e = cc
-drop-next (suc k) [] x r e = let z : _≡_ {A = ℕ} 0 1 = cc in absurd (omega arith)
+drop-next (suc k) [] x r e = clash (cc)
 drop-next (suc k) (y ∷ l) x r e = drop-next k l x r e
 
 -- words, hands and the cells given back, from the starting words on
@@ -71,36 +71,26 @@ module _ (start words : List ℕ) (hands : ℕ → List ℕ) (back : List ℕ) (
       not-among 0 (K .stack)
       (λ t. cell-inside (length words) 0 (linked-cells words (getD words 0 0) (K .stack) (K .linked) 0 t) .0 refl)
 
-  -- an action that leaves words and hands
-  idle : (a : Action) → after words a ≡ words → ((l : List ℕ) → inHand a l ≡ l) → givenBackBy a back ≡ back → Kept start (after words a) (handsAfter a) (givenBackBy a back)
-  idle a e f g =
-      let same : (j : ℕ) → handsAfter a j ≡ hands j = λ j. rw (f (hands j)) (cond-same (eqb i j) (hands j)) in
-      rw (e, g)
-      (record {
-        stack = K .stack;
-        linked = K .linked;
-        repeats = K .repeats;
-        one = λ c j k p q. K .one c j k (rw same at p) (rw same at q);
-        free = λ c j p. K .free c j (rw same at p);
-        taken = K .taken;
-        shape = K .shape;
-      })
-
-  -- a store to a variable that is neither 0 nor free
-  stored : (v x : ℕ) → Outside words v → Kept start (set words v x) (handsAfter (Action.Stored v x)) back
-  stored v x (z, f) =
-      let same : (j : ℕ) → handsAfter (Action.Stored v x) j ≡ hands j = λ j. cond-same (eqb i j) (hands j) in
-      let whole = linked-whole words (K .stack) (K .linked) (K .repeats) in
-      let head : getD (set words v x) 0 0 ≡ getD words 0 0 = getD-set-other words v 0 x 0 (λ e. eqb-false v 0 z (sym e)) in
+  -- other words, in which the free cells are linked as they were, and the same hands
+  unmoved :
+      {other : List ℕ} {held : ℕ → List ℕ} → Linked other (getD other 0 0) (K .stack) → ((j : ℕ) → held j ≡ hands j) → Kept start other held back
+  unmoved links same =
       record {
         stack = K .stack;
-        linked = rw head (linked-set words (getD words 0 0) (K .stack) v x (rw whole at f) (K .linked));
+        linked = links;
         repeats = K .repeats;
         one = λ c j k p q. K .one c j k (rw same at p) (rw same at q);
         free = λ c j p. K .free c j (rw same at p);
         taken = K .taken;
         shape = K .shape;
       }
+
+  -- a store to a variable that is neither 0 nor free
+  stored : (v x : ℕ) → Outside words v → Kept start (set words v x) (handsAfter (Action.Stored v x)) back
+  stored v x (z, f) =
+      let whole = linked-whole words (K .stack) (K .linked) (K .repeats) in
+      let head : getD (set words v x) 0 0 ≡ getD words 0 0 = getD-set-other words v 0 x 0 (λ e. eqb-false v 0 z (sym e)) in
+      unmoved (rw head (linked-set words (getD words 0 0) (K .stack) v x (rw whole at f) (K .linked))) (λ j. cond-same (eqb i j) (hands j))
 
   -- a cell in a hand after one was taken
   took-hands : (v c j : ℕ) → among c (handsAfter (Action.Took v) j) ≡ true → ((v ≡ c) × (i ≡ j)) ⊎ (among c (hands j) ≡ true)
@@ -231,9 +221,9 @@ module _ (start words : List ℕ) (hands : ℕ → List ℕ) (back : List ℕ) (
       (a : Action) → Possible words a → TouchesOutside words a → GivesOwn (hands i) a →
       Kept start (after words a) (handsAfter a) (givenBackBy a back)
   kept-action (Action.Took c) p t g = took-top c (p .1) (p .0) (K .stack) refl
-  kept-action Action.TookNone p t g = idle Action.TookNone refl (λ l. refl) refl
+  kept-action Action.TookNone p t g = unmoved (K .linked) (λ j. cond-same (eqb i j) (hands j))
   kept-action (Action.Gave c) p t g = gave c p g
-  kept-action (Action.Loaded v) p t g = idle (Action.Loaded v) refl (λ l. refl) refl
+  kept-action (Action.Loaded v) p t g = unmoved (K .linked) (λ j. cond-same (eqb i j) (hands j))
   kept-action (Action.Stored v x) p t g = stored v x t
 
 -- actions that the codes can make, one after the other
@@ -265,5 +255,5 @@ kept-hands start xs K =
     top :
         (c : ℕ) (l s : List ℕ) → Linked (wordsAfter start xs) (getD (wordsAfter start xs) 0 0) s →
         s ≡ c ∷ (l ++ drop (K .taken) (chain start)) → getD (wordsAfter start xs) 0 0 ≡ c
-    top c l [] q e = let z : _≡_ {A = ℕ} 0 1 = cc in absurd (omega arith)
+    top c l [] q e = clash (cc)
     top c l (x ∷ s) q e = q .0 ∙ (cc)

@@ -141,8 +141,10 @@ Touches n look w e = Touching n w (touched n look e)
 touches-none : (n w : ℕ) → Touching n w []
 touches-none n w = record { inside = tt; most = omega arith }
 
-touches-one : (n w v : ℕ) → v < n → 0 < w → Touching n w (v ∷ [])
-touches-one n w v h k = record { inside = (h, tt); most = omega arith }
+-- an effect that touches v, if v is there
+touches-one : (n : ℕ) (look : ℕ → ℕ) (v : ℕ) (e : Effect) → touched n look e ≡ v ∷ [] → Touches n look 1 (cond (ltb v n) e Effect.Fault)
+touches-one n look v e q =
+    on-test (Touches n look 1) (ltb v n) (λ t. rw q (record { inside = (ltb-true v n t, tt); most = omega arith })) (λ _. touches-none n 1)
 
 cell-below : (n c : ℕ) → isCell n c ≡ true → c < n
 cell-below n c t = ltb-true c n (and-true (not (eqb c 0)) (ltb c n) t .1)
@@ -154,14 +156,10 @@ unfolding effectOf load store free
 touches n look inputs r Instruction.Stop z = touches-none n 0
 touches n look inputs r (Instruction.Input a b) z = touches-none n 0
 touches n look inputs r (Instruction.Constant a b) z = touches-none n 0
-touches n look inputs r (Instruction.Load a v) z =
-    on-test (Touches n look 1) (ltb v n) (λ t. touches-one n 1 v (ltb-true _ _ t) (omega arith)) (λ _. touches-none n 1)
-touches n look inputs r (Instruction.Store v b) z =
-    on-test (Touches n look 1) (ltb v n) (λ t. touches-one n 1 v (ltb-true _ _ t) (omega arith)) (λ _. touches-none n 1)
-touches n look inputs r (Instruction.LoadAt a b) z =
-    on-test (Touches n look 1) (ltb (word r b) n) (λ t. touches-one n 1 (word r b) (ltb-true _ _ t) (omega arith)) (λ _. touches-none n 1)
-touches n look inputs r (Instruction.StoreAt a b) z =
-    on-test (Touches n look 1) (ltb (word r a) n) (λ t. touches-one n 1 (word r a) (ltb-true _ _ t) (omega arith)) (λ _. touches-none n 1)
+touches n look inputs r (Instruction.Load a v) z = touches-one n look v (Effect.Load a v) refl
+touches n look inputs r (Instruction.Store v b) z = touches-one n look v (Effect.Store v (word r b)) refl
+touches n look inputs r (Instruction.LoadAt a b) z = touches-one n look (word r b) (Effect.Load a (word r b)) refl
+touches n look inputs r (Instruction.StoreAt a b) z = touches-one n look (word r a) (Effect.Store (word r a) (word r b)) refl
 touches n look inputs r (Instruction.Add a b) z = touches-none n 0
 touches n look inputs r (Instruction.Subtract a b) z = touches-none n 0
 touches n look inputs r (Instruction.SkipEqual a b c) z = touches-none n 0

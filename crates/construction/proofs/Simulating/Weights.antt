@@ -46,7 +46,7 @@ unfolding weightBefore
 weight-suc program k = refl
 
 -- no program of a card weighs more than the card
-weight-none : weight noProgram ≡ 0
+pub weight-none : weight noProgram ≡ 0
 unfolding weightBefore fetch
 weight-none = refl
 

@@ -2,7 +2,6 @@
 use Prim.Native.Nat.{ℕ, suc, _+_, _%_, _≤_, _<_}
 use mathlib.Core.Path.{_≡_, refl, sym, subst, ap, _∙_}
 use mathlib.Core.Bool.{Bool, true, false}
-use mathlib.Core.Logic.{_≢_}
 use mathlib.Core.List.{List}
 use native.Mathlib.Omega.{arith}
 use native.Mathlib.Decide.{decLt}
@@ -10,9 +9,10 @@ use lib.ListN.{getD, set}
 use lib.Seq.{getD-set-same}
 use borrow.Author.Tests.{lt-ltb, le-ltb, not-true}
 use Rattle.construction.specs.Types.{Flag, Done, Active, Exit, Announcement, Place, Access, Card, Refusal, LimitReached, Answer, Answered, Contents}
-use Rattle.construction.specs.Parts.{Local, localAt, contentsOf, announcementAt}
+use Rattle.construction.specs.Parts.{localAt, contentsOf, announcementAt}
 use Rattle.construction.specs.Machine.{accessIn, perform, advance}
-use Rattle.construction.specs.Requests.{isProcess, isIdle, isBusy, returned, answerOf, step}
+use Rattle.construction.specs.Requests.{isProcess, isIdle, isBusy, returned, step}
+use Rattle.construction.specs.Tracing.{isRefused}
 use Rattle.construction.specs.Opening.{opened}
 use Rattle.construction.specs.Weight.{cardWeight}
 use Rattle.construction.specs.Waits.{waitOf, extra, allowed, TellsAtMost, WaitFree}
@@ -27,6 +27,7 @@ use Rattle.construction.proofs.Waiting.Steps.{left}
 use Rattle.construction.proofs.Waiting.Cards.{Waits, AllWait, wait-step}
 use Rattle.construction.proofs.Waiting.Entries.{here, opened-waits}
 use Rattle.construction.proofs.Statements.ExitRequests.{step-exits}
+use Rattle.construction.proofs.Statements.Tracing.{answers}
 use Rattle.construction.proofs.Statements.Linearizability.{opened-consistent}
 
 -- a step counts as one own step of its process
@@ -39,17 +40,6 @@ step-counts Access.Help c i = refl
 step-counts Access.Note c i = refl
 step-counts Access.Write c i = refl
 
--- an accepted step is not answered by a refusal
-returned-not : (a : Announcement) (f : Flag) (n : ℕ) (why : Refusal) → returned a f n ≢ Answer.Refused why
-returned-not a Done n why e = clash (cc)
-returned-not a Active n why e = clash (cc)
-returned-not a Exit n why e = clash (cc)
-
-not-refused : (l : Local) (why : Refusal) → answerOf l ≢ Answer.Refused why
-not-refused l why =
-    on-test (λ (a : Answer). a ≢ Answer.Refused why) (isIdle (l .task .place))
-    (λ _. returned-not (l .announcement) (l .announcement .flag) (l .steps) why) (λ _ e. clash (cc))
-
 -- what follows for a process of the card
 module _ (o : Card) (m : Observation) (O : Consistent o m) (W : AllWait (contentsOf o) (m .card)) (i : ℕ) (lo : i < o .processCount) where
   abbrev c : Card
@@ -59,7 +49,7 @@ module _ (o : Card) (m : Observation) (O : Consistent o m) (W : AllWait (content
   lt = subst (λ (x : Contents). i < x .processCount) (sym (O .text)) lo
 
   few : i < 8
-  few = omega (arith, lt, O .inv .good .fits .few)
+  few = let fits = O .inv .good .fits in omega (arith, lt, fits .few)
 
   -- own steps that are within the wait of the card are within that of the opened one
   abbrev Within : ℕ → Type 0
@@ -123,7 +113,7 @@ module _ (o : Card) (m : Observation) (O : Consistent o m) (W : AllWait (content
       full h z = (cc, subst (λ (x : Contents). x .limit ≤ c .steps) (O .text) h)
 
       go : Dec (c .steps < c .limit) → (why ≡ LimitReached) × (o .limit ≤ c .steps)
-      go (yes h) = absurd (not-refused (localAt (advance c i) i) why (rw (here-is, b, lt-ltb (c .steps) (c .limit) h) at e))
+      go (yes h) = absurd (true-false _ (ap isRefused (rw (here-is, b, lt-ltb (c .steps) (c .limit) h) at e)) (answers (localAt (advance c i) i)))
       go (no h) = full (omega arith) (rw (here-is, b, le-ltb (c .steps) (c .limit) (omega arith)) at e)
 
   counted-by : step c i .answer ≡ Answer.Run → localAt (step c i .card) i .steps ≡ suc (localAt c i .steps)

@@ -6,11 +6,12 @@ use native.Mathlib.Omega.{arith}
 use lib.ListN.{length, getD, length-set}
 use lib.Dec.{ltb, eqb}
 use Rattle.construction.specs.Types.{Program, Refusal, TooLong, Malformed, CardLine, Contents, Verdict, ProgramReading, Reading}
-use Rattle.construction.specs.Instructions.{noProgram, fetch}
-use Rattle.construction.specs.Weight.{weightBefore, weight}
+use Rattle.construction.specs.Instructions.{noProgram}
+use Rattle.construction.specs.Weight.{weight}
 use Rattle.construction.specs.Lines.{cardLine, varLine, sheetLine, insLine}
 use Rattle.construction.specs.Opening.{noContents, refusedAt, withLine, insFrom, readProgram, withProgram, programsFrom, withStart, varsFrom, atEnd, thenPrograms, afterCard, readCard}
 use Rattle.construction.proofs.Basics.{on-test, clash, set-keeps, getD-replicate-same}
+use Rattle.construction.proofs.Simulating.Weights.{weight-none}
 use Rattle.construction.proofs.Text.Lines.{card-read}
 use Rattle.construction.proofs.Text.Reading.{afterFields, afterLength, on-ins, on-sheet, on-weighed, on-program, on-var, on-accepted, on-card}
 
@@ -25,10 +26,6 @@ pub record Bounded (x : Contents) : Type 0 where
   pub weights : (k : ℕ) → weight (getD (x .programs) k noProgram) ≤ 32
   -- a program that touches variables stands on a card that has some
   pub some : (k : ℕ) → 0 < weight (getD (x .programs) k noProgram) → 0 < x .variableCount
-
-weight-none : weight noProgram ≡ 0
-unfolding weightBefore fetch
-weight-none = refl
 
 -- a program has 32 places, whatever was read
 abbrev Lines : ProgramReading → Type 0

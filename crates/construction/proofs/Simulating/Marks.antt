@@ -1,6 +1,6 @@
 -- A word as a set of variables (specs/Marks): one bit more is that bit and no other, and one more to count.
 use Prim.Native.Nat.{ℕ, zero, suc, _+_, _*_, _/_, _%_, _^_, _<_, max}
-use mathlib.Core.Path.{_≡_, refl, sym, ap, subst, _∙_}
+use mathlib.Core.Path.{_≡_, refl, sym, ap, _∙_}
 use mathlib.Core.Bool.{true, false}
 use mathlib.Core.Logic.{_≢_, ⊎-elim}
 use mathlib.Core.List.{List, [], _∷_, _++_}
@@ -13,15 +13,14 @@ use lib.Count.{ones, ones-step}
 use lib.ListN.{length}
 use lib.Pow.{shr-shr}
 use borrow.Author.Tests.{lt-ltb, eqb-true}
-use Rattle.construction.specs.Types.{Words, Program, Item, Dictionary, Simulation, Simulated}
-use Rattle.construction.specs.Instructions.{nextEffect}
-use Rattle.construction.specs.Effects.{Store, touched, execute}
+use Rattle.construction.specs.Types.{Words, Program, Item, Dictionary, Simulation}
+use Rattle.construction.specs.Effects.{Store}
 use Rattle.construction.specs.Dictionary.{noted, find, has, assign, insert}
-use Rattle.construction.specs.Helping.{noteOf, withNotes, simulate, simulateFrom}
+use Rattle.construction.specs.Helping.{withNotes, simulate}
 use Rattle.construction.specs.Marks.{withBit, bit, Marks}
 use Rattle.construction.proofs.Basics.{true-or-false, true-false, eqb-refl}
-use Rattle.construction.proofs.Simulating.Effects.{on-executed, EachStore, Storing, execute-stores}
-use Rattle.construction.proofs.Simulating.Simulations.{Noted, on-lacking}
+use Rattle.construction.proofs.Simulating.Effects.{EachStore}
+use Rattle.construction.proofs.Simulating.Simulations.{Noted, kept-simulated}
 use Rattle.construction.proofs.Simulating.Dictionaries.{hasIn, has-put, has-snoc, has-more, has-position, noted-assign, noted-insert, insert-length}
 
 two : 0 < 2
@@ -171,29 +170,12 @@ notes-keys d (x ∷ l) q =
     (λ u. y .0 u ∙ z .0 u, y .1 ∙ z .1)
 
 module _ (n : ℕ) (program : Program) (inputs : Words) where
-  simulation-keys : (fuel : ℕ) (s : Simulation) (d : Dictionary) → SameKeys d (simulateFrom n program inputs fuel s d .dictionary)
-  unfolding simulateFrom
-  simulation-keys zero s d = (λ _. refl, refl)
-  simulation-keys (suc fuel) s d =
-      let effect = nextEffect n program inputs s in
-      on-lacking Same d (touched n (noteOf d) effect) (λ _ _. same)
-      (λ all. on-executed Same (execute n (noteOf d) s effect) (λ _. same) (λ _. same)
-      (λ t l e.
-      let z = notes-keys d l (subst (Storing (Noted (noted d))) e (execute-stores (Noted (noted d)) n (noteOf d) s effect all)) in
-      let y = simulation-keys fuel t (withNotes d l) in
-      (λ u. y .0 u ∙ z .0 u, y .1 ∙ z .1)))
-    where
-      Same : Simulated → Type 0
-      Same x = SameKeys d (x .dictionary)
-
-      same : SameKeys d d
-      same = (λ _. refl, refl)
-
   pub marks-simulated :
       (word : ℕ) (s : Simulation) (d : Dictionary) → Marks word d → Marks word (simulate n program inputs s d .dictionary)
-  unfolding simulate
   marks-simulated word s d M =
-      let z = simulation-keys 32 s d in
+      let z =
+      kept-simulated n program inputs (λ _ x. SameKeys d x) (λ _ _ h. h)
+      (λ _ x _ l stores _ h. let y = notes-keys x l stores in (λ u. y .0 u ∙ h .0 u, y .1 ∙ h .1)) s d (λ _. refl, refl) in
       record {
         noted = λ v h. M .noted v (sym (z .0 v) ∙ h);
         absent = λ v h. M .absent v (sym (z .0 v) ∙ h);

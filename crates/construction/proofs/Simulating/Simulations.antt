@@ -395,6 +395,28 @@ module _ (n : ℕ) (program : Program) (inputs : Words) (ws : List ℕ) (R : End
     unfolding simulate
     simulates s d q = simulates-from 32 s d (omega arith) q
 
+-- what every instruction of a simulation keeps: it stores only to what is noted
+module _ (n : ℕ) (program : Program) (inputs : Words) (Q : Simulation → Dictionary → Type 0)
+    (faults : (s : Simulation) (d : Dictionary) → Q s d → Q (faulted s) d)
+    (goes : (s : Simulation) (d : Dictionary) (t : Simulation) (l : List Store) → EachStore (Noted (noted d)) l →
+    execute n (noteOf d) s (nextEffect n program inputs s) ≡ Executed.Goes t l → Q s d → Q t (withNotes d l)) where
+  abbrev KeptIn : Simulated → Type 0
+  KeptIn x = Q (x .simulation) (x .dictionary)
+
+  kept-from : (fuel : ℕ) (s : Simulation) (d : Dictionary) → Q s d → KeptIn (simulateFrom n program inputs fuel s d)
+  unfolding simulateFrom
+  kept-from zero s d q = q
+  kept-from (suc fuel) s d q =
+      let effect = nextEffect n program inputs s in
+      on-lacking KeptIn d (touched n (noteOf d) effect) (λ _ _. q)
+      (λ all. on-executed KeptIn (execute n (noteOf d) s effect) (λ _. q) (λ _. faults s d q)
+      (λ t l e. kept-from fuel t (withNotes d l)
+      (goes s d t l (subst (Storing (Noted (noted d))) e (execute-stores (Noted (noted d)) n (noteOf d) s effect all)) e q)))
+
+  pub kept-simulated : (s : Simulation) (d : Dictionary) → Q s d → KeptIn (simulate n program inputs s d)
+  unfolding simulate
+  kept-simulated s d q = kept-from 32 s d q
+
 -- where nothing is noted nothing is stored
 no-stores : (l : List Store) → EachStore (Noted []) l → l ≡ []
 unfolding hasIn
@@ -404,33 +426,13 @@ no-stores (x ∷ l) q = absurd (false≢true (q .0))
 -- a simulation that has noted nothing leaves its dictionary empty
 pub simulate-empty :
     (n : ℕ) (program : Program) (inputs : Words) → simulate n program inputs started empty .dictionary ≡ empty
-unfolding simulate simulateFrom
-simulate-empty n program inputs = go 32 started
-  where
-    Empty : Simulated → Type 0
-    Empty x = x .dictionary ≡ empty
-
-    go : (fuel : ℕ) (s : Simulation) → simulateFrom n program inputs fuel s empty .dictionary ≡ empty
-    go zero s = refl
-    go (suc fuel) s =
-        on-lacking Empty empty (touched n (noteOf empty) (nextEffect n program inputs s)) (λ _ _. refl)
-        (λ all. on-executed Empty (execute n (noteOf empty) s (nextEffect n program inputs s)) (λ _. refl) (λ _. refl)
-        (λ t l e. rw (no-stores l (subst (Storing (Noted [])) e
-        (execute-stores (Noted []) n (noteOf empty) s (nextEffect n program inputs s) all))) (go fuel t)))
+simulate-empty n program inputs =
+    kept-simulated n program inputs (λ s d. d ≡ empty) (λ s d h. h)
+    (λ s d t l stores _ h. rw (h, no-stores l (subst (λ (x : Dictionary). EachStore (Noted (noted x)) l) h stores))) started empty refl
 
 -- a simulation notes nothing by itself
 pub simulate-length :
     (n : ℕ) (program : Program) (inputs : Words) (s : Simulation) (d : Dictionary) →
     simulate n program inputs s d .dictionary .length ≡ d .length
-unfolding simulate simulateFrom
-simulate-length n program inputs = go 32
-  where
-    Same : ℕ → Simulated → Type 0
-    Same k x = x .dictionary .length ≡ k
-
-    go : (fuel : ℕ) (s : Simulation) (d : Dictionary) → simulateFrom n program inputs fuel s d .dictionary .length ≡ d .length
-    go zero s d = refl
-    go (suc fuel) s d =
-        on-lacking (Same (d .length)) d (touched n (noteOf d) (nextEffect n program inputs s)) (λ _ _. refl)
-        (λ all. on-executed (Same (d .length)) (execute n (noteOf d) s (nextEffect n program inputs s)) (λ _. refl) (λ _. refl)
-        (λ t l e. go fuel t (withNotes d l) ∙ notes-length d l))
+simulate-length n program inputs s d =
+    kept-simulated n program inputs (λ _ x. x .length ≡ d .length) (λ _ _ h. h) (λ _ x _ l _ _ h. notes-length x l ∙ h) s d refl

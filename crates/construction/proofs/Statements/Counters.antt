@@ -1,22 +1,21 @@
 -- The place of a process within its program never passes 32 (document 02, order 5): a skip past the end stands at the end of the room.
-use Prim.Native.Nat.{ℕ, zero, suc, _+_, _≤_}
+use Prim.Native.Nat.{ℕ, suc, _+_, _≤_}
 use mathlib.Core.Path.{_≡_, subst}
 use mathlib.Core.List.{List, [], _∷_}
 use native.Mathlib.Omega.{arith}
 use lib.Dec.{eqb, ltb}
 use lib.ListN.{getD, set}
-use Rattle.construction.specs.Types.{Words, Announcement, Record, Program, Effect, Dictionary, Simulation, Simulated, Access, Task, Began, Helped, Card, Answered}
+use Rattle.construction.specs.Types.{Words, Announcement, Record, Program, Effect, Dictionary, Simulation, Access, Task, Began, Helped, Card, Answered}
 use Rattle.construction.specs.Instructions.{isCell, nextEffect, forward, withRegister, withOutput, skipped, faulted, started}
-use Rattle.construction.specs.Effects.{Executed, touched, allocated, execute}
+use Rattle.construction.specs.Effects.{Executed, allocated, execute}
 use Rattle.construction.specs.Dictionary.{empty, insert, itemOf}
-use Rattle.construction.specs.Helping.{noteOf, withNotes, simulate, simulateFrom}
+use Rattle.construction.specs.Helping.{noteOf, simulate}
 use Rattle.construction.specs.Parts.{localAt}
 use Rattle.construction.specs.Machine.{helps, beginHelp, note, accessIn, perform, advance}
 use Rattle.construction.specs.Opening.{fresh, opened}
 use Rattle.construction.specs.History.{Entry, Observation, observe, observeAll, opening, run}
 use Rattle.construction.proofs.Basics.{on-test, set-keeps, getD-replicate-same}
-use Rattle.construction.proofs.Simulating.Effects.{on-executed}
-use Rattle.construction.proofs.Simulating.Simulations.{on-lacking}
+use Rattle.construction.proofs.Simulating.Simulations.{kept-simulated}
 use Rattle.construction.proofs.Observing.Outcomes.{Outcome, outcome}
 
 -- a skip goes on at the instruction after those skipped, and past the room at its end
@@ -53,36 +52,30 @@ execute-within n look s (Effect.Allocate a) =
 execute-within n look s (Effect.Free c) = forward-room (s .counter) 0
 
 -- a simulation, from whatever state within the room
-abbrev Within : Simulated → Type 0
-Within x = x .simulation .counter ≤ 32
-
-module _ (n : ℕ) (program : Program) (inputs : Words) where
-  simulation-within :
-      (fuel : ℕ) (s : Simulation) (d : Dictionary) → s .counter ≤ 32 → Within (simulateFrom n program inputs fuel s d)
-  unfolding simulateFrom faulted
-  simulation-within zero s d h = h
-  simulation-within (suc fuel) s d h =
-      on-lacking Within d (touched n (noteOf d) (nextEffect n program inputs s)) (λ v _. h)
-      (λ _. on-executed Within (execute n (noteOf d) s (nextEffect n program inputs s)) (λ _. h) (λ _. h)
-      (λ t l e. simulation-within fuel t (withNotes d l)
-      (subst CounterWithin e (execute-within n (noteOf d) s (nextEffect n program inputs s)))))
+simulate-within :
+    (n : ℕ) (program : Program) (inputs : Words) (s : Simulation) (d : Dictionary) → s .counter ≤ 32 →
+    simulate n program inputs s d .simulation .counter ≤ 32
+unfolding faulted
+simulate-within n program inputs =
+    kept-simulated n program inputs (λ s _. s .counter ≤ 32) (λ _ _ h. h)
+    (λ s d _ _ _ e _. subst CounterWithin e (execute-within n (noteOf d) s (nextEffect n program inputs s)))
 
 -- what helping begins with and goes on with
 begin-within :
     (n : ℕ) (program : Program) (cell : Announcement) (number : ℕ) (t : Task) (s : Simulation) → s .counter ≤ 32 →
     beginHelp n program cell number t s .simulation .counter ≤ 32
-unfolding beginHelp simulate
+unfolding beginHelp
 begin-within n program cell number t s h =
     on-test (λ (x : Began). x .simulation .counter ≤ 32) (helps cell number)
-    (λ _. simulation-within n program (cell .words) 32 started empty (omega arith)) (λ _. h)
+    (λ _. simulate-within n program (cell .words) started empty (omega arith)) (λ _. h)
 
 note-within :
     (n : ℕ) (program : Program) (inputs : Words) (cell : Record) (number : ℕ) (t : Task) (s : Simulation) (d : Dictionary) (mask : ℕ) →
     s .counter ≤ 32 → note n program inputs cell number t s d mask .simulation .counter ≤ 32
-unfolding note simulate
+unfolding note
 note-within n program inputs cell number t s d mask h =
     on-test (λ (x : Helped). x .simulation .counter ≤ 32) (ltb number (cell .seq)) (λ _. h)
-    (λ _. simulation-within n program inputs 32 s (insert d (itemOf number (t .target) cell)) h)
+    (λ _. simulate-within n program inputs s (insert d (itemOf number (t .target) cell)) h)
 
 -- every process of a card
 abbrev AllWithin : Card → Type 0

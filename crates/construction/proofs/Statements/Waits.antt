@@ -12,7 +12,7 @@ use Rattle.construction.specs.Types.{Flag, Done, Active, Exit, Announcem
 use Rattle.construction.specs.Parts.{localAt, contentsOf, announcementAt}
 use Rattle.construction.specs.Machine.{accessIn, perform, advance}
 use Rattle.construction.specs.Requests.{isProcess, isIdle, isBusy, returned, step}
-use Rattle.construction.specs.Tracing.{isRefused}
+use Rattle.construction.specs.Answers.{isRefused}
 use Rattle.construction.specs.Opening.{opened}
 use Rattle.construction.specs.Weight.{cardWeight}
 use Rattle.construction.specs.Waits.{waitOf, extra, allowed, TellsAtMost, WaitFree}

@@ -72,29 +72,27 @@ module _ {c : Card} {w : World} {i : ℕ} (B : Before c w i) where
           pause-loc F W i (localAt c i) a helper plan (x .pause) (x .simulation) (x .dictionary) q,
         )
 
-  -- what P16 comes to for the announcement of m, by the test of line P17
-  abbrev begun : ℕ → Helped
-  begun m =
-      helped s (simulate (c .variableCount) (programFor F s (announcementAt c m)) (announcementAt c m .words) started empty) 0
+  -- the process that is helped, and its announcement
+  abbrev m : ℕ
+  m = holderOf (localAt c i .gate .holder)
 
-  abbrev beginAs : Bool → ℕ → Began
-  beginAs e m =
-      cond e (record { helps = true; task = begun m .task; simulation = begun m .simulation })
-      (record { helps = false; task = goTo (localAt c i .task) P21; simulation = localAt c i .simulation })
+  abbrev theirs : Announcement
+  theirs = announcementAt c m
 
-  abbrev helping : ℕ → Began → Card
-  helping m b =
-      withLocal (withAnnouncement c m (announcementAt c m)) i
-      (after (localAt c i) (b .task) (localAt c i .gate) (announcementAt c m) (b .simulation)
+  -- what P16 comes to
+  abbrev helping : Began → Card
+  helping b =
+      withLocal (withAnnouncement c m theirs) i
+      (after (localAt c i) (b .task) (localAt c i .gate) theirs (b .simulation)
       (cond (b .helps) empty (localAt c i .dictionary)) (cond (b .helps) 0 (localAt c i .mask)))
 
+  abbrev begun : Helped
+  begun = helped s (simulate (c .variableCount) (programFor F s theirs) (theirs .words) started empty) 0
+
   -- line P17: an operation that is not done and not too new is the one that the gate is held for
-  module _ (m : ℕ) (n : holderOf (localAt c i .gate .holder) ≡ m) (nd : announcementAt c m .flag ≢ Done)
-      (le : announcementAt c m .seq ≤ s) (q : LocAt P16 F W i (localAt c i)) where
+  module _ (nd : theirs .flag ≢ Done) (le : theirs .seq ≤ s) (q : LocAt P16 F W i (localAt c i)) where
     still : (c .gate .holder ≡ Process m) × (c .gate .seq ≡ s)
-    still =
-        let seen : Seen W m s = subst (λ (k : ℕ). Seen W k s) n (q .seen) in
-        seen .still (omega (arith, B .good .announced m .fresh nd))
+    still = q .seen .still (omega (arith, B .good .announced m .fresh nd))
 
     pending : Phase (Process m) W
     pending = phase-at (B .good) (still .0)
@@ -102,54 +100,45 @@ module _ {c : Card} {w : World} {i : ℕ} (B : Before c w i) where
     many : s < length (W .rounds)
     many = omega (arith, pending .0, still .1)
 
-    called : roundIn W s .call ≡ operationOf (announcementAt c m)
+    called : roundIn W s .call ≡ operationOf theirs
     called =
         subst (λ (k : ℕ). roundIn W k .call ≡ callIn W m) (still .1) (ap (λ (r : Round). r .call) (pending .2 nd .now))
         ∙ sym (pending .2 nd .asked)
 
-    plan : Plan F W (localAt c i .gate) (announcementAt c m)
+    plan : Plan F W (localAt c i .gate) theirs
     plan = record {
       below = omega (arith, still .1);
       number = many;
       early = le;
       positive = omega (arith, B .good .announced m .fresh nd);
-      working =
-          subst (λ (k : ℕ). Working W k s (announcementAt c m)) (sym n)
-          (record { alike = λ _ _ _. record { program = refl; seq = refl; number = refl; words = refl; fault = refl } });
+      working = record { alike = λ _ _ _. record { program = refl; seq = refl; number = refl; words = refl; fault = refl } };
     }
 
     -- the first simulation touches no dictionary
-    begins : (e : Bool) → e ≡ true → Acted c W i (helping m (beginAs e m))
-    begins e t =
-        let a : Announcement = announcementAt c m in
+    begins : Acted c W i (helping (record { helps = true; task = begun .task; simulation = begun .simulation }))
+    begins =
         let r =
-        resumes a q plan started empty
-        (starts (c .variableCount) (programFor F s a) (a .words) (roundIn W s .words) (endingIn F W s) (ItemNoted F W s)
-        (B .good .recorded .sized s many) (run-is F s (roundIn W s) a called)) in
-        let z = simulate-empty (c .variableCount) (programFor F s a) (a .words) in
-        rw t
-        (keeps B refl (set-getD (c .announcements) m openAnnouncement) refl _ refl (subst WellFormed z (r .0))
-        (subst (λ (d : Dictionary). Loc F W i (atSimulation (localAt c i) a (begun m .task) (begun m .simulation) d 0)) z (r .1)))
-
-  at-P16-for : (m : ℕ) → holderOf (localAt c i .gate .holder) ≡ m → LocAt P16 F W i (localAt c i) → Acted c W i (helping m (beginAs (helps (announcementAt c m) s) m))
-  at-P16-for m n q = ⊎-elim
-      (λ e.
-      let h = and-true (not (isDone (announcementAt c m .flag))) _ e in
-      begins m n (isDone-false _ (not-true _ (h .0))) (leb-true _ _ (h .1)) q _ e)
-      (λ e.
-      rw e
-      (keeps B refl (set-getD (c .announcements) m openAnnouncement) refl _ refl (B .tidy)
-      (q, record { over = λ _ z. rw n (over z e) }))) (true-or-false (helps (announcementAt c m) s))
-    where
-      over : c .gate .seq ≡ s → helps (announcementAt c m) s ≡ false → announcementAt c m .flag ≡ Done
-      over z e =
-          ⊎-elim (λ d. isDone-true (announcementAt c m .flag) (not-false _ d))
-          (λ b. absurd (omega (arith, B .good .announced m .below, leb-false (announcementAt c m .seq) s (b .1))))
-          (and-false (not (isDone (announcementAt c m .flag))) (leb (announcementAt c m .seq) s) e)
+        resumes theirs q plan started empty
+        (starts (c .variableCount) (programFor F s theirs) (theirs .words) (roundIn W s .words) (endingIn F W s) (ItemNoted F W s)
+        (B .good .recorded .sized s many) (run-is F s (roundIn W s) theirs called)) in
+        let z = simulate-empty (c .variableCount) (programFor F s theirs) (theirs .words) in
+        keeps B refl (set-getD (c .announcements) m openAnnouncement) refl _ refl (subst WellFormed z (r .0))
+        (subst (λ (d : Dictionary). Loc F W i (atSimulation (localAt c i) theirs (begun .task) (begun .simulation) d 0)) z (r .1))
 
   pub at-P16 : Step c w i P16 Access.Help
   unfolding perform beginHelp
-  at-P16 q = at-P16-for (holderOf (localAt c i .gate .holder)) refl q
+  at-P16 q =
+      on-test (λ (x : Began). Acted c W i (helping x)) (helps theirs s)
+      (λ e.
+      let h = and-true (not (isDone (theirs .flag))) _ e in
+      begins (isDone-false _ (not-true _ (h .0))) (leb-true _ _ (h .1)) q)
+      (λ e. keeps B refl (set-getD (c .announcements) m openAnnouncement) refl _ refl (B .tidy) (q, record { over = λ _. over e }))
+    where
+      over : helps theirs s ≡ false → c .gate .seq ≡ s → theirs .flag ≡ Done
+      over e z =
+          ⊎-elim (λ d. isDone-true (theirs .flag) (not-false _ d))
+          (λ b. absurd (omega (arith, B .good .announced m .below, leb-false (theirs .seq) s (b .1))))
+          (and-false (not (isDone (theirs .flag))) (leb (theirs .seq) s) e)
 
   pub at-H21 : Step c w i H21 Access.Note
   unfolding perform note valueUnder

@@ -140,27 +140,35 @@ module _ {c : Card} {w : World} {i : ℕ} (B : Before c w i) where
           (λ b. absurd (omega (arith, B .good .announced m .below, leb-false (theirs .seq) s (b .1))))
           (and-false (not (isDone (theirs .flag))) (leb (theirs .seq) s) e)
 
+  -- the variable that H21 notes, and what H21 comes to
+  abbrev v : ℕ
+  v = localAt c i .task .target
+
+  abbrev noting-on : Helped → Card
+  noting-on x =
+      withLocal (withRecord c v (recordAt c v)) i
+      (atSimulation (localAt c i) (localAt c i .announcement) (x .task) (x .simulation) (x .dictionary) (x .mask))
+
   pub at-H21 : Step c w i H21 Access.Note
   unfolding perform note valueUnder
   at-H21 q =
-      on-test
-      (λ (x : Helped).
-      Acted c W i (withLocal (withRecord c v (recordAt c v)) i (atSimulation (localAt c i) (localAt c i .announcement) (x .task) (x .simulation) (x .dictionary) (x .mask))))
-      (ltb s (recordAt c v .seq)) past noting-on
+      on-test (λ (x : Helped). Acted c W i (noting-on x)) (ltb s (recordAt c v .seq))
+      (λ e.
+      let few = rounds-few (c .gate .holder) W (B .good .phase) in
+      let z : s < c .gate .seq = omega (arith, ltb-true s (recordAt c v .seq) e, B .good .recorded .below v) in
+      goes-on B _ (q .0, q .1, record { yields = inl z; all = inl z }) refl refl kept)
+      (λ e.
+      let word = base (ltb-false s (recordAt c v .seq) e) in
+      let r =
+      resumes (localAt c i .announcement) (q .0) (q .1) (localAt c i .simulation)
+      (insert (localAt c i .dictionary) (itemOf s v (recordAt c v)))
+      (noting (c .variableCount) (programFor F s (localAt c i .announcement)) (localAt c i .announcement .words) (roundIn W s .words) (endingIn F W s)
+      (ItemNoted F W s) v (localAt c i .simulation) (localAt c i .dictionary) (itemOf s v (recordAt c v)) refl word
+      (record { inside = q .2 .inside; base = word; kept = inl refl }) (q .2)) in
+      keeps B refl refl kept _ refl (r .0) (r .1))
     where
-      v : ℕ
-      v = localAt c i .task .target
-
       kept : set (c .records) v (recordAt c v) ≡ c .records
       kept = set-getD (c .records) v (openRecord 0)
-
-      past :
-          ltb s (recordAt c v .seq) ≡ true →
-          Acted c W i (withLocal (withRecord c v (recordAt c v)) i (atTask (localAt c i) (goTo (localAt c i .task) P19)))
-      past e =
-          let few = rounds-few (c .gate .holder) W (B .good .phase) in
-          let z : s < c .gate .seq = omega (arith, ltb-true s (recordAt c v .seq) e, B .good .recorded .below v) in
-          goes-on B _ (q .0, q .1, record { yields = inl z; all = inl z }) refl refl kept
 
       base : recordAt c v .seq ≤ s → valueUnder s (recordAt c v) ≡ wordAt (roundIn W s .words) v
       base le =
@@ -170,21 +178,3 @@ module _ {c : Card} {w : World} {i : ℕ} (B : Before c w i) where
           let z : recordAt c v .seq ≡ s = omega (arith, ltb-false (recordAt c v .seq) s e) in
           subst (λ (k : ℕ). previous (recordAt c v) ≡ wordAt (roundIn W k .words) v) z
           (B .good .recorded .same v (q .2 .inside) (omega (arith, q .1 .positive)) .0))
-
-      noting-on :
-          ltb s (recordAt c v .seq) ≡ false →
-          let x : Simulated =
-          simulate (c .variableCount) (programOf F (localAt c i .announcement .program) s) (localAt c i .announcement .words)
-          (localAt c i .simulation) (insert (localAt c i .dictionary) (itemOf s v (recordAt c v))) in
-          Acted c W i
-          (withLocal (withRecord c v (recordAt c v)) i
-          (atSimulation (localAt c i) (localAt c i .announcement) (afterPause s (x .dictionary) (x .pause)) (x .simulation) (x .dictionary) (withBit (localAt c i .mask) v)))
-      noting-on e =
-          let le : recordAt c v .seq ≤ s = ltb-false s (recordAt c v .seq) e in
-          let r =
-          resumes (localAt c i .announcement) (q .0) (q .1) (localAt c i .simulation)
-          (insert (localAt c i .dictionary) (itemOf s v (recordAt c v)))
-          (noting (c .variableCount) (programFor F s (localAt c i .announcement)) (localAt c i .announcement .words) (roundIn W s .words) (endingIn F W s)
-          (ItemNoted F W s) v (localAt c i .simulation) (localAt c i .dictionary) (itemOf s v (recordAt c v)) refl (base le)
-          (record { inside = q .2 .inside; base = base le; kept = inl refl }) (q .2)) in
-          keeps B refl refl kept _ refl (r .0) (r .1)

@@ -12,7 +12,7 @@ use Rattle.construction.specs.Dictionary.{noItem, noted, valueUnder, alt
 use Rattle.construction.specs.Machine.{holderOf}
 use Rattle.construction.proofs.Simulating.Dictionaries.{all-map}
 use Rattle.construction.proofs.Simulating.Simulations.{Core, Finished, Needing}
-use Rattle.construction.proofs.Invariant.World.{endingIn, World, recordIn, leftIn, callIn, roundIn, wordAt, WorldInvariant, Quiet, Move}
+use Rattle.construction.proofs.Invariant.World.{endingIn, World, announcementIn, recordIn, leftIn, callIn, resultIn, roundIn, wordAt, WorldInvariant, Quiet, Move}
 use Rattle.construction.proofs.Invariant.World.Move.{stay, ask, announce, leave, take, write, end, free}
 use Rattle.construction.proofs.Invariant.Claims.{viewOf, Change, Mine, Limit, Past, Gone, Returning, Rested, Last, Seen, Nominated, Working, Halfway, Over}
 use Rattle.construction.proofs.Invariant.Claims.{change, call-change, mine-change, silent-change, limit-change, past-change, gone-change, returning-change, rested-change, last-change, seen-stays, nominated-stays, working-stays, halfway-stays, over-stays, below-stays, record-stays, round-stays}
@@ -77,7 +77,7 @@ pub record Writing (F : Contents) (w : World) (s : ℕ) (b : List Item) (k : ℕ
 
 -- what process j with local state t knows at each place
 abbrev pub LocAt : Place → Contents → World → ℕ → Local → Type 0
-LocAt Idle F w j t = Quiet w j × Rested (viewOf w j) (t .announcement)
+LocAt Idle F w j t = Quiet w j × Rested (announcementIn w j) (resultIn w j) (t .announcement)
 LocAt P1 F w j t = Quiet w j × (t .operation ≡ callIn w j)
 LocAt P3 F w j t =
     Quiet w j × (t .operation ≡ callIn w j) × (leftIn w j < t .gate .seq) × (t .gate .seq ≤ w .gate .seq)
@@ -112,9 +112,9 @@ LocAt P20 F w j t =
     × Halfway w (holderOf (t .gate .holder)) (t .gate .seq)
 LocAt P21 F w j t = Helper F w j (t .operation) (t .gate) × Over w (holderOf (t .gate .holder)) (t .gate .seq)
 LocAt P22 F w j t = Mine (viewOf w j) (t .operation) × Gone (viewOf w j) j
-LocAt F1 F w j t = Returning (viewOf w j) (t .announcement)
+LocAt F1 F w j t = Returning (announcementIn w j) (resultIn w j) (t .announcement)
 LocAt F3 F w j t =
-    Returning (viewOf w j) (t .announcement) × (t .gate .holder ≡ Process j) × Last (viewOf w j) j (t .gate .seq)
+    Returning (announcementIn w j) (resultIn w j) (t .announcement) × (t .gate .holder ≡ Process j) × Last (viewOf w j) j (t .gate .seq)
 
 -- it does not depend on the exit request, on the count of own steps and on the set of the variables noted
 abbrev pub known : Local → Local

@@ -89,15 +89,15 @@ pub record Gone (x : View) (j : ℕ) : Type 0 where
   pub free-of : x .announcement .flag ≡ Exit → x .gate .holder ≢ Process j
 
 -- j has read that its operation is done
-pub record Returning (x : View) (a : Announcement) : Type 0 where
-  pub done : x .announcement .flag ≡ Done
-  pub same : x .announcement ≡ a
-  pub out : resultOf a ≡ x .result
+pub record Returning (own : Announcement) (result : Result) (a : Announcement) : Type 0 where
+  pub done : own .flag ≡ Done
+  pub same : own ≡ a
+  pub out : resultOf a ≡ result
 
 -- j has returned: its announcement is a, with the result if it is done
-pub record Rested (x : View) (a : Announcement) : Type 0 where
-  pub same : x .announcement ≡ a
-  pub out : x .announcement .flag ≡ Done → resultOf (x .announcement) ≡ x .result
+pub record Rested (own : Announcement) (result : Result) (a : Announcement) : Type 0 where
+  pub same : own ≡ a
+  pub out : own .flag ≡ Done → resultOf own ≡ result
 
 -- if j holds the gate, then under number n
 pub record Last (x : View) (j n : ℕ) : Type 0 where
@@ -142,18 +142,20 @@ gone-change (ended o h d) q =
     record { late = λ e. absurd (exit-not-done e refl); free-of = λ e. absurd (exit-not-done e refl) }
 gone-change (freed b) q = record { late = λ e. omega (arith, q .late e); free-of = λ _. nobody-process refl }
 
-pub returning-change : {j : ℕ} {a : Announcement} {x y : View} → Change j x y → Returning x a → Returning y a
+pub returning-change :
+    {j : ℕ} {a : Announcement} {x y : View} → Change j x y → Returning (x .announcement) (x .result) a → Returning (y .announcement) (y .result) a
 returning-change kept q = q
-returning-change (took m hn f) q = record { done = q .done; same = q .same; out = q .out }
+returning-change (took m hn f) q = q
 returning-change (ended o h d) q = absurd (d (q .done))
-returning-change (freed b) q = record { done = q .done; same = q .same; out = q .out }
+returning-change (freed b) q = q
 
 pub rested-change :
-    {j : ℕ} {a : Announcement} {x y : View} → x .gate .holder ≢ Process j → Change j x y → Rested x a → Rested y a
+    {j : ℕ} {a : Announcement} {x y : View} → x .gate .holder ≢ Process j → Change j x y → Rested (x .announcement) (x .result) a →
+    Rested (y .announcement) (y .result) a
 rested-change ne kept q = q
-rested-change ne (took m hn f) q = record { same = q .same; out = q .out }
+rested-change ne (took m hn f) q = q
 rested-change ne (ended o h d) q = absurd (ne h)
-rested-change ne (freed b) q = record { same = q .same; out = q .out }
+rested-change ne (freed b) q = q
 
 pub last-change : {j n : ℕ} {x y : View} → x .announcement .flag ≡ Done → Change j x y → Last x j n → Last y j n
 last-change d kept q = q

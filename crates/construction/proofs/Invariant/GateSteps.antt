@@ -10,7 +10,7 @@ use Rattle.construction.specs.Cells.{sameHolder, sameGate, swapGate, rel
 use Rattle.construction.specs.Parts.{announcementAt, withGate, localAt, Local, contentsOf, withLocal}
 use Rattle.construction.specs.Machine.{goTo, byHolder, holderOf, accessGate, perform}
 use Rattle.construction.proofs.Basics.{on-test, true-false, gate-path, sameGate-true, sameGate-false, sameHolder-true, sameHolder-refl, nobody-process, active-not-done, exit-not-done}
-use Rattle.construction.proofs.Invariant.World.{World, resultOf, leftIn, freeing, Quiet}
+use Rattle.construction.proofs.Invariant.World.{World, announcementIn, resultOf, resultIn, leftIn, freeing, Quiet}
 use Rattle.construction.proofs.Invariant.World.Move.{take, free}
 use Rattle.construction.proofs.Invariant.Claims.{viewOf, Mine, Limit, Returning, Rested, Eligible}
 use Rattle.construction.proofs.Invariant.Assertions.{Helper, Loc}
@@ -18,8 +18,8 @@ use Rattle.construction.proofs.Invariant.Acting.{worldOf, Step, Before,
 
 -- what is known of an operation at its return
 rests :
-    (w : World) (i : ℕ) {a : Announcement} → Returning (viewOf w i) a → w .gate .holder ≢ Process i →
-    Quiet w i × Rested (viewOf w i) a
+    (w : World) (i : ℕ) {a : Announcement} → Returning (announcementIn w i) (resultIn w i) a → w .gate .holder ≢ Process i →
+    Quiet w i × Rested (announcementIn w i) (resultIn w i) a
 rests w i q ne = (
   record {
     not-active = λ e. active-not-done e (q .done);
@@ -96,9 +96,15 @@ module _ {c : Card} {w : World} {i : ℕ} (B : Before c w i) where
   abbrev swapped : Gate → Place → Card
   swapped g l = withLocal (withGate c g) i (at l)
 
-  -- a swap that was lost
-  lost : (l : Place) → Loc F W i (at l) → Acted c W i (swapped (c .gate) l)
-  lost l q = goes-on B _ q refl refl refl
+  -- a swap from the gate that was read to g: won where that is still the gate, and else lost
+  swaps :
+      (g : Gate) (l : Place) → (c .gate ≡ localAt c i .gate → Acted c W i (swapped g l)) →
+      (sameGate (c .gate) (localAt c i .gate) ≡ false → Loc F W i (at l)) →
+      Acted c W i (swapped (swapGate (c .gate) (localAt c i .gate) g .cell) l)
+  unfolding swapGate
+  swaps g l won lost =
+      on-test (λ x. Acted c W i (swapped x l)) (sameGate (c .gate) (localAt c i .gate)) (λ e. won (sameGate-true _ _ e))
+      (λ e. goes-on B _ (lost e) refl refl refl)
 
   -- a swap that released the gate
   frees :
@@ -112,8 +118,8 @@ module _ {c : Card} {w : World} {i : ℕ} (B : Before c w i) where
       acts B (free m ml h d) refl (gate-path refl (omega arith)) refl refl _ refl (B .tidy) q
 
   pub at-P13 : Step c w i P13 (Access.Gate GateAccess.Nominate)
-  unfolding perform accessGate swapGate
-  at-P13 q = on-test (λ g. Acted c W i (swapped g P14)) (sameGate (c .gate) (localAt c i .gate)) won (λ e. lost P14 (late e))
+  unfolding perform accessGate
+  at-P13 q = swaps _ P14 won late
     where
       m : ℕ
       m = localAt c i .task .target
@@ -128,11 +134,8 @@ module _ {c : Card} {w : World} {i : ℕ} (B : Before c w i) where
         },
       )
 
-      won :
-          sameGate (c .gate) (localAt c i .gate) ≡ true →
-          Acted c W i (swapped (record { holder = Process m; seq = localAt c i .gate .seq }) P14)
-      won e =
-          let z = sameGate-true (c .gate) (localAt c i .gate) e in
+      won : c .gate ≡ localAt c i .gate → Acted c W i (swapped (record { holder = Process m; seq = localAt c i .gate .seq }) P14)
+      won z =
           let zh : c .gate .holder ≡ Nobody = ap (λ (g : Gate). g .holder) z ∙ q .1 in
           let zs : c .gate .seq ≡ localAt c i .gate .seq = ap (λ (g : Gate). g .seq) z in
           let E : Eligible W i m (localAt c i .gate .seq) = q .3 .fit zh zs in
@@ -156,17 +159,14 @@ module _ {c : Card} {w : World} {i : ℕ} (B : Before c w i) where
       go (no l) = omega (arith, B .good .left-below m)
 
   pub at-P21 : Step c w i P21 (Access.Gate (GateAccess.Release P22))
-  unfolding perform accessGate swapGate
-  at-P21 q =
-      on-test (λ g. Acted c W i (swapped g P22)) (sameGate (c .gate) (localAt c i .gate)) won
-      (λ e. lost P22 (late (released-since (q .0) e)))
+  unfolding perform accessGate
+  at-P21 q = swaps _ P22 won (λ e. late (released-since (q .0) e))
     where
       m : ℕ
       m = holderOf (localAt c i .gate .holder)
 
-      won : sameGate (c .gate) (localAt c i .gate) ≡ true → Acted c W i (swapped (released (localAt c i .gate)) P22)
-      won e =
-          let z = sameGate-true (c .gate) (localAt c i .gate) e in
+      won : c .gate ≡ localAt c i .gate → Acted c W i (swapped (released (localAt c i .gate)) P22)
+      won z =
           let zh : c .gate .holder ≡ Process m = ap (λ (g : Gate). g .holder) z ∙ q .0 .named in
           let zs : c .gate .seq ≡ localAt c i .gate .seq = ap (λ (g : Gate). g .seq) z in
           frees m P22 (q .0 .inside) zh (q .1 .over zh zs) z
@@ -179,15 +179,8 @@ module _ {c : Card} {w : World} {i : ℕ} (B : Before c w i) where
       )
 
   pub at-F3 : Step c w i F3 (Access.Gate (GateAccess.Release Idle))
-  unfolding perform accessGate swapGate
-  at-F3 q = on-test (λ g. Acted c W i (swapped g Idle)) (sameGate (c .gate) (localAt c i .gate)) won (λ e. lost Idle (late e))
-    where
-      won : sameGate (c .gate) (localAt c i .gate) ≡ true → Acted c W i (swapped (released (localAt c i .gate)) Idle)
-      won e =
-          let z = sameGate-true (c .gate) (localAt c i .gate) e in
-          let r = q .0 in
-          frees i Idle (B .inside) (ap (λ (g : Gate). g .holder) z ∙ q .1) (r .done) z
-          (rests (freeing W i) i (record { done = r .done; same = r .same; out = r .out }) (nobody-process refl))
-
-      late : sameGate (c .gate) (localAt c i .gate) ≡ false → Loc F W i (at Idle)
-      late e = rests W i (q .0) (λ z. sameGate-false _ _ e (gate-path (z ∙ sym (q .1)) (q .2 .only z)))
+  unfolding perform accessGate
+  at-F3 q =
+      swaps _ Idle
+      (λ z. frees i Idle (B .inside) (ap (λ (g : Gate). g .holder) z ∙ q .1) (q .0 .done) z (rests (freeing W i) i (q .0) (nobody-process refl)))
+      (λ e. rests W i (q .0) (λ z. sameGate-false _ _ e (gate-path (z ∙ sym (q .1)) (q .2 .only z))))

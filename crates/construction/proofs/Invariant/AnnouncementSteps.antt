@@ -134,9 +134,15 @@ module _ {c : Card} {w : World} {i : ℕ} (B : Before c w i) where
   abbrev swapped : ℕ → Announcement → Place → Card
   swapped m a l = withLocal (withAnnouncement c m a) i (at l)
 
-  -- a swap that was lost
-  lost : (m : ℕ) (l : Place) → Loc F W i (at l) → Acted c W i (swapped m (announcementAt c m) l)
-  lost m l q = goes-on B _ q refl (set-getD (c .announcements) m openAnnouncement) refl
+  -- a swap of the announcement of m, from a to b: won where a is the announcement, and else lost
+  swaps :
+      (m : ℕ) (a b : Announcement) (l : Place) → (announcementAt c m ≡ a → Acted c W i (swapped m b l)) →
+      (sameAnnouncement (announcementAt c m) a ≡ false → Loc F W i (at l)) →
+      Acted c W i (swapped m (swapAnnouncement (announcementAt c m) a b .cell) l)
+  unfolding swapAnnouncement
+  swaps m a b l won lost =
+      on-test (λ x. Acted c W i (swapped m x l)) (sameAnnouncement (announcementAt c m) a) (λ e. won (sameAnnouncement-true _ _ e))
+      (λ e. goes-on B _ (lost e) refl (set-getD (c .announcements) m openAnnouncement) refl)
 
   -- an announcement that is not done carries no mark
   unmarked : announcementAt c i .flag ≢ Done → announcementAt c i .fault ≡ false
@@ -144,14 +150,11 @@ module _ {c : Card} {w : World} {i : ℕ} (B : Before c w i) where
       ⊎-elim (λ t. absurd (nd (B .good .announced i .marked t .0))) (λ f. f) (true-or-false (announcementAt c i .fault))
 
   pub at-P6 : Step c w i P5 (Access.Announcement AnnouncementAccess.Withdraw)
-  unfolding perform accessAnnouncement swapAnnouncement
-  at-P6 q =
-      on-test (λ a. Acted c W i (swapped i a P7)) (sameAnnouncement (announcementAt c i) (localAt c i .announcement)) won
-      (λ _. lost i P7 (q .0))
+  unfolding perform accessAnnouncement
+  at-P6 q = swaps i (localAt c i .announcement) _ P7 won (λ _. q .0)
     where
-      won : sameAnnouncement (announcementAt c i) (localAt c i .announcement) ≡ true → Acted c W i (swapped i (withdrawn (localAt c i .announcement) (localAt c i .operation)) P7)
-      won e =
-          let z = sameAnnouncement-true (announcementAt c i) (localAt c i .announcement) e in
+      won : announcementAt c i ≡ localAt c i .announcement → Acted c W i (swapped i (withdrawn (localAt c i .announcement) (localAt c i .operation)) P7)
+      won z =
           let fa : announcementAt c i .flag ≡ Active = ap (λ (r : Announcement). r .flag) z ∙ q .1 in
           let zw : announcementAt c i .words ≡ localAt c i .operation .inputs = ap (λ (r : Announcement). r .words) z ∙ q .2 in
           let y = set-is i (flagged (announcementAt c i) Exit) (B .inside) in
@@ -209,25 +212,21 @@ module _ {c : Card} {w : World} {i : ℕ} (B : Before c w i) where
   is-done m ml = ap (λ (r : Announcement). r .flag) (set-is m _ ml)
 
   pub at-P19 : Step c w i P19 (Access.Announcement (AnnouncementAccess.Finish Active P20))
-  unfolding perform accessAnnouncement swapAnnouncement
+  unfolding perform accessAnnouncement
   at-P19 q =
-      on-test (λ a. Acted c W i (swapped helped a P20))
-      (sameAnnouncement (announcementAt c helped) (flagged (localAt c i .announcement) Active))
-      (λ e. ends P20 Active (active-not-done refl) (q .0) (q .1) (q .2) (sameAnnouncement-true _ _ e) (λ M C. (
+      swaps helped (flagged (localAt c i .announcement) Active) _ P20
+      (λ z. ends P20 Active (active-not-done refl) (q .0) (q .1) (q .2) z (λ M C. (
         helper-stays (B .good) M C (q .0),
         plan-stays (B .good) M (localAt c i .gate) (localAt c i .announcement) (q .0 .seen) (q .1),
         ready-stays (B .good) M (localAt c i .gate .seq) (q .1 .number) (q .1 .below) (localAt c i .simulation .yields) (q .2),
         record { isnt = λ _ _ a. active-not-done a (is-done helped (q .0 .inside)) },
       )))
-      (λ e. lost helped P20
-      (q .0, q .1, q .2, record { isnt = missed P20 Active (active-not-done refl) (q .0) (q .1) (q .2) e }))
+      (λ e. (q .0, q .1, q .2, record { isnt = missed P20 Active (active-not-done refl) (q .0) (q .1) (q .2) e }))
 
   pub at-P20 : Step c w i P20 (Access.Announcement (AnnouncementAccess.Finish Exit P21))
-  unfolding perform accessAnnouncement swapAnnouncement
+  unfolding perform accessAnnouncement
   at-P20 q =
-      on-test (λ a. Acted c W i (swapped helped a P21))
-      (sameAnnouncement (announcementAt c helped) (flagged (localAt c i .announcement) Exit))
-      (λ e. ends P21 Exit (exit-not-done refl) (q .0) (q .1) (q .2) (sameAnnouncement-true _ _ e)
+      swaps helped (flagged (localAt c i .announcement) Exit) _ P21
+      (λ z. ends P21 Exit (exit-not-done refl) (q .0) (q .1) (q .2) z
       (λ M C. (helper-stays (B .good) M C (q .0), record { over = λ _ _. is-done helped (q .0 .inside) })))
-      (λ e. lost helped P21
-      (q .0, record { over = λ h z. else-done _ (q .3 .isnt h z) (missed P21 Exit (exit-not-done refl) (q .0) (q .1) (q .2) e h z) }))
+      (λ e. (q .0, record { over = λ h z. else-done _ (q .3 .isnt h z) (missed P21 Exit (exit-not-done refl) (q .0) (q .1) (q .2) e h z) }))

@@ -198,13 +198,13 @@ module _
         over = λ z. let q = Q .over z in (passed _ _ _ _ far ∙ q .0, passed _ _ _ _ far ∙ q .1);
       })
 
-  finished-is : announcementIn (ending F w m) m ≡ finished (announcementIn w m) (w .gate) (endingIn F w (w .gate .seq) .yields)
-  finished-is = getD-set-same (w .announcements) m _ openAnnouncement (omega (arith, size, G .lengths .announcements))
-
   own-finished : Own true (ending F w m) (withFinish o (w .gate .seq) m s) m
   unfolding times finishOf
   own-finished =
-      rw (finished-is, getD-set-same (w .results) m _ noResult (omega (arith, size, G .lengths .results)))
+      rw (
+        getD-set-same (w .announcements) m _ openAnnouncement (omega (arith, size, G .lengths .announcements)),
+        getD-set-same (w .results) m _ noResult (omega (arith, size, G .lengths .results)),
+      )
       (record {
         asked = O .asked;
         request = O .request;
@@ -234,7 +234,10 @@ module _
         unborn = T .unborn;
         own = λ j l b. one j (ℕ-discrete j m) (T .own j l b);
         single = T .single;
-        last = λ j l t. numbered j l t (ℕ-discrete j m);
+        last = λ j l.
+            announcements-set G (λ x. isDone (x .flag) ≡ true → x .number ≡ latestNumber (s .operations) (withFinish o (w .gate .seq) m s .order) j)
+            m j _ lt (λ e _. rw e (sym (chosen _ m (w .gate .seq) (latestNumber (s .operations) (s .order) m) caller)))
+            (λ ne t. T .last j l t ∙ sym (passed _ j (w .gate .seq) (latestNumber (s .operations) (s .order) j) (λ q. ne (sym q ∙ caller))));
       }
     where
       one : (j : ℕ) → Dec (j ≡ m) → Own (announced j) w s j → Own (announced j) (ending F w m) (withFinish o (w .gate .seq) m s) j
@@ -243,17 +246,6 @@ module _
 
       caller : callerOf (s .operations) (latest (s .operations) m) ≡ m
       caller = caller-latest (s .operations) m (O .asked)
-
-      numbered :
-          (j : ℕ) → j < p → doneIn (ending F w m) j ≡ true → Dec (j ≡ m) →
-          announcementIn (ending F w m) j .number ≡ latestNumber (s .operations) (withFinish o (w .gate .seq) m s .order) j
-      numbered j l t (yes e) =
-          rw e (ap (λ (x : Announcement). x .number) finished-is ∙ sym (chosen _ m (w .gate .seq) (latestNumber (s .operations) (s .order) m) caller))
-      numbered j l t (no ne) =
-          let same : announcementIn (ending F w m) j ≡ announcementIn w j = getD-set-other (w .announcements) m j _ openAnnouncement ne in
-          ap (λ (x : Announcement). x .number) same
-          ∙ (T .last j l (ap (λ (x : Announcement). isDone (x .flag)) (sym same) ∙ t)
-          ∙ sym (passed _ j (w .gate .seq) (latestNumber (s .operations) (s .order) j) (λ q. ne (sym q ∙ caller))))
 
 -- process i goes on at another place with its operation under way: unannounced only if it was, and announced only if it was or just then
 pub own-next :

@@ -1,29 +1,27 @@
 -- The steps of a helper that simulates: P16 and H21.
 use Prim.Native.Nat.{ℕ, _≤_, _<_}
 use mathlib.Core.Path.{_≡_, refl, sym, subst, ap, _∙_}
-use mathlib.Core.Bool.{true, false, cond, not, Bool}
+use mathlib.Core.Bool.{true, false, cond, not}
 use mathlib.Core.Logic.{_≢_, inl, ⊎-elim}
 use native.Mathlib.Omega.{arith}
 use lib.ListN.{length, set}
 use lib.Dec.{ltb, leb}
 use borrow.Author.Tests.{ltb-true, ltb-false, leb-true, leb-false, not-true, not-false}
-use Rattle.construction.specs.Types.{Holder, Process, Done, Announcement, Dictionary, Simulation, Pause, Ended, Faulted, Lacks, Simulated, P16, H21, P19, P21, Access, Began, Helped, Operation, Card, Contents}
+use Rattle.construction.specs.Types.{Process, Done, Announcement, Dictionary, Simulation, Pause, Ended, Faulted, Lacks, Simulated, P16, H21, Access, Began, Helped, Operation, Card, Contents}
 use Rattle.construction.specs.Cells.{openAnnouncement, isDone, previous, openRecord}
 use Rattle.construction.specs.Instructions.{started}
 use Rattle.construction.specs.Dictionary.{empty, valueUnder, itemOf, insert}
 use Rattle.construction.specs.Sequential.{sequential}
-use Rattle.construction.specs.Marks.{withBit}
 use Rattle.construction.specs.Helping.{simulate}
-use Rattle.construction.specs.Parts.{announcementAt, recordAt, programOf, localAt, contentsOf, withLocal, Local, withAnnouncement, withRecord}
-use Rattle.construction.specs.Machine.{goTo, holderOf, helps, afterPause, perform, helped, beginHelp, note, after}
-use Rattle.construction.proofs.Basics.{on-test, and-true, and-false, isDone-true, isDone-false, true-or-false}
+use Rattle.construction.specs.Parts.{announcementAt, recordAt, localAt, contentsOf, withLocal, Local, withAnnouncement, withRecord}
+use Rattle.construction.specs.Machine.{holderOf, helps, afterPause, perform, helped, beginHelp, note, after}
+use Rattle.construction.proofs.Basics.{on-test, and-true, and-false, isDone-true, isDone-false}
 use Rattle.construction.proofs.Simulating.Simulations.{PausedAt, starts, noting, simulates, simulate-empty}
 use Rattle.construction.proofs.Invariant.World.{Round, endingOf, endingIn, World, callIn, roundIn, wordAt, operationOf, Phase}
 use Rattle.construction.proofs.Invariant.WorldKept.{phase-at, rounds-few}
-use Rattle.construction.proofs.Invariant.Claims.{Seen, Working}
 use Rattle.construction.proofs.Invariant.Assertions.{Helper, Plan, ItemNoted, programFor, CoreAt, LocAt, Loc}
 use Rattle.construction.proofs.Invariant.NextWrites.{pause-loc}
-use Rattle.construction.proofs.Invariant.Acting.{worldOf, Step, WellFormed, Before, Acted, keeps, goes-on, atTask, atSimulation}
+use Rattle.construction.proofs.Invariant.Acting.{worldOf, Step, WellFormed, Before, Acted, keeps, goes-on, atSimulation}
 use lib.Seq.{set-getD}
 
 -- the ending of a round is the run of its call

@@ -11,14 +11,14 @@ use lib.ListN.{length, getD, set, length-take}
 use lib.Seq.{getD-set-same, set-getD, getD-take}
 use lib.Dec.{ltb, eqb}
 use borrow.Author.Tests.{ltb-true, eq-eqb}
-use Rattle.construction.specs.Types.{Holder, Process, Done, Record, Item, Dictionary, H36, Access, Card, Contents}
+use Rattle.construction.specs.Types.{Process, Done, Record, Item, Dictionary, H36, Access, Card, Contents}
 use Rattle.construction.specs.Cells.{openRecord, sameRecord, swapRecord, current, rewritten}
 use Rattle.construction.specs.Dictionary.{noItem, noted, valueUnder, altered}
 use Rattle.construction.specs.Parts.{announcementAt, recordAt, withRecord, localAt, contentsOf, withLocal}
 use Rattle.construction.specs.Machine.{holderOf, writeFrom, perform, writing}
 use Rattle.construction.proofs.Basics.{on-test, true-false, and-true, sameRecord-true, sameRecord-false}
 use Rattle.construction.proofs.Simulating.Dictionaries.{valueIn, all-at, value-at}
-use Rattle.construction.proofs.Invariant.World.{endingIn, World, leftIn, roundIn, wordAt, Phase, storing, Move}
+use Rattle.construction.proofs.Invariant.World.{endingIn, World, leftIn, roundIn, wordAt, storing, Move}
 use Rattle.construction.proofs.Invariant.World.Move.{write}
 use Rattle.construction.proofs.Invariant.WorldKept.{phase-at, count-many}
 use Rattle.construction.proofs.Invariant.Assertions.{ItemNoted, NoWriteDue, LocAt, helper-stays, plan-stays, fine-stays, finished-stays}

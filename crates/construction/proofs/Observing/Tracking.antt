@@ -15,12 +15,11 @@ use Rattle.construction.specs.Sequential.{Ending, sequential}
 use Rattle.construction.specs.Instructions.{noProgram}
 use Rattle.construction.specs.Parts.{noOperation}
 use Rattle.construction.specs.History.{Invocation, Finish, History, hasCalled, latest, latestCall, turned, benchRun, withFinish, Return, Event, withResponse}
-use Rattle.construction.proofs.Basics.{on-set, true-or-false, true-false, ne-isDone}
+use Rattle.construction.proofs.Basics.{on-set, true-false, ne-isDone}
 use Rattle.construction.proofs.Observing.Histories.{on-equal, chosen, passed, latest-below, latest-apart, agree-longer, caller-latest, latest-asked, turns, turned-same, turned-not, turned-one}
 use Rattle.construction.proofs.Invariant.World.{World, announcementIn, callIn, Result, noResult, resultIn, endingIn, WorldInvariant, asking, ending, Move}
 use Rattle.construction.proofs.Invariant.World.Move.{stay, ask, announce, leave, take, write, end, free}
 use Rattle.construction.proofs.Invariant.WorldKept.{announcements-set, ends-now}
-use Rattle.construction.specs.Machine.{finished}
 use Rattle.construction.specs.Linearizability.{times, finishOf, hasReturned, Numbered, Agrees, AllAgree, ReturnedOnce, UnderWay}
 use Rattle.construction.specs.Numbers.{callerOf, latestNumber}
 

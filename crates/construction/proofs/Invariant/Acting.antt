@@ -46,9 +46,7 @@ atSimulation l a x s d m = after l x (l .gate) a s d m
 pub record Acted (c : Card) (w : World) (i : ℕ) (v : Card) : Type 0 where
   pub after : World
   pub move : Move (contentsOf c) i w after
-  pub gate-is : v .gate ≡ after .gate
-  pub announcements-is : v .announcements ≡ after .announcements
-  pub records-is : v .records ≡ after .records
+  pub cells : worldOf v after ≡ after
   pub calls-is : after .calls ≡ w .calls
   pub local : Local
   pub put : v ≡ withLocal (withCells c (v .gate) (v .announcements) (v .records)) i local
@@ -70,13 +68,11 @@ module _ {c : Card} {w : World} {i : ℕ} (B : Before c w i) where
       {g : Gate} {l : List Announcement} {r : List Record} → g ≡ u .gate → l ≡ u .announcements → r ≡ u .records →
       (t : Local) → t .steps ≡ (localAt c i .steps + 1) % 18446744073709551616 → WellFormed (t .dictionary) → Loc (contentsOf c) u i t →
       Acted c (worldOf c w) i (withLocal (withCells c g l r) i t)
-  acts M k g l r t n y q =
+  acts {u} M k g l r t n y q =
       record {
-        after = _;
+        after = u;
         move = M;
-        gate-is = g;
-        announcements-is = l;
-        records-is = r;
+        cells = λ e. withShared u (g e) (l e) (r e);
         calls-is = k;
         local = t;
         put = refl;

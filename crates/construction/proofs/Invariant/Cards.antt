@@ -19,7 +19,7 @@ use Rattle.construction.specs.Requests.{isBusy, invoked, exiting}
 use Rattle.construction.specs.Opening.{fresh}
 use Rattle.construction.proofs.Basics.{getD-replicate-same, active-not-done, exit-not-done, nobody-process}
 use Rattle.construction.proofs.Simulating.Sequential.{Short}
-use Rattle.construction.proofs.Invariant.World.{World, noResult, resultOf, WorldInvariant, withShared, asking, Move}
+use Rattle.construction.proofs.Invariant.World.{World, noResult, resultOf, WorldInvariant, asking, Move}
 use Rattle.construction.proofs.Invariant.World.Move.{ask, stay}
 use Rattle.construction.proofs.Invariant.WorldKept.{good-move, seq-move}
 use Rattle.construction.proofs.Invariant.Locals.{Sizes, local-same, local-other, sizes-put}
@@ -112,8 +112,7 @@ inv-step c w i I lt b h = record {
   move = M;
   inv = subst (λ (x : Card). CardInvariant (withSteps x k) (A .after)) (sym (A .put))
       (moved I lt M (v .gate) (v .announcements) (v .records) (A .local) k
-      (λ n. withShared (A .after) (A .gate-is n) (A .announcements-is n) (A .records-is n))
-      (A .loc) (A .tidy) (omega (arith, seq-move M .1, numbered-is I, steps)) (omega (arith, steps))
+      (A .cells) (A .loc) (A .tidy) (omega (arith, seq-move M .1, numbered-is I, steps)) (omega (arith, steps))
       (omega (arith, steps)) (omega (arith, A .counted, I .counts i, I .capped, steps)));
   calls-is = A .calls-is;
   elsewhere = λ j ne. ap (λ (x : Card). localAt x j) (A .put) ∙ local-other c i j (A .local) ne;

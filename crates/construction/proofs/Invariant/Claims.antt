@@ -193,11 +193,15 @@ module _ {F : Contents} {w : World} (G : WorldInvariant F w) where
 pub record Seen (w : World) (m s : ℕ) : Type 0 where
   pub still : leftIn w m < s → (w .gate .holder ≡ Process m) × (w .gate .seq ≡ s)
 
--- m may be given the gate by j under number n: it is not done, and if it asks to exit, it is j itself or has not asked too early
-pub record Eligible (w : World) (j m n : ℕ) : Type 0 where
-  pub alive : announcementIn w m .flag ≢ Done
-  pub op : operationOf (announcementIn w m) ≡ callIn w m
-  pub right : (m ≡ j) ⊎ (announcementIn w m .flag ≡ Exit → n ≤ boundIn w m)
+-- m may be given the gate by j under number n, by its announcement a, its call and its bound: it is not done, and if it asks to exit, it is
+-- j itself or has not asked too early
+pub record MayHold (a : Announcement) (call : Operation) (bound j m n : ℕ) : Type 0 where
+  pub alive : a .flag ≢ Done
+  pub op : operationOf a ≡ call
+  pub right : (m ≡ j) ⊎ (a .flag ≡ Exit → n ≤ bound)
+
+abbrev pub Eligible : World → ℕ → ℕ → ℕ → Type 0
+Eligible w j m n = MayHold (announcementIn w m) (callIn w m) (boundIn w m) j m n
 
 -- j has read the gate with nobody under n, and nominates m
 pub record Nominated (w : World) (j m n : ℕ) : Type 0 where
@@ -243,12 +247,9 @@ module _ {F : Contents} {i : ℕ} {w : World} (G : WorldInvariant F w) where
   -- what others do to the one that j may give the gate to
   module _ {j m n : ℕ} (ne : j ≢ i) (E : Eligible w j m n) where
     eligible-ask : (q : Operation) → i < F .processCount → Quiet w i → n ≡ w .gate .seq → Eligible (asking w i q) j m n
-    eligible-ask q lt Q now = record {
-      alive = E .alive;
-      op = on-set (λ r. operationOf (announcementIn w m) ≡ r) (w .calls) i m q noOperation (omega arith)
-          (λ z. absurd (asked z)) (λ _. E .op);
-      right = E .right;
-    }
+    eligible-ask q lt Q now =
+        on-set (λ o. MayHold (announcementIn w m) o (boundIn w m) j m n) (w .calls) i m q noOperation (omega arith)
+        (λ z. absurd (asked z)) (λ _. E)
       where
         asked : m ≡ i → ⊥
         asked z =
@@ -259,24 +260,18 @@ module _ {F : Contents} {i : ℕ} {w : World} (G : WorldInvariant F w) where
     eligible-announce :
         (a : Announcement) → i < F .processCount → a .flag ≡ Active → operationOf a ≡ callIn w i →
         Eligible (announcing w i a) j m n
-    eligible-announce a lt fa op = record {
-      alive = announcements-set G (λ r. r .flag ≢ Done) i m a lt (λ _. active-not-done fa) (λ _. E .alive);
-      op = announcements-set G (λ r. operationOf r ≡ callIn w m) i m a lt (λ z. rw z op) (λ _. E .op);
-      right = announcements-set G (λ r. (m ≡ j) ⊎ (r .flag ≡ Exit → n ≤ boundIn w m)) i m a lt
-          (λ _. inr (λ q. absurd (active-not-exit fa q))) (λ _. E .right);
-    }
+    eligible-announce a lt fa op =
+        announcements-set G (λ r. MayHold r (callIn w m) (boundIn w m) j m n) i m a lt
+        (λ z. record { alive = active-not-done fa; op = rw z op; right = inr (λ q. absurd (active-not-exit fa q)) }) (λ _. E)
 
     eligible-leave : i < F .processCount → n ≡ w .gate .seq → Eligible (leaving w i) j m n
-    eligible-leave lt now = record {
-      alive = announcements-set G (λ r. r .flag ≢ Done) i m _ lt (λ _. exit-not-done refl) (λ _. E .alive);
-      op = announcements-set G (λ r. operationOf r ≡ callIn w m) i m _ lt (λ z. rw z (rw z at (E .op))) (λ _. E .op);
-      right = go (ℕ-discrete m i);
-    }
+    eligible-leave lt now = go (ℕ-discrete m i)
       where
-        go : Dec (m ≡ i) → (m ≡ j) ⊎ (announcementIn (leaving w i) m .flag ≡ Exit → n ≤ boundIn (leaving w i) m)
-        go (yes z) = inr (λ _. rw (z, getD-set-same (w .bound) i (w .gate .seq) 0 (omega arith)) (omega arith))
-        go (no z) =
-            rw (getD-set-other (w .announcements) i m _ openAnnouncement z, getD-set-other (w .bound) i m _ 0 z) (E .right)
+        go : Dec (m ≡ i) → Eligible (leaving w i) j m n
+        go (yes z) =
+            rw (z, getD-set-same (w .announcements) i _ openAnnouncement (omega arith), getD-set-same (w .bound) i (w .gate .seq) 0 (omega arith))
+            (record { alive = exit-not-done refl; op = rw z at (E .op); right = inr (λ _. omega arith) })
+        go (no z) = rw (getD-set-other (w .announcements) i m _ openAnnouncement z, getD-set-other (w .bound) i m _ 0 z) E
 
   pub nominated-stays : {v : World} {j m n : ℕ} → j ≢ i → Move F i w v → Nominated w j m n → Nominated v j m n
   nominated-stays ne stay o = o
@@ -285,11 +280,7 @@ module _ {F : Contents} {i : ℕ} {w : World} (G : WorldInvariant F w) where
       record { below = o .below; fit = λ h e. eligible-announce ne (o .fit h e) a lt fa (A .active-operation fa) }
   nominated-stays ne (leave lt fa) o = record { below = o .below; fit = λ h e. eligible-leave ne (o .fit h e) lt (sym e) }
   nominated-stays ne (take m lt hn fl op z) o = record { below = o .below; fit = λ h. absurd (nobody-process h refl) }
-  nominated-stays ne (write m v x vl hm fl below ex) o =
-      record {
-        below = o .below;
-        fit = λ h e. let E = o .fit h e in record { alive = E .alive; op = E .op; right = E .right };
-      }
+  nominated-stays ne (write m v x vl hm fl below ex) o = record { below = o .below; fit = o .fit }
   nominated-stays ne (end m lt hm fl all) o = record { below = o .below; fit = λ h. absurd (nobody-process h hm) }
   nominated-stays ne (free m lt hm d) o =
       record { below = omega (arith, o .below); fit = λ _ e. absurd (omega (arith, o .below)) }

@@ -1,7 +1,7 @@
 -- The place of a process within its program never passes 32 (document 02, order 5): a skip past the end stands at the end of the room.
 use Prim.Native.Nat.{ℕ, suc, _+_, _≤_}
 use mathlib.Core.Path.{_≡_, subst}
-use mathlib.Core.List.{List, [], _∷_}
+use mathlib.Core.List.{List}
 use native.Mathlib.Omega.{arith}
 use lib.Dec.{eqb, ltb}
 use lib.ListN.{getD, set}
@@ -13,10 +13,11 @@ use Rattle.construction.specs.Helping.{noteOf, simulate}
 use Rattle.construction.specs.Parts.{localAt}
 use Rattle.construction.specs.Machine.{helps, beginHelp, note, accessIn, perform, advance}
 use Rattle.construction.specs.Opening.{fresh, opened}
-use Rattle.construction.specs.History.{Entry, Observation, observe, observeAll, opening, run}
+use Rattle.construction.specs.History.{Entry, observe, run}
 use Rattle.construction.proofs.Basics.{on-test, set-keeps, getD-replicate-same}
 use Rattle.construction.proofs.Simulating.Simulations.{kept-simulated}
 use Rattle.construction.proofs.Observing.Outcomes.{Outcome, outcome}
+use Rattle.construction.proofs.Statements.Linearizability.{opened-keeps}
 
 -- a skip goes on at the instruction after those skipped, and past the room at its end
 pub skip-within : (k c : ℕ) → suc (k + c) ≤ 32 → forward k c ≡ suc (k + c)
@@ -101,13 +102,9 @@ entry-within c (Outcome.asked j p) h = λ i. put-within c i j _ h (h j)
 entry-within c (Outcome.stepped j x p b l) h = step-within (accessIn (localAt c j)) c j h
 entry-within c (Outcome.shown v x) h = h
 
-all-within : (o : Card) (m : Observation) (es : List Entry) → AllWithin (m .card) → AllWithin (observeAll o m es .card)
-unfolding observe observeAll
-all-within o m [] h = h
-all-within o m (e ∷ es) h = all-within o (observe o m e) es (entry-within (m .card) (outcome (m .card) e) h)
-
 -- over every text and every list of entries
 pub counters : (t : List ℕ) (es : List Entry) (i : ℕ) → localAt (run (opened t .card) es .card) i .simulation .counter ≤ 32
-unfolding opened fresh
-counters t es =
-    all-within (opened t .card) (opening (opened t .card)) es (λ i. rw (getD-replicate-same 8 i started) (omega arith))
+unfolding opened fresh observe
+counters t =
+    opened-keeps t (λ m. AllWithin (m .card)) (λ m _ e. entry-within (m .card) (outcome (m .card) e))
+    (λ i. rw (getD-replicate-same 8 i started) (omega arith))

@@ -59,6 +59,21 @@ unfolding opened
 opened-consistent t es =
     all-consistent (opened t .card) (opening (opened t .card)) es (fresh-consistent (readCard t .contents) (opened-bounded t))
 
+-- what every entry keeps
+pub opened-keeps :
+    (t : List ℕ) (Q : Observation → Type 0) →
+    ((m : Observation) → Consistent (opened t .card) m → (e : Entry) → Q m → Q (observe (opened t .card) m e)) →
+    Q (opening (opened t .card)) → (es : List Entry) → Q (run (opened t .card) es)
+unfolding observeAll
+opened-keeps t Q keeps first es = go (opening o) es (opened-consistent t []) first
+  where
+    o : Card
+    o = opened t .card
+
+    go : (m : Observation) (es : List Entry) → Consistent o m → Q m → Q (observeAll o m es)
+    go m [] O q = q
+    go m (e ∷ es) O q = go (observe o m e) es (entry-kept o m O e) (keeps m O e q)
+
 -- 6: an operation that had returned before another was called stands earlier
 module _ (t : List ℕ) (es fs : List Entry) where
   abbrev early : History

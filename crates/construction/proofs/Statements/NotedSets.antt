@@ -2,7 +2,7 @@
 use Prim.Native.Nat.{ℕ, _<_}
 use mathlib.Core.Path.{_≡_, refl, sym, _∙_}
 use mathlib.Core.Bool.{Bool, true, false, cond, true≢false, false≢true}
-use mathlib.Core.List.{List, [], _∷_}
+use mathlib.Core.List.{List}
 use native.Mathlib.Omega.{arith}
 use native.Mathlib.Decide.{ℕ-discrete}
 use lib.Count.{ones}
@@ -17,7 +17,7 @@ use Rattle.construction.specs.Parts.{Local, localAt, contentsOf, announc
 use Rattle.construction.specs.Machine.{accessOf, accessIn, holderOf, beginHelp, note, perform, advance}
 use Rattle.construction.specs.Tracing.{labelOf, isNoting, reportOf, TellsNoted}
 use Rattle.construction.specs.Opening.{fresh, opened}
-use Rattle.construction.specs.History.{Entry, Observation, observe, observeAll, opening, run}
+use Rattle.construction.specs.History.{Entry, observe, run}
 use Rattle.construction.proofs.Basics.{on-test, clash, getD-replicate-same}
 use Rattle.construction.proofs.Simulating.Dictionaries.{hasIn}
 use Rattle.construction.proofs.Simulating.Simulations.{needing-absent}
@@ -27,8 +27,7 @@ use Rattle.construction.proofs.Invariant.Locals.{Sizes}
 use Rattle.construction.proofs.Invariant.Assertions.{LocAt, known}
 use Rattle.construction.proofs.Invariant.Cards.{CardInvariant}
 use Rattle.construction.proofs.Observing.Outcomes.{Outcome, outcome}
-use Rattle.construction.proofs.Observing.Consistency.{Consistent, entry-kept}
-use Rattle.construction.proofs.Statements.Linearizability.{opened-consistent}
+use Rattle.construction.proofs.Statements.Linearizability.{opened-consistent, opened-keeps}
 
 -- the own state of a process is marked
 abbrev Marked : Local → Type 0
@@ -147,19 +146,13 @@ entry-marked {c} I (Outcome.asked j p) H = λ i. put-marked c (I .sizes) j (omeg
 entry-marked {c} I (Outcome.stepped j x p b l) H = step-marked I j p H
 entry-marked {c} I (Outcome.shown v x) H = H
 
-all-marked : (o : Card) (m : Observation) (es : List Entry) → Consistent o m → AllMarked (m .card) → AllMarked (observeAll o m es .card)
-unfolding observe observeAll
-all-marked o m [] O H = H
-all-marked o m (e ∷ es) O H =
-    all-marked o (observe o m e) es (entry-kept o m O e) (entry-marked (O .inv) (outcome (m .card) e) H)
-
 -- over every text and every list of entries the word of each process is the set of the variables that its dictionary notes
 pub noted-sets :
     (t : List ℕ) (es : List Entry) (i : ℕ) →
     Marks (localAt (run (opened t .card) es .card) i .mask) (localAt (run (opened t .card) es .card) i .dictionary)
-unfolding opened fresh observeAll
-noted-sets t es =
-    all-marked (opened t .card) (opening (opened t .card)) es (opened-consistent t [])
+unfolding opened fresh observe
+noted-sets t =
+    opened-keeps t (λ m. AllMarked (m .card)) (λ m O e. entry-marked (O .inv) (outcome (m .card) e))
     (λ i. rw (getD-replicate-same 8 i empty, getD-replicate-same {A = ℕ} 8 i 0) marks-empty)
 
 -- .. and the report of every accepted step tells it

@@ -1,15 +1,15 @@
 -- Every list of entries keeps the invariant of waiting, from the opened card on.
 use Prim.Native.Nat.{ℕ}
 use mathlib.Core.Path.{sym, subst}
-use mathlib.Core.List.{List, [], _∷_}
+use mathlib.Core.List.{List}
 use Rattle.construction.specs.Types.{Card, Answered, Contents}
 use Rattle.construction.specs.Parts.{contentsOf}
 use Rattle.construction.specs.Opening.{fresh, readCard, opened}
-use Rattle.construction.specs.History.{Entry, act, Observation, observe, observeAll, opening, run}
+use Rattle.construction.specs.History.{Entry, act, Observation, observe, run}
 use Rattle.construction.proofs.Observing.Outcomes.{Outcome, outcome}
-use Rattle.construction.proofs.Observing.Consistency.{Consistent, entry-kept}
+use Rattle.construction.proofs.Observing.Consistency.{Consistent}
 use Rattle.construction.proofs.Waiting.Cards.{AllWait, wait-step, wait-call, wait-exit, wait-fresh}
-use Rattle.construction.proofs.Statements.Linearizability.{opened-consistent}
+use Rattle.construction.proofs.Statements.Linearizability.{opened-keeps}
 
 -- one entry, at a moment that has the invariant of safety
 module _ (o : Card) (m : Observation) (O : Consistent o m) (W : AllWait (contentsOf o) (m .card)) where
@@ -32,12 +32,7 @@ module _ (o : Card) (m : Observation) (O : Consistent o m) (W : AllWait (content
   entry-waits : (e : Entry) → AllWait (contentsOf o) (act c e .card)
   entry-waits e = subst (λ (x : Contents). AllWait x (act c e .card)) (O .text) (by-outcome (outcome c e))
 
-all-wait : (o : Card) (m : Observation) (es : List Entry) → Consistent o m → AllWait (contentsOf o) (m .card) → AllWait (contentsOf o) (observeAll o m es .card)
-unfolding observeAll observe
-all-wait o m [] O W = W
-all-wait o m (e ∷ es) O W = all-wait o (observe o m e) es (entry-kept o m O e) (entry-waits o m O W e)
-
 pub opened-waits : (t : List ℕ) (es : List Entry) → AllWait (contentsOf (opened t .card)) (run (opened t .card) es .card)
-unfolding opened fresh observeAll
-opened-waits t es =
-    all-wait (opened t .card) (opening (opened t .card)) es (opened-consistent t []) (wait-fresh (readCard t .contents))
+unfolding opened fresh observe
+opened-waits t =
+    opened-keeps t (λ m. AllWait (contentsOf (opened t .card)) (m .card)) (λ m O e W. entry-waits (opened t .card) m O W e) (wait-fresh (readCard t .contents))

@@ -7,13 +7,15 @@ use mathlib.Core.List.{List, [], _∷_}
 use native.Mathlib.Omega.{arith}
 use lib.ListN.{length}
 use Rattle.construction.specs.Types.{Card}
-use Rattle.construction.specs.History.{Entry, act, Invocation, Finish, Event, History, hasCalled, latest, latestCall, finishing, withFinish, withFinishes, withEntry, Observation, opening, observe, observeAll, run}
+use Rattle.construction.specs.Opening.{opened}
+use Rattle.construction.specs.History.{Entry, act, Invocation, Finish, Event, History, hasCalled, latest, latestCall, finishing, withFinish, withFinishes, withEntry, Observation, observe, run}
 use Rattle.construction.specs.Linearizability.{FinishesAtMostOne}
-use Rattle.construction.specs.Allocation.{wordsAfter, operationAt, startWords, performedAs, performedAll}
+use Rattle.construction.specs.Allocation.{wordsAfter, operationAt, startWords, performedAs, performedAll, performed}
 use Rattle.construction.proofs.Observing.Histories.{on-equal, chosen, passed, latest-below}
-use Rattle.construction.proofs.Observing.Consistency.{Consistent, entry-kept, finishes-one}
+use Rattle.construction.proofs.Observing.Consistency.{finishes-one}
 use Rattle.construction.proofs.Allocating.Hands.{AllPossible}
 use Rattle.construction.proofs.Allocating.Runs.{words-append, words-length, possible-append, in-words, in-possible}
+use Rattle.construction.proofs.Statements.Linearizability.{opened-keeps}
 
 -- the operation with the number of a process's latest call is that call
 operation-latest : (xs : List Invocation) (i : ℕ) → hasCalled xs i ≡ true → operationAt xs (latest xs i) ≡ latestCall xs i
@@ -87,18 +89,14 @@ unfolding withFinishes
 tied-finishes o gate m e (inl z) T = rw z T
 tied-finishes o gate m e (inr F) T = rw (F .only) (tied-finish o gate (F .process) (m .history) (F .underWay .called) T)
 
-tied-all : (o : Card) (m : Observation) (es : List Entry) → Consistent o m → Tied o (m .history) → Tied o (observeAll o m es .history)
-unfolding observe observeAll
-tied-all o m [] O T = T
-tied-all o m (e ∷ es) O T =
-    tied-all o (observe o m e) es (entry-kept o m O e)
-    (tied-entry o _ e _ (tied-finishes o (m .card .gate .seq) m e (finishes-one o m O e) T))
-
 -- from the opened card on
-pub tied : (o : Card) (es : List Entry) → Consistent o (opening o) →
-    wordsAfter (startWords o) (performedAll o (run o es .history .operations) (run o es .history .order)) ≡ run o es .history .words
-unfolding performedAll wordsAfter
-tied o es O = tied-all o (opening o) es O (record { listed = tt; words = refl }) .words
+pub tied :
+    (t : List ℕ) (es : List Entry) →
+    wordsAfter (startWords (opened t .card)) (performed (opened t .card) es) ≡ run (opened t .card) es .history .words
+unfolding observe performedAll wordsAfter
+tied t es =
+    opened-keeps t (λ m. Tied (opened t .card) (m .history))
+    (λ m O e T. tied-entry _ _ e _ (tied-finishes _ (m .card .gate .seq) m e (finishes-one _ m O e) T)) (record { listed = tt; words = refl }) es .words
 
 -- each action is one that the codes can make there
 pub all-possible :

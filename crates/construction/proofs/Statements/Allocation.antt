@@ -5,7 +5,7 @@ use mathlib.Core.List.{List, [], _∷_, _++_, append-assoc}
 use Rattle.construction.specs.Opening.{opened}
 use Rattle.construction.specs.History.{Entry, observeAll, run}
 use Rattle.construction.specs.Allocation.{Action, Performed, wordsAfter, startWords, performed, OnlyByCodes, OnlyFromHands, InHands, Disciplined, Allocating}
-use Rattle.construction.proofs.Statements.Linearizability.{linearizability, opened-consistent, bench-words}
+use Rattle.construction.proofs.Statements.Linearizability.{linearizability, bench-words}
 use Rattle.construction.proofs.Allocating.Hands.{AllPossible, kept-actions, kept-hands}
 use Rattle.construction.proofs.Allocating.Runs.{possible-earlier, codes-earlier, hands-earlier}
 use Rattle.construction.proofs.Allocating.Histories.{tied, all-possible}
@@ -29,8 +29,7 @@ module _ (t : List ℕ) (es : List Entry) (D : Disciplined (opened t .card) es) 
       (hands-earlier later earlier (subst OnlyFromHands e (D .gives))))
 
   same : wordsAfter start (performed (opened t .card) es) ≡ run (opened t .card) es .history .words
-  unfolding observeAll
-  same = tied (opened t .card) es (opened-consistent t [])
+  same = tied t es
 
   pub allocation : Allocating (opened t .card) es
   allocation =

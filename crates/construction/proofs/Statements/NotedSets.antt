@@ -89,11 +89,12 @@ module _ {c : Card} {w : World} (I : CardInvariant c w) (j : ℕ) where
   noting-at P14 exit q = tt
   noting-at P16 exit q = tt
   noting-at H21 exit q =
+      let needs = q .2 in
       record {
-        small = omega (arith, q .2 .inside, I .good .fits .narrow);
-        new = needing-absent _ _ _ _ _ _ (q .2);
-        spare = q .2 .spare;
-        room = q .2 .core .room .array;
+        small = omega (arith, needs .inside, I .good .fits .narrow);
+        new = needing-absent _ _ _ _ _ _ needs;
+        spare = needs .spare;
+        room = needs .core .room .array;
       }
   noting-at H36 exit q = tt
   noting-at P19 exit q = tt

@@ -33,30 +33,23 @@ module _ (x y : Finish) (ne : x .gate ≢ y .gate) where
   either-empty : insertByNumber x (insertByNumber y []) ≡ insertByNumber y (insertByNumber x [])
   unfolding insertByNumber
   either-empty =
-      ⊎-elim (λ h. behind x y [] h ∙ sym (ahead y x [] (omega arith))) (λ h. ahead x y [] h ∙ sym (behind y x [] (omega arith)))
+      ⊎-elim (λ h. cc (behind x y [] h, ahead y x [] (omega arith))) (λ h. cc (ahead x y [] h, behind y x [] (omega arith)))
       (lower-or-not (x .gate) (y .gate))
-
-  both : (z : Finish) (l : List Finish) → z .gate ≤ x .gate → z .gate ≤ y .gate → insertByNumber x (insertByNumber y (z ∷ l)) ≡ insertByNumber y (insertByNumber x (z ∷ l))
-  both z l p q =
-      rw (ahead y z l q, ahead x z l p)
-      (⊎-elim (λ h. behind x y (z ∷ l) h ∙ (ap (λ (k : List Finish). y ∷ k) (ahead x z l p) ∙ sym (ahead y x (z ∷ l) (omega arith))))
-      (λ h. ahead x y (z ∷ l) h ∙ sym (behind y x (z ∷ l) (omega arith) ∙ ap (λ (k : List Finish). x ∷ k) (ahead y z l q)))
-      (lower-or-not (x .gate) (y .gate)))
 
   either : (l : List Finish) → insertByNumber x (insertByNumber y l) ≡ insertByNumber y (insertByNumber x l)
   either [] = either-empty
   either (z ∷ l) =
       ⊎-elim
       (λ p. ⊎-elim
-      (λ q. ap (insertByNumber x) (behind y z l q) ∙ (behind x z (insertByNumber y l) p ∙ (ap (λ (k : List Finish). z ∷ k) (either l)
-      ∙ sym (ap (insertByNumber y) (behind x z l p) ∙ behind y z (insertByNumber x l) q))))
-      (λ q. ap (insertByNumber x) (ahead y z l q) ∙ (behind x y (z ∷ l) (omega arith) ∙ (ap (λ (k : List Finish). y ∷ k) (behind x z l p)
-      ∙ sym (ap (insertByNumber y) (behind x z l p) ∙ ahead y z (insertByNumber x l) q))))
+      (λ q. cc (behind y z l q, behind x z (insertByNumber y l) p, either l, behind x z l p, behind y z (insertByNumber x l) q))
+      (λ q. cc (ahead y z l q, behind x y (z ∷ l) (omega arith), behind x z l p, ahead y z (insertByNumber x l) q))
       (lower-or-not (y .gate) (z .gate)))
       (λ p. ⊎-elim
-      (λ q. ap (insertByNumber x) (behind y z l q) ∙ (ahead x z (insertByNumber y l) p
-      ∙ sym (ap (insertByNumber y) (ahead x z l p) ∙ (behind y x (z ∷ l) (omega arith) ∙ ap (λ (k : List Finish). x ∷ k) (behind y z l q)))))
-      (λ q. both z l p q)
+      (λ q. cc (behind y z l q, ahead x z (insertByNumber y l) p, ahead x z l p, behind y x (z ∷ l) (omega arith)))
+      (λ q. ⊎-elim
+      (λ h. cc (ahead y z l q, ahead x z l p, behind x y (z ∷ l) h, ahead y x (z ∷ l) (omega arith)))
+      (λ h. cc (ahead y z l q, ahead x z l p, ahead x y (z ∷ l) h, behind y x (z ∷ l) (omega arith)))
+      (lower-or-not (x .gate) (y .gate)))
       (lower-or-not (y .gate) (z .gate)))
       (lower-or-not (x .gate) (z .gate))
 

@@ -34,6 +34,10 @@ apart-cons c x l h =
     (λ f. (eqb-false x c f, sym (cond-false _ true (among c l) f) ∙ h))
     (true-or-false (eqb x c))
 
+-- a number that is not in a list, by what it would mean that it were
+pub not-among : (c : ℕ) (l : List ℕ) → (among c l ≡ true → ⊥) → among c l ≡ false
+not-among c l h = ⊎-elim (λ t. absurd (h t)) (λ f. f) (true-or-false (among c l))
+
 -- the list without a number
 pub without-apart : (c : ℕ) (l : List ℕ) → among c (without c l) ≡ false
 unfolding among without
@@ -62,10 +66,7 @@ unfolding without
 without-repeats c [] q = tt
 without-repeats c (x ∷ l) q =
     on-test NoRepeats (eqb x c) (λ _. without-repeats c l (q .1))
-    (λ _. (
-      ⊎-elim (λ t. absurd (true-false _ (without-among x c l t) (q .0))) (λ f. f) (true-or-false (among x (without c l))),
-      without-repeats c l (q .1),
-    ))
+    (λ _. (not-among x (without c l) (λ t. true-false _ (without-among x c l t) (q .0)), without-repeats c l (q .1)))
 
 -- without a number a list that has no repeats loses one at most
 without-length : (c : ℕ) (l : List ℕ) → NoRepeats l → length l ≤ suc (length (without c l))
@@ -150,7 +151,7 @@ long-linked words z r = chain-ends (length words) words (getD words 0 0) (few (l
     inside c h = cell-inside (length words) c (chain-cells (length words) words (getD words 0 0) c h)
 
     apart : among 0 (chain words) ≡ false
-    apart = ⊎-elim (λ t. absurd (inside 0 t .0 refl)) (λ f. f) (true-or-false (among 0 (chain words)))
+    apart = not-among 0 (chain words) (λ t. inside 0 t .0 refl)
 
     below : (c : ℕ) → among c (0 ∷ chain words) ≡ true → c < length words
     below c h = ⊎-elim (λ (e : 0 ≡ c). omega arith) (λ k. inside c k .1) (among-cons c 0 (chain words) h)

@@ -13,15 +13,11 @@ use Rattle.construction.specs.Instructions.{isCell}
 use Rattle.construction.specs.Allocation.{among, without, NoRepeats, Action, Performed, after, wordsAfter, chain, inHand, hand, givenBackBy, givenBack}
 use Rattle.construction.specs.Allocation.{Possible, ChainWithoutRepeats, Outside, TouchesOutside, OnlyByCodes, GivesOwn, OnlyFromHands, InHands}
 use Rattle.construction.proofs.Basics.{true-or-false, true-false, eqb-refl, clash}
-use Rattle.construction.proofs.Allocating.Chains.{among-cons, apart-cons, without-apart, without-none, without-among, cell-inside, Linked, linked-cells, linked-whole, chain-linked, linked-set}
+use Rattle.construction.proofs.Allocating.Chains.{not-among, among-cons, apart-cons, without-apart, without-none, without-among, cell-inside, Linked, linked-cells, linked-whole, chain-linked, linked-set}
 
 cond-same {ℓ} : {A : Type ℓ} (b : Bool) (x : A) → cond b x x ≡ x
 cond-same true x = refl
 cond-same false x = refl
-
--- a number that is not in a list, by what it would mean that it were
-not-among : (c : ℕ) (l : List ℕ) → (among c l ≡ true → ⊥) → among c l ≡ false
-not-among c l h = ⊎-elim (λ t. absurd (h t)) (λ f. f) (true-or-false (among c l))
 
 apart-front : (c : ℕ) (l m : List ℕ) → among c (l ++ m) ≡ false → among c l ≡ false
 unfolding among

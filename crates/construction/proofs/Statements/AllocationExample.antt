@@ -4,11 +4,10 @@ use Prim.Native.Nat.{ℕ}
 use mathlib.Core.Path.{_≡_, refl}
 use mathlib.Core.Bool.{true}
 use mathlib.Core.List.{List, [], _∷_, _++_}
-use lib.ListN.{replicate}
 use Rattle.construction.specs.Types.{Card}
 use Rattle.construction.specs.Opening.{opened}
 use Rattle.construction.specs.Answers.{bytes}
-use Rattle.construction.specs.Examples.{one}
+use Rattle.construction.specs.Examples.{one, steps}
 use Rattle.construction.specs.History.{Entry}
 use Rattle.construction.specs.Allocation.{among, without, Action, Performed, wordsAfter, chainFrom, chain, hand, givenBack, performedFrom, operationAt, performedAll, startWords, performed}
 use Rattle.construction.specs.Allocation.{ChainWithoutRepeats, OnlyByCodes, OnlyFromHands, Disciplined, Allocating}
@@ -27,9 +26,6 @@ gives i c = Entry.Call i 1 (one c)
 
 abbrev stores : ℕ → ℕ → Entry
 stores i x = Entry.Call i 2 (one x)
-
-abbrev steps : ℕ → ℕ → List Entry
-steps i n = replicate n (Entry.Step i)
 
 abbrev by : ℕ → Action → Performed
 by i a = record { process = i; action = a }

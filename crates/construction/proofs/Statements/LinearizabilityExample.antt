@@ -4,13 +4,13 @@ use mathlib.Core.Path.{_≡_, refl}
 use mathlib.Core.Bool.{true}
 use mathlib.Core.List.{List, [], _∷_, _++_}
 use native.Mathlib.Omega.{arith}
-use lib.ListN.{length, replicate}
+use lib.ListN.{length}
 use Rattle.construction.specs.Types.{Card}
 use Rattle.construction.specs.Opening.{opened}
 use Rattle.construction.specs.Cells.{faultYield}
 use Rattle.construction.specs.History.{Entry, Finish, Return, run}
 use Rattle.construction.specs.Log.{logOf, insertByNumber, sorted}
-use Rattle.construction.specs.Examples.{one, plain, cardK, twoProcesses, unwritten}
+use Rattle.construction.specs.Examples.{one, plain, call, steps, cardK, twoProcesses, unwritten}
 use Rattle.construction.proofs.Statements.Linearizability.{linearizability}
 use Rattle.construction.proofs.Statements.Computing.{observing}
 use Rattle.construction.specs.Linearizability.{Linearizable, hasReturned, rank}
@@ -24,12 +24,12 @@ abbrev single : Card
 single = opened cardK .card
 
 abbrev first : List Entry
-first = Entry.Call 0 0 (one 9) ∷ replicate 14 (Entry.Step 0)
+first = call 0 (one 9) ++ steps 0 14
 
 abbrev second : List Entry
-second = Entry.Call 0 0 (one 5) ∷ replicate 14 (Entry.Step 0)
+second = call 0 (one 5) ++ steps 0 14
 
--- the lines of the single one's log
+-- the operations of the single one, as they stand in its order and in its log
 abbrev former : Finish
 former = record { operation = 0; gate = 1; yields = plain (one 7) }
 
@@ -60,9 +60,7 @@ pub record Computed : Type 0 where
       }
   pub returned-first : hasReturned 0 (run single first .history .returns) ≡ true
   pub called-first : length (run single first .history .operations) ≡ 1
-  pub order-both :
-      run single (first ++ second) .history .order
-      ≡ record { operation = 1; gate = 2; yields = plain (one 9) } ∷ record { operation = 0; gate = 1; yields = plain (one 7) } ∷ []
+  pub order-both : run single (first ++ second) .history .order ≡ latter ∷ former ∷ []
   pub log-both : logOf (run single (first ++ second) .history .returns) ≡ latter ∷ former ∷ []
   pub sorted-both : sorted (former ∷ latter ∷ []) ≡ latter ∷ former ∷ []
 

@@ -1,47 +1,44 @@
-use Rattle.session.specs.Commands.{command}
+use mathlib.Core.Path.{_≡_}
+use Rattle.session.specs.declared.Command.{Command}
+use Rattle.session.specs.Commands.{malformed, callAt, numbered, command}
 use borrow.Author.Needs.{needs}
 use Rattle.session.proofs.commands.command_at.Statement.{statement}
 use Rattle.session.proofs.commands.command_at.Tie as tie
 
-returns : tie.Need-returns
+-- the command by the first of the words that stands there; `e₁` to `e₄` are the places where a word did not
+is-call : (c : tie.Then1) → let a = c .before .before .before .before .args in command (a .calls .now) (a .at) ≡ callAt (a .calls .now) (a .at)
 unfolding command
-returns c = rw (← (c .before .before .has-word .ensures), (c .before .if1 .taken)) (c .call-at .ensures)
+is-call c = rw (← c .before .has-word .ensures, c .if1 .taken)
 
-returns-2 : tie.Need-returns-2
+is-exit : (c : tie.Then2) → let a = c .before .before .before .before .before .before .before .args in command (a .calls .now) (a .at) ≡ numbered (a .calls .now) (a .at) 5 Command.Exit
 unfolding command
-returns-2 c = rw (← (c .before .before .before .before .before .before .before .before .has-word .ensures), (c .before .before .before .before .before .before .before .if1 .left), ← (c .before .before .before .before .before .has-word2 .ensures), (c .before .before .before .before .if2 .taken), ← (c .before .before .before .word-at .ensures), (c .before .enum-told .given .1)) (c .malformed-at .ensures)
+is-exit c =
+    let e₁ = c .before .before .before in
+    rw (← e₁ .before .has-word .ensures, e₁ .if1 .left, ← c .before .has-word2 .ensures, c .if2 .taken)
 
-returns-3 : tie.Need-returns-3
+is-step : (c : tie.Then3) → let a = c .before .before .before .before .before .before .before .before .before .before .args in command (a .calls .now) (a .at) ≡ numbered (a .calls .now) (a .at) 5 Command.Step
 unfolding command
-returns-3 c = rw (← (c .before .before .before .before .before .before .before .before .has-word .ensures), (c .before .before .before .before .before .before .before .if1 .left), ← (c .before .before .before .before .before .has-word2 .ensures), (c .before .before .before .before .if2 .taken), ← (c .before .before .before .word-at .ensures), (c .before .value .given .1))
+is-step c =
+    let e₂ = c .before .before .before in let e₁ = e₂ .before .before .before in
+    rw (← e₁ .before .has-word .ensures, e₁ .if1 .left, ← e₂ .before .has-word2 .ensures, e₂ .if2 .left, ← c .before .has-word3 .ensures, c .if3 .taken)
 
-returns-4 : tie.Need-returns-4
+is-read : (c : tie.Then4) → let a = c .before .before .before .before .before .before .before .before .before .before .before .before .before .args in command (a .calls .now) (a .at) ≡ numbered (a .calls .now) (a .at) 5 Command.Read
 unfolding command
-returns-4 c = rw (← (c .before .before .before .before .before .before .before .before .before .before .before .has-word .ensures), (c .before .before .before .before .before .before .before .before .before .before .if1 .left), ← (c .before .before .before .before .before .before .before .before .has-word2 .ensures), (c .before .before .before .before .before .before .before .if2 .left), ← (c .before .before .before .before .before .has-word3 .ensures), (c .before .before .before .before .if3 .taken), ← (c .before .before .before .word-at2 .ensures), (c .before .enum-told2 .given .1)) (c .malformed-at2 .ensures)
+is-read c =
+    let e₃ = c .before .before .before in let e₂ = e₃ .before .before .before in let e₁ = e₂ .before .before .before in
+    rw (← e₁ .before .has-word .ensures, e₁ .if1 .left, ← e₂ .before .has-word2 .ensures, e₂ .if2 .left, ← e₃ .before .has-word3 .ensures, e₃ .if3 .left, ← c .before .has-word4 .ensures, c .if4 .taken)
 
-returns-5 : tie.Need-returns-5
+is-trace : (c : tie.Then5) → let a = c .before .before .before .before .before .before .before .before .before .before .before .before .before .before .before .before .args in command (a .calls .now) (a .at) ≡ numbered (a .calls .now) (a .at) 6 Command.Trace
 unfolding command
-returns-5 c = rw (← (c .before .before .before .before .before .before .before .before .before .before .before .has-word .ensures), (c .before .before .before .before .before .before .before .before .before .before .if1 .left), ← (c .before .before .before .before .before .before .before .before .has-word2 .ensures), (c .before .before .before .before .before .before .before .if2 .left), ← (c .before .before .before .before .before .has-word3 .ensures), (c .before .before .before .before .if3 .taken), ← (c .before .before .before .word-at2 .ensures), (c .before .value2 .given .1))
+is-trace c =
+    let e₄ = c .before .before .before in let e₃ = e₄ .before .before .before in let e₂ = e₃ .before .before .before in let e₁ = e₂ .before .before .before in
+    rw (← e₁ .before .has-word .ensures, e₁ .if1 .left, ← e₂ .before .has-word2 .ensures, e₂ .if2 .left, ← e₃ .before .has-word3 .ensures, e₃ .if3 .left, ← e₄ .before .has-word4 .ensures, e₄ .if4 .left, ← c .before .has-word5 .ensures, c .if5 .taken)
 
-returns-6 : tie.Need-returns-6
+is-none : (c : tie.Else5) → let a = c .before .before .before .before .before .before .before .before .before .before .before .before .before .before .before .before .args in command (a .calls .now) (a .at) ≡ malformed (a .calls .now) (a .at)
 unfolding command
-returns-6 c = rw (← (c .before .before .before .before .before .before .before .before .before .before .before .before .before .before .has-word .ensures), (c .before .before .before .before .before .before .before .before .before .before .before .before .before .if1 .left), ← (c .before .before .before .before .before .before .before .before .before .before .before .has-word2 .ensures), (c .before .before .before .before .before .before .before .before .before .before .if2 .left), ← (c .before .before .before .before .before .before .before .before .has-word3 .ensures), (c .before .before .before .before .before .before .before .if3 .left), ← (c .before .before .before .before .before .has-word4 .ensures), (c .before .before .before .before .if4 .taken), ← (c .before .before .before .word-at3 .ensures), (c .before .enum-told3 .given .1)) (c .malformed-at3 .ensures)
-
-returns-7 : tie.Need-returns-7
-unfolding command
-returns-7 c = rw (← (c .before .before .before .before .before .before .before .before .before .before .before .before .before .before .has-word .ensures), (c .before .before .before .before .before .before .before .before .before .before .before .before .before .if1 .left), ← (c .before .before .before .before .before .before .before .before .before .before .before .has-word2 .ensures), (c .before .before .before .before .before .before .before .before .before .before .if2 .left), ← (c .before .before .before .before .before .before .before .before .has-word3 .ensures), (c .before .before .before .before .before .before .before .if3 .left), ← (c .before .before .before .before .before .has-word4 .ensures), (c .before .before .before .before .if4 .taken), ← (c .before .before .before .word-at3 .ensures), (c .before .value3 .given .1))
-
-returns-8 : tie.Need-returns-8
-unfolding command
-returns-8 c = rw (← (c .before .before .before .before .before .before .before .before .before .before .before .before .before .before .before .before .before .has-word .ensures), (c .before .before .before .before .before .before .before .before .before .before .before .before .before .before .before .before .if1 .left), ← (c .before .before .before .before .before .before .before .before .before .before .before .before .before .before .has-word2 .ensures), (c .before .before .before .before .before .before .before .before .before .before .before .before .before .if2 .left), ← (c .before .before .before .before .before .before .before .before .before .before .before .has-word3 .ensures), (c .before .before .before .before .before .before .before .before .before .before .if3 .left), ← (c .before .before .before .before .before .before .before .before .has-word4 .ensures), (c .before .before .before .before .before .before .before .if4 .left), ← (c .before .before .before .before .before .has-word5 .ensures), (c .before .before .before .before .if5 .taken), ← (c .before .before .before .word-at4 .ensures), (c .before .enum-told4 .given .1)) (c .malformed-at4 .ensures)
-
-returns-9 : tie.Need-returns-9
-unfolding command
-returns-9 c = rw (← (c .before .before .before .before .before .before .before .before .before .before .before .before .before .before .before .before .before .has-word .ensures), (c .before .before .before .before .before .before .before .before .before .before .before .before .before .before .before .before .if1 .left), ← (c .before .before .before .before .before .before .before .before .before .before .before .before .before .before .has-word2 .ensures), (c .before .before .before .before .before .before .before .before .before .before .before .before .before .if2 .left), ← (c .before .before .before .before .before .before .before .before .before .before .before .has-word3 .ensures), (c .before .before .before .before .before .before .before .before .before .before .if3 .left), ← (c .before .before .before .before .before .before .before .before .has-word4 .ensures), (c .before .before .before .before .before .before .before .if4 .left), ← (c .before .before .before .before .before .has-word5 .ensures), (c .before .before .before .before .if5 .taken), ← (c .before .before .before .word-at4 .ensures), (c .before .value4 .given .1))
-
-returns-10 : tie.Need-returns-10
-unfolding command
-returns-10 c = rw (← (c .before .before .before .before .before .before .before .before .before .before .before .before .before .before .has-word .ensures), (c .before .before .before .before .before .before .before .before .before .before .before .before .before .if1 .left), ← (c .before .before .before .before .before .before .before .before .before .before .before .has-word2 .ensures), (c .before .before .before .before .before .before .before .before .before .before .if2 .left), ← (c .before .before .before .before .before .before .before .before .has-word3 .ensures), (c .before .before .before .before .before .before .before .if3 .left), ← (c .before .before .before .before .before .has-word4 .ensures), (c .before .before .before .before .if4 .left), ← (c .before .before .has-word5 .ensures), (c .before .if5 .left)) (c .malformed-at5 .ensures)
+is-none c =
+    let e₄ = c .before .before .before in let e₃ = e₄ .before .before .before in let e₂ = e₃ .before .before .before in let e₁ = e₂ .before .before .before in
+    rw (← e₁ .before .has-word .ensures, e₁ .if1 .left, ← e₂ .before .has-word2 .ensures, e₂ .if2 .left, ← e₃ .before .has-word3 .ensures, e₃ .if3 .left, ← e₄ .before .has-word4 .ensures, e₄ .if4 .left, ← c .before .has-word5 .ensures, c .if5 .left)
 
 pub command-at-spec : {M : Type 1} → statement M
 command-at-spec =
@@ -50,7 +47,7 @@ command-at-spec =
     (λ c. search needs)
     (λ c κs. search needs)
     (λ c κs. search needs)
-    returns
+    (λ c. rw (is-call (c .before)) (c .call-at .ensures))
     (λ c. search needs)
     (λ c κs. search needs)
     (λ c. search needs)
@@ -58,8 +55,8 @@ command-at-spec =
     (λ c. search needs)
     (λ c. search needs)
     (λ c κs. search needs)
-    returns-2
-    returns-3
+    (λ c. rw (is-exit (c .before .before .before .before), ← c .before .before .before .word-at .ensures, c .before .enum-told .given .1) (c .malformed-at .ensures))
+    (λ c. rw (is-exit (c .before .before .before .before), ← c .before .before .before .word-at .ensures, c .before .value .given .1))
     (λ c. search needs)
     (λ c κs. search needs)
     (λ c. search needs)
@@ -67,8 +64,8 @@ command-at-spec =
     (λ c. search needs)
     (λ c. search needs)
     (λ c κs. search needs)
-    returns-4
-    returns-5
+    (λ c. rw (is-step (c .before .before .before .before), ← c .before .before .before .word-at2 .ensures, c .before .enum-told2 .given .1) (c .malformed-at2 .ensures))
+    (λ c. rw (is-step (c .before .before .before .before), ← c .before .before .before .word-at2 .ensures, c .before .value2 .given .1))
     (λ c. search needs)
     (λ c κs. search needs)
     (λ c. search needs)
@@ -76,8 +73,8 @@ command-at-spec =
     (λ c. search needs)
     (λ c. search needs)
     (λ c κs. search needs)
-    returns-6
-    returns-7
+    (λ c. rw (is-read (c .before .before .before .before), ← c .before .before .before .word-at3 .ensures, c .before .enum-told3 .given .1) (c .malformed-at3 .ensures))
+    (λ c. rw (is-read (c .before .before .before .before), ← c .before .before .before .word-at3 .ensures, c .before .value3 .given .1))
     (λ c. search needs)
     (λ c κs. search needs)
     (λ c. search needs)
@@ -85,7 +82,7 @@ command-at-spec =
     (λ c. search needs)
     (λ c. search needs)
     (λ c κs. search needs)
-    returns-8
-    returns-9
+    (λ c. rw (is-trace (c .before .before .before .before), ← c .before .before .before .word-at4 .ensures, c .before .enum-told4 .given .1) (c .malformed-at4 .ensures))
+    (λ c. rw (is-trace (c .before .before .before .before), ← c .before .before .before .word-at4 .ensures, c .before .value4 .given .1))
     (λ c κs. search needs)
-    returns-10)
+    (λ c. rw (is-none (c .before)) (c .malformed-at5 .ensures)))

@@ -15,9 +15,6 @@ Inv-loop calls at command i₀ i = lineEnd at (drop at calls) ≡ lineEnd i (dro
 abbrev μ-loop : tie.MeasureT-loop
 μ-loop calls at command i₀ i = length calls - i
 
-loop-holds : tie.Need-loop-holds Inv-loop μ-loop
-loop-holds c = refl
-
 returns : tie.Need-returns Inv-loop μ-loop
 unfolding lineEnd
 returns c = rw (c .before .before .before .loop .inv, drop-cons {A = ℕ} _ _ 0 (c .before .before .loop-test .taken), eq-eqb _ _ (c .if1 .taken), add-one)
@@ -26,21 +23,18 @@ loop-again : tie.Need-loop-again Inv-loop μ-loop
 unfolding lineEnd
 loop-again c = rw (c .before .before .before .loop .inv, drop-cons {A = ℕ} _ _ 0 (c .before .before .loop-test .taken), ne-eqb _ _ (c .if1 .left), add-one)
 
-returns-2 : tie.Need-returns-2 Inv-loop μ-loop
-unfolding lineEnd
-returns-2 c = rw (c .before .loop .inv, drop-of-length-le _ (c .loop-test .left))
-
 pub malformed-at-spec : {M : Type 1} → statement M
+unfolding lineEnd
 malformed-at-spec =
     tie.close
     (tie.spec
     Inv-loop
     μ-loop
-    loop-holds
+    (λ c. refl)
     (λ c. search needs)
     (λ c. search needs)
     returns
     (λ c. search needs)
     (λ c. search needs)
     loop-again
-    returns-2)
+    (λ c. rw (c .before .loop .inv, drop-of-length-le _ (c .loop-test .left))))

@@ -4,19 +4,8 @@ use borrow.Author.Needs.{needs}
 use Rattle.session.proofs.commands.word_at.Statement.{statement}
 use Rattle.session.proofs.commands.word_at.Tie as tie
 
-returns : tie.Need-returns
-unfolding word
-returns c = rw (← c .before .before .field-at .ensures, c .enum-told .given .1)
-
-returns-2 : tie.Need-returns-2
-unfolding word
-returns-2 c = rw (← c .before .before .before .before .field-at .ensures, c .before .before .value .given .1, lt-ltb _ _ (c .if1 .taken))
-
-returns-3 : tie.Need-returns-3
-unfolding word
-returns-3 c = rw (← c .before .before .before .before .field-at .ensures, c .before .before .value .given .1, le-ltb _ _ (c .if1 .left))
-
 pub word-at-spec : {M : Type 1} → statement M
+unfolding word
 word-at-spec =
     tie.close
-    (tie.spec (λ c κs. search needs) (λ c. search needs) (λ c. search needs) returns (λ c. search needs) returns-2 returns-3)
+    (tie.spec (λ c κs. search needs) (λ c. search needs) (λ c. search needs) (λ c. rw (← c .before .before .field-at .ensures, c .enum-told .given .1)) (λ c. search needs) (λ c. rw (← c .before .before .before .before .field-at .ensures, c .before .before .value .given .1, lt-ltb _ _ (c .if1 .taken))) (λ c. rw (← c .before .before .before .before .field-at .ensures, c .before .before .value .given .1, le-ltb _ _ (c .if1 .left))))

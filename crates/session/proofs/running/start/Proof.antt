@@ -8,13 +8,20 @@ use Rattle.session.proofs.running.start.Statement.{statement}
 use Rattle.session.proofs.running.start.Tie as tie
 
 returns : tie.Need-returns
-returns c = laws.starts (c .before .before .before .before .before .before .before .before .before .«open» .ensures) (c .before .before .before .put-card-refusal .ensures) (c .begun .ensures) (rw (c .before .before .before .before .before .before .verdict .given .1))
+returns c =
+    let put = c .before .before .before in
+    laws.starts (put .before .before .before .before .before .before .«open» .ensures) (put .put-card-refusal .ensures) (c .begun .ensures) (rw (put .before .before .before .verdict .given .1))
 
 returns-2 : tie.Need-returns-2
-returns-2 c = laws.starts (c .before .before .before .before .before .before .before .before .before .«open» .ensures) (c .before .before .before .put-calls-refusal .ensures) (c .begun2 .ensures) (rw (c .before .before .before .before .before .before .enum-told .given .1, lt-ltb _ _ (c .before .before .before .before .before .if1 .taken)))
+returns-2 c =
+    let put = c .before .before .before in
+    laws.starts (put .before .before .before .before .before .before .«open» .ensures) (put .put-calls-refusal .ensures) (c .begun2 .ensures)
+    (rw (put .before .before .before .enum-told .given .1, lt-ltb _ _ (put .before .before .if1 .taken)))
 
 returns-3 : tie.Need-returns-3
-returns-3 c = laws.starts {x = []} (c .before .before .before .before .before .«open» .ensures) (record { place = refl; bytes = refl }, omega arith) (c .begun3 .ensures) (rw (c .before .before .enum-told .given .1, le-ltb _ _ (c .before .if1 .left)))
+returns-3 c =
+    laws.starts {x = []} (c .before .before .before .before .before .«open» .ensures) (record { place = refl; bytes = refl }, omega arith) (c .begun3 .ensures)
+    (rw (c .before .before .enum-told .given .1, le-ltb _ _ (c .before .if1 .left)))
 
 pub start-spec : {M : Type 1} → statement M
 start-spec =

@@ -4,9 +4,6 @@ use borrow.Author.Needs.{needs}
 use Rattle.lent_demo.proofs.write_answer.Statement.{statement}
 use Rattle.lent_demo.proofs.write_answer.Tie as tie
 
-slice-aggregate-write-all : tie.Need-slice-aggregate-write-all
-slice-aggregate-write-all c = simp length-take (omega arith)
-
 pub write-answer-spec : {M : Type 1} → statement M
 write-answer-spec =
     tie.close
@@ -14,6 +11,6 @@ write-answer-spec =
     (λ c. search needs)
     (λ c κs. search needs)
     (λ c. search needs)
-    slice-aggregate-write-all
+    (λ c. simp length-take (omega arith))
     (λ c κs. search needs)
     (λ c. search needs))

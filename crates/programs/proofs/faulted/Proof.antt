@@ -1,6 +1,5 @@
 use mathlib.Core.Path.{refl}
 use Rattle.construction.specs.Instructions.{faulted}
-use borrow.Author.Needs.{needs}
 use Rattle.programs.proofs.faulted.Statement.{statement}
 use Rattle.programs.proofs.faulted.Tie as tie
 

@@ -9,20 +9,6 @@ Inv-loop variable card i₀ i = i ≤ 8
 abbrev μ-loop : tie.MeasureT-loop
 μ-loop variable card i₀ i = 8 - i
 
--- src/lib.rt:138:5
--- src/lib.rt:139:5
--- src/lib.rt:140:28
--- src/lib.rt:140:28
--- src/lib.rt:141:16
--- src/lib.rt:142:13
--- src/lib.rt:139:9
--- src/lib.rt:139:5
--- src/lib.rt:139:5
--- src/lib.rt:147:22
--- src/lib.rt:147:22
--- src/lib.rt:148:9
--- src/lib.rt:136:1
--- src/lib.rt:136:1
 pub show-cells-spec : {M : Type 1} → statement M
 show-cells-spec =
     tie.close

@@ -5,14 +5,11 @@ use borrow.Author.Needs.{needs}
 use Rattle.text_cases.proofs.main.Statement.{statement}
 use Rattle.text_cases.proofs.main.Tie as tie
 
-slice-aggregate-read-full : tie.Need-slice-aggregate-read-full
-slice-aggregate-read-full c = sym (length-replicate {A = ℕ} 131072 0)
-
 pub main-spec : {M : Type 1} → statement M
 main-spec =
     tie.close
     (tie.spec
-    slice-aggregate-read-full
+    (λ c. sym (length-replicate {A = ℕ} 131072 0))
     (λ c κs. search needs)
     (λ c. search needs)
     (λ c. search needs)

@@ -4,9 +4,6 @@ use borrow.Author.Needs.{needs}
 use Rattle.text_cases.proofs.show_case.Statement.{statement}
 use Rattle.text_cases.proofs.show_case.Tie as tie
 
-slice-aggregate-write-all : tie.Need-slice-aggregate-write-all
-slice-aggregate-write-all c = simp length-take (omega arith)
-
 pub show-case-spec : {M : Type 1} → statement M
 show-case-spec =
     tie.close
@@ -14,7 +11,7 @@ show-case-spec =
     (λ c. search needs)
     (λ c κs. search needs)
     (λ c. search needs)
-    slice-aggregate-write-all
+    (λ c. simp length-take (omega arith))
     (λ c κs. search needs)
     (λ c. search needs)
     (λ c. search needs))

@@ -14,20 +14,8 @@ Inv-loop text at value₀ i₀ value i = (digits at 0 (drop at text) ≡ digits 
 abbrev μ-loop : tie.MeasureT-loop
 μ-loop text at value₀ i₀ value i = length text - i
 
-loop-holds : tie.Need-loop-holds Inv-loop μ-loop
-loop-holds c = (refl, omega arith)
-
-shared-slice-read-byte : tie.Need-shared-slice-read-byte Inv-loop μ-loop
-shared-slice-read-byte c = omega arith
-
 grown-requires : tie.Need-grown-requires Inv-loop μ-loop
 grown-requires c κs = ((c .before .before .before .before .loop .inv .1), sym (c .before .is-digit .ensures) ∙ (c .if1 .taken))
-
-add-i : tie.Need-add-i Inv-loop μ-loop
-add-i c = omega arith
-
-loop-less : tie.Need-loop-less Inv-loop μ-loop
-loop-less c = omega arith
 
 loop-again : tie.Need-loop-again Inv-loop μ-loop
 loop-again c = ((c .before .before .before .before .before .loop .inv .0) ∙ laws.digits-more _ _ _ (c .before .before .before .before .loop-test .taken) (c .before .before .is-digit .ensures) (c .before .if1 .taken) (c .grown .ensures), omega arith)
@@ -35,21 +23,18 @@ loop-again c = ((c .before .before .before .before .before .loop .inv .0) ∙ la
 returns : tie.Need-returns Inv-loop μ-loop
 returns c = sym ((c .before .before .before .before .loop .inv .0) ∙ laws.digits-stop _ _ _ (c .before .before .before .loop-test .taken) (c .before .is-digit .ensures) (c .if1 .left))
 
-returns-2 : tie.Need-returns-2 Inv-loop μ-loop
-returns-2 c = sym ((c .before .loop .inv .0) ∙ laws.digits-end _ _ _ (c .loop-test .left))
-
 pub digits-at-spec : {M : Type 1} → statement M
 digits-at-spec =
     tie.close
     (tie.spec
     Inv-loop
     μ-loop
-    loop-holds
-    shared-slice-read-byte
+    (λ c. (refl, omega arith))
+    (λ c. omega arith)
     (λ c κs. search needs)
     grown-requires
-    add-i
-    loop-less
+    (λ c. omega arith)
+    (λ c. omega arith)
     loop-again
     returns
-    returns-2)
+    (λ c. sym ((c .before .loop .inv .0) ∙ laws.digits-end _ _ _ (c .loop-test .left))))

@@ -6,9 +6,6 @@ use borrow.Author.Needs.{needs}
 use Rattle.grammar.proofs.reading.field_at.Statement.{statement}
 use Rattle.grammar.proofs.reading.field_at.Tie as tie
 
-returns : tie.Need-returns
-returns c = laws.field-malformed _ _ _ (sym (c .enum-told .given .1) ∙ (c .before .before .number-at .ensures))
-
 add-t9 : tie.Need-add-t9
 add-t9 c = let h = bytes.byte-true (c .before .before .before .before .before .before .before .args .text .now) (c .before .before .before .value .given .0 .1 .0) (c .before .before .before .before .before .before .before .args .separator) (sym (c .before .has-byte .ensures) ∙ (c .if1 .taken)) in omega arith
 
@@ -25,7 +22,7 @@ field-at-spec =
     (λ c κs. search needs)
     (λ c. search needs)
     (λ c. search needs)
-    returns
+    (λ c. laws.field-malformed _ _ _ (sym (c .enum-told .given .1) ∙ (c .before .before .number-at .ensures)))
     (λ c κs. search needs)
     add-t9
     returns-2

@@ -12,26 +12,8 @@ Inv-loop buffer₀ at word i₀ k₀ buffer i k = puts.Rest buffer₀ at word bu
 abbrev μ-loop : tie.MeasureT-loop
 μ-loop buffer₀ at word i₀ k₀ buffer i k = length word - k
 
-loop-holds : tie.Need-loop-holds Inv-loop μ-loop
-loop-holds c = (puts.rest-all _ _ _ (omega arith), omega arith)
-
-shared-slice-read-put-byte : tie.Need-shared-slice-read-put-byte Inv-loop μ-loop
-shared-slice-read-put-byte c = omega arith
-
-add-k : tie.Need-add-k Inv-loop μ-loop
-add-k c = omega arith
-
-loop-less : tie.Need-loop-less Inv-loop μ-loop
-loop-less c = omega arith
-
 loop-again : tie.Need-loop-again Inv-loop μ-loop
 loop-again c = (puts.word-turn _ _ (c .before .before .before .before .before .loop-test .taken) (c .before .before .before .before .before .before .loop .inv .0) (c .before .before .put-byte .ensures), omega arith)
-
-same-length : tie.Need-same-length Inv-loop μ-loop
-same-length c = puts.rest-length (c .before .loop .inv .0)
-
-returns : tie.Need-returns Inv-loop μ-loop
-returns c = puts.word-done _ _ (c .loop-test .left) (c .before .loop .inv .0)
 
 pub put-word-spec : {M : Type 1} → statement M
 put-word-spec =
@@ -39,11 +21,11 @@ put-word-spec =
     (tie.spec
     Inv-loop
     μ-loop
-    loop-holds
-    shared-slice-read-put-byte
+    (λ c. (puts.rest-all _ _ _ (omega arith), omega arith))
+    (λ c. omega arith)
     (λ c κs. search needs)
-    add-k
-    loop-less
+    (λ c. omega arith)
+    (λ c. omega arith)
     loop-again
-    same-length
-    returns)
+    (λ c. puts.rest-length (c .before .loop .inv .0))
+    (λ c. puts.word-done _ _ (c .loop-test .left) (c .before .loop .inv .0)))

@@ -15,23 +15,17 @@ Inv-loop buffer text told same₀ k₀ same k = (same ≡ allBelow k (agreesAt b
 abbrev μ-loop : tie.MeasureT-loop
 μ-loop buffer text told same₀ k₀ same k = length buffer - k
 
-loop-holds : tie.Need-loop-holds Inv-loop μ-loop
-loop-holds c = (laws.starts _, search needs)
-
 loop-again : tie.Need-loop-again Inv-loop μ-loop
 loop-again c = (laws.goes-on _ _ (c .before .before .before .before .before .loop .inv .0) (rw (← c .before .before .before .expected .ensures) (c .before .same-byte .ensures)) (c .both .ensures), search needs)
 
-returns : tie.Need-returns Inv-loop μ-loop
-unfolding agreesWith
-returns c = laws.ends _ _ _ (c .before .loop .inv .0) (omega arith)
-
 pub agrees-spec : {M : Type 1} → statement M
+unfolding agreesWith
 agrees-spec =
     tie.close
     (tie.spec
     Inv-loop
     μ-loop
-    loop-holds
+    (λ c. (laws.starts _, search needs))
     (λ c κs. search needs)
     (λ c. search needs)
     (λ c κs. search needs)
@@ -39,4 +33,4 @@ agrees-spec =
     (λ c. search needs)
     (λ c. search needs)
     loop-again
-    returns)
+    (λ c. laws.ends _ _ _ (c .before .loop .inv .0) (omega arith)))

@@ -5,9 +5,6 @@ use borrow.Author.Needs.{needs}
 use Rattle.text_cases.proofs.comparing.outcome.Statement.{statement}
 use Rattle.text_cases.proofs.comparing.outcome.Tie as tie
 
-slice-aggregate-write : tie.Need-slice-aggregate-write
-slice-aggregate-write c = laws.lent-length 8192 _ (search needs)
-
 slice-aggregate-agrees : tie.Need-slice-aggregate-agrees
 slice-aggregate-agrees c = laws.buffer-length 8192 (c .before .before .before .before .before .args .room) (search needs) (c .before .before .write .last .1 .0) (c .before .before .write .kept .1 .0)
 
@@ -20,7 +17,7 @@ outcome-spec =
     tie.close
     (tie.spec
     (λ c. search needs)
-    slice-aggregate-write
+    (λ c. laws.lent-length 8192 _ (search needs))
     (λ c κs. search needs)
     slice-aggregate-agrees
     (λ c κs. search needs)

@@ -1,22 +1,22 @@
 -- What each access leaves: the card that code puts together from the pieces that changed is that of an accepted step.
 use Prim.Native.Nat.{ℕ, _+_, _%_, _<_}
-use mathlib.Core.Bool.{Bool, true, false, cond}
+use mathlib.Core.Bool.{true, false, cond}
 use mathlib.Core.List.{List, []}
-use mathlib.Core.Path.{_≡_, refl, sym, _∙_}
+use mathlib.Core.Path.{_≡_}
 use native.Mathlib.Omega.{arith}
 use lib.Dec.{ltb}
 use native.Mathlib.Nat.{mod-eq-of-lt}
 use lib.ListN.{length, getD, set}
 use lib.Seq.{set-getD, getD-set-same}
 use Rattle.opening.proofs.Laws.{inside}
-use Rattle.construction.specs.declared.{Gate.Gate, Words.Words, Announcement.Announcement, Record.Record, Program.Program, Dictionary.Dictionary, Simulation.Simulation, GateAccess.GateAccess, AnnouncementAccess.AnnouncementAccess, Access.Access, Task.Task, GateAccessed.GateAccessed, AnnouncementAccessed.AnnouncementAccessed, Began.Began, Helped.Helped, Writing.Writing, Operation.Operation, Card.Card, Answer.Answer, Answered.Answered, SwappedRecord.SwappedRecord}
+use Rattle.construction.specs.declared.{Gate.Gate, Words.Words, Announcement.Announcement, Record.Record, Program.Program, Dictionary.Dictionary, Simulation.Simulation, GateAccess.GateAccess, AnnouncementAccess.AnnouncementAccess, Access.Access, Task.Task, GateAccessed.GateAccessed, AnnouncementAccessed.AnnouncementAccessed, Began.Began, Helped.Helped, Writing.Writing, Card.Card, Answer.Answer, SwappedRecord.SwappedRecord}
 use Rattle.construction.specs.declared.Place.the-variants.{P1}
 use Rattle.construction.specs.Cells.{openAnnouncement, openRecord}
-use Rattle.construction.specs.Instructions.{started, noProgram}
+use Rattle.construction.specs.Instructions.{noProgram}
 use Rattle.construction.specs.Dictionary.{empty}
-use Rattle.construction.specs.Parts.{Local, idleTask, noOperation, noGate, announcementAt, recordAt, localAt, withCells, withGate, withAnnouncement, withRecord, withOwn, withLocal, withSteps}
+use Rattle.construction.specs.Parts.{Local, idleTask, localAt, withCells, withGate, withOwn, withLocal, withSteps}
 use Rattle.construction.specs.Machine.{accessOf, accessIn, after, accessGate, accessAnnouncement, whose, holderOf, beginHelp, note, writing, write, writtenVariable, perform, advance}
-use Rattle.construction.specs.Requests.{invoked, exiting, answerOf}
+use Rattle.construction.specs.Requests.{invoked, exiting}
 use Rattle.card.specs.Judging.{stepAnswer}
 use Rattle.card.proofs.Arrays.{Rooms, found}
 use Rattle.card.proofs.Requests.{steppedAt}

@@ -8,7 +8,7 @@ use native.Mathlib.Omega.{arith}
 use lib.Dec.{ltb}
 use lib.ListN.{getD}
 use Rattle.opening.proofs.Laws.{inside}
-use Rattle.construction.specs.declared.{Announcement.Announcement, Record.Record, Dictionary.Dictionary, Access.Access, Cell.Cell, Swap.Swap, Writing.Writing, Card.Card, Refusal.Refusal, Answered.Answered, Label.Label, Report.Report, Traced.Traced, Contents.Contents}
+use Rattle.construction.specs.declared.{Announcement.Announcement, Record.Record, Access.Access, Cell.Cell, Swap.Swap, Writing.Writing, Card.Card, Refusal.Refusal, Answered.Answered, Label.Label, Report.Report, Traced.Traced, Contents.Contents}
 use Rattle.construction.specs.declared.Refusal.the-variants.{NoProcess, NotBusy, LimitReached}
 use Rattle.construction.specs.Cells.{openAnnouncement, openRecord}
 use Rattle.construction.specs.Dictionary.{empty}

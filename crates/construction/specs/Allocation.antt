@@ -1,9 +1,9 @@
 -- Cells taken and given back (document 02, order 9): what the bench's runs do to its words, the chain of free cells, the hands of the processes.
 use Prim.Native.Nat.{ℕ, zero, suc, _<_}
 use mathlib.Core.Path.{_≡_}
-use mathlib.Core.Bool.{Bool, true, false, cond, not, _&&_}
+use mathlib.Core.Bool.{Bool, true, false, cond}
 use mathlib.Core.List.{List, [], _∷_, _++_}
-use lib.Dec.{eqb, ltb}
+use lib.Dec.{eqb}
 use lib.ListN.{length, getD, set, take, drop}
 use Rattle.construction.specs.Types.{Words, Program, Effect, Simulation, Card, Answer}
 use Rattle.construction.specs.Cells.{zeros}

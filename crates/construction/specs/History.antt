@@ -1,9 +1,7 @@
 -- What happens beside a card (document 01, 'Card and bench side by side'): entries, the run over a list of them, and the history that an observer keeps.
-use Prim.Native.Nat.{ℕ, suc, _≤_, _<_}
-use mathlib.Core.Path.{_≡_}
+use Prim.Native.Nat.{ℕ, suc}
 use mathlib.Core.Bool.{Bool, true, false, cond, not, _&&_}
-use mathlib.Core.Logic.{_⊎_}
-use mathlib.Core.List.{List, [], _∷_, _++_}
+use mathlib.Core.List.{List, [], _∷_}
 use lib.ListN.{length, take}
 use lib.Dec.{eqb}
 use Rattle.construction.specs.Types.{Words, Yield, Announcement, Card, Answer, Answered}

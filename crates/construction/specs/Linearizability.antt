@@ -2,12 +2,12 @@
 -- sequential run that agrees with every answer and every read, and with the order in real time.
 use Prim.Native.Nat.{ℕ, suc, _≤_, _<_}
 use mathlib.Core.Path.{_≡_}
-use mathlib.Core.Bool.{Bool, true, false, cond, _&&_}
+use mathlib.Core.Bool.{Bool, true, false, cond}
 use mathlib.Core.Logic.{_⊎_}
 use mathlib.Core.List.{List, [], _∷_, _++_}
 use lib.ListN.{length, getD}
 use lib.Dec.{eqb}
-use Rattle.construction.specs.Types.{Words, Card, Answer}
+use Rattle.construction.specs.Types.{Card, Answer}
 use Rattle.construction.specs.Cells.{noYield}
 use Rattle.construction.specs.Requests.{read}
 use Rattle.construction.specs.History.{Entry, act, Steps, Finish, Return, Response, History, hasCalled, latest, finishing, Observation, run}

@@ -7,7 +7,7 @@ use mathlib.Core.Bool.{Bool, true, false, cond, not, _&&_}
 use mathlib.Core.Logic.{_≢_, _⊎_}
 use mathlib.Core.List.{List, [], _∷_}
 use lib.Dec.{eqb}
-use Rattle.construction.specs.Types.{Holder, Nobody, Process, Gate, Done, Active, Exit, Yield, Announcement, Record, Cell, Swap, Card, Answer, Label, Report}
+use Rattle.construction.specs.Types.{Nobody, Process, Gate, Done, Active, Exit, Yield, Announcement, Record, Cell, Swap, Card, Answer, Label, Report}
 use Rattle.construction.specs.Parts.{localAt, announcementAt, recordAt}
 use Rattle.construction.specs.Machine.{advance}
 use Rattle.construction.specs.Requests.{answerOf}

@@ -12,7 +12,7 @@ use Rattle.construction.specs.declared.{Record.Record, SwappedRecord.SwappedRec
 use Rattle.construction.specs.declared.RowSwap.the-variants.{Won, Refused}
 use Rattle.construction.specs.declared.Refusal.the-variants.{NoPlace}
 use Rattle.construction.specs.Cells.{openRecord, sameRecord, swapRecord}
-use Rattle.construction.specs.Answers.{fields, numberOf, rowFields}
+use Rattle.construction.specs.Answers.{fields, rowFields}
 use Rattle.lent.specs.Row.{tells, swapAt, rowAnswer, rowAfter, swapFields}
 
 module _ (row : List Record) (place : ℕ) (expected new : Record) where

@@ -1,7 +1,7 @@
 -- Requests and entries played one after the other
 use Prim.Native.Nat.{ℕ, _+_}
 use mathlib.Core.Path.{_≡_, refl}
-use mathlib.Core.List.{List, [], _∷_}
+use mathlib.Core.List.{List}
 use native.Mathlib.Numerals.{add-one}
 use Rattle.construction.specs.declared.Card.{Card}
 use Rattle.replay.specs.declared.Request.{Request}

@@ -4,7 +4,6 @@ use construction::Card;
 use grammar::writing::put_field;
 use programs::weights::heaviest;
 ghost use mathlib.Core.Path.{_≡_};
-ghost use mathlib.Core.Bool.{cond};
 ghost use Prim.Native.Nat.{_+_, _<_};
 ghost use Rattle.grammar.specs.Writing.{Put};
 ghost use Rattle.construction.specs.Parts.{contentsOf};

@@ -1,6 +1,6 @@
 use native.Mathlib.Nat.{mod-eq-of-lt}
-use Prim.Native.Nat.{_%_, _<_}
-use mathlib.Core.Path.{_≡_, refl, sym, _∙_}
+use Prim.Native.Nat.{_%_}
+use mathlib.Core.Path.{_≡_, sym, _∙_}
 use native.Mathlib.Omega.{arith}
 use borrow.Author.Tests.{not-true, not-false}
 use lib.Seq.{set-getD}

@@ -1,14 +1,15 @@
 -- What an operation has cost at each place of its course, and that no move of another process alters it.
 use Prim.Native.Nat.{ℕ, suc, _+_, _*_, _≤_, _<_}
-use mathlib.Core.Path.{_≡_, sym, ap, _∙_}
+use mathlib.Core.Path.{_≡_, refl, sym, ap, _∙_}
 use mathlib.Core.Bool.{Bool, true, false}
-use mathlib.Core.Logic.{_⊎_, ⊎-elim}
+use mathlib.Core.Logic.{_⊎_, inl, ⊎-elim}
 use native.Mathlib.Omega.{arith}
 use native.Mathlib.Nat.{mul-le-mul-right}
 use Rattle.construction.specs.Types.{Nobody, Gate, Active, Announcement, Place, Idle, P1, P3, P5, P7, P10, C2, C4, P13, P14, P16, H21, H36, P19, P20, P21, P22, F1, F3}
 use Rattle.construction.specs.Parts.{Local}
 use Rattle.construction.specs.Requests.{exiting}
 use Rattle.construction.specs.Waits.{longestWait, extra}
+use Rattle.construction.proofs.Statements.ExitRequests.{withRequest}
 
 -- what is remembered of an announced operation: a number at which it is its turn, its completed iterations, and the steps of P6 and P7
 pub record Tally : Type 0 where
@@ -59,67 +60,53 @@ pub record Onward (g h : Gate) : Type 0 where
   pub above : g .seq ≤ h .seq
   pub freed : h .holder ≡ Nobody → (g .holder ≡ Nobody) ⊎ (g .seq < h .seq)
 
-later : {p w n k : ℕ} {x : Tally} {t : Local} (m : ℕ) → n ≤ m → Loop p w n k x t → Loop p w m k x t
-later m le q = record { few = q .few; low = omega (arith, q .low); wished = q .wished; cost = q .cost }
+-- a process that does not step, while the gate goes on, its announcement stays if it is active, and an exit request may come
+module _ (p w : ℕ) {g h : Gate} {a b : Announcement} (x : Tally) (t : Local) (exit : Bool) (O : Onward g h) (s : b .flag ≡ Active → b ≡ a)
+    (more : extra (t .exit) ≤ extra exit) where
+  -- in the loop, under a number that it has read or under that of the gate
+  read : {n k : ℕ} → Loop p w n k x t → Loop p w n k x (withRequest t exit)
+  read q = record { few = q .few; low = q .low; wished = omega (arith, q .wished); cost = q .cost }
+
+  now : {k : ℕ} → Loop p w (g .seq) k x t → Loop p w (h .seq) k x (withRequest t exit)
+  now q = record { few = q .few; low = omega (arith, q .low, O .above); wished = omega (arith, q .wished); cost = q .cost }
+
+  course-on : (l : Place) → CourseAt l p w g a x t → CourseAt l p w h b x (withRequest t exit)
+  course-on Idle q = omega (arith, q)
+  course-on P1 q = q
+  course-on P3 q = q
+  course-on P5 q = (now (q .0), q .1, λ e. s e ∙ q .2 (ap (λ (r : Announcement). r .flag) (sym (s e)) ∙ e))
+  course-on P7 q = now q
+  course-on P10 q = now q
+  course-on C2 q = read q
+  course-on C4 q = read q
+  course-on P13 q = read q
+  course-on P14 q = (
+    now (q .0),
+    λ e. ⊎-elim (λ f. omega (arith, q .1 f, O .above)) (λ f. omega (arith, q .0 .low)) (O .freed e),
+  )
+  course-on P16 q = read q
+  course-on H21 q = read q
+  course-on H36 q = read q
+  course-on P19 q = read q
+  course-on P20 q = read q
+  course-on P21 q = read q
+  course-on P22 q = (now (q .0), omega (arith, q .1, O .above))
+  course-on F1 q = omega (arith, q)
+  course-on F3 q = omega (arith, q)
 
 pub course-stays :
     (l : Place) (p w : ℕ) {g h : Gate} {a b : Announcement} (x : Tally) (t : Local) → Onward g h → (b .flag ≡ Active → b ≡ a) →
     CourseAt l p w g a x t → CourseAt l p w h b x t
-course-stays Idle p w x t O s q = q
-course-stays P1 p w x t O s q = q
-course-stays P3 p w x t O s q = q
-course-stays P5 p w {h = h} {a = a} {b = b} x t O s q = (later (h .seq) (O .above) (q .0), q .1, same)
-  where
-    same : b .flag ≡ Active → b ≡ t .announcement
-    same e = s e ∙ q .2 (ap (λ (r : Announcement). r .flag) (sym (s e)) ∙ e)
-course-stays P7 p w {h = h} x t O s q = later (h .seq) (O .above) q
-course-stays P10 p w {h = h} x t O s q = later (h .seq) (O .above) q
-course-stays C2 p w x t O s q = q
-course-stays C4 p w x t O s q = q
-course-stays P13 p w x t O s q = q
-course-stays P14 p w {h = h} x t O s q = (
-  later (h .seq) (O .above) (q .0),
-  λ e. ⊎-elim (λ f. omega (arith, q .1 f, O .above)) (λ f. omega (arith, q .0 .low)) (O .freed e),
-)
-course-stays P16 p w x t O s q = q
-course-stays H21 p w x t O s q = q
-course-stays H36 p w x t O s q = q
-course-stays P19 p w x t O s q = q
-course-stays P20 p w x t O s q = q
-course-stays P21 p w x t O s q = q
-course-stays P22 p w {h = h} x t O s q = (later (h .seq) (O .above) (q .0), omega (arith, q .1, O .above))
-course-stays F1 p w x t O s q = q
-course-stays F3 p w x t O s q = q
+course-stays l p w x t O s q = course-on p w x t (t .exit) O s (omega arith) l q
 
 -- an exit request lets an operation take 2 steps more
 extra-most : (exit : Bool) → extra exit ≤ 2
 extra-most true = omega arith
 extra-most false = omega arith
 
-wishes : {p w n k : ℕ} {x : Tally} {t : Local} → Loop p w n k x t → Loop p w n k x (exiting t)
-wishes {t = t} q =
-    record { few = q .few; low = q .low; wished = omega (arith, q .wished, extra-most (t .exit)); cost = q .cost }
-
 pub course-exits : (l : Place) (p w : ℕ) (g : Gate) (a : Announcement) (x : Tally) (t : Local) → CourseAt l p w g a x t → CourseAt l p w g a x (exiting t)
-course-exits Idle p w g a x t q = omega (arith, q, extra-most (t .exit))
-course-exits P1 p w g a x t q = q
-course-exits P3 p w g a x t q = q
-course-exits P5 p w g a x t q = (wishes (q .0), q .1, q .2)
-course-exits P7 p w g a x t q = wishes q
-course-exits P10 p w g a x t q = wishes q
-course-exits C2 p w g a x t q = wishes q
-course-exits C4 p w g a x t q = wishes q
-course-exits P13 p w g a x t q = wishes q
-course-exits P14 p w g a x t q = (wishes (q .0), q .1)
-course-exits P16 p w g a x t q = wishes q
-course-exits H21 p w g a x t q = wishes q
-course-exits H36 p w g a x t q = wishes q
-course-exits P19 p w g a x t q = wishes q
-course-exits P20 p w g a x t q = wishes q
-course-exits P21 p w g a x t q = wishes q
-course-exits P22 p w g a x t q = (wishes (q .0), q .1)
-course-exits F1 p w g a x t q = omega (arith, q, extra-most (t .exit))
-course-exits F3 p w g a x t q = omega (arith, q, extra-most (t .exit))
+course-exits l p w g a x t q =
+    course-on p w x t true (record { above = omega arith; freed = inl }) (λ _. refl) (extra-most (t .exit)) l q
 
 -- in the loop there is room for the rest of the iteration, and for F1, F3 and the return
 pub last-lap :

@@ -194,7 +194,7 @@ pub wait-call :
     {c : Card} {w : World} {i : ℕ} (k : ℕ) (inputs : Words) → CardInvariant c w → AllWait (contentsOf c) c → i < c .processCount → isBusy c i ≡ false →
     AllWait (contentsOf c) (withLocal c i (invoked (localAt c i) k inputs))
 wait-call {c} {w} {i} k inputs I W lt b =
-    wait-put I W lt (invoked (localAt c i) k inputs) (λ _ _. tt) (record { turn = 0; laps = 0; spent = 0 }) (λ e. absurd (inactive e)) (omega arith)
+    wait-put I W lt (invoked (localAt c i) k inputs) (λ _ _. elim [ ]) (record { turn = 0; laps = 0; spent = 0 }) (λ e. absurd (inactive e)) (omega arith)
   where
     inactive : announcementAt c i .flag ≢ Active
     inactive =

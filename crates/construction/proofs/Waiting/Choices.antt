@@ -15,27 +15,18 @@ use Rattle.construction.proofs.Invariant.Acting.{atAnnouncement}
 use Rattle.construction.proofs.Invariant.Assertions.{LocAt, known}
 use Rattle.construction.proofs.Invariant.NextPlaces.{Leads, leads}
 
+-- the places of a chooser that has yet to look at its own announcement, or to nominate
+pub data Chooser : Place → Type 0 where
+  unsure : Chooser C4
+  nominating : Chooser P13
+
 -- a chooser that has read the gate h and nominates m chooses j, where the gate is g
+abbrev pub Picks : {l : Place} → Chooser l → ℕ → Gate → Gate → ℕ → Type 0
+Picks Chooser.unsure j g h m = h ≢ g
+Picks Chooser.nominating j g h m = h ≡ g → m ≡ j
+
 abbrev pub Chooses : Place → ℕ → Gate → Gate → ℕ → Type 0
-Chooses Idle j g h m = Unit {0}
-Chooses P1 j g h m = Unit {0}
-Chooses P3 j g h m = Unit {0}
-Chooses P5 j g h m = Unit {0}
-Chooses P7 j g h m = Unit {0}
-Chooses P10 j g h m = Unit {0}
-Chooses C2 j g h m = Unit {0}
-Chooses C4 j g h m = h ≢ g
-Chooses P13 j g h m = h ≡ g → m ≡ j
-Chooses P14 j g h m = Unit {0}
-Chooses P16 j g h m = Unit {0}
-Chooses H21 j g h m = Unit {0}
-Chooses H36 j g h m = Unit {0}
-Chooses P19 j g h m = Unit {0}
-Chooses P20 j g h m = Unit {0}
-Chooses P21 j g h m = Unit {0}
-Chooses P22 j g h m = Unit {0}
-Chooses F1 j g h m = Unit {0}
-Chooses F3 j g h m = Unit {0}
+Chooses l j g h m = (c : Chooser l) → Picks c j g h m
 
 abbrev pub ChoosesIn : ℕ → Gate → Local → Type 0
 ChoosesIn j g t = Chooses (t .task .place) j g (t .gate) (t .task .target)
@@ -52,25 +43,8 @@ pub record Due (p : ℕ) (g : Gate) (T : ℕ → Local) (j turn : ℕ) : Type 0 
 module _ (F : Contents) (w : World) (q j : ℕ) (g : Gate) (t : Local)
     (other : t .gate .holder ≡ Nobody → t .gate .seq ≤ w .gate .seq → t .gate ≢ g) where
   pub apart : (l : Place) → LocAt l F w q (known t) → Chooses l j g (t .gate) (t .task .target)
-  apart Idle k = tt
-  apart P1 k = tt
-  apart P3 k = tt
-  apart P5 k = tt
-  apart P7 k = tt
-  apart P10 k = tt
-  apart C2 k = tt
-  apart C4 k = other (k .1) (k .2)
-  apart P13 k = λ e. absurd (other (k .1) (k .3 .below) e)
-  apart P14 k = tt
-  apart P16 k = tt
-  apart H21 k = tt
-  apart H36 k = tt
-  apart P19 k = tt
-  apart P20 k = tt
-  apart P21 k = tt
-  apart P22 k = tt
-  apart F1 k = tt
-  apart F3 k = tt
+  apart C4 k Chooser.unsure = other (k .1) (k .2)
+  apart P13 k Chooser.nominating = λ e. absurd (other (k .1) (k .3 .below) e)
 
 -- a step of process i, where j has its turn
 module _ (c : Card) (i j turn : ℕ) (sizes : Sizes c) (few : i < 8) (lt : i < c .processCount)
@@ -81,10 +55,10 @@ module _ (c : Card) (i j turn : ℕ) (sizes : Sizes c) (few : i < 8) (lt : i < c
 
   -- the places that no chooser stands at
   abbrev Aside : Place → Type 0
-  Aside l = (g h : Gate) (m : ℕ) → Chooses l j g h m
+  Aside l = Chooser l → ⊥
 
   aside : (a : Access) → Leads Aside a → Choosing (perform a c i .card)
-  aside a q _ = leads Aside c i (omega (arith, sizes .tasks)) a q _ _ _
+  aside a q _ s = absurd (leads Aside c i (omega (arith, sizes .tasks)) a q s)
 
   -- process i with the announcement of m read, and at a place
   abbrev read : ℕ → Place → Local
@@ -112,9 +86,9 @@ module _ (c : Card) (i j turn : ℕ) (sizes : Sizes c) (few : i < 8) (lt : i < c
       is-active z = subst (λ (m : ℕ). announcementAt c m .flag ≡ Active) (sym (first-is z)) active
 
       go : (f : Flag) → announcementAt c first .flag ≡ f → Chooses (byFlag f C4 P13 C4) j (c .gate) (localAt c i .gate) first
-      go Done f = λ z. active-not-done (is-active z) f
-      go Active f = first-is
-      go Exit f = λ z. active-not-exit (is-active z) f
+      go Done f Chooser.unsure = λ z. active-not-done (is-active z) f
+      go Active f Chooser.nominating = first-is
+      go Exit f Chooser.unsure = λ z. active-not-exit (is-active z) f
 
   -- line C4: whoever stands there has read another gate
   choose-C4 : localAt c i .task .place ≡ C4 → Choosing (perform (Access.Announcement (AnnouncementAccess.ReadOwn F1 P13 P13)) c i .card)
@@ -122,33 +96,32 @@ module _ (c : Card) (i j turn : ℕ) (sizes : Sizes c) (few : i < 8) (lt : i < c
   choose-C4 at e = reads i _ (go (announcementAt c i .flag))
     where
       late : localAt c i .gate ≢ c .gate
-      late = subst (λ (l : Place). Chooses l j (c .gate) (localAt c i .gate) (localAt c i .task .target)) at (D .chosen e i lt)
+      late = subst (λ (l : Place). Chooses l j (c .gate) (localAt c i .gate) (localAt c i .task .target)) at (D .chosen e i lt) Chooser.unsure
 
       go : (f : Flag) → Chooses (byFlag f F1 P13 P13) j (c .gate) (localAt c i .gate) i
-      go Done = tt
-      go Active = λ z. absurd (late z)
-      go Exit = λ z. absurd (late z)
+      go Active Chooser.nominating = λ z. absurd (late z)
+      go Exit Chooser.nominating = λ z. absurd (late z)
 
   -- every place
   pub chooses : (l : Place) (exit : Bool) → localAt c i .task .place ≡ l → isIdle l ≡ false → Choosing (perform (accessOf l exit) c i .card)
   unfolding accessOf
   chooses Idle exit at n = absurd (true≢false n)
-  chooses P1 exit at n = aside _ (λ _ _ _. tt, λ _ _ _. tt)
-  chooses P3 exit at n = aside _ (λ _ _ _. tt)
-  chooses P5 true at n = aside _ (λ _ _ _. tt)
-  chooses P5 false at n = aside _ (λ _ _ _. tt, λ _ _ _. tt)
-  chooses P7 exit at n = aside _ (λ _ _ _. tt, λ _ _ _. tt, λ _ _ _. tt)
-  chooses P10 exit at n = aside _ (λ _ _ _. tt, λ _ _ _. tt)
+  chooses P1 exit at n = aside _ (elim [ ], elim [ ])
+  chooses P3 exit at n = aside _ (elim [ ])
+  chooses P5 true at n = aside _ (elim [ ])
+  chooses P5 false at n = aside _ (elim [ ], elim [ ])
+  chooses P7 exit at n = aside _ (elim [ ], elim [ ], elim [ ])
+  chooses P10 exit at n = aside _ (elim [ ], elim [ ])
   chooses C2 exit at n = choose-C2
   chooses C4 exit at n = choose-C4 at
-  chooses P13 exit at n = aside _ (λ _ _ _. tt)
-  chooses P14 exit at n = aside _ (λ _ _ _. tt, λ _ _ _. tt)
-  chooses P16 exit at n = aside _ (λ _ _ _. tt, λ _ _ _. tt, λ _ _ _. tt, λ _ _ _. tt)
-  chooses H21 exit at n = aside _ (λ _ _ _. tt, λ _ _ _. tt, λ _ _ _. tt)
-  chooses H36 exit at n = aside _ (λ _ _ _. tt, λ _ _ _. tt)
-  chooses P19 exit at n = aside _ (λ _ _ _. tt)
-  chooses P20 exit at n = aside _ (λ _ _ _. tt)
-  chooses P21 exit at n = aside _ (λ _ _ _. tt)
-  chooses P22 exit at n = aside _ (λ _ _ _. tt, λ _ _ _. tt, λ _ _ _. tt)
-  chooses F1 exit at n = aside _ (λ _ _ _. tt, λ _ _ _. tt)
-  chooses F3 exit at n = aside _ (λ _ _ _. tt)
+  chooses P13 exit at n = aside _ (elim [ ])
+  chooses P14 exit at n = aside _ (elim [ ], elim [ ])
+  chooses P16 exit at n = aside _ (elim [ ], elim [ ], elim [ ], elim [ ])
+  chooses H21 exit at n = aside _ (elim [ ], elim [ ], elim [ ])
+  chooses H36 exit at n = aside _ (elim [ ], elim [ ])
+  chooses P19 exit at n = aside _ (elim [ ])
+  chooses P20 exit at n = aside _ (elim [ ])
+  chooses P21 exit at n = aside _ (elim [ ])
+  chooses P22 exit at n = aside _ (elim [ ], elim [ ], elim [ ])
+  chooses F1 exit at n = aside _ (elim [ ], elim [ ])
+  chooses F3 exit at n = aside _ (elim [ ])

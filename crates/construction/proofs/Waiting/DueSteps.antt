@@ -18,7 +18,7 @@ use Rattle.construction.proofs.Basics.{nobody-process, process-same, ac
 use Rattle.construction.proofs.Invariant.World.{World, announcementIn, Move}
 use Rattle.construction.proofs.Invariant.World.Move.{stay, ask, announce, leave, take, write, end, free}
 use Rattle.construction.proofs.Invariant.Cards.{CardInvariant, Stepped, gate-is, announcements-is}
-use Rattle.construction.proofs.Waiting.Choices.{Chooses, ChoosesIn, Due, apart, chooses}
+use Rattle.construction.proofs.Waiting.Choices.{Chooser, Chooses, ChoosesIn, Due, apart, chooses}
 use Rattle.construction.proofs.Waiting.Nominees.{Nominee, gives}
 
 module _ {c : Card} {w : World} {i : ℕ} (I : CardInvariant c w) (lt : i < c .processCount) (busy : isBusy c i ≡ true) (S : Stepped c w i) (j turn : ℕ)
@@ -88,7 +88,7 @@ module _ {c : Card} {w : World} {i : ℕ} (I : CardInvariant c w) (lt : i < c .p
       mine : c .gate .seq ≡ turn → m ≡ j
       mine e =
           sym (nominee .target)
-          ∙ subst (λ (l : Place). Chooses l j (c .gate) (localAt c i .gate) (localAt c i .task .target)) (nominee .place) (D .chosen e i lt) (nominee .gate)
+          ∙ subst (λ (l : Place). Chooses l j (c .gate) (localAt c i .gate) (localAt c i .task .target)) (nominee .place) (D .chosen e i lt) Chooser.nominating (nominee .gate)
 
   -- the gate is given back for m, which is done, and so not at the turn of j
   due-freed :

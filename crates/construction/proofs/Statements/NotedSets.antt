@@ -10,7 +10,7 @@ use lib.Dec.{ltb}
 use lib.ListN.{length, getD, set}
 use lib.Seq.{getD-set-same, getD-set-other}
 use borrow.Author.Tests.{le-ltb}
-use Rattle.construction.specs.Types.{Gate, Words, Announcement, Record, Program, Dictionary, Simulation, Place, Idle, P1, P3, P5, P7, P10, C2, C4, P13, P14, P16, H21, H36, P19, P20, P21, P22, F1, F3, Access, Task, Helped, Card, Answered}
+use Rattle.construction.specs.Types.{Gate, Words, Announcement, Record, Program, Dictionary, Simulation, Place, P5, H21, Access, Task, Helped, Card, Answered}
 use Rattle.construction.specs.Dictionary.{empty, noted, find, has, itemOf}
 use Rattle.construction.specs.Marks.{Marks}
 use Rattle.construction.specs.Parts.{Local, localAt, contentsOf, announcementAt, programOf}
@@ -65,30 +65,22 @@ note-marked n program inputs cell number t s d mask q M =
     on-test (λ (x : Helped). Marks (x .mask) (x .dictionary)) (ltb number (cell .seq)) (λ _. M)
     (λ _. marks-simulated n program inputs _ s _ (marks-insert mask d M (itemOf number (t .target) cell) (q .small) (q .new) (q .spare) (q .room)))
 
-abbrev Noting : Access → Local → Type 0
-Noting Access.None l = Unit
-Noting (Access.Gate a) l = Unit
-Noting (Access.Announcement a) l = Unit
-Noting Access.Help l = Unit
-Noting Access.Note l = Fits (l .task .target) (l .dictionary)
-Noting Access.Write l = Unit
+-- the access that notes a variable, which H21 alone makes
+data Notes : Access → Type 0 where
+  notes : Notes Access.Note
+
+exit-notes-none : (exit : Bool) → Notes (accessOf P5 exit) → ⊥
+unfolding accessOf
+exit-notes-none true = elim [ ]
+exit-notes-none false = elim [ ]
 
 module _ {c : Card} {w : World} (I : CardInvariant c w) (j : ℕ) where
-  noting-at : (l : Place) (exit : Bool) → LocAt l (contentsOf c) w j (known (localAt c j)) → Noting (accessOf l exit) (localAt c j)
+  noting-at :
+      (l : Place) (exit : Bool) → LocAt l (contentsOf c) w j (known (localAt c j)) → Notes (accessOf l exit) →
+      Fits (localAt c j .task .target) (localAt c j .dictionary)
   unfolding accessOf
-  noting-at Idle exit q = tt
-  noting-at P1 exit q = tt
-  noting-at P3 exit q = tt
-  noting-at P5 true q = tt
-  noting-at P5 false q = tt
-  noting-at P7 exit q = tt
-  noting-at P10 exit q = tt
-  noting-at C2 exit q = tt
-  noting-at C4 exit q = tt
-  noting-at P13 exit q = tt
-  noting-at P14 exit q = tt
-  noting-at P16 exit q = tt
-  noting-at H21 exit q =
+  noting-at P5 exit q n = absurd (exit-notes-none exit n)
+  noting-at H21 exit q Notes.notes =
       let needs = q .2 in
       record {
         small = omega (arith, needs .inside, I .good .fits .narrow);
@@ -96,13 +88,6 @@ module _ {c : Card} {w : World} (I : CardInvariant c w) (j : ℕ) where
         spare = needs .spare;
         room = needs .core .room .array;
       }
-  noting-at H36 exit q = tt
-  noting-at P19 exit q = tt
-  noting-at P20 exit q = tt
-  noting-at P21 exit q = tt
-  noting-at P22 exit q = tt
-  noting-at F1 exit q = tt
-  noting-at F3 exit q = tt
 
 -- a word and a dictionary put back for process j
 module _ (c : Card) (Z : Sizes c) (j : ℕ) (lt : j < 8) (H : AllMarked c) where
@@ -115,7 +100,7 @@ module _ (c : Card) (Z : Sizes c) (j : ℕ) (lt : j < 8) (H : AllMarked c) where
           (rw (getD-set-same (c .masks) j word 0 (omega (arith, Z .masks)), getD-set-same (c .dictionaries) j d empty (omega (arith, Z .dictionaries))) h)
       go (no ne) = rw (getD-set-other (c .masks) j i word 0 ne, getD-set-other (c .dictionaries) j i d empty ne) (H i)
 
-  access-marked : (a : Access) → Noting a (localAt c j) → AllMarked (perform a c j .card)
+  access-marked : (a : Access) → (Notes a → Fits (localAt c j .task .target) (localAt c j .dictionary)) → AllMarked (perform a c j .card)
   unfolding perform
   access-marked Access.None q i = put-marked i _ _ (H j)
   access-marked (Access.Gate a) q i = put-marked i _ _ (H j)
@@ -129,7 +114,7 @@ module _ (c : Card) (Z : Sizes c) (j : ℕ) (lt : j < 8) (H : AllMarked c) where
       begun : (b : Bool) → Marks (cond b 0 (localAt c j .mask)) (cond b empty (localAt c j .dictionary))
       begun true = marks-empty
       begun false = H j
-  access-marked Access.Note q i = put-marked i _ _ (note-marked _ _ _ _ _ _ _ _ _ q (H j))
+  access-marked Access.Note q i = put-marked i _ _ (note-marked _ _ _ _ _ _ _ _ _ (q Notes.notes) (H j))
   access-marked Access.Write q i = put-marked i _ _ (H j)
 
 -- an accepted step, and every entry

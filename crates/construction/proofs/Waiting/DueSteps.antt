@@ -19,7 +19,7 @@ use Rattle.construction.proofs.Invariant.World.{World, announcementIn, 
 use Rattle.construction.proofs.Invariant.World.Move.{stay, ask, announce, leave, take, write, end, free}
 use Rattle.construction.proofs.Invariant.Cards.{CardInvariant, Stepped, gate-is, announcements-is}
 use Rattle.construction.proofs.Waiting.Choices.{Chooser, Chooses, ChoosesIn, Due, apart, chooses}
-use Rattle.construction.proofs.Waiting.Nominees.{Nominee, gives}
+use Rattle.construction.proofs.Waiting.Nominees.{Nominee, nominee}
 
 module _ {c : Card} {w : World} {i : ℕ} (I : CardInvariant c w) (lt : i < c .processCount) (busy : isBusy c i ≡ true) (S : Stepped c w i) (j turn : ℕ)
     (D : Due (c .processCount) (c .gate) (localAt c) j turn) (active : announcementAt c j .flag ≡ Active) where
@@ -62,7 +62,7 @@ module _ {c : Card} {w : World} {i : ℕ} (I : CardInvariant c w) (lt : i < c .p
       (m : ℕ) (hn : w .gate .holder ≡ Nobody) → next .gate .holder ≡ Process m →
       Nominee c i m (same-holder ∙ hn) (localAt c i .task .place)
   unfolding advance
-  given m hn = gives c i m (same-holder ∙ hn) (localAt c i .task .place) (localAt c i .exit)
+  given m hn = nominee c i m (same-holder ∙ hn) (localAt c i .task .place) (localAt c i .exit)
 
   -- the gate is given to m, and so to j if it is the turn of j
   due-taken :
@@ -82,13 +82,13 @@ module _ {c : Card} {w : World} {i : ℕ} (I : CardInvariant c w) (lt : i < c .p
       zh : next .gate .holder ≡ Process m
       zh = ap (λ (g : Gate). g .holder) z
 
-      nominee : Nominee c i m (same-holder ∙ hn) (localAt c i .task .place)
-      nominee = given m hn zh
+      N : Nominee c i m (same-holder ∙ hn) (localAt c i .task .place)
+      N = given m hn zh
 
       mine : c .gate .seq ≡ turn → m ≡ j
       mine e =
-          sym (nominee .target)
-          ∙ subst (λ (l : Place). Chooses l j (c .gate) (localAt c i .gate) (localAt c i .task .target)) (nominee .place) (D .chosen e i lt) Chooser.nominating (nominee .gate)
+          sym (N .target)
+          ∙ subst (λ (l : Place). Chooses l j (c .gate) (localAt c i .gate) (localAt c i .task .target)) (N .place) (D .chosen e i lt) Chooser.nominating (N .gate)
 
   -- the gate is given back for m, which is done, and so not at the turn of j
   due-freed :

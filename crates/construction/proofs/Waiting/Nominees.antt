@@ -2,56 +2,55 @@
 use Prim.Native.Nat.{ℕ}
 use mathlib.Core.Path.{_≡_, refl, sym}
 use mathlib.Core.Bool.{Bool, true, false}
-use Rattle.construction.specs.Types.{Nobody, Process, Gate, Place, Idle, P1, P3, P5, P7, P10, C2, C4, P13, P14, P16, H21, H36, P19, P20, P21, P22, F1, F3, GateAccess, Access, Card}
+use Rattle.construction.specs.Types.{Nobody, Process, Gate, Place, P5, P13, GateAccess, Access, Card}
 use Rattle.construction.specs.Cells.{sameGate, swapGate, released}
 use Rattle.construction.specs.Parts.{localAt}
 use Rattle.construction.specs.Machine.{accessOf, accessGate, perform}
 use Rattle.construction.proofs.Basics.{on-test, sameGate-true, nobody-process, process-same}
 
--- a step of process i from a place, after which m holds the gate that nobody held
+-- the access that gives the gate, which P13 alone makes
+data Gives : Access → Type 0 where
+  gives : Gives (Access.Gate GateAccess.Nominate)
+
+exit-gives-none : (exit : Bool) → Gives (accessOf P5 exit) → ⊥
+unfolding accessOf
+exit-gives-none true = elim [ ]
+exit-gives-none false = elim [ ]
+
+at-P13 : (l : Place) (exit : Bool) → Gives (accessOf l exit) → l ≡ P13
+unfolding accessOf
+at-P13 P5 exit g = absurd (exit-gives-none exit g)
+at-P13 P13 exit Gives.gives = refl
+
+-- a step of process i, after which m holds the gate that nobody held
 module _ (c : Card) (i m : ℕ) (hn : c .gate .holder ≡ Nobody) where
   pub record Nominee (l : Place) : Type 0 where
     pub place : l ≡ P13
     pub gate : localAt c i .gate ≡ c .gate
     pub target : localAt c i .task .target ≡ m
 
-  abbrev Giving : Place → Card → Type 0
-  Giving l d = d .gate .holder ≡ Process m → Nominee l
+  abbrev Won : Access → Type 0
+  Won a = Gives a × (localAt c i .gate ≡ c .gate) × (localAt c i .task .target ≡ m)
 
-  never : (l : Place) → c .gate .holder ≡ Process m → Nominee l
-  never l h = absurd (nobody-process hn h)
+  abbrev Giving : Access → Gate → Type 0
+  Giving a g = g .holder ≡ Process m → Won a
 
-  nominates : Giving P13 (perform (Access.Gate GateAccess.Nominate) c i .card)
-  unfolding perform accessGate swapGate
-  nominates =
-      on-test (λ (g : Gate). g .holder ≡ Process m → Nominee P13) (sameGate (c .gate) (localAt c i .gate))
-      (λ e h. record { place = refl; gate = sym (sameGate-true _ _ e); target = process-same h }) (λ _. never P13)
+  never : (a : Access) → Giving a (c .gate)
+  never a h = absurd (nobody-process hn h)
 
-  releases : (l next : Place) → Giving l (perform (Access.Gate (GateAccess.Release next)) c i .card)
+  giving : (a : Access) → Giving a (perform a c i .card .gate)
   unfolding perform accessGate swapGate released
-  releases l next =
-      on-test (λ (g : Gate). g .holder ≡ Process m → Nominee l) (sameGate (c .gate) (localAt c i .gate))
-      (λ e h. absurd (nobody-process refl h)) (λ _. never l)
+  giving Access.None = never _
+  giving (Access.Gate (GateAccess.Read held free)) = never _
+  giving (Access.Gate GateAccess.ReadLast) = never _
+  giving (Access.Gate GateAccess.Nominate) =
+      on-test (Giving _) (sameGate (c .gate) (localAt c i .gate)) (λ e h. (Gives.gives, sym (sameGate-true _ _ e), process-same h)) (λ _. never _)
+  giving (Access.Gate (GateAccess.Release next)) =
+      on-test (Giving _) (sameGate (c .gate) (localAt c i .gate)) (λ e h. absurd (nobody-process refl h)) (λ _. never _)
+  giving (Access.Announcement a) = never _
+  giving Access.Help = never _
+  giving Access.Note = never _
+  giving Access.Write = never _
 
-  pub gives : (l : Place) (exit : Bool) → Giving l (perform (accessOf l exit) c i .card)
-  unfolding accessOf perform accessGate
-  gives Idle exit = never Idle
-  gives P1 exit = never P1
-  gives P3 exit = never P3
-  gives P5 true = never P5
-  gives P5 false = never P5
-  gives P7 exit = never P7
-  gives P10 exit = never P10
-  gives C2 exit = never C2
-  gives C4 exit = never C4
-  gives P13 exit = nominates
-  gives P14 exit = never P14
-  gives P16 exit = never P16
-  gives H21 exit = never H21
-  gives H36 exit = never H36
-  gives P19 exit = never P19
-  gives P20 exit = never P20
-  gives P21 exit = releases P21 P22
-  gives P22 exit = never P22
-  gives F1 exit = never F1
-  gives F3 exit = releases F3 Idle
+  pub nominee : (l : Place) (exit : Bool) → perform (accessOf l exit) c i .card .gate .holder ≡ Process m → Nominee l
+  nominee l exit h = let x = giving (accessOf l exit) h in record { place = at-P13 l exit (x .0); gate = x .1; target = x .2 }

@@ -17,7 +17,7 @@ use Rattle.construction.proofs.Invariant.World.{World}
 use Rattle.construction.proofs.Invariant.Acting.{Before, atTask, atAnnouncement, place-fits}
 use Rattle.construction.proofs.Waiting.Turns.{Turn, turn-after}
 use Rattle.construction.proofs.Waiting.Courses.{Tally, CourseAt, last-lap}
-use Rattle.construction.proofs.Waiting.Going.{CourseIn, Went, one-more, put-course}
+use Rattle.construction.proofs.Waiting.Going.{CourseIn, Now, Went, one-more, put-course}
 
 -- an operation that is still active at P22 has completed one more iteration
 abbrev lapsBy : Flag → ℕ → ℕ
@@ -39,15 +39,12 @@ module _ {c : Card} {w : World} {i : ℕ} (B : Before c w i) (small : localAt c 
   abbrev At : Place → Announcement → Tally → Local → Type 0
   At l a y t = CourseAt l p heavy (c .gate) a y t
 
-  abbrev Now : Place → Type 0
-  Now l = At l (announcementAt c i) x (localAt c i)
-
   -- the announcement of i after it was set
   set-own : (a : Announcement) → getD (set (c .announcements) i a) i openAnnouncement ≡ a
   set-own a =
       getD-set-same (c .announcements) i a openAnnouncement (omega (arith, place-fits B, B .good .lengths .announcements))
 
-  pub at-P3 : Now P3 → Went c i x (Access.Announcement AnnouncementAccess.Announce)
+  pub at-P3 : Now c i x P3 → Went c i x (Access.Announcement AnnouncementAccess.Announce)
   unfolding perform accessAnnouncement
   at-P3 q =
       let T : Turn p (c .gate .seq) i = turn-after p (c .gate .seq) i (B .inside) in
@@ -84,15 +81,15 @@ module _ {c : Card} {w : World} {i : ℕ} (B : Before c w i) (small : localAt c 
       go Active = a
       go Exit = a
 
-  pub at-P7 : Now P7 → Went c i x (Access.Announcement (AnnouncementAccess.ReadOwn F1 P10 P10))
+  pub at-P7 : Now c i x P7 → Went c i x (Access.Announcement (AnnouncementAccess.ReadOwn F1 P10 P10))
   at-P7 q = at-own P10 (omega (arith, last-lap q (omega arith))) (one-more small q _ 1 (omega arith) (omega arith) _ _ _ _ _ _)
 
-  pub at-C4 : Now C4 → Went c i x (Access.Announcement (AnnouncementAccess.ReadOwn F1 P13 P13))
+  pub at-C4 : Now c i x C4 → Went c i x (Access.Announcement (AnnouncementAccess.ReadOwn F1 P13 P13))
   at-C4 q = at-own P13 (omega (arith, last-lap q (omega arith))) (one-more small q _ 4 (omega arith) (omega arith) _ _ _ _ _ _)
 
   -- line P22: an operation that is still active begins one more iteration, before its turn is over
   pub at-P22 :
-      (announcementAt c i .flag ≡ Active → (x .spent ≡ 0) × (c .gate .seq ≤ x .turn)) → Now P22 →
+      (announcementAt c i .flag ≡ Active → (x .spent ≡ 0) × (c .gate .seq ≤ x .turn)) → Now c i x P22 →
       Went c i x (Access.Announcement (AnnouncementAccess.ReadOwn F1 P5 Idle))
   unfolding perform accessAnnouncement
   at-P22 due q =
@@ -116,7 +113,7 @@ module _ {c : Card} {w : World} {i : ℕ} (B : Before c w i) (small : localAt c 
           )
       go Exit e = omega (arith, last-lap (q .0) (omega arith))
 
-  pub at-C2 : Now C2 → Went c i x (Access.Announcement AnnouncementAccess.ReadFirst)
+  pub at-C2 : Now c i x C2 → Went c i x (Access.Announcement AnnouncementAccess.ReadFirst)
   unfolding perform accessAnnouncement
   at-C2 q = Went.went x refl refl refl (reads m _ x (go (announcementAt c m .flag)))
     where
@@ -135,7 +132,7 @@ module _ {c : Card} {w : World} {i : ℕ} (B : Before c w i) (small : localAt c 
   abbrev swapped : ℕ → Announcement → Place → Card
   swapped m a l = withLocal (withAnnouncement c m a) i (at l)
 
-  pub at-P6 : localAt c i .exit ≡ true → Now P5 → Went c i x (Access.Announcement AnnouncementAccess.Withdraw)
+  pub at-P6 : localAt c i .exit ≡ true → Now c i x P5 → Went c i x (Access.Announcement AnnouncementAccess.Withdraw)
   unfolding perform accessAnnouncement swapAnnouncement
   at-P6 wish q =
       let both =
@@ -171,8 +168,8 @@ module _ {c : Card} {w : World} {i : ℕ} (B : Before c w i) (small : localAt c 
       let s : List Announcement = perform (Access.Announcement (AnnouncementAccess.Finish f l)) c i .card .announcements in
       Went.went x refl refl refl (put-course B (c .gate) s (c .records) (at l) x (q (getD s i openAnnouncement)))
 
-  pub at-P19 : Now P19 → Went c i x (Access.Announcement (AnnouncementAccess.Finish Active P20))
+  pub at-P19 : Now c i x P19 → Went c i x (Access.Announcement (AnnouncementAccess.Finish Active P20))
   at-P19 q = at-finish Active P20 (λ _. one-more small q _ _ (omega arith) (omega arith) _ _ _ _ _ _)
 
-  pub at-P20 : Now P20 → Went c i x (Access.Announcement (AnnouncementAccess.Finish Exit P21))
+  pub at-P20 : Now c i x P20 → Went c i x (Access.Announcement (AnnouncementAccess.Finish Exit P21))
   at-P20 q = at-finish Exit P21 (λ _. one-more small q _ _ (omega arith) (omega arith) _ _ _ _ _ _)

@@ -11,22 +11,15 @@ use Rattle.construction.specs.Machine.{goTo, byHolder, nominated, access
 use Rattle.construction.specs.Weight.{cardWeight}
 use Rattle.construction.proofs.Basics.{on-test, gate-path, sameGate-true, sameGate-false, nobody-process}
 use Rattle.construction.proofs.Invariant.World.{World}
-use Rattle.construction.proofs.Invariant.Assertions.{LocAt}
-use Rattle.construction.proofs.Invariant.Acting.{worldOf, Before, atTask, atGate}
+use Rattle.construction.proofs.Invariant.Acting.{Before, atTask, atGate}
 use Rattle.construction.proofs.Invariant.GateSteps.{released-since}
 use Rattle.construction.proofs.Waiting.Courses.{Tally, Ahead, CourseAt}
-use Rattle.construction.proofs.Waiting.Going.{CourseIn, Went, one-more, put-course}
+use Rattle.construction.proofs.Waiting.Going.{CourseIn, Knows, Now, Went, one-more, put-course}
 
 module _ {c : Card} {w : World} {i : ℕ} (B : Before c w i) (small : localAt c i .steps ≤ 1000000000000000000) (x : Tally) where
-  abbrev L : Place → Type 0
-  L l = LocAt l (contentsOf c) (worldOf c w) i (localAt c i)
-
   -- the course at a place with the own state t, while the gate is g
   abbrev At : Place → Gate → Local → Type 0
   At l g t = CourseAt l (c .processCount) (cardWeight (contentsOf c)) g (announcementAt c i) x t
-
-  abbrev Now : Place → Type 0
-  Now l = At l (c .gate) (localAt c i)
 
   -- process i with the gate that it has read
   abbrev read : Place → Local
@@ -45,20 +38,20 @@ module _ {c : Card} {w : World} {i : ℕ} (B : Before c w i) (small : localAt c 
       go Nobody e = b e
       go (Process m) e = a m e
 
-  pub at-P1 : Now P1 → Went c i x (Access.Gate (GateAccess.Read P3 P3))
+  pub at-P1 : Now c i x P1 → Went c i x (Access.Gate (GateAccess.Read P3 P3))
   at-P1 q = at-read P3 P3 (λ _ _. omega (arith, q)) (λ _. omega (arith, q))
 
-  pub at-P10 : Now P10 → Went c i x (Access.Gate (GateAccess.Read P16 C2))
+  pub at-P10 : Now c i x P10 → Went c i x (Access.Gate (GateAccess.Read P16 C2))
   at-P10 q =
       at-read P16 C2 (λ m _. one-more small q (c .gate .seq) 6 (omega arith) (omega arith) _ _ _ _ _ _)
       (λ _. one-more small q (c .gate .seq) 2 (omega arith) (omega arith) _ _ _ _ _ _)
 
-  pub at-P14 : Now P14 → Went c i x (Access.Gate (GateAccess.Read P16 P22))
+  pub at-P14 : Now c i x P14 → Went c i x (Access.Gate (GateAccess.Read P16 P22))
   at-P14 q =
       at-read P16 P22 (λ m _. one-more small (q .0) (c .gate .seq) 6 (omega arith) (omega arith) _ _ _ _ _ _)
       (λ e. (one-more small (q .0) (c .gate .seq) _ (omega arith) (omega arith) _ _ _ _ _ _, q .1 e))
 
-  pub at-F1 : Now F1 → Went c i x (Access.Gate GateAccess.ReadLast)
+  pub at-F1 : Now c i x F1 → Went c i x (Access.Gate GateAccess.ReadLast)
   unfolding perform accessGate
   at-F1 q =
       Went.went x refl refl refl
@@ -73,7 +66,7 @@ module _ {c : Card} {w : World} {i : ℕ} (B : Before c w i) (small : localAt c 
   swapped : (g : Gate) (l : Place) → At l g (at l) → CourseIn c i x (withLocal (withGate c g) i (at l))
   swapped g l q = put-course B g (c .announcements) (c .records) (at l) x q
 
-  pub at-P13 : L P13 → Now P13 → Went c i x (Access.Gate GateAccess.Nominate)
+  pub at-P13 : Knows c w i P13 → Now c i x P13 → Went c i x (Access.Gate GateAccess.Nominate)
   unfolding perform accessGate swapGate
   at-P13 k q =
       Went.went x refl refl refl
@@ -88,7 +81,7 @@ module _ {c : Card} {w : World} {i : ℕ} (B : Before c w i) (small : localAt c 
           let ne : c .gate .seq ≢ localAt c i .gate .seq = λ z. sameGate-false _ _ e (gate-path (h ∙ sym (k .1)) z) in
           omega (arith, q .low, k .3 .below)
 
-  pub at-P21 : L P21 → Now P21 → Went c i x (Access.Gate (GateAccess.Release P22))
+  pub at-P21 : Knows c w i P21 → Now c i x P21 → Went c i x (Access.Gate (GateAccess.Release P22))
   unfolding perform accessGate swapGate released
   at-P21 k q =
       Went.went x refl refl refl
@@ -99,7 +92,7 @@ module _ {c : Card} {w : World} {i : ℕ} (B : Before c w i) (small : localAt c 
       (λ e. let z = released-since B (k .0) e in
       swapped (c .gate) P22 (one-more small q _ _ (omega arith) (omega arith) _ _ _ _ _ _, omega (arith, q .low))))
 
-  pub at-F3 : Now F3 → Went c i x (Access.Gate (GateAccess.Release Idle))
+  pub at-F3 : Now c i x F3 → Went c i x (Access.Gate (GateAccess.Release Idle))
   unfolding perform accessGate swapGate
   at-F3 q =
       Went.went x refl refl refl

@@ -21,15 +21,11 @@ use Rattle.construction.proofs.Simulating.Dictionaries.{insert-length}
 use Rattle.construction.proofs.Simulating.Weights.{weight-card}
 use Rattle.construction.proofs.Simulating.Simulations.{simulate-length}
 use Rattle.construction.proofs.Invariant.World.{World}
-use Rattle.construction.proofs.Invariant.Assertions.{LocAt}
-use Rattle.construction.proofs.Invariant.Acting.{worldOf, Before}
+use Rattle.construction.proofs.Invariant.Acting.{Before}
 use Rattle.construction.proofs.Waiting.Courses.{Tally, Loop, CourseAt}
-use Rattle.construction.proofs.Waiting.Going.{CourseIn, Went, one-more, put-course}
+use Rattle.construction.proofs.Waiting.Going.{CourseIn, Knows, Now, Went, one-more, put-course}
 
 module _ {c : Card} {w : World} {i : ℕ} (B : Before c w i) (small : localAt c i .steps ≤ 1000000000000000000) (x : Tally) where
-  abbrev L : Place → Type 0
-  L l = LocAt l (contentsOf c) (worldOf c w) i (localAt c i)
-
   abbrev heavy : ℕ
   heavy = cardWeight (contentsOf c)
 
@@ -39,9 +35,6 @@ module _ {c : Card} {w : World} {i : ℕ} (B : Before c w i) (small : localAt c 
   -- a helper's course does not depend on the shared cells
   abbrev At : Place → Local → Type 0
   At l t = (a : Announcement) → CourseAt l (c .processCount) heavy (c .gate) a x t
-
-  abbrev Now : Place → Type 0
-  Now l = CourseAt l (c .processCount) heavy (c .gate) (announcementAt c i) x (localAt c i)
 
   -- a helper that goes on with a task
   abbrev on : Task → Announcement → Simulation → Dictionary → ℕ → Local
@@ -64,7 +57,7 @@ module _ {c : Card} {w : World} {i : ℕ} (B : Before c w i) (small : localAt c 
   resumes d Faulted a z e mask q h l b = one-more small q s _ (omega arith) (omega arith) _ _ _ _ _ _
   resumes d (Lacks v) a z e mask q h l b = one-more small q s _ (omega arith) h _ _ _ _ _ _
 
-  pub at-P16 : Now P16 → Went c i x Access.Help
+  pub at-P16 : Now c i x P16 → Went c i x Access.Help
   unfolding perform beginHelp
   at-P16 q =
       let a : Announcement = announcementAt c m in
@@ -85,7 +78,7 @@ module _ {c : Card} {w : World} {i : ℕ} (B : Before c w i) (small : localAt c 
           withLocal (withAnnouncement c m (announcementAt c m)) i
           (on (b .task) (announcementAt c m) (b .simulation) (cond (b .helps) empty (localAt c i .dictionary)) (cond (b .helps) 0 (localAt c i .mask)))
 
-  pub at-H21 : L H21 → Now H21 → Went c i x Access.Note
+  pub at-H21 : Knows c w i H21 → Now c i x H21 → Went c i x Access.Note
   unfolding perform note
   at-H21 k q =
       let a : Announcement = localAt c i .announcement in
@@ -111,7 +104,7 @@ module _ {c : Card} {w : World} {i : ℕ} (B : Before c w i) (small : localAt c 
       noting b =
           withLocal (withRecord c v (recordAt c v)) i (on (b .task) (localAt c i .announcement) (b .simulation) (b .dictionary) (b .mask))
 
-  pub at-H36 : L H36 → Now H36 → Went c i x Access.Write
+  pub at-H36 : Knows c w i H36 → Now c i x H36 → Went c i x Access.Write
   unfolding perform writing
   at-H36 k q =
       let a : Announcement = localAt c i .announcement in

@@ -16,7 +16,7 @@ use Rattle.construction.proofs.Invariant.World.{World}
 use Rattle.construction.proofs.Invariant.Assertions.{LocAt, known}
 use Rattle.construction.proofs.Invariant.Acting.{worldOf, Before}
 use Rattle.construction.proofs.Waiting.Courses.{Tally, Loop, CourseAt, last-lap}
-use Rattle.construction.proofs.Waiting.Going.{Went}
+use Rattle.construction.proofs.Waiting.Going.{Now, Went}
 use Rattle.construction.proofs.Waiting.GateSteps.{at-P1, at-P10, at-P13, at-P14, at-P21, at-F1, at-F3}
 use Rattle.construction.proofs.Waiting.AnnouncementSteps.{at-P3, at-P6, at-P7, at-C2, at-C4, at-P19, at-P20, at-P22}
 use Rattle.construction.proofs.Waiting.HelpSteps.{at-P16, at-H21, at-H36}
@@ -25,8 +25,7 @@ module _ {c : Card} {w : World} {i : ℕ} (B : Before c w i) (small : localAt c 
     (due : announcementAt c i .flag ≡ Active → (x .spent ≡ 0) × (c .gate .seq ≤ x .turn)) where
   pub at-place :
       (l : Place) (exit : Bool) → localAt c i .exit ≡ exit → isIdle l ≡ false → LocAt l (contentsOf c) (worldOf c w) i (known (localAt c i)) →
-      CourseAt l (c .processCount) (cardWeight (contentsOf c)) (c .gate) (announcementAt c i) x (localAt c i) →
-      Went c i x (accessOf l exit)
+      Now c i x l → Went c i x (accessOf l exit)
   unfolding accessOf
   at-place Idle exit e n k q = absurd (true≢false n)
   at-place P1 exit e n k q = at-P1 B small x q

@@ -234,7 +234,7 @@ module _ (card calls : List ℕ) where
   unfolding session beginning
   only-calls-refusal e h = rw (e, lt-ltb 65536 (length calls) h, over) (append-nil callsRefusal)
 
--- ---- what a caller needs of a buffer that was printed into: the printed bytes stand in it, and the session after them
+-- ---- what a caller needs of a buffer that was printed into: the printed bytes stand in it
 module _ {t : List ℕ} {s : State} {b : List ℕ} {r : Printed} {z : List ℕ} (p : Prints t s b r z) where
   pub prints-count : r .length ≡ length (take (r .length) z)
   unfolding printedInto
@@ -243,10 +243,6 @@ module _ {t : List ℕ} {s : State} {b : List ℕ} {r : Printed} {z : List ℕ} 
       let e : length z ≡ length b = ap length (p .bytes) ∙ length-sets b 0 (g .text ++ firstLine (g .state) (commands t (g .state .at))) in
       let h = p .within in
       sym (length-take-le (r .length) z (omega arith))
-
-  pub prints-state : {n : ℕ} → n ≡ length b → r .state ≡ fitting t s n .state
-  unfolding printed
-  prints-state e = rw e (ap (λ (x : Printed). x .state) (p .answer))
 
 pub starts-count : {card calls b : List ℕ} {r : Printed} {z : List ℕ} → Starts card calls b r z → longest ≤ length b → r .length ≡ length (take (r .length) z)
 starts-count {card} {calls} {b} {r} {z} p h =

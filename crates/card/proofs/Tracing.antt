@@ -14,7 +14,7 @@ use Rattle.construction.specs.Cells.{openAnnouncement, openRecord}
 use Rattle.construction.specs.Dictionary.{empty}
 use Rattle.construction.specs.Parts.{noGate, contentsOf, announcementAt, recordAt, Local, localAt}
 use Rattle.construction.specs.Machine.{accessOf, accessIn, cellOf, writing, writtenVariable, perform, advance, swapOf}
-use Rattle.construction.specs.OneAccess.{touched}
+use Rattle.construction.specs.OneAccess.{touchedCell}
 use Rattle.construction.specs.Requests.{isProcess, isIdle, refused, step}
 use Rattle.construction.specs.Answers.{isRefused}
 use Rattle.construction.specs.Tracing.{labelOf, reportWith, reportOf, noReport, trace}
@@ -87,7 +87,7 @@ module _ {c : Card} {i : ℕ} {label : Label} {a : Access} {w : Writing} {x : Ce
   written-is : w ≡ writing (localAt c i .gate .seq) (localAt c i .task) (localAt c i .dictionary)
   written-is = rw own-dictionary at (p .writes)
 
-  touched-is : x ≡ touched c i
+  touched-is : x ≡ touchedCell c i
   touched-is =
       p .touches
       ∙ (rw (p .chosen, written-is) (sym (cell-is (accessIn (localAt c i)) (contentsOf c) i (localAt c i))))

@@ -5,3 +5,4 @@ pub mod Histories
 pub mod Tracking
 pub mod Consistency
 pub mod Growth
+pub mod Runs

@@ -42,17 +42,17 @@ pub record Performed : Type 0 where
   pub action : Action
 
 -- 'if it is not 0, variable 0 takes what the cell holds and the cell becomes 0'; 'the cell numbered r[a] takes variable 0, and variable 0 takes r[a]'
-abbrev pub after : List ℕ → Action → List ℕ
-after words (Action.Took c) = set (set words 0 (getD words c 0)) c 0
-after words Action.TookNone = words
-after words (Action.Gave c) = set (set words c (getD words 0 0)) 0 c
-after words (Action.Loaded v) = words
-after words (Action.Stored v x) = set words v x
+abbrev pub actedOn : List ℕ → Action → List ℕ
+actedOn words (Action.Took c) = set (set words 0 (getD words c 0)) c 0
+actedOn words Action.TookNone = words
+actedOn words (Action.Gave c) = set (set words c (getD words 0 0)) 0 c
+actedOn words (Action.Loaded v) = words
+actedOn words (Action.Stored v x) = set words v x
 
 -- the words after a list of actions, newest first
 unfoldable pub wordsAfter : List ℕ → List Performed → List ℕ
 wordsAfter words [] = words
-wordsAfter words (x ∷ xs) = after (wordsAfter words xs) (x .action)
+wordsAfter words (x ∷ xs) = actedOn (wordsAfter words xs) (x .action)
 
 -- 'Variable 0 holds the number of the first free cell, 0 for none, and each free cell holds the next': the free cells from a number on, at most
 -- `fuel` of them. The chain ends at 0, or at a number of n or more.

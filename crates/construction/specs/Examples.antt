@@ -55,8 +55,8 @@ AllHold (r ∷ rs) = Holds r × AllHold rs
 abbrev pub one : ℕ → Words
 one x = record { w0 = x; w1 = 0; w2 = 0; w3 = 0 }
 
-abbrev pub call : ℕ → Words → List Entry
-call i inputs = Entry.Call i 0 inputs ∷ []
+abbrev pub called : ℕ → Words → List Entry
+called i inputs = Entry.Call i 0 inputs ∷ []
 
 abbrev pub exit : ℕ → List Entry
 exit i = Entry.Exit i ∷ []
@@ -88,22 +88,22 @@ exited own = Answer.Exited own ∷ []
 abbrev pub shown : ℕ → List Answer
 shown x = Answer.Value x ∷ []
 
-abbrev pub refused : Refusal → List Answer
-refused r = Answer.Refused r ∷ []
+abbrev pub refusal : Refusal → List Answer
+refusal r = Answer.Refused r ∷ []
 
-abbrev pub announced : Flag → ℕ → ℕ → ℕ → Announcement
-announced flag seq number x = record { program = 0; flag = flag; seq = seq; number = number; words = one x; fault = false }
+abbrev pub announcement : Flag → ℕ → ℕ → ℕ → Announcement
+announcement flag seq number x = record { program = 0; flag = flag; seq = seq; number = number; words = one x; fault = false }
 
 -- the gate, free or held by a process, with its number
-abbrev pub free : ℕ → Gate
-free seq = record { holder = Nobody; seq = seq }
+abbrev pub freeGate : ℕ → Gate
+freeGate seq = record { holder = Nobody; seq = seq }
 
-abbrev pub held : ℕ → ℕ → Gate
-held i seq = record { holder = Process i; seq = seq }
+abbrev pub heldGate : ℕ → ℕ → Gate
+heldGate i seq = record { holder = Process i; seq = seq }
 
 -- an operation done under number 1, the first that its process announced
-abbrev pub finished : Yield → Announcement
-finished y = record { program = 0; flag = Done; seq = 1; number = 1; words = y .outputs; fault = y .fault }
+abbrev pub doneAnnouncement : Yield → Announcement
+doneAnnouncement y = record { program = 0; flag = Done; seq = 1; number = 1; words = y .outputs; fault = y .fault }
 
 -- an operation alone on its card: after the call its last step is answered done, under number 1, with what it yields, and the gate is free again
 pub record Alone : Type 0 where
@@ -122,10 +122,10 @@ abbrev pub alone : Alone → Row
 alone a =
     record {
       text = a .text;
-      entries = call 0 (a .inputs) ++ steps 0 (a .steps);
+      entries = called 0 (a .inputs) ++ steps 0 (a .steps);
       answers = taken ++ runsBefore (a .steps) (Answer.Done 1 (a .yields) (a .steps) ∷ []);
-      gate = free 2;
-      announcements = finished (a .yields) ∷ [];
+      gate = freeGate 2;
+      announcements = doneAnnouncement (a .yields) ∷ [];
       variable = a .variable;
       cell = a .cell;
     }
@@ -149,10 +149,10 @@ abbrev pub listing : Row
 listing =
     record {
       text = cardK;
-      entries = readFirst ++ (call 0 (one 9) ++ (steps 0 14 ++ (readFirst ++ steps 0 1)));
-      answers = shown 7 ++ (taken ++ (runs 13 ++ (done 1 (one 7) 14 ++ (shown 9 ++ refused NotBusy))));
-      gate = free 2;
-      announcements = announced Done 1 1 7 ∷ [];
+      entries = readFirst ++ (called 0 (one 9) ++ (steps 0 14 ++ (readFirst ++ steps 0 1)));
+      answers = shown 7 ++ (taken ++ (runs 13 ++ (done 1 (one 7) 14 ++ (shown 9 ++ refusal NotBusy))));
+      gate = freeGate 2;
+      announcements = announcement Done 1 1 7 ∷ [];
       variable = 0;
       cell = nine;
     }
@@ -162,10 +162,10 @@ abbrev pub afterNine : Row
 afterNine =
     record {
       text = cardK;
-      entries = call 0 (one 9) ++ (steps 0 9 ++ readFirst);
+      entries = called 0 (one 9) ++ (steps 0 9 ++ readFirst);
       answers = taken ++ (runs 9 ++ shown 7);
-      gate = held 0 1;
-      announcements = announced Active 1 0 9 ∷ [];
+      gate = heldGate 0 1;
+      announcements = announcement Active 1 0 9 ∷ [];
       variable = 0;
       cell = nine;
     }
@@ -175,10 +175,10 @@ abbrev pub afterTen : Row
 afterTen =
     record {
       text = cardK;
-      entries = call 0 (one 9) ++ (steps 0 10 ++ readFirst);
+      entries = called 0 (one 9) ++ (steps 0 10 ++ readFirst);
       answers = taken ++ (runs 10 ++ shown 9);
-      gate = held 0 1;
-      announcements = announced Done 1 1 7 ∷ [];
+      gate = heldGate 0 1;
+      announcements = announcement Done 1 1 7 ∷ [];
       variable = 0;
       cell = nine;
     }
@@ -192,10 +192,10 @@ abbrev pub exitRequested : Row
 exitRequested =
     record {
       text = cardK;
-      entries = call 0 (one 9) ++ (exit 0 ++ steps 0 17);
+      entries = called 0 (one 9) ++ (exit 0 ++ steps 0 17);
       answers = taken ++ (taken ++ (runs 16 ++ done 1 (one 7) 17));
-      gate = free 2;
-      announcements = announced Done 1 1 7 ∷ [];
+      gate = freeGate 2;
+      announcements = announcement Done 1 1 7 ∷ [];
       variable = 0;
       cell = nine;
     }
@@ -205,10 +205,10 @@ abbrev pub twoProcesses : Row
 twoProcesses =
     record {
       text = cardK2;
-      entries = call 0 (one 5) ++ (call 1 (one 9) ++ (steps 0 2 ++ (steps 1 5 ++ (exit 0 ++ (steps 0 10 ++ (steps 1 3 ++ readFirst))))));
+      entries = called 0 (one 5) ++ (called 1 (one 9) ++ (steps 0 2 ++ (steps 1 5 ++ (exit 0 ++ (steps 0 10 ++ (steps 1 3 ++ readFirst))))));
       answers = taken ++ (taken ++ (runs 7 ++ (taken ++ (runs 9 ++ (exited 12 ++ (runs 2 ++ (done 1 (one 7) 8 ++ shown 9)))))));
-      gate = free 2;
-      announcements = announced Exit 1 0 5 ∷ announced Done 1 1 7 ∷ [];
+      gate = freeGate 2;
+      announcements = announcement Exit 1 0 5 ∷ announcement Done 1 1 7 ∷ [];
       variable = 0;
       cell = nine;
     }
@@ -218,10 +218,10 @@ abbrev pub limited : Row
 limited =
     record {
       text = bytes "card,1,1,1,13\n" ++ bodyK;
-      entries = call 0 (one 9) ++ (steps 0 14 ++ readFirst);
-      answers = taken ++ (runs 13 ++ (refused LimitReached ++ shown 9));
-      gate = free 2;
-      announcements = announced Done 1 1 7 ∷ [];
+      entries = called 0 (one 9) ++ (steps 0 14 ++ readFirst);
+      answers = taken ++ (runs 13 ++ (refusal LimitReached ++ shown 9));
+      gate = freeGate 2;
+      announcements = announcement Done 1 1 7 ∷ [];
       variable = 0;
       cell = nine;
     }
@@ -281,10 +281,10 @@ abbrev pub unwritten : Row
 unwritten =
     record {
       text = bytes "card,1,1,1,100\n" ++ bodyFault;
-      entries = call 0 (one 9) ++ watched 13;
+      entries = called 0 (one 9) ++ watched 13;
       answers = taken ++ (seven 12 ++ (fault 1 13 ++ shown 7));
-      gate = free 2;
-      announcements = finished faultYield ∷ [];
+      gate = freeGate 2;
+      announcements = doneAnnouncement faultYield ∷ [];
       variable = 0;
       cell = openRecord 7;
     }
@@ -294,10 +294,10 @@ abbrev pub lateFault : Row
 lateFault =
     record {
       text = bytes "card,2,1,1,100\n" ++ bodyFault;
-      entries = call 0 (one 0) ++ (call 1 (one 9) ++ (steps 0 2 ++ (steps 1 7 ++ (steps 0 3 ++ (steps 1 6 ++ (call 1 (one 0) ++ (steps 1 2 ++ (steps 0 3 ++ readFirst))))))));
+      entries = called 0 (one 0) ++ (called 1 (one 9) ++ (steps 0 2 ++ (steps 1 7 ++ (steps 0 3 ++ (steps 1 6 ++ (called 1 (one 0) ++ (steps 1 2 ++ (steps 0 3 ++ readFirst))))))));
       answers = taken ++ (taken ++ (runs 17 ++ (fault 1 13 ++ (taken ++ (runs 5 ++ shown 7)))));
-      gate = free 2;
-      announcements = announced Active 1 0 0 ∷ announced Active 2 0 0 ∷ [];
+      gate = freeGate 2;
+      announcements = announcement Active 1 0 0 ∷ announcement Active 2 0 0 ∷ [];
       variable = 0;
       cell = openRecord 7;
     }
@@ -311,10 +311,10 @@ abbrev pub turnOfOther : Row
 turnOfOther =
     record {
       text = cardK2;
-      entries = call 1 (one 9) ++ (call 0 (one 5) ++ (steps 1 2 ++ (steps 0 25 ++ readFirst)));
+      entries = called 1 (one 9) ++ (called 0 (one 5) ++ (steps 1 2 ++ (steps 0 25 ++ readFirst)));
       answers = taken ++ (taken ++ (runs 26 ++ (done 2 (one 9) 25 ++ shown 5)));
-      gate = free 3;
-      announcements = announced Done 1 2 9 ∷ announced Done 1 1 7 ∷ [];
+      gate = freeGate 3;
+      announcements = announcement Done 1 2 9 ∷ announcement Done 1 1 7 ∷ [];
       variable = 0;
       cell = record { val0 = 5; val1 = 9; toggle = false; seq = 2 };
     }
@@ -324,10 +324,10 @@ abbrev pub equalSeq : Row
 equalSeq =
     record {
       text = cardK2;
-      entries = call 0 (one 5) ++ (call 1 (one 9) ++ (steps 0 2 ++ (steps 1 9 ++ (steps 0 4 ++ steps 1 5))));
+      entries = called 0 (one 5) ++ (called 1 (one 9) ++ (steps 0 2 ++ (steps 1 9 ++ (steps 0 4 ++ steps 1 5))));
       answers = taken ++ (taken ++ (runs 19 ++ done 1 (one 7) 14));
-      gate = free 2;
-      announcements = announced Active 1 0 5 ∷ announced Done 1 1 7 ∷ [];
+      gate = freeGate 2;
+      announcements = announcement Active 1 0 5 ∷ announcement Done 1 1 7 ∷ [];
       variable = 0;
       cell = nine;
     }
@@ -344,10 +344,10 @@ abbrev pub earlyExit : Row
 earlyExit =
     record {
       text = cardFlip;
-      entries = call 0 (one 0) ++ (steps 0 3 ++ (call 1 (one 0) ++ (steps 1 2 ++ (steps 0 6 ++ (exit 1 ++ (steps 1 1 ++ (steps 0 1 ++ (steps 1 1 ++ (steps 0 1 ++ readFirst)))))))));
+      entries = called 0 (one 0) ++ (steps 0 3 ++ (called 1 (one 0) ++ (steps 1 2 ++ (steps 0 6 ++ (exit 1 ++ (steps 1 1 ++ (steps 0 1 ++ (steps 1 1 ++ (steps 0 1 ++ readFirst)))))))));
       answers = taken ++ (runs 3 ++ (taken ++ (runs 8 ++ (taken ++ (runs 4 ++ shown 1)))));
-      gate = held 1 1;
-      announcements = announced Active 1 0 0 ∷ announced Done 1 1 0 ∷ [];
+      gate = heldGate 1 1;
+      announcements = announcement Active 1 0 0 ∷ announcement Done 1 1 0 ∷ [];
       variable = 0;
       cell = flipped 1;
     }
@@ -357,10 +357,10 @@ abbrev pub lateMark : Row
 lateMark =
     record {
       text = cardFlip;
-      entries = call 0 (one 0) ++ (steps 0 3 ++ (call 1 (one 0) ++ (steps 1 2 ++ (steps 0 3 ++ (steps 1 9 ++ (call 1 (one 0) ++ (steps 1 2 ++ steps 0 3)))))));
+      entries = called 0 (one 0) ++ (steps 0 3 ++ (called 1 (one 0) ++ (steps 1 2 ++ (steps 0 3 ++ (steps 1 9 ++ (called 1 (one 0) ++ (steps 1 2 ++ steps 0 3)))))));
       answers = taken ++ (runs 3 ++ (taken ++ (runs 13 ++ (done 1 (one 0) 11 ++ (taken ++ runs 5)))));
-      gate = free 2;
-      announcements = announced Active 1 0 0 ∷ announced Active 2 0 0 ∷ [];
+      gate = freeGate 2;
+      announcements = announcement Active 1 0 0 ∷ announcement Active 2 0 0 ∷ [];
       variable = 0;
       cell = flipped 1;
     }
@@ -370,10 +370,10 @@ abbrev pub lateSwap : Row
 lateSwap =
     record {
       text = cardFlip;
-      entries = call 0 (one 0) ++ (steps 0 3 ++ (call 1 (one 0) ++ (steps 1 2 ++ (steps 0 16 ++ (steps 1 9 ++ (call 1 (one 0) ++ (steps 1 9 ++ (steps 0 1 ++ (steps 1 1 ++ readFirst)))))))));
+      entries = called 0 (one 0) ++ (steps 0 3 ++ (called 1 (one 0) ++ (steps 1 2 ++ (steps 0 16 ++ (steps 1 9 ++ (called 1 (one 0) ++ (steps 1 9 ++ (steps 0 1 ++ (steps 1 1 ++ readFirst)))))))));
       answers = taken ++ (runs 3 ++ (taken ++ (runs 26 ++ (done 1 (one 0) 11 ++ (taken ++ (runs 11 ++ shown 1))))));
-      gate = held 1 3;
-      announcements = announced Done 1 2 0 ∷ announced Done 3 3 0 ∷ [];
+      gate = heldGate 1 3;
+      announcements = announcement Done 1 2 0 ∷ announcement Done 3 3 0 ∷ [];
       variable = 0;
       cell = flipped 3;
     }
@@ -391,10 +391,10 @@ abbrev pub takenLast : Row
 takenLast =
     record {
       text = cardTake 1 0;
-      entries = call 0 (one 0) ++ (steps 0 15 ++ readFirst);
+      entries = called 0 (one 0) ++ (steps 0 15 ++ readFirst);
       answers = taken ++ (runs 14 ++ (done 1 (one 1) 15 ++ shown 0));
-      gate = free 2;
-      announcements = announced Done 1 1 1 ∷ [];
+      gate = freeGate 2;
+      announcements = announcement Done 1 1 1 ∷ [];
       variable = 0;
       cell = record { val0 = 1; val1 = 0; toggle = true; seq = 1 };
     }
@@ -419,10 +419,10 @@ abbrev pub givenFirst : Row
 givenFirst =
     record {
       text = cardGive;
-      entries = call 0 (one 1) ++ steps 0 10;
+      entries = called 0 (one 1) ++ steps 0 10;
       answers = taken ++ runs 10;
-      gate = held 0 1;
-      announcements = announced Active 1 0 1 ∷ [];
+      gate = heldGate 0 1;
+      announcements = announcement Active 1 0 1 ∷ [];
       variable = 0;
       cell = record { val0 = 0; val1 = 1; toggle = true; seq = 1 };
     }
@@ -432,10 +432,10 @@ abbrev pub takenCleared : Row
 takenCleared =
     record {
       text = bytes "card,1,3,1,100\nvar,1\nvar,2\nvar,0\nsheet,2\nins,13,0,0,0\nins,11,0,0,0\n";
-      entries = call 0 (one 0) ++ (steps 0 16 ++ (Entry.Read 0 ∷ Entry.Read 1 ∷ Entry.Read 2 ∷ []));
+      entries = called 0 (one 0) ++ (steps 0 16 ++ (Entry.Read 0 ∷ Entry.Read 1 ∷ Entry.Read 2 ∷ []));
       answers = taken ++ (runs 15 ++ (done 1 (one 1) 16 ++ (shown 2 ++ (shown 0 ++ shown 0))));
-      gate = free 2;
-      announcements = announced Done 1 1 1 ∷ [];
+      gate = freeGate 2;
+      announcements = announcement Done 1 1 1 ∷ [];
       variable = 1;
       cell = record { val0 = 2; val1 = 0; toggle = true; seq = 1 };
     }
@@ -503,7 +503,7 @@ abbrev pub listingTold : TracedRow
 listingTold =
     record {
       text = cardK;
-      entries = call 0 (one 9) ++ traces 0 14;
+      entries = called 0 (one 9) ++ traces 0 14;
       reports =
           toldBeginning ++ (toldChoosing [] ++ (toldNoted Label.H36 (Cell.Record 0) Swap.Won 1 ++ toldEnding Swap.Won Swap.Lost));
     }
@@ -513,7 +513,7 @@ abbrev pub sameInputTold : TracedRow
 sameInputTold =
     record {
       text = cardK;
-      entries = call 0 (one 7) ++ traces 0 13;
+      entries = called 0 (one 7) ++ traces 0 13;
       reports = toldBeginning ++ (toldChoosing [] ++ toldEnding Swap.Won Swap.Lost);
     }
 
@@ -523,7 +523,7 @@ abbrev pub exitRequestedTold : TracedRow
 exitRequestedTold =
     record {
       text = cardK;
-      entries = call 0 (one 9) ++ (exit 0 ++ traces 0 17);
+      entries = called 0 (one 9) ++ (exit 0 ++ traces 0 17);
       reports =
           toldBeginning
           ++ (told Label.P6 (Cell.Announcement 0) Swap.Won 1
@@ -618,13 +618,13 @@ abbrev pub refusedEntries : List RefusedEntry
 refusedEntries =
     record { text = cardK2; entries = []; entry = Entry.Step 2; number = 5 }
     ∷ record { text = cardK; entries = []; entry = Entry.Call 0 1 (one 9); number = 6 }
-    ∷ record { text = cardK; entries = call 0 (one 9); entry = Entry.Call 0 0 (one 9); number = 7 }
+    ∷ record { text = cardK; entries = called 0 (one 9); entry = Entry.Call 0 0 (one 9); number = 7 }
     ∷ record { text = cardK; entries = []; entry = Entry.Step 0; number = 8 }
     ∷ record { text = cardK; entries = []; entry = Entry.Read 1; number = 9 }
-    ∷ record { text = bytes "card,1,1,1,5\n" ++ bodyK; entries = call 0 (one 9) ++ steps 0 5; entry = Entry.Step 0; number = 10 }
+    ∷ record { text = bytes "card,1,1,1,5\n" ++ bodyK; entries = called 0 (one 9) ++ steps 0 5; entry = Entry.Step 0; number = 10 }
     ∷ record { text = cardK2; entries = []; entry = Entry.Trace 2; number = 5 }
     ∷ record { text = cardK; entries = []; entry = Entry.Trace 0; number = 8 }
-    ∷ record { text = bytes "card,1,1,1,5\n" ++ bodyK; entries = call 0 (one 9) ++ traces 0 5; entry = Entry.Trace 0; number = 10 }
+    ∷ record { text = bytes "card,1,1,1,5\n" ++ bodyK; entries = called 0 (one 9) ++ traces 0 5; entry = Entry.Trace 0; number = 10 }
     ∷ []
 
 -- row 11: a lent buffer of 0 bytes

@@ -279,20 +279,20 @@ stepWrite cell l =
     }
 
 -- THE CARD: the cell and the process are taken out and put back; and the swap
-pub record Performed : Type 0 where
+pub record AccessedCard : Type 0 where
   pub card : Card
   pub swap : Swap
 
-abbrev pub putGate : Card → ℕ → Accessed Gate → Performed
+abbrev pub putGate : Card → ℕ → Accessed Gate → AccessedCard
 putGate c i x = record { card = withLocal (withGate c (x .cell)) i (x .local); swap = x .swap }
 
-abbrev pub putAnnouncement : Card → ℕ → ℕ → Accessed Announcement → Performed
+abbrev pub putAnnouncement : Card → ℕ → ℕ → Accessed Announcement → AccessedCard
 putAnnouncement c i m x = record { card = withLocal (withAnnouncement c m (x .cell)) i (x .local); swap = x .swap }
 
-abbrev pub putRecord : Card → ℕ → ℕ → Accessed Record → Performed
+abbrev pub putRecord : Card → ℕ → ℕ → Accessed Record → AccessedCard
 putRecord c i v x = record { card = withLocal (withRecord c v (x .cell)) i (x .local); swap = x .swap }
 
-unfoldable pub perform : Access → Card → ℕ → Performed
+unfoldable pub perform : Access → Card → ℕ → AccessedCard
 perform Access.None c i =
     let l = localAt c i in
     record { card = withLocal c i (after l (l .task) (l .gate) (l .announcement) (l .simulation) (l .dictionary) (l .mask)); swap = Swap.None }

@@ -14,8 +14,8 @@ use Rattle.construction.specs.Machine.{accessIn, cellOf, advance, swapOf
 use Rattle.construction.specs.Requests.{answerOf}
 
 -- the cell that the next step of process i touches
-abbrev pub touched : Card → ℕ → Cell
-touched c i = cellOf (accessIn (localAt c i)) (contentsOf c) i (localAt c i)
+abbrev pub touchedCell : Card → ℕ → Cell
+touchedCell c i = cellOf (accessIn (localAt c i)) (contentsOf c) i (localAt c i)
 
 -- two arrays have the same length and the same element at place i
 pub record Same {A : Type 0} (l m : List A) (i : ℕ) (none : A) : Type 0 where
@@ -49,16 +49,16 @@ SameText c d = contentsOf c ≡ contentsOf d
 -- an accepted step of process i makes one shared access
 pub record OneAccess (c : Card) (i : ℕ) : Type 0 where
   -- the text and its process alone decide which cell it touches
-  pub chosen : (d : Card) → SameText c d → SameLocal i c d → touched c i ≡ touched d i
+  pub chosen : (d : Card) → SameText c d → SameLocal i c d → touchedCell c i ≡ touchedCell d i
   -- the text, its process and that cell alone decide what it leaves in its process and in that cell, whether a swap won, and its answer
   pub depends :
-      (d : Card) → SameText c d → SameLocal i c d → SameIn (touched c i) c d →
+      (d : Card) → SameText c d → SameLocal i c d → SameIn (touchedCell c i) c d →
       SameLocal i (advance c i) (advance d i)
-      × SameIn (touched c i) (advance c i) (advance d i)
+      × SameIn (touchedCell c i) (advance c i) (advance d i)
       × (swapOf c i ≡ swapOf d i)
       × (answerOf (localAt (advance c i) i) ≡ answerOf (localAt (advance d i) i))
   -- every other cell, every other process and the text stay
-  pub kept : (x : Cell) → x ≢ touched c i → SameIn x c (advance c i)
+  pub kept : (x : Cell) → x ≢ touchedCell c i → SameIn x c (advance c i)
   pub others : (j : ℕ) → j ≢ i → SameLocal j c (advance c i)
   pub text : SameText c (advance c i)
   -- what is left of a card, its count of accepted steps, goes up by one, in 64 bits

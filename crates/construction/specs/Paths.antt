@@ -11,7 +11,7 @@ use Rattle.construction.specs.Types.{Nobody, Process, Gate, Done, Active
 use Rattle.construction.specs.Parts.{localAt, announcementAt, recordAt}
 use Rattle.construction.specs.Machine.{advance}
 use Rattle.construction.specs.Requests.{answerOf}
-use Rattle.construction.specs.OneAccess.{touched}
+use Rattle.construction.specs.OneAccess.{touchedCell}
 use Rattle.construction.specs.Answers.{isTaken, isRefused}
 use Rattle.construction.specs.Tracing.{reportOf}
 use Rattle.construction.specs.History.{Return, Event, eventOf, Entry, act}
@@ -41,7 +41,7 @@ made c i =
     record {
       report = reportOf c i;
       wish = localAt c i .exit;
-      found = foundIn c (touched c i);
+      found = foundIn c (touchedCell c i);
       answer = answerOf (localAt (advance c i) i);
     }
 

@@ -52,13 +52,13 @@ invoked l k inputs =
       mask = l .mask;
     }
 
--- a process is asked to exit
-abbrev pub exiting : Local → Local
-exiting l =
+-- a process with an exit request, or without; and one that is asked to exit
+abbrev pub withRequest : Local → Bool → Local
+withRequest l exit =
     record {
       task = l .task;
       operation = l .operation;
-      exit = true;
+      exit = exit;
       steps = l .steps;
       gate = l .gate;
       announcement = l .announcement;
@@ -66,6 +66,9 @@ exiting l =
       dictionary = l .dictionary;
       mask = l .mask;
     }
+
+abbrev pub exiting : Local → Local
+exiting l = withRequest l true
 
 -- call: refusals 5, 6, 7
 unfoldable pub call : Card → ℕ → ℕ → Words → Answered

@@ -8,7 +8,7 @@ use Rattle.construction.specs.Answers.{isRefused}
 use Rattle.construction.specs.Marks.{Marks}
 use Rattle.construction.specs.Parts.{localAt}
 use Rattle.construction.specs.Machine.{advance, swapOf}
-use Rattle.construction.specs.OneAccess.{touched}
+use Rattle.construction.specs.OneAccess.{touchedCell}
 use Rattle.construction.specs.Requests.{step}
 
 -- 'the label of the access made': that of a process's place, by its exit request at the top of the loop (line P5, which is no access)
@@ -77,7 +77,7 @@ unfoldable pub reportOf : Card → ℕ → Report
 reportOf c i =
     let l = localAt c i in
     let after = localAt (advance c i) i in
-    reportWith (labelOf (l .task .place) (l .exit)) (touched c i) (swapOf c i) (after .gate .seq) (after .mask)
+    reportWith (labelOf (l .task .place) (l .exit)) (touchedCell c i) (swapOf c i) (after .gate .seq) (after .mask)
 
 -- no access
 abbrev pub noReport : Report

@@ -10,7 +10,7 @@ use lib.ListN.{length, getD, set, drop, length-set}
 use lib.Seq.{getD-set-same, getD-set-other}
 use borrow.Author.Tests.{eqb-true, eqb-false}
 use Rattle.construction.specs.Instructions.{isCell}
-use Rattle.construction.specs.Allocation.{among, without, NoRepeats, Action, Performed, after, wordsAfter, chain, inHand, hand, givenBackBy, givenBack}
+use Rattle.construction.specs.Allocation.{among, without, NoRepeats, Action, Performed, actedOn, wordsAfter, chain, inHand, hand, givenBackBy, givenBack}
 use Rattle.construction.specs.Allocation.{Possible, ChainWithoutRepeats, Outside, TouchesOutside, OnlyByCodes, GivesOwn, OnlyFromHands, InHands}
 use Rattle.construction.proofs.Basics.{true-or-false, true-false, eqb-refl, clash}
 use Rattle.construction.proofs.Allocating.Chains.{not-among, among-cons, apart-cons, without-apart, without-none, without-among, cell-inside, Linked, linked-cells, linked-whole, chain-linked, linked-set}
@@ -100,7 +100,7 @@ module _ (start words : List ℕ) (hands : ℕ → List ℕ) (back : List ℕ) (
   -- the first free cell is taken
   took-top :
       (v : ℕ) → isCell (length words) v ≡ true → getD words 0 0 ≡ v → (s : List ℕ) → K .stack ≡ s →
-      Kept start (after words (Action.Took v)) (handsAfter (Action.Took v)) (givenBackBy (Action.Took v) back)
+      Kept start (actedOn words (Action.Took v)) (handsAfter (Action.Took v)) (givenBackBy (Action.Took v) back)
   unfolding without
   took-top v t e [] q =
       absurd (true-false _ t (subst (λ c. isCell (length words) c ≡ false) e (subst (Linked words (getD words 0 0)) q (K .linked))))
@@ -185,7 +185,7 @@ module _ (start words : List ℕ) (hands : ℕ → List ℕ) (back : List ℕ) (
   -- a cell is given back: the new top of the stack
   gave :
       (v : ℕ) → isCell (length words) v ≡ true → among v (hands i) ≡ true →
-      Kept start (after words (Action.Gave v)) (handsAfter (Action.Gave v)) (v ∷ back)
+      Kept start (actedOn words (Action.Gave v)) (handsAfter (Action.Gave v)) (v ∷ back)
   gave v t own =
       record {
         stack = v ∷ K .stack;
@@ -215,7 +215,7 @@ module _ (start words : List ℕ) (hands : ℕ → List ℕ) (back : List ℕ) (
   -- every action that the codes can make, under the premises
   pub kept-action :
       (a : Action) → Possible words a → TouchesOutside words a → GivesOwn (hands i) a →
-      Kept start (after words a) (handsAfter a) (givenBackBy a back)
+      Kept start (actedOn words a) (handsAfter a) (givenBackBy a back)
   kept-action (Action.Took c) p t g = took-top c (p .1) (p .0) (K .stack) refl
   kept-action Action.TookNone p t g = unmoved (K .linked) (λ j. cond-same (eqb i j) (hands j))
   kept-action (Action.Gave c) p t g = gave c p g

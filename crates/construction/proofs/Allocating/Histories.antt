@@ -15,7 +15,7 @@ use Rattle.construction.proofs.Observing.Histories.{on-equal, chosen, p
 use Rattle.construction.proofs.Observing.Consistency.{finishes-one}
 use Rattle.construction.proofs.Allocating.Hands.{AllPossible}
 use Rattle.construction.proofs.Allocating.Runs.{words-append, words-length, possible-append, in-words, in-possible}
-use Rattle.construction.proofs.Statements.Linearizability.{opened-keeps}
+use Rattle.construction.proofs.Observing.Runs.{opened-keeps}
 
 -- the operation with the number of a process's latest call is that call
 operation-latest : (xs : List Invocation) (i : ℕ) → hasCalled xs i ≡ true → operationAt xs (latest xs i) ≡ latestCall xs i

@@ -11,7 +11,7 @@ use Rattle.construction.specs.Types.{Words, Instruction, Program, Effect
 use Rattle.construction.specs.Instructions.{word, isCell, load, store, free, effectOf, nextEffect, fetch, faulted, withRegister, started}
 use Rattle.construction.specs.Effects.{Store, put, Executed, allocated, execute, onExecuted}
 use Rattle.construction.specs.Sequential.{ending, wordAt, withStores, nextExecuted, runFrom, sequential}
-use Rattle.construction.specs.Allocation.{Action, Performed, after, wordsAfter, actionsOf, performedBy, performedFrom, performedIn, OnlyByCodes, OnlyFromHands}
+use Rattle.construction.specs.Allocation.{Action, Performed, actedOn, wordsAfter, actionsOf, performedBy, performedFrom, performedIn, OnlyByCodes, OnlyFromHands}
 use Rattle.construction.proofs.Basics.{on-test}
 use Rattle.construction.proofs.Simulating.Effects.{on-executed}
 use Rattle.construction.proofs.Simulating.Sequential.{stores-length}
@@ -21,7 +21,7 @@ use Rattle.construction.proofs.Allocating.Hands.{AllPossible}
 pub words-append : (words : List ℕ) (xs ys : List Performed) → wordsAfter words (xs ++ ys) ≡ wordsAfter (wordsAfter words ys) xs
 unfolding wordsAfter
 words-append words [] ys = refl
-words-append words (x ∷ xs) ys = ap (λ (l : List ℕ). after l (x .action)) (words-append words xs ys)
+words-append words (x ∷ xs) ys = ap (λ (l : List ℕ). actedOn l (x .action)) (words-append words xs ys)
 
 pub possible-append :
     (words : List ℕ) (xs ys : List Performed) → AllPossible (wordsAfter words ys) xs → AllPossible words ys → AllPossible words (xs ++ ys)
@@ -42,7 +42,7 @@ pub hands-earlier : (xs ys : List Performed) → OnlyFromHands (xs ++ ys) → On
 hands-earlier [] ys q = q
 hands-earlier (x ∷ xs) ys q = hands-earlier xs ys (q .1)
 
-after-length : (words : List ℕ) (a : Action) → length (after words a) ≡ length words
+after-length : (words : List ℕ) (a : Action) → length (actedOn words a) ≡ length words
 after-length words (Action.Took c) = rw (length-set, length-set)
 after-length words Action.TookNone = refl
 after-length words (Action.Gave c) = rw (length-set, length-set)

@@ -17,7 +17,7 @@ use Rattle.construction.specs.History.{Entry, observe, run}
 use Rattle.construction.proofs.Basics.{on-test, set-keeps, getD-replicate-same}
 use Rattle.construction.proofs.Simulating.Simulations.{kept-simulated}
 use Rattle.construction.proofs.Observing.Outcomes.{Outcome, outcome}
-use Rattle.construction.proofs.Statements.Linearizability.{opened-keeps}
+use Rattle.construction.proofs.Observing.Runs.{opened-keeps}
 
 -- a skip goes on at the instruction after those skipped, and past the room at its end
 pub skip-within : (k c : ℕ) → suc (k + c) ≤ 32 → forward k c ≡ suc (k + c)

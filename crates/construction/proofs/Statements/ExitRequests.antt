@@ -10,27 +10,13 @@ use Rattle.construction.specs.Types.{Words, P1, Access, Task, Card, Answ
 use Rattle.construction.specs.Cells.{openAnnouncement}
 use Rattle.construction.specs.Instructions.{started}
 use Rattle.construction.specs.Dictionary.{empty}
-use Rattle.construction.specs.Parts.{idleTask, noOperation, noGate, Local, localAt, withOwn, withLocal}
+use Rattle.construction.specs.Parts.{idleTask, noOperation, noGate, localAt, withOwn, withLocal}
 use Rattle.construction.specs.Machine.{accessIn, perform, advance}
-use Rattle.construction.specs.Requests.{isProcess, isProgram, isBusy, isIdle, invoked, exiting, call, requestExit}
+use Rattle.construction.specs.Requests.{isProcess, isProgram, isBusy, isIdle, invoked, withRequest, exiting, call, requestExit}
 use Rattle.construction.specs.History.{Entry, act}
 use Rattle.construction.proofs.Basics.{true-or-false, true-false, set-keeps}
 use Rattle.construction.proofs.Observing.Outcomes.{Outcome, outcome}
 use Rattle.construction.proofs.Statements.Refusals.{call-taken, exit-taken}
-
--- the own state of a process with an exit request, or without
-abbrev pub withRequest : Local → Bool → Local
-withRequest l b = record {
-  task = l .task;
-  operation = l .operation;
-  exit = b;
-  steps = l .steps;
-  gate = l .gate;
-  announcement = l .announcement;
-  simulation = l .simulation;
-  dictionary = l .dictionary;
-  mask = l .mask;
-}
 
 -- the card of an exit request that is taken
 abbrev asked : Card → ℕ → Card

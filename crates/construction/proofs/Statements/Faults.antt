@@ -12,7 +12,7 @@ use Rattle.construction.specs.Faults.{PastFaults, FaultLeavesAll, Marked
 use Rattle.construction.proofs.Simulating.Sequential.{sequential-fault}
 use Rattle.construction.proofs.Invariant.Assertions.{LocAt, known}
 use Rattle.construction.proofs.Invariant.Cards.{good-is}
-use Rattle.construction.proofs.Statements.Linearizability.{opened-consistent}
+use Rattle.construction.proofs.Observing.Runs.{opened-consistent}
 
 pub past-faults : (n : ℕ) (inputs r : Words) → PastFaults n inputs r
 unfolding effectOf load store

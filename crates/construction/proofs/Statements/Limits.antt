@@ -17,7 +17,7 @@ use Rattle.construction.proofs.Invariant.WorldKept.{rounds-few}
 use Rattle.construction.proofs.Invariant.Assertions.{LocAt, known}
 use Rattle.construction.proofs.Invariant.Acting.{worldOf}
 use Rattle.construction.proofs.Invariant.Cards.{good-is}
-use Rattle.construction.proofs.Statements.Linearizability.{opened-consistent}
+use Rattle.construction.proofs.Observing.Runs.{opened-consistent}
 
 -- a variable that a list lacks stands at none of its places
 lacks-at :

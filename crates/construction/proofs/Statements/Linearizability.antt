@@ -1,78 +1,18 @@
 -- Demand 3: for every text and every list of entries, the card and the single-user bench go side by side.
 use Prim.Native.Nat.{ℕ, _≤_, _<_}
-use mathlib.Core.Path.{_≡_, refl, sym, subst, ap, _∙_}
-use mathlib.Core.Bool.{true, not}
-use mathlib.Core.List.{List, [], _∷_, _++_}
+use mathlib.Core.Path.{_≡_, sym, subst, ap, _∙_}
+use mathlib.Core.Bool.{true}
+use mathlib.Core.List.{List, _++_}
 use native.Mathlib.Omega.{arith}
-use lib.ListN.{length, getD}
-use Rattle.construction.specs.Types.{Announcement, Task, Card, Contents}
-use Rattle.construction.specs.Cells.{openAnnouncement}
-use Rattle.construction.specs.Numbers.{latestNumber}
-use Rattle.construction.specs.Instructions.{noProgram}
-use Rattle.construction.specs.Parts.{idleTask}
-use Rattle.construction.specs.Requests.{isIdle}
-use Rattle.construction.specs.Opening.{fresh, readCard, opened}
-use Rattle.construction.specs.History.{Entry, History, Observation, opening, observe, observeAll, run}
-use Rattle.construction.proofs.Basics.{true-false, getD-replicate-same}
+use lib.ListN.{length}
+use Rattle.construction.specs.Types.{Contents}
+use Rattle.construction.specs.Opening.{opened}
+use Rattle.construction.specs.History.{Entry, History, Observation, opening, run}
 use Rattle.construction.proofs.Observing.Histories.{agree-earlier, faults-agree, gate-rank, returned-times, place-below, place-kept, place-after}
-use Rattle.construction.proofs.Text.Bounds.{Bounded, opened-bounded}
-use Rattle.construction.proofs.Simulating.Sequential.{Short}
-use Rattle.construction.proofs.Invariant.Cards.{firstWorld, inv-fresh}
 use Rattle.construction.proofs.Observing.Growth.{Grown, all-grow, observe-append}
-use Rattle.construction.proofs.Observing.Consistency.{Consistent, entry-kept, finishes-one, read-shown}
-use Rattle.construction.specs.Machine.{accessOf}
-use Rattle.construction.specs.Linearizability.{times, rank, hasReturned, Linearizable}
-
--- every list of entries, from the opened card on
-all-consistent : (o : Card) (m : Observation) (es : List Entry) → Consistent o m → Consistent o (observeAll o m es)
-unfolding observeAll
-all-consistent o m [] O = O
-all-consistent o m (e ∷ es) O = all-consistent o (observe o m e) es (entry-kept o m O e)
-
-short-code : (x : Contents) → Bounded x → (k : ℕ) → Short (x .variableCount) (getD (x .programs) k noProgram)
-short-code x B k = record { ends = omega (arith, B .lines k); light = B .weights k; some = B .some k }
-
-fresh-consistent : (x : Contents) → Bounded x → Consistent (fresh x) (opening (fresh x))
-unfolding fresh times hasReturned accessOf latestNumber
-fresh-consistent x B =
-    record {
-      world = firstWorld x;
-      inv = inv-fresh x (B .processCount) (B .variableCount) (B .limit) (B .starts) (short-code x B);
-      tracks =
-          record {
-            words = refl;
-            count = refl;
-            numbers = tt;
-            agree = tt;
-            once = λ k. omega arith;
-            known = λ k h. refl;
-            unborn = λ k h. refl;
-            single = tt;
-            last = λ j l d. ap (λ (a : Announcement). a .number) (getD-replicate-same 8 j openAnnouncement);
-            own = λ j l b. absurd (true-false _ b (ap (λ (t : Task). not (isIdle (t .place))) (getD-replicate-same 8 j idleTask)));
-          };
-      text = refl;
-    }
-
-pub opened-consistent : (t : List ℕ) (es : List Entry) → Consistent (opened t .card) (run (opened t .card) es)
-unfolding opened
-opened-consistent t es =
-    all-consistent (opened t .card) (opening (opened t .card)) es (fresh-consistent (readCard t .contents) (opened-bounded t))
-
--- what every entry keeps
-pub opened-keeps :
-    (t : List ℕ) (Q : Observation → Type 0) →
-    ((m : Observation) → Consistent (opened t .card) m → (e : Entry) → Q m → Q (observe (opened t .card) m e)) →
-    Q (opening (opened t .card)) → (es : List Entry) → Q (run (opened t .card) es)
-unfolding observeAll
-opened-keeps t Q keeps first es = go (opening o) es (opened-consistent t []) first
-  where
-    o : Card
-    o = opened t .card
-
-    go : (m : Observation) (es : List Entry) → Consistent o m → Q m → Q (observeAll o m es)
-    go m [] O q = q
-    go m (e ∷ es) O q = go (observe o m e) es (entry-kept o m O e) (keeps m O e q)
+use Rattle.construction.proofs.Observing.Consistency.{finishes-one, read-shown}
+use Rattle.construction.proofs.Observing.Runs.{opened-consistent}
+use Rattle.construction.specs.Linearizability.{rank, hasReturned, Linearizable}
 
 -- 6: an operation that had returned before another was called stands earlier
 module _ (t : List ℕ) (es fs : List Entry) where

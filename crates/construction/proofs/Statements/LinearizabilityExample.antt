@@ -10,7 +10,7 @@ use Rattle.construction.specs.Opening.{opened}
 use Rattle.construction.specs.Cells.{faultYield}
 use Rattle.construction.specs.History.{Entry, Finish, Return, run}
 use Rattle.construction.specs.Log.{logOf, insertByNumber, sorted}
-use Rattle.construction.specs.Examples.{one, plain, call, steps, cardK, twoProcesses, unwritten}
+use Rattle.construction.specs.Examples.{one, plain, called, steps, cardK, twoProcesses, unwritten}
 use Rattle.construction.proofs.Statements.Linearizability.{linearizability}
 use Rattle.construction.proofs.Statements.Computing.{observing}
 use Rattle.construction.specs.Linearizability.{Linearizable, hasReturned, rank}
@@ -24,10 +24,10 @@ abbrev single : Card
 single = opened cardK .card
 
 abbrev first : List Entry
-first = call 0 (one 9) ++ steps 0 14
+first = called 0 (one 9) ++ steps 0 14
 
 abbrev second : List Entry
-second = call 0 (one 5) ++ steps 0 14
+second = called 0 (one 5) ++ steps 0 14
 
 -- the operations of the single one, as they stand in its order and in its log
 abbrev former : Finish

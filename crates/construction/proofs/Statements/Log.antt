@@ -14,7 +14,7 @@ use Rattle.construction.specs.Linearizability.{times, rank, finishOf, ha
 use Rattle.construction.specs.Log.{logged, logOf, Permuted, insertByNumber, sorted, Below, Falling, returnedOf, SortsToOrder}
 use Rattle.construction.proofs.Basics.{on-test, true-or-false}
 use Rattle.construction.proofs.Observing.Histories.{on-equal, chosen, passed, place-below, gate-rank}
-use Rattle.construction.proofs.Statements.Linearizability.{opened-consistent}
+use Rattle.construction.proofs.Observing.Runs.{opened-consistent}
 
 lower-or-not : (a b : ℕ) → (a < b) ⊎ (b ≤ a)
 lower-or-not a b = ⊎-elim (λ z. inl (ltb-true a b z)) (λ z. inr (ltb-false a b z)) (true-or-false (ltb a b))

@@ -27,7 +27,7 @@ use Rattle.construction.proofs.Invariant.Locals.{Sizes}
 use Rattle.construction.proofs.Invariant.Assertions.{LocAt, known}
 use Rattle.construction.proofs.Invariant.Cards.{CardInvariant}
 use Rattle.construction.proofs.Observing.Outcomes.{Outcome, outcome}
-use Rattle.construction.proofs.Statements.Linearizability.{opened-consistent, opened-keeps}
+use Rattle.construction.proofs.Observing.Runs.{opened-consistent, opened-keeps}
 
 -- the own state of a process is marked
 abbrev Marked : Local → Type 0

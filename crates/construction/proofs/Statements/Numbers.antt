@@ -14,7 +14,7 @@ use Rattle.construction.specs.Linearizability.{Numbered}
 use Rattle.construction.specs.Numbers.{callerOf, latestNumber, hasFinished, NumbersKept}
 use Rattle.construction.proofs.Observing.Histories.{on-equal}
 use Rattle.construction.proofs.Invariant.Cards.{good-is, announcements-is}
-use Rattle.construction.proofs.Statements.Linearizability.{opened-consistent}
+use Rattle.construction.proofs.Observing.Runs.{opened-consistent}
 
 -- gate numbers count from 1, so 0 stands for none
 zero-never :

@@ -9,9 +9,9 @@ use lib.ListN.{length, getD, set, length-set}
 use lib.Seq.{set-out, getD-set-same, getD-set-other}
 use Rattle.construction.specs.Types.{Gate, Announcement, Record, Access, Cell, Card}
 use Rattle.construction.specs.Parts.{Local, localAt, contentsOf, announcementAt, recordAt, withGate, withAnnouncement, withRecord, withLocal, withSteps}
-use Rattle.construction.specs.Machine.{whose, holderOf, writtenVariable, accessIn, cellOf, stepGate, stepAnnouncement, stepHelp, stepNote, stepWrite, Performed, Accessed, after, perform, advance, swapOf}
+use Rattle.construction.specs.Machine.{whose, holderOf, writtenVariable, accessIn, cellOf, stepGate, stepAnnouncement, stepHelp, stepNote, stepWrite, AccessedCard, Accessed, after, perform, advance, swapOf}
 use Rattle.construction.specs.Requests.{answerOf}
-use Rattle.construction.specs.OneAccess.{touched, Same, SameIn, SameLocal, SameText, OneAccess}
+use Rattle.construction.specs.OneAccess.{touchedCell, Same, SameIn, SameLocal, SameText, OneAccess}
 
 -- the same stored at one place of two arrays
 stored :
@@ -44,7 +44,7 @@ stored-at e f s = rw (← e) (stored f s)
 -- what an access does to two cards with the same text and the same own state of its process
 module _ (c d : Card) (i : ℕ) (T : SameText c d) (S : SameLocal i c d) where
   -- two cards have alike what an access of process i to the cell x leaves, and whether its swap won
-  abbrev Alike : Cell → Performed → Performed → Type 0
+  abbrev Alike : Cell → AccessedCard → AccessedCard → Type 0
   Alike x p q = SameLocal i (p .card) (q .card) × SameIn x (p .card) (q .card) × (p .swap ≡ q .swap)
 
   local-is : localAt c i ≡ localAt d i
@@ -186,7 +186,7 @@ one-access c i = record {
   chosen = λ d T S. let l = local-is c d i T S in λ k. cellOf (accessIn (l k)) (T k) i (l k);
   depends = λ d T S n.
       let s = alike d T S n in
-      (s .0, steps-alike (touched c i) _ _ _ _ (s .1), s .2, ap answerOf (local-is (advance c i) (advance d i) i (text d T) (s .0)));
+      (s .0, steps-alike (touchedCell c i) _ _ _ _ (s .1), s .2, ap answerOf (local-is (advance c i) (advance d i) i (text d T) (s .0)));
   kept = λ x n. steps-alike x c _ (c .steps) _ (access-keeps c i (accessIn (localAt c i)) .0 x n);
   others = access-keeps c i (accessIn (localAt c i)) .1;
   text = access-keeps c i (accessIn (localAt c i)) .2;
@@ -198,7 +198,7 @@ one-access c i = record {
         sym (access-keeps c i (accessIn (localAt c i)) .2) ∙ T ∙ access-keeps d i (accessIn (localAt d i)) .2
 
     alike :
-        (d : Card) (T : SameText c d) (S : SameLocal i c d) → SameIn (touched c i) c d →
-        Alike c d i T S (touched c i) (perform (accessIn (localAt c i)) c i) (perform (accessIn (localAt d i)) d i)
+        (d : Card) (T : SameText c d) (S : SameLocal i c d) → SameIn (touchedCell c i) c d →
+        Alike c d i T S (touchedCell c i) (perform (accessIn (localAt c i)) c i) (perform (accessIn (localAt d i)) d i)
     alike d T S n =
         rw (ap accessIn (sym (local-is c d i T S))) (access-alike c d i T S (accessIn (localAt c i)) n)

@@ -6,33 +6,31 @@ use mathlib.Core.Logic.{_≢_, _⊎_, inl, inr, ⊎-elim}
 use mathlib.Core.List.{List, [], _∷_}
 use native.Mathlib.Omega.{arith}
 use native.Mathlib.Decide.{ℕ-discrete}
-use lib.Dec.{eqb, ltb, leb}
+use lib.Dec.{eqb, ltb}
 use lib.ListN.{length}
 use borrow.Author.Tests.{le-ltb, ltb-true, ltb-false, leb-true, leb-false, not-true, not-false, eqb-true, eqb-false}
-use Rattle.construction.specs.Types.{Holder, Nobody, Process, Gate, Flag, Done, Active, Exit, Words, Announcement, Record, Program, Dictionary, Simulation, Pause, Ended, Faulted, Lacks, Simulated, Place, Idle, P1, P3, P5, P7, P10, C2, C4, P13, P14, P16, H21, H36, P19, P20, P21, P22, F1, F3, GateAccess, Access, Swap, Task, Began, Helped, Card, Refusal, Answer, Answered, Label, Contents}
+use Rattle.construction.specs.Types.{Holder, Nobody, Process, Gate, Flag, Done, Active, Exit, Words, Announcement, Record, Program, Dictionary, Simulation, Pause, Ended, Faulted, Lacks, Place, Idle, P1, P3, P5, P7, P10, C2, C4, P13, P14, P16, H21, H36, P19, P20, P21, P22, F1, F3, GateAccess, Access, Swap, Task, Began, Helped, Card, Refusal, Answer, Answered, Label, Contents}
 use Rattle.construction.specs.Cells.{isDone, sameHolder, swapGate, swapAnnouncement, swapRecord, released}
 use Rattle.construction.specs.Instructions.{started}
 use Rattle.construction.specs.Dictionary.{empty, noted, insert, itemOf, nextWrite}
-use Rattle.construction.specs.Marks.{withBit}
 use Rattle.construction.specs.Helping.{simulate}
-use Rattle.construction.specs.Parts.{idleTask, Local, localAt, contentsOf, announcementAt, recordAt, withCells, withLocal}
-use Rattle.construction.specs.Machine.{accessOf, accessGate, accessAnnouncement, byHolder, byFlag, holderOf, firstChoice, outcome, helps, helped, afterPause, writeFrom, beginHelp, note, writing, writtenVariable, whose, cellOf, after, stepGate, stepAnnouncement, stepHelp, stepNote, stepWrite, perform, advance, swapOf}
+use Rattle.construction.specs.Parts.{idleTask, Local, localAt, contentsOf, announcementAt, recordAt, withLocal}
+use Rattle.construction.specs.Machine.{accessOf, accessGate, accessAnnouncement, byHolder, byFlag, holderOf, firstChoice, outcome, helps, afterPause, writeFrom, beginHelp, note, writing, writtenVariable, whose, cellOf, after, stepGate, stepAnnouncement, stepHelp, stepNote, stepWrite, perform, advance, swapOf}
 use Rattle.construction.specs.Requests.{isIdle, isBusy, invoked, exiting, returned, answerOf}
 use Rattle.construction.specs.Answers.{isRefused}
 use Rattle.construction.specs.Tracing.{labelOf, reportOf}
 use Rattle.construction.specs.Opening.{fresh, opened}
-use Rattle.construction.specs.History.{Event, eventOf, Entry, act, Steps, Observation, observe, observeAll, opening, run}
-use Rattle.construction.specs.Paths.{Found, foundIn, Made, made, Edge, End, Leads, Ends, Path, Whole, numberIn, unlessSwap, lastNumber, NumbersRead, Follows, noticed, accessesFrom, accesses}
+use Rattle.construction.specs.History.{Event, eventOf, Entry, act, Steps, Observation, observe, observeAll, opening}
+use Rattle.construction.specs.Paths.{Found, foundIn, Made, made, Edge, End, Path, Whole, numberIn, unlessSwap, lastNumber, Follows, noticed, accessesFrom, accesses}
 use Rattle.construction.proofs.Basics.{on-test, cond-true, cond-false, true-or-false, and-true, and-false, clash, nobody-process, active-not-done, exit-not-done, active-not-exit, isDone-true, isDone-false, sameHolder-true, sameHolder-refl, true-false, getD-replicate-same}
 use Rattle.construction.proofs.Simulating.Simulations.{simulate-empty}
 use Rattle.construction.proofs.Invariant.World.{World}
-use Rattle.construction.proofs.Invariant.Stages.{stage, is-idle}
 use Rattle.construction.proofs.Invariant.Locals.{Sizes, local-same, local-other}
 use Rattle.construction.proofs.Invariant.Assertions.{LocAt, known}
 use Rattle.construction.proofs.Invariant.Cards.{CardInvariant, inv-step}
 use Rattle.construction.proofs.Observing.Outcomes.{Outcome, outcome as outcome-of}
 use Rattle.construction.proofs.Observing.Consistency.{Consistent, entry-kept}
-use Rattle.construction.proofs.Statements.Linearizability.{opened-consistent}
+use Rattle.construction.proofs.Observing.Runs.{opened-consistent}
 use Rattle.construction.proofs.Statements.Tracing.{answers}
 
 -- how an operation returns whose process last read this announcement

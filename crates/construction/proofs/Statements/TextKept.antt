@@ -8,7 +8,7 @@ use Rattle.construction.specs.Opening.{fresh, opened}
 use Rattle.construction.specs.Writing.{textOf}
 use Rattle.construction.specs.History.{Entry, run}
 use Rattle.construction.proofs.Text.RoundTrip.{given-back}
-use Rattle.construction.proofs.Statements.Linearizability.{opened-consistent}
+use Rattle.construction.proofs.Observing.Runs.{opened-consistent}
 
 text-of : (c : Card) → textOf c ≡ textOf (fresh (contentsOf c))
 unfolding textOf fresh

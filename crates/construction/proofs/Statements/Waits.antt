@@ -28,7 +28,7 @@ use Rattle.construction.proofs.Waiting.Cards.{Waits, AllWait, wait-step
 use Rattle.construction.proofs.Waiting.Entries.{here, opened-waits}
 use Rattle.construction.proofs.Statements.ExitRequests.{step-exits}
 use Rattle.construction.proofs.Statements.Tracing.{answers}
-use Rattle.construction.proofs.Statements.Linearizability.{opened-consistent}
+use Rattle.construction.proofs.Observing.Runs.{opened-consistent}
 
 -- a step counts as one own step of its process
 step-counts : (a : Access) (c : Card) (i : ℕ) → perform a c i .card .counts ≡ set (c .counts) i ((localAt c i .steps + 1) % 18446744073709551616)

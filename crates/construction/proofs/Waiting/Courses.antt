@@ -7,9 +7,8 @@ use native.Mathlib.Omega.{arith}
 use native.Mathlib.Nat.{mul-le-mul-right}
 use Rattle.construction.specs.Types.{Nobody, Gate, Active, Announcement, Place, Idle, P1, P3, P5, P7, P10, C2, C4, P13, P14, P16, H21, H36, P19, P20, P21, P22, F1, F3}
 use Rattle.construction.specs.Parts.{Local}
-use Rattle.construction.specs.Requests.{exiting}
+use Rattle.construction.specs.Requests.{exiting, withRequest}
 use Rattle.construction.specs.Waits.{longestWait, extra}
-use Rattle.construction.proofs.Statements.ExitRequests.{withRequest}
 
 -- what is remembered of an announced operation: a number at which it is its turn, its completed iterations, and the steps of P6 and P7
 pub record Tally : Type 0 where

@@ -9,7 +9,7 @@ use Rattle.construction.specs.History.{Entry, act, Observation, observe,
 use Rattle.construction.proofs.Observing.Outcomes.{Outcome, outcome}
 use Rattle.construction.proofs.Observing.Consistency.{Consistent}
 use Rattle.construction.proofs.Waiting.Cards.{AllWait, wait-step, wait-call, wait-exit, wait-fresh}
-use Rattle.construction.proofs.Statements.Linearizability.{opened-keeps}
+use Rattle.construction.proofs.Observing.Runs.{opened-keeps}
 
 -- one entry, at a moment that has the invariant of safety
 module _ (o : Card) (m : Observation) (O : Consistent o m) (W : AllWait (contentsOf o) (m .card)) where

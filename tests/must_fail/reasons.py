@@ -17,8 +17,9 @@ SAMPLES = pathlib.Path(__file__).resolve().parent / "samples"
 # What follows from another error says nothing by itself.
 CONSEQUENCE = re.compile(r"\b(was|were) not admitted\b")
 # The proof names what the changed code lacks, or is handed what it has no place for.
+LACKS = re.compile(r" has no (`|field|member|module|function|constructor|clause|case|implicit argument)")
 NAMES = re.compile(
-    r" has no (`|field|member|module|function|constructor|clause|case|implicit argument)|\bnot in scope\b"
+    r"\bnot in scope\b"
     r"|expected a type, but|(expected type|has type) `[^`]*\b(Need|InvT|MeasureT)-"
     r"|this λ has \d+ binders, but its type has room for|explicit arguments? more than"
 )
@@ -32,13 +33,24 @@ UNPROVED = re.compile(r"^fn (?P<file>\S+): (?P<text>no proof: .*)")
 SEARCHED = "`search` does not close"
 
 
+def messages(log):
+    """The messages of a log: the first line of each, and all its lines in one. Lines that go on with a message begin with a space."""
+    whole = []
+    for line in log.splitlines():
+        if whole and line.startswith(" "):
+            whole[-1][1] += " " + line.strip()
+        else:
+            whole.append([line, line])
+    return whole
+
+
 def errors(log):
     """The errors of a log in order: the file or function, 'fact' or 'form', and the text. Consequences of other errors are left out."""
-    for line in log.splitlines():
+    for line, whole in messages(log):
         match = ERROR.match(line)
         if match and not CONSEQUENCE.search(match["text"]):
             definition = DEFINITIONS.search(match["file"]) and not SOUGHT.search(match["text"])
-            form = definition or NAMES.search(match["text"])
+            form = definition or NAMES.search(match["text"]) or LACKS.search(whole)
             yield match["file"], "form" if form else "fact", match["text"]
         match = UNPROVED.match(line)
         if match:

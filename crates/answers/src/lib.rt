@@ -2,7 +2,7 @@
 // into a buffer as the crate grammar does, each after a comma: bytes that do not fit fall away, and the place told is past the text all the
 // same. It rests on the crates grammar (words and decimals) and construction, which declares the types and defines the fields.
 pub mod reports; // reports.rt: what is printed of a report
-pub mod tests; // tests.rt: whether an answer is taken, run or refused
+pub mod kinds; // kinds.rt: whether an answer is taken, run or refused
 
 use construction::Answer;
 use construction::Refusal;

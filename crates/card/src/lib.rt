@@ -14,7 +14,7 @@ use crate::reading::value_of;
 use crate::rooms::announcement_at;
 use crate::rooms::program_at;
 use crate::rooms::record_at;
-use answers::tests::is_taken;
+use answers::kinds::is_taken;
 use construction::Access;
 use construction::Answer;
 use construction::Answered;

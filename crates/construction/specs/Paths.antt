@@ -132,7 +132,8 @@ abbrev pub Whole : ℕ → List Made → Type 0
 Whole i [] = Unit
 Whole i (m ∷ ms) = (m .answer ≡ Answer.Run) ⊎ Ends i m
 
--- the gate number last read by these accesses, 0 if none has read it: an access of the gate reads it, but a swap only tells whether it won
+-- the gate number last read by these accesses, 0 if none has read it: an access of the gate reads it (P1, P10, P14, F1), but a swap only tells
+-- whether it won (P13, P21, F3)
 abbrev pub numberIn : Found → ℕ → ℕ
 numberIn Found.nothing n = n
 numberIn (Found.gate g) n = g .seq

@@ -5,7 +5,7 @@ use crate::Played;
 use crate::Request;
 use crate::entries::entry_at;
 use crate::lines::find;
-use answers::tests::is_run;
+use answers::kinds::is_run;
 use construction::Answer;
 use construction::Answered;
 use construction::Card;

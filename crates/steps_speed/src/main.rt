@@ -2,7 +2,7 @@
 // of pseudo-random numbers. Standard input holds how many steps are made; the shared cells are printed at the end.
 // tests/speed/run.sh times it against tests/speed/steps/steps.rs, which ends with the same cells.
 // The card stands in one variable, the last request's result, so that nothing but the requests copies it.
-use answers::tests::is_run;
+use answers::kinds::is_run;
 use construction::Answer;
 use construction::Answered;
 use construction::Card;

@@ -1,6 +1,6 @@
 // The line behind each step (document 02, order 1) on small values: the label of an access, the cell that it touches, whether its swap won, and
 // what is told of it. It rests on the crates construction (types and definitions), answers and machine.
-use answers::tests::is_refused;
+use answers::kinds::is_refused;
 use construction::Access;
 use construction::Announcement;
 use construction::Answer;

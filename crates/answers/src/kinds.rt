@@ -1,4 +1,4 @@
-// Tests of an answer (construction, specs/Answers): taken, run, refused.
+// Of which kind an answer is (construction, specs/Answers): taken, run, refused.
 use construction::Answer;
 ghost use mathlib.Core.Path.{_≡_};
 ghost use Rattle.construction.specs.Answers.{isTaken, isRun, isRefused};

@@ -2,4 +2,3 @@
 pub mod Arrays
 pub mod Requests
 pub mod Accesses
-pub mod Tracing

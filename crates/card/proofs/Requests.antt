@@ -15,8 +15,8 @@ use Rattle.construction.specs.Parts.{idleTask, announcementAt, recordAt, localA
 use Rattle.construction.specs.Machine.{holderOf, advance}
 use Rattle.construction.specs.Requests.{isProcess, isProgram, isIdle, refused, invoked, exiting, answerOf, isVariable, isPending, valueOf, call, requestExit, step, read}
 use Rattle.construction.specs.Answers.{isTaken}
-use Rattle.card.specs.Judging.{judged, callJudged, exitJudged, stepJudged}
-use Rattle.card.specs.Reading.{pending, shown}
+use Rattle.requests.specs.Judging.{judged, callJudged, exitJudged, stepJudged}
+use Rattle.requests.specs.Reading.{pending, shown}
 use Rattle.card.proofs.Arrays.{found}
 
 -- a step that was accepted

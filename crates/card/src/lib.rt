@@ -1,19 +1,6 @@
-// The card of document 01 as code: call, exit request (wish), step, traced step and read (look), for every value of a card. These alone take and
-// give a card: each takes the pieces that it needs out of it, has functions on small values judge them and work on them, and puts back what changed.
-// It rests on the crates construction (types and definitions), answers, cells, helping, machine, opening and tracing.
-mod judging; // judging.rt: whether a request is taken, and the answer to a step
-mod reading; // reading.rt: what a read shows
-mod rooms; // rooms.rt: places past the room of an array
-
-use crate::judging::answer_of;
-use crate::judging::is_below;
-use crate::judging::judge_call;
-use crate::judging::judge_exit;
-use crate::judging::judge_step;
-use crate::reading::value_of;
-use crate::rooms::announcement_at;
-use crate::rooms::program_at;
-use crate::rooms::record_at;
+// The card of document 01 as code: call, exit request (wish), step and read (look), for every value of a card. With the traced step (crate tracing)
+// these alone take and give a card: each takes the pieces that it needs out of it, has functions on small values judge them and work on them, and
+// puts back what changed. It rests on the crates construction (types and definitions), answers, helping, machine, opening and requests.
 use answers::kinds::is_taken;
 use construction::Access;
 use construction::Answer;
@@ -23,7 +10,6 @@ use construction::Operation;
 use construction::Place;
 use construction::Refusal;
 use construction::Task;
-use construction::Traced;
 use construction::Words;
 use helping::begin_help;
 use helping::note;
@@ -34,15 +20,17 @@ use machine::gate::access_gate;
 use machine::places::access_of;
 use machine::places::holder_of;
 use machine::record::write;
-use tracing::announcement_in;
-use tracing::cell_of;
-use tracing::label_of;
-use tracing::record_in;
-use tracing::swap_of;
-use tracing::told;
+use requests::judging::answer_of;
+use requests::judging::is_below;
+use requests::judging::judge_call;
+use requests::judging::judge_exit;
+use requests::judging::judge_step;
+use requests::reading::value_of;
+use requests::rooms::announcement_at;
+use requests::rooms::program_at;
+use requests::rooms::record_at;
 ghost use mathlib.Core.Path.{_≡_};
 ghost use Rattle.construction.specs.Requests.{call, requestExit, step, read};
-ghost use Rattle.construction.specs.Tracing.{trace};
 
 // Call: refusals 5, 6 and 7.
 pub fn call(card: Card, process: u32, program: u32, inputs: Words) -> Answered
@@ -215,67 +203,6 @@ pub fn step(card: Card, process: u32) -> Answered
         }
     };
     Answered { card: c, answer }
-}
-
-// Step with its report (document 02, order 1): the step itself is `step`; what is told of its access is read off the pieces that it goes by and
-// off what it leaves.
-pub fn trace(card: Card, process: u32) -> Traced
-    ensures { λ r. ⌜ r ≡ trace card process ⌝ }
-{
-    let id = (process % 8) as u8;
-    let i = id as usize;
-    let task = card.tasks[i];
-    let gate = card.gates[i];
-    let last = card.copies[i];
-    let operation = card.operations[i];
-    let simulation = card.simulations[i];
-    let dictionary = card.dictionaries[i];
-    let exit = card.exits[i];
-    let place = task.place;
-    let yields = simulation.yields;
-    let label = label_of(place, exit);
-    let access = access_of(place, exit);
-    let written = writing(gate.seq, task, dictionary);
-    let item = written.item;
-    let cell = cell_of(
-        access,
-        card.processCount,
-        id,
-        gate,
-        task.target,
-        item.variable,
-    );
-    let m = announcement_in(cell);
-    let v = record_in(cell);
-    let held = card.gate;
-    let announcement = card.announcements[(m % 8) as usize];
-    let record = card.records[(v % 64) as usize];
-    let announced = announcement_at(m, announcement);
-    let recorded = record_at(v, record);
-    let swap = swap_of(
-        access,
-        id,
-        m,
-        held,
-        announced,
-        recorded,
-        gate,
-        last,
-        operation,
-        yields,
-        task,
-        item,
-    );
-    let answered = step(card, process);
-    let answer = answered.answer;
-    let after = answered.card;
-    let read = after.gates[i];
-    let report = told(answer, label, cell, swap, read.seq, after.masks[i]);
-    Traced {
-        card: after,
-        answer,
-        report,
-    }
 }
 
 // Read (document 01: look): refusal 9.

@@ -43,7 +43,7 @@ fn ask(card: Card, request: Request) -> Answered
         } => card::call(card, process, program, inputs),
         Request::Exit { process } => card::request_exit(card, process),
         Request::Step { process } => card::step(card, process),
-        Request::Trace { process } => untold(card::trace(card, process)),
+        Request::Trace { process } => untold(tracing::trace(card, process)),
         Request::Read { variable } => card::read(card, variable),
     }
 }

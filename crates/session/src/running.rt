@@ -31,7 +31,7 @@ fn untraced(answered: Answered) -> Traced
     Traced {
         card,
         answer,
-        report: tracing::no_report(),
+        report: tracing::pieces::no_report(),
     }
 }
 
@@ -47,7 +47,7 @@ pub(crate) fn execute(card: Card, command: Command) -> Traced
         } => untraced(card::call(card, process, program, inputs)),
         Command::Exit { process } => untraced(card::request_exit(card, process)),
         Command::Step { process } => untraced(card::step(card, process)),
-        Command::Trace { process } => card::trace(card, process),
+        Command::Trace { process } => tracing::trace(card, process),
         Command::Read { variable } => untraced(card::read(card, variable)),
         Command::Malformed => untraced(Answered {
             card,

@@ -1,0 +1,81 @@
+// Whether a request is taken, by numbers and the place of its process (document 01, 'Turned back': refusals 5 to 8 and 10), and the answer to
+// a step that was.
+use construction::Announcement;
+use construction::Answer;
+use construction::Place;
+use construction::Refusal;
+use machine::announcement::returned;
+use machine::places::is_idle;
+ghost use mathlib.Core.Path.{_≡_};
+ghost use mathlib.Core.Bool.{_&&_};
+ghost use lib.Dec.{ltb};
+ghost use Rattle.requests.specs.Judging.{callJudged, exitJudged, stepJudged, stepAnswer};
+
+// Whether a number is below a count and below the room for it.
+pub fn is_below(number: u32, count: u8, room: u32) -> bool
+    ensures { λ r. ⌜ r ≡ ltb number count && ltb number room ⌝ }
+{
+    number < count as u32 && number < room
+}
+
+// A call: refusals 5, 6 and 7, or taken.
+pub fn judge_call(
+    process: u32,
+    processCount: u8,
+    program: u32,
+    programCount: u8,
+    place: Place,
+) -> Answer
+    ensures { λ r. ⌜ r ≡ callJudged process processCount program programCount place ⌝ }
+{
+    if !is_below(process, processCount, 8) {
+        return Answer::Refused(Refusal::NoProcess);
+    }
+    if !is_below(program, programCount, 8) {
+        return Answer::Refused(Refusal::NoProgram);
+    }
+    if !is_idle(place) {
+        return Answer::Refused(Refusal::Busy);
+    }
+    Answer::Taken
+}
+
+// An exit request: refusals 5 and 8, or taken.
+pub fn judge_exit(process: u32, processCount: u8, place: Place) -> Answer
+    ensures { λ r. ⌜ r ≡ exitJudged process processCount place ⌝ }
+{
+    if !is_below(process, processCount, 8) {
+        return Answer::Refused(Refusal::NoProcess);
+    }
+    if is_idle(place) {
+        return Answer::Refused(Refusal::NotBusy);
+    }
+    Answer::Taken
+}
+
+// A step: refusals 5, 8 and 10, or taken.
+pub fn judge_step(process: u32, processCount: u8, place: Place, steps: u64, limit: u64) -> Answer
+    ensures { λ r. ⌜ r ≡ stepJudged process processCount place steps limit ⌝ }
+{
+    if !is_below(process, processCount, 8) {
+        return Answer::Refused(Refusal::NoProcess);
+    }
+    if is_idle(place) {
+        return Answer::Refused(Refusal::NotBusy);
+    }
+    if limit <= steps {
+        return Answer::Refused(Refusal::LimitReached);
+    }
+    Answer::Taken
+}
+
+// 'Returning is local work of the last access': the answer to a step that was taken, by the place after it, the announcement last read and
+// the operation's own steps.
+pub fn answer_of(place: Place, last: Announcement, steps: u64) -> Answer
+    ensures { λ r. ⌜ r ≡ stepAnswer place last steps ⌝ }
+{
+    if is_idle(place) {
+        return returned(last, steps);
+    }
+    Answer::Run
+}

@@ -1,0 +1,134 @@
+-- A step that is traced: its report by the pieces that code takes out of the card
+use Prim.Native.Nat.{ℕ, _%_, _<_}
+use mathlib.Core.Bool.{Bool, true, false, cond, not, true≢false}
+use mathlib.Core.List.{[]}
+use mathlib.Core.Path.{_≡_, refl, sym, ap, _∙_}
+use native.Mathlib.Nat.{mod-eq-of-lt}
+use native.Mathlib.Omega.{arith}
+use lib.Dec.{ltb}
+use lib.ListN.{getD}
+use Rattle.opening.proofs.Laws.{inside}
+use Rattle.construction.specs.declared.{Announcement.Announcement, Record.Record, Access.Access, Cell.Cell, Swap.Swap, Writing.Writing, Card.Card, Refusal.Refusal, Answered.Answered, Label.Label, Report.Report, Traced.Traced, Contents.Contents}
+use Rattle.construction.specs.declared.Refusal.the-variants.{NoProcess, NotBusy, LimitReached}
+use Rattle.construction.specs.Cells.{openAnnouncement, openRecord}
+use Rattle.construction.specs.Dictionary.{empty}
+use Rattle.construction.specs.Parts.{noGate, contentsOf, announcementAt, recordAt, Local, localAt}
+use Rattle.construction.specs.Machine.{accessOf, accessIn, cellOf, writing, writtenVariable, perform, advance, swapOf}
+use Rattle.construction.specs.OneAccess.{touchedCell}
+use Rattle.construction.specs.Requests.{isProcess, isIdle, refused, step}
+use Rattle.construction.specs.Answers.{isRefused}
+use Rattle.construction.specs.Tracing.{labelOf, reportWith, reportOf, noReport, trace}
+use Rattle.tracing.specs.Pieces.{cellBy, announcementIn, recordIn, swapBy}
+use Rattle.card.proofs.Arrays.{Rooms, found}
+use Rattle.card.proofs.Requests.{steppedAt, in-room}
+
+-- a step that is not refused passed its three tests
+module _ (c : Card) (r s t : Refusal) where
+  unrefused :
+      (a b d : Bool) (y : Answered) →
+      isRefused (cond (not a) (refused c r) (cond (not b) (refused c s) (cond (not d) (refused c t) y)) .answer) ≡ false →
+      (a ≡ true) × (cond (not a) (refused c r) (cond (not b) (refused c s) (cond (not d) (refused c t) y)) ≡ y)
+  unrefused false b d y h = absurd (true≢false h)
+  unrefused true false d y h = absurd (true≢false h)
+  unrefused true true false y h = absurd (true≢false h)
+  unrefused true true true y h = (refl, refl)
+
+accepted : (c : Card) (i : ℕ) → isRefused (step c i .answer) ≡ false → (i < 8) × (step c i ≡ steppedAt c i)
+unfolding step
+accepted c i h =
+    let p = unrefused c NoProcess NotBusy LimitReached (isProcess c i) (not (isIdle (localAt c i .task .place))) (ltb (c .steps) (c .limit)) (steppedAt c i) h in
+    (in-room i (c .processCount) 8 (p .0), p .1)
+
+-- the cell and the swap of an access, by pieces
+cell-is :
+    (a : Access) (t : Contents) (i : ℕ) (l : Local) →
+    cellOf a t i l ≡ cellBy a (t .processCount) i (l .gate) (l .task .target) (writtenVariable l)
+cell-is Access.None t i l = refl
+cell-is (Access.Gate a) t i l = refl
+cell-is (Access.Announcement a) t i l = refl
+cell-is Access.Help t i l = refl
+cell-is Access.Note t i l = refl
+cell-is Access.Write t i l = refl
+
+swap-is :
+    (c : Card) (i : ℕ) (a : Access) → let l = localAt c i in
+    let x = cellOf a (contentsOf c) i l in
+    perform a c i .swap
+    ≡ swapBy a i (announcementIn x) (c .gate) (announcementAt c (announcementIn x)) (recordAt c (recordIn x)) (l .gate) (l .announcement) (l .operation)
+    (l .simulation .yields) (l .task) (writing (l .gate .seq) (l .task) (l .dictionary) .item)
+unfolding perform
+swap-is c i Access.None = refl
+swap-is c i (Access.Gate a) = refl
+swap-is c i (Access.Announcement a) = refl
+swap-is c i Access.Help = refl
+swap-is c i Access.Note = refl
+swap-is c i Access.Write = refl
+
+-- the pieces of process i, the cell and what stands there, as code takes them out
+pub record Pieces (c : Card) (i : ℕ) (label : Label) (a : Access) (w : Writing) (x : Cell) (m v : ℕ) (b : Announcement) (r : Record) (s : Swap) : Type 0 where
+  pub labelled : label ≡ labelOf (localAt c i .task .place) (localAt c i .exit)
+  pub chosen : a ≡ accessOf (localAt c i .task .place) (localAt c i .exit)
+  pub writes : w ≡ writing (localAt c i .gate .seq) (localAt c i .task) (getD (c .dictionaries) i (record { length = 0; items = [] }))
+  pub touches : x ≡ cellBy a (c .processCount) i (localAt c i .gate) (localAt c i .task .target) (w .item .variable)
+  pub process : m ≡ announcementIn x
+  pub variable : v ≡ recordIn x
+  pub announced : b ≡ cond (ltb m 8) (getD (c .announcements) (m % 8) openAnnouncement) openAnnouncement
+  pub recorded : r ≡ cond (ltb v 64) (getD (c .records) (v % 64) (openRecord 0)) (openRecord 0)
+  pub swaps :
+      s
+      ≡ swapBy a i m (c .gate) b r (localAt c i .gate) (localAt c i .announcement) (localAt c i .operation) (localAt c i .simulation .yields)
+      (localAt c i .task) (w .item)
+
+module _ {c : Card} {i : ℕ} {label : Label} {a : Access} {w : Writing} {x : Cell} {m v : ℕ} {b : Announcement} {r : Record} {s : Swap}
+    (R : Rooms c) (lt : i < 8) (p : Pieces c i label a w x m v b r s) where
+  own-dictionary : getD (c .dictionaries) i (record { length = 0; items = [] }) ≡ localAt c i .dictionary
+  own-dictionary = inside (c .dictionaries) i (record { length = 0; items = [] }) empty (omega (arith, R .dictionaries))
+
+  written-is : w ≡ writing (localAt c i .gate .seq) (localAt c i .task) (localAt c i .dictionary)
+  written-is = rw own-dictionary at (p .writes)
+
+  touched-is : x ≡ touchedCell c i
+  touched-is =
+      p .touches
+      ∙ (rw (p .chosen, written-is) (sym (cell-is (accessIn (localAt c i)) (contentsOf c) i (localAt c i))))
+
+  swap-told : s ≡ swapOf c i
+  unfolding swapOf
+  swap-told =
+      p .swaps
+      ∙ rw (
+        found (c .announcements) 8 (R .announcements) m openAnnouncement openAnnouncement b (p .announced),
+        found (c .records) 64 (R .records) v (openRecord 0) (openRecord 0) r (p .recorded),
+        p .process,
+        p .variable,
+        touched-is,
+        p .chosen,
+        written-is,
+      ) (sym (swap-is c i (accessIn (localAt c i))))
+
+  report-is :
+      reportWith label x s (getD (advance c i .gates) i noGate .seq) (getD (advance c i .masks) i 0) ≡ reportOf c i
+  unfolding reportOf
+  report-is = rw (p .labelled, touched-is, swap-told)
+
+-- what code gives
+pub trace-is :
+    (c : Card) (i : ℕ) → Rooms c → {label : Label} {a : Access} {w : Writing} {x : Cell} {m v : ℕ} {b : Announcement} {r : Record} {s : Swap} →
+    Pieces c (i % 8) label a w x m v b r s → (y : Answered) → y ≡ step c i →
+    (t : Report) → t ≡ cond (isRefused (y .answer)) noReport (reportWith label x s (getD (y .card .gates) (i % 8) noGate .seq) (getD (y .card .masks) (i % 8) 0)) →
+    _≡_ {A = Traced} (record { card = y .card; answer = y .answer; report = t }) (trace c i)
+unfolding trace
+trace-is c i R {label} {a} {w} {x} {m} {v} {b} {r} {s} p y e t told = rw (told, e) (go (isRefused (step c i .answer)) refl)
+  where
+    go :
+        (q : Bool) → isRefused (step c i .answer) ≡ q →
+        _≡_ {A = Traced}
+        (record { card = step c i .card; answer = step c i .answer; report = cond q noReport (reportWith label x s (getD (step c i .card .gates) (i % 8) noGate .seq) (getD (step c i .card .masks) (i % 8) 0)) })
+        (record { card = step c i .card; answer = step c i .answer; report = cond q noReport (reportOf c i) })
+    go true h = refl
+    go false h =
+        let z = accepted c i h in
+        let same : i % 8 ≡ i = mod-eq-of-lt (z .0) in
+        let q : Pieces c i label a w x m v b r s = rw same at p in
+        ap (λ (u : Report). record { card = step c i .card; answer = step c i .answer; report = u })
+        (rw (same, ap (λ (n : Answered). n .card) (z .1)) (report-is R (z .0) q))

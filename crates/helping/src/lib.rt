@@ -1,15 +1,8 @@
 // Helping (lines P16 to P18 and H1 to H36 of the paper): what a process goes on with that helps the operation whose turn it is. A program is
 // simulated on the numbers of a dictionary, and only `note` takes a dictionary, updates it and gives it back.
-// It rests on the crates construction (types and definitions), cells, opening and programs.
-pub mod dictionary; // dictionary.rt: the items of a dictionary, its numbers, and which item is to be written next
+// It rests on the crates construction (types and definitions), cells, dictionary, opening and programs.
 mod simulation; // simulation.rt: a program that runs on lent keys and values
 
-use crate::dictionary::insert;
-use crate::dictionary::item_of;
-use crate::dictionary::next_write;
-use crate::dictionary::noted;
-use crate::dictionary::numbers_of;
-use crate::dictionary::with_bit;
 use crate::simulation::simulate;
 use construction::Announcement;
 use construction::Began;
@@ -23,9 +16,23 @@ use construction::Simulation;
 use construction::Task;
 use construction::Words;
 use construction::Writing;
+use dictionary::insert;
+use dictionary::item_of;
+use dictionary::next_write;
+use dictionary::noted;
+use dictionary::with_bit;
 ghost use mathlib.Core.Path.{_≡_};
+ghost use Prim.Native.Nat.{_≤_};
+ghost use lib.ListN.{take};
 ghost use Rattle.construction.specs.Machine.{helps, beginHelp, note, writing};
+ghost use Rattle.helping.specs.Numbers.{keys, values};
 ghost use Rattle.helping.specs.Pauses.{writeTask, pauseTask};
+
+// The variables and the values of items.
+struct Numbers {
+    pub keys: [u8; 32],
+    pub values: [u32; 32],
+}
 
 // Line P17.
 pub fn helps(announcement: Announcement, number: u64) -> bool
@@ -109,6 +116,23 @@ pub fn begin_help(
         },
         simulation,
     }
+}
+
+// The variables and values of the first items.
+fn numbers_of(dictionary: Dictionary, end: u8) -> Numbers
+    requires { ⌜ end ≤ 32 ⌝ }
+    ensures { λ r. ⌜ (take end (r .keys) ≡ take end (keys dictionary)) × (take end (r .values) ≡ take end (values dictionary)) ⌝ }
+{
+    let mut keys = [0u8; 32];
+    let mut values = [0u32; 32];
+    let mut k: u8 = 0;
+    while k < end {
+        let at = k as usize;
+        keys[at] = dictionary.items[at].variable;
+        values[at] = dictionary.items[at].value;
+        k = k + 1;
+    }
+    Numbers { keys, values }
 }
 
 // Lines H21 to H25: a record that was read is noted in the dictionary and in the set of the variables noted, and the program goes on. Its values

@@ -6,7 +6,7 @@ use lib.ListN.{length, take}
 use Rattle.helping.specs.Numbers.{withValues, Numbered}
 use Rattle.helping.proofs.Laws as laws
 use Rattle.helping.proofs.Lines as lines
-use Rattle.helping.proofs.Rooms as rooms
+use Rattle.dictionary.proofs.Rooms as rooms
 use Rattle.helping.proofs.note.Statement.{statement}
 use Rattle.helping.proofs.note.Tie as tie
 

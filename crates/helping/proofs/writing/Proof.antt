@@ -1,6 +1,6 @@
 use native.Mathlib.Omega.{arith}
 use mathlib.Core.Path.{_∙_}
-use Rattle.helping.proofs.Rooms as rooms
+use Rattle.dictionary.proofs.Rooms as rooms
 use Rattle.helping.proofs.Lines as lines
 use borrow.Author.Needs.{needs}
 use Rattle.helping.proofs.writing.Statement.{statement}

@@ -5,10 +5,10 @@ use native.Mathlib.Omega.{arith}
 use borrow.Author.Needs.{needs}
 use lib.ListN.{length}
 use Rattle.construction.specs.Dictionary.{noted}
-use Rattle.helping.proofs.Laws as laws
-use Rattle.helping.proofs.Rooms as rooms
-use Rattle.helping.proofs.dictionary.next_write.Statement.{statement}
-use Rattle.helping.proofs.dictionary.next_write.Tie as tie
+use Rattle.dictionary.proofs.Laws as laws
+use Rattle.dictionary.proofs.Rooms as rooms
+use Rattle.dictionary.proofs.next_write.Statement.{statement}
+use Rattle.dictionary.proofs.next_write.Tie as tie
 
 abbrev Inv-loop : tie.InvT-loop
 Inv-loop seq from dictionary end k₀ k =

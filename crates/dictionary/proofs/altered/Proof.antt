@@ -1,7 +1,7 @@
-use Rattle.helping.proofs.Laws as laws
+use Rattle.dictionary.proofs.Laws as laws
 use borrow.Author.Needs.{needs}
-use Rattle.helping.proofs.dictionary.altered.Statement.{statement}
-use Rattle.helping.proofs.dictionary.altered.Tie as tie
+use Rattle.dictionary.proofs.altered.Statement.{statement}
+use Rattle.dictionary.proofs.altered.Tie as tie
 
 returns : tie.Need-returns
 returns c = laws.altered-by _ (c .before .before .before .before .before .args .item) _ (c .before .before .if1 .taken) (c .before .current .ensures)

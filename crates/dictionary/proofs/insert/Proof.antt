@@ -1,7 +1,7 @@
-use Rattle.helping.proofs.Laws as laws
+use Rattle.dictionary.proofs.Laws as laws
 use borrow.Author.Needs.{needs}
-use Rattle.helping.proofs.dictionary.insert.Statement.{statement}
-use Rattle.helping.proofs.dictionary.insert.Tie as tie
+use Rattle.dictionary.proofs.insert.Statement.{statement}
+use Rattle.dictionary.proofs.insert.Tie as tie
 
 pub insert-spec : {M : Type 1} → statement M
 insert-spec =

@@ -7,9 +7,9 @@ use mathlib.Core.Path.{_≡_, refl, _∙_}
 use Prim.Native.Nat.{_-_, _≤_}
 use native.Mathlib.Omega.{arith}
 use Rattle.helping.proofs.Laws as laws
-use Rattle.helping.proofs.Rooms as rooms
-use Rattle.helping.proofs.dictionary.numbers_of.Statement.{statement}
-use Rattle.helping.proofs.dictionary.numbers_of.Tie as tie
+use Rattle.dictionary.proofs.Rooms as rooms
+use Rattle.helping.proofs.numbers_of.Statement.{statement}
+use Rattle.helping.proofs.numbers_of.Tie as tie
 
 abbrev Inv-loop : tie.InvT-loop
 Inv-loop end dictionary keys₀ values₀ k₀ keys values k =

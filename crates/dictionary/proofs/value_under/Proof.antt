@@ -1,7 +1,7 @@
-use Rattle.helping.proofs.Laws as laws
+use Rattle.dictionary.proofs.Laws as laws
 use borrow.Author.Needs.{needs}
-use Rattle.helping.proofs.dictionary.value_under.Statement.{statement}
-use Rattle.helping.proofs.dictionary.value_under.Tie as tie
+use Rattle.dictionary.proofs.value_under.Statement.{statement}
+use Rattle.dictionary.proofs.value_under.Tie as tie
 
 pub value-under-spec : {M : Type 1} → statement M
 value-under-spec =

@@ -1,0 +1,3 @@
+-- Laws that the proofs of the functions cite, here and in helping
+pub mod Rooms
+pub mod Laws

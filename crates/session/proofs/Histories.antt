@@ -6,8 +6,8 @@ use Rattle.grammar.specs.Writing.{placeAfter}
 use Rattle.construction.specs.declared.Card.{Card}
 use Rattle.construction.specs.Opening.{opened}
 use Rattle.construction.specs.History.{Entry, Observation, observe, observeAll, opening, run}
-use Rattle.session.specs.declared.{Command.Command, Parsed.Parsed}
-use Rattle.session.specs.Commands.{commands}
+use Rattle.commands.specs.declared.{Command.Command, Parsed.Parsed}
+use Rattle.commands.specs.Commands.{commands}
 use Rattle.session.specs.Session.{entriesOf, execute, afterLine, lastState, entries, firstState}
 
 pub card-after :

@@ -1,3 +1,2 @@
-pub mod PrintingLaws
 pub mod SessionLaws
 pub mod Histories

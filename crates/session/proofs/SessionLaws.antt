@@ -1,91 +1,28 @@
 -- The lines of a session one after the other, and the pieces that a buffer takes of them.
-use mathlib.Core.Bool.{Bool, true, false, cond}
 use mathlib.Core.Path.{_≡_, refl, sym, _∙_, ap}
 use mathlib.Core.List.{List, [], _∷_, _++_, append-assoc, append-nil}
-use Prim.Native.Nat.{ℕ, zero, suc, _+_, _-_, _<_, _≤_}
-use lib.Dec.{ltb, eqb}
-use lib.ListN.{length, take, drop, getD, set}
-use lib.Seq.{sets, length-take-le, length-sets, take-at, drop-cons, take-set-le}
+use Prim.Native.Nat.{ℕ, suc, _+_, _-_, _<_, _≤_}
+use lib.ListN.{length, take, drop, set}
+use lib.Seq.{sets, length-take-le, length-sets, take-at, take-set-le}
 use native.Mathlib.Omega.{arith}
-use borrow.Author.Tests.{lt-ltb, le-ltb, ltb-true, le-leb, lt-leb}
-use Rattle.grammar.specs.declared.Number.{Number}
-use Rattle.grammar.specs.Reading.{field, hasWord}
+use borrow.Author.Tests.{lt-ltb, le-leb, lt-leb}
 use Rattle.grammar.specs.Writing.{placeAfter, largest, Put}
-use Rattle.grammar.proofs.Cases.{on-test}
-use Rattle.grammar.proofs.Fields.{field-within}
 use Rattle.grammar.proofs.Puts.{put-both, put-front, put-fits}
 use Rattle.construction.specs.declared.{Card.Card, Refusal.Refusal, Traced.Traced, Verdict.Verdict, Opened.Opened}
 use Rattle.construction.specs.Opening.{opened}
-use Rattle.session.specs.declared.{Command.Command, Parsed.Parsed, State.State, Printed.Printed}
-use Rattle.session.specs.Commands.{callWord, wishWord, stepWord, lookWord, traceWord, lineEnd, malformed, limited, word, withWord, callAt, numbered, command, commandsFrom, commands}
-use Rattle.session.specs.Printing.{lineText, longest, cardRefusal, callsRefusal}
+use Rattle.construction.specs.Answers.{answerFields}
+use Rattle.commands.specs.declared.{Command.Command, Parsed.Parsed}
+use Rattle.commands.specs.Commands.{command, commands}
+use Rattle.commands.specs.CommandFields.{commandFields}
+use Rattle.commands.specs.Printing.{lineText, longest, cardRefusal, callsRefusal}
+use Rattle.commands.proofs.CommandsLaws.{command-past, commands-end, commands-more}
+use Rattle.session.specs.declared.{State.State, Printed.Printed}
 use Rattle.session.specs.Session.{execute, lineOf, afterLine, linesOf, linesText, gather, fitting, firstLine, printed, printedInto, Prints, overState, verdictBeginning, beginning, session, Starts}
 
--- ---- a command ends past its place
-end-past : (xs : List ℕ) (at : ℕ) → at ≤ lineEnd at xs
-unfolding lineEnd
-end-past [] at = omega arith
-end-past (x ∷ xs) at =
-    let h = end-past xs (suc at) in
-    on-test (λ (n : ℕ). at ≤ n) (eqb x 10) (λ e. omega arith) (λ e. omega arith)
-
-line-past : (t : List ℕ) (at : ℕ) → at < length t → at < malformed t at .next
-unfolding lineEnd
-line-past t at h =
-    rw (drop-cons t at 0 h)
-    (on-test (λ (n : ℕ). at < n) (eqb (getD t at 0) 10) (λ e. omega arith) (λ e. let m = end-past (drop (suc at) t) (suc at) in omega arith))
-
-on-word :
-    (P : Parsed → Type 0) (t : List ℕ) {m : Parsed} → P m → (s at : ℕ) {go : ℕ → ℕ → Parsed} → ((v i : ℕ) → at < i → P (go v i)) →
-    P (withWord (word t s at) m go)
-unfolding word
-on-word P t {m} p s at {go} f = by (field t s at) refl
-  where
-    by : (n : Number) → field t s at ≡ n → P (withWord (limited n) m go)
-    by (Number.Value v i) e =
-        on-test (λ w. P (withWord w m go)) (ltb v 4294967296) (λ _. f v i (field-within t s at v i e .0)) (λ _. p)
-    by Number.Malformed e = p
-
-pub command-past : (t : List ℕ) (at : ℕ) → at < length t → at < command t at .next
-unfolding command callAt
-command-past t at h =
-    let P : Parsed → Type 0 = λ m. at < m .next in
-    let l = line-past t at h in
-    let number : (make : ℕ → Command) → P (numbered t at 5 make) = λ make. on-word P t l 10 (at + 5) (λ v i g. omega arith) in
-    on-test P (hasWord t at callWord)
-    (λ _. on-word P t l 44 (at + 5)
-    (λ _ i a. on-word P t l 44 i
-    (λ _ j b. on-word P t l 44 j
-    (λ _ k c. on-word P t l 44 k
-    (λ _ n d. on-word P t l 44 n
-    (λ _ o e. on-word P t l 10 o (λ _ q f. omega arith)))))))
-    (λ _. on-test P (hasWord t at wishWord) (λ _. number Command.Exit)
-    (λ _. on-test P (hasWord t at stepWord) (λ _. number Command.Step)
-    (λ _. on-test P (hasWord t at lookWord) (λ _. number Command.Read)
-    (λ _. on-test P (hasWord t at traceWord) (λ _. on-word P t l 10 (at + 6) (λ v i g. omega arith)) (λ _. l)))))
-
--- ---- the commands of a text: enough fuel is enough
-module _ (t : List ℕ) where
-  fuel : (f at : ℕ) → length t ≤ at + f → commandsFrom f t at ≡ commandsFrom (suc f) t at
-  unfolding commandsFrom
-  fuel zero at p = rw (let h : length t ≤ at = omega arith in le-ltb at (length t) h)
-  fuel (suc f) at p = go (λ n h. fuel f n h) (ltb at (length t)) refl
-    where
-      go :
-          ((n : ℕ) → length t ≤ n + f → commandsFrom f t n ≡ commandsFrom (suc f) t n) → (b : Bool) → ltb at (length t) ≡ b →
-          cond b (command t at ∷ commandsFrom f t (command t at .next)) [] ≡ cond b (command t at ∷ commandsFrom (suc f) t (command t at .next)) []
-      go h true e =
-          let n = command-past t at (ltb-true at (length t) e) in
-          ap (λ (ms : List Parsed). command t at ∷ ms) (h (command t at .next) (omega arith))
-      go h false e = refl
-
-  commands-end : (at : ℕ) → length t ≤ at → commands t at ≡ []
-  unfolding commands commandsFrom
-  commands-end at h = fuel (length t) at (omega arith) ∙ rw (le-ltb at (length t) h)
-
-  commands-more : (at : ℕ) → at < length t → commands t at ≡ command t at ∷ commands t (command t at .next)
-  unfolding commands commandsFrom
-  commands-more at h = fuel (length t) at (omega arith) ∙ rw (lt-ltb at (length t) h)
+-- a malformed command is answered as its fields say
+pub malformed-refused : (c : Card) → answerFields (execute c Command.Malformed .answer) ≡ commandFields Command.Malformed
+unfolding execute answerFields commandFields
+malformed-refused c = refl
 
 -- ---- stores into a buffer: what was put at its front stands there, and a store past it keeps it
 front-text : {b x : List ℕ} {n : ℕ} {z : List ℕ} → Put b 0 x n z → n < largest → n ≤ length b → take n z ≡ x

@@ -1,4 +1,1 @@
-pub mod Commands
-pub mod CommandFields
-pub mod Printing
 pub mod Session

@@ -13,9 +13,10 @@ use Rattle.construction.specs.Requests.{refused}
 use Rattle.construction.specs.Tracing.{noReport, trace}
 use Rattle.construction.specs.History.{Entry, act}
 use Rattle.construction.specs.Opening.{opened}
-use Rattle.session.specs.declared.{Command.Command, Parsed.Parsed, State.State, Printed.Printed}
-use Rattle.session.specs.Commands.{commands}
-use Rattle.session.specs.Printing.{lineText, longest, cardRefusal, callsRefusal}
+use Rattle.commands.specs.declared.{Command.Command, Parsed.Parsed}
+use Rattle.commands.specs.Commands.{commands}
+use Rattle.commands.specs.Printing.{lineText, longest, cardRefusal, callsRefusal}
+use Rattle.session.specs.declared.{State.State, Printed.Printed}
 
 -- the entries that a command names: one, or none where it is malformed
 abbrev pub entriesOf : Command → List Entry

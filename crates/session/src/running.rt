@@ -1,11 +1,11 @@
 // The session: where it starts, and its lines, as many whole ones at a time as a buffer takes.
-use crate::Command;
 use crate::Printed;
 use crate::State;
-use crate::commands::command_at;
-use crate::printing::put_calls_refusal;
-use crate::printing::put_card_refusal;
-use crate::printing::put_line;
+use commands::Command;
+use commands::printing::put_calls_refusal;
+use commands::printing::put_card_refusal;
+use commands::printing::put_line;
+use commands::reading::command_at;
 use construction::Answer;
 use construction::Answered;
 use construction::Card;

@@ -1,9 +1,20 @@
-use mathlib.Core.Path.{_≡_}
-use Rattle.session.specs.declared.Command.{Command}
-use Rattle.session.specs.Commands.{malformed, callAt, numbered, command}
+use mathlib.Core.Bool.{Bool, true}
+use mathlib.Core.Path.{_≡_, sym, _∙_}
+use mathlib.Core.List.{List, _∷_}
+use Prim.Native.Nat.{ℕ, _<_}
+use lib.ListN.{length}
+use native.Mathlib.Omega.{arith}
+use Rattle.grammar.specs.Reading.{hasWord}
+use Rattle.grammar.proofs.Bytes.{word-within}
+use Rattle.commands.specs.declared.Command.{Command}
+use Rattle.commands.specs.Commands.{malformed, callAt, numbered, command}
 use borrow.Author.Needs.{needs}
-use Rattle.session.proofs.commands.command_at.Statement.{statement}
-use Rattle.session.proofs.commands.command_at.Tie as tie
+use Rattle.commands.proofs.reading.command_at.Statement.{statement}
+use Rattle.commands.proofs.reading.command_at.Tie as tie
+
+-- where a word stands, there is a place of the text
+there : (t : List ℕ) (at x : ℕ) (xs : List ℕ) {b : Bool} → b ≡ hasWord t at (x ∷ xs) → b ≡ true → at < length t
+there t at x xs e taken = omega (arith, word-within t (x ∷ xs) at (omega arith) (sym e ∙ taken))
 
 -- the command by the first of the words that stands there; `e₁` to `e₄` are the places where a word did not
 is-call : (c : tie.Then1) → let a = c .before .before .before .before .args in command (a .calls .now) (a .at) ≡ callAt (a .calls .now) (a .at)
@@ -46,11 +57,11 @@ command-at-spec =
     (tie.spec
     (λ c. search needs)
     (λ c κs. search needs)
-    (λ c κs. search needs)
+    (λ c κs. there _ _ _ _ (c .before .has-word .ensures) (c .if1 .taken))
     (λ c. rw (is-call (c .before)) (c .call-at .ensures))
     (λ c. search needs)
     (λ c κs. search needs)
-    (λ c. search needs)
+    (λ c. omega (arith, there _ _ _ _ (c .before .has-word2 .ensures) (c .if2 .taken)))
     (λ c κs. search needs)
     (λ c. search needs)
     (λ c. search needs)
@@ -59,7 +70,7 @@ command-at-spec =
     (λ c. rw (is-exit (c .before .before .before .before), ← c .before .before .before .word-at .ensures, c .before .value .given .1))
     (λ c. search needs)
     (λ c κs. search needs)
-    (λ c. search needs)
+    (λ c. omega (arith, there _ _ _ _ (c .before .has-word3 .ensures) (c .if3 .taken)))
     (λ c κs. search needs)
     (λ c. search needs)
     (λ c. search needs)
@@ -68,7 +79,7 @@ command-at-spec =
     (λ c. rw (is-step (c .before .before .before .before), ← c .before .before .before .word-at2 .ensures, c .before .value2 .given .1))
     (λ c. search needs)
     (λ c κs. search needs)
-    (λ c. search needs)
+    (λ c. omega (arith, there _ _ _ _ (c .before .has-word4 .ensures) (c .if4 .taken)))
     (λ c κs. search needs)
     (λ c. search needs)
     (λ c. search needs)
@@ -77,7 +88,7 @@ command-at-spec =
     (λ c. rw (is-read (c .before .before .before .before), ← c .before .before .before .word-at3 .ensures, c .before .value3 .given .1))
     (λ c. search needs)
     (λ c κs. search needs)
-    (λ c. search needs)
+    (λ c. omega (arith, there _ _ _ _ (c .before .has-word5 .ensures) (c .if5 .taken)))
     (λ c κs. search needs)
     (λ c. search needs)
     (λ c. search needs)

@@ -1,8 +1,8 @@
-use Rattle.session.specs.Commands.{word}
+use Rattle.commands.specs.Commands.{word}
 use borrow.Author.Tests.{lt-ltb, le-ltb}
 use borrow.Author.Needs.{needs}
-use Rattle.session.proofs.commands.word_at.Statement.{statement}
-use Rattle.session.proofs.commands.word_at.Tie as tie
+use Rattle.commands.proofs.reading.word_at.Statement.{statement}
+use Rattle.commands.proofs.reading.word_at.Tie as tie
 
 pub word-at-spec : {M : Type 1} → statement M
 unfolding word

@@ -1,8 +1,8 @@
-use Rattle.session.proofs.PrintingLaws as laws
+use Rattle.commands.proofs.PrintingLaws as laws
 use native.Mathlib.Omega.{arith}
 use borrow.Author.Needs.{needs}
-use Rattle.session.proofs.printing.put_card_refusal.Statement.{statement}
-use Rattle.session.proofs.printing.put_card_refusal.Tie as tie
+use Rattle.commands.proofs.printing.put_card_refusal.Statement.{statement}
+use Rattle.commands.proofs.printing.put_card_refusal.Tie as tie
 
 returns : tie.Need-returns
 returns c = laws.put-card-refusal _ (omega arith) (c .before .before .before .before .before .before .before .before .before .before .put-word .ensures) (c .before .before .before .before .before .before .put-verdict .ensures) (c .before .before .put-byte .ensures)

@@ -15,7 +15,7 @@ use grammar::writing::put_word;
 ghost use Prim.Native.Nat.{_+_, _≤_};
 ghost use Rattle.grammar.specs.Writing.{Put};
 ghost use Rattle.construction.specs.declared.Verdict.{Verdict as VerdictOf};
-ghost use Rattle.session.specs.Printing.{headText, lineText, longest, cardRefusal, callsRefusal};
+ghost use Rattle.commands.specs.Printing.{headText, lineText, longest, cardRefusal, callsRefusal};
 
 // The verb of a command and its first number; of a malformed one its line.
 fn put_head(buffer: &mut [u8], at: usize, line: u64, command: Command) -> usize

@@ -1,8 +1,8 @@
-use Rattle.session.proofs.PrintingLaws as laws
+use Rattle.commands.proofs.PrintingLaws as laws
 use native.Mathlib.Omega.{arith}
 use borrow.Author.Needs.{needs}
-use Rattle.session.proofs.printing.put_calls_refusal.Statement.{statement}
-use Rattle.session.proofs.printing.put_calls_refusal.Tie as tie
+use Rattle.commands.proofs.printing.put_calls_refusal.Statement.{statement}
+use Rattle.commands.proofs.printing.put_calls_refusal.Tie as tie
 
 returns : tie.Need-returns
 returns c = laws.put-calls-refusal (omega arith) (c .before .before .before .before .before .before .before .before .before .before .put-word .ensures) (c .before .before .before .before .before .before .put-refusal .ensures) (c .before .before .put-byte .ensures)

@@ -7,7 +7,7 @@ use lib.ListN.{length, drop}
 use lib.Dec.{eqb, ltb}
 use Rattle.grammar.specs.declared.Number.{Number}
 use Rattle.grammar.specs.Reading.{field, hasWord}
-use Rattle.session.specs.declared.{Word.Word, Command.Command, Parsed.Parsed}
+use Rattle.commands.specs.declared.{Word.Word, Command.Command, Parsed.Parsed}
 
 -- `call,` `wish,` `step,` `look,`
 abbrev pub callWord : List ℕ

@@ -1,20 +1,17 @@
 -- Printed lines put into a buffer part by part, and how far they reach.
-use mathlib.Core.Path.{_≡_, refl}
 use mathlib.Core.List.{List, [], _∷_}
 use Prim.Native.Nat.{ℕ, _+_, _<_, _≤_}
 use lib.ListN.{length}
 use native.Mathlib.Omega.{arith}
 use Rattle.grammar.specs.Writing.{largest, Put}
 use Rattle.grammar.proofs.Puts.{Room, rest-all, rest-step, rest-last, put-both}
-use Rattle.construction.specs.declared.{Card.Card, Answer.Answer, Report.Report, Verdict.Verdict}
+use Rattle.construction.specs.declared.{Answer.Answer, Report.Report, Verdict.Verdict}
 use Rattle.construction.specs.declared.Refusal.the-variants.{TooLong}
 use Rattle.construction.specs.Answers.{bytes, Fields, numberOf, refusedWith, answerFields, verdictFields, fieldsText}
 use Rattle.construction.specs.Reports.{reportText}
 use Rattle.answers.proofs.Texts.{PutWithin, put-short}
-use Rattle.session.specs.declared.Command.{Command}
-use Rattle.session.specs.CommandFields.{commandFields}
-use Rattle.session.specs.Printing.{headText, lineWith, lineText, longest, cardRefusal, callsRefusal}
-use Rattle.session.specs.Session.{execute}
+use Rattle.commands.specs.declared.Command.{Command}
+use Rattle.commands.specs.Printing.{headText, lineWith, lineText, longest, cardRefusal, callsRefusal}
 
 -- a line of three parts: its beginning, the fields that follow, and byte 10
 module _ {b : List ℕ} {at i j k : ℕ} {y₁ y₂ z : List ℕ} where
@@ -48,8 +45,3 @@ module _ {b : List ℕ} {i j k : ℕ} {y₁ y₂ z : List ℕ} where
       length b ≤ largest → Put b 0 (bytes "calls") i y₁ → PutWithin y₁ i (fieldsText (refusedWith (numberOf TooLong))) j y₂ 29 →
       Put y₂ j (10 ∷ []) k z → PutWithin b 0 callsRefusal k z longest
   put-calls-refusal h p q r = put-parts (refusedWith 1) 5 29 longest (omega arith) (put-short 5 p (omega arith)) q r (omega arith)
-
--- a malformed command is answered as its fields say
-pub malformed-refused : (c : Card) → answerFields (execute c Command.Malformed .answer) ≡ commandFields Command.Malformed
-unfolding execute answerFields commandFields
-malformed-refused c = refl

@@ -9,7 +9,7 @@ use grammar::reading::has_word;
 ghost use mathlib.Core.Path.{_≡_};
 ghost use Prim.Native.Nat.{_<_};
 ghost use lib.ListN.{length};
-ghost use Rattle.session.specs.Commands.{word, malformed, callAt, command};
+ghost use Rattle.commands.specs.Commands.{word, malformed, callAt, command};
 
 // A field that has 32 bits, ended by a separator that belongs to it.
 fn word_at(calls: &[u8], separator: u8, at: usize) -> Word
@@ -84,8 +84,7 @@ fn call_at(calls: &[u8], at: usize) -> Parsed
 }
 
 // The command at a place of the text.
-pub(crate) fn command_at(calls: &[u8], at: usize) -> Parsed
-    requires { ⌜ at < length (now calls) ⌝ }
+pub fn command_at(calls: &[u8], at: usize) -> Parsed
     ensures { λ r. ⌜ r ≡ command (now (calls .entry)) at ⌝ }
 {
     if has_word(calls, at, b"call,") {

@@ -1,7 +1,7 @@
-use Rattle.session.specs.Commands.{callAt}
+use Rattle.commands.specs.Commands.{callAt}
 use borrow.Author.Needs.{needs}
-use Rattle.session.proofs.commands.call_at.Statement.{statement}
-use Rattle.session.proofs.commands.call_at.Tie as tie
+use Rattle.commands.proofs.reading.call_at.Statement.{statement}
+use Rattle.commands.proofs.reading.call_at.Tie as tie
 
 returns : tie.Need-returns
 unfolding callAt

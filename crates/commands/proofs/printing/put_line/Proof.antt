@@ -1,8 +1,8 @@
-use Rattle.session.proofs.PrintingLaws as laws
+use Rattle.commands.proofs.PrintingLaws as laws
 use native.Mathlib.Omega.{arith}
 use borrow.Author.Needs.{needs}
-use Rattle.session.proofs.printing.put_line.Statement.{statement}
-use Rattle.session.proofs.printing.put_line.Tie as tie
+use Rattle.commands.proofs.printing.put_line.Statement.{statement}
+use Rattle.commands.proofs.printing.put_line.Tie as tie
 
 returns : tie.Need-returns
 returns c = laws.put-line _ _ _ _ (omega arith) (c .before .before .before .before .before .before .before .before .before .before .before .before .before .before .put-head .ensures) (c .before .before .before .before .before .before .before .before .before .before .put-report .ensures) (c .before .before .before .before .before .before .put-answer .ensures) (c .before .before .put-byte .ensures)

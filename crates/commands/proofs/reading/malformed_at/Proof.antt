@@ -1,4 +1,4 @@
-use Rattle.session.specs.Commands.{lineEnd}
+use Rattle.commands.specs.Commands.{lineEnd}
 use mathlib.Core.Path.{_≡_, refl}
 use Prim.Native.Nat.{ℕ, _-_}
 use lib.ListN.{length, drop, drop-of-length-le}
@@ -6,8 +6,8 @@ use lib.Seq.{drop-cons}
 use native.Mathlib.Numerals.{add-one}
 use borrow.Author.Tests.{eq-eqb, ne-eqb}
 use borrow.Author.Needs.{needs}
-use Rattle.session.proofs.commands.malformed_at.Statement.{statement}
-use Rattle.session.proofs.commands.malformed_at.Tie as tie
+use Rattle.commands.proofs.reading.malformed_at.Statement.{statement}
+use Rattle.commands.proofs.reading.malformed_at.Tie as tie
 
 abbrev Inv-loop : tie.InvT-loop
 Inv-loop calls at command i₀ i = lineEnd at (drop at calls) ≡ lineEnd i (drop i calls)

@@ -2,7 +2,7 @@
 -- `look,variable`, `trace,process` (document 02, order 1); 'A misformed command .. prints `line,N,refused,2`'.
 use mathlib.Core.List.{[], _∷_}
 use Rattle.construction.specs.Answers.{Fields, fields, refusedWith}
-use Rattle.session.specs.declared.Command.{Command}
+use Rattle.commands.specs.declared.Command.{Command}
 
 unfoldable pub commandFields : Command → Fields
 commandFields (Command.Call i k x) = fields "call" (i ∷ k ∷ x .w0 ∷ x .w1 ∷ x .w2 ∷ x .w3 ∷ [])

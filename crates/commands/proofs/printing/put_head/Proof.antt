@@ -2,11 +2,11 @@ use mathlib.Core.List.{append-nil}
 use native.Mathlib.Omega.{arith}
 use Rattle.construction.specs.Answers.{numbersText}
 use Rattle.answers.proofs.Texts.{put-as-within}
-use Rattle.session.specs.CommandFields.{commandFields}
-use Rattle.session.specs.Printing.{headText}
+use Rattle.commands.specs.CommandFields.{commandFields}
+use Rattle.commands.specs.Printing.{headText}
 use borrow.Author.Needs.{needs}
-use Rattle.session.proofs.printing.put_head.Statement.{statement}
-use Rattle.session.proofs.printing.put_head.Tie as tie
+use Rattle.commands.proofs.printing.put_head.Statement.{statement}
+use Rattle.commands.proofs.printing.put_head.Tie as tie
 
 pub put-head-spec : {M : Type 1} → statement M
 unfolding headText commandFields numbersText

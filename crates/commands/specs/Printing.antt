@@ -6,8 +6,8 @@ use lib.ListN.{take}
 use Rattle.construction.specs.declared.{Answer.Answer, Report.Report, Verdict.Verdict}
 use Rattle.construction.specs.Answers.{bytes, Fields, fields, refusedWith, answerFields, verdictFields, numbersText, fieldsText}
 use Rattle.construction.specs.Reports.{reportText}
-use Rattle.session.specs.declared.Command.{Command}
-use Rattle.session.specs.CommandFields.{commandFields}
+use Rattle.commands.specs.declared.Command.{Command}
+use Rattle.commands.specs.CommandFields.{commandFields}
 
 -- 'the verb and first number'
 abbrev pub verbText : Fields → List ℕ

@@ -1,0 +1,2 @@
+pub mod CommandsLaws
+pub mod PrintingLaws

@@ -1,0 +1,42 @@
+// The lines of the bench program (document 01, "The bench program"), one at a time, on slices: the command at a place of a calls text, and the
+// printed line of a command with its answer, put into a buffer. It rests on the crates grammar (fields and decimals), answers (the fields of
+// answers and reports) and construction (types and definitions). Every public function is total, and its contract gives its whole result and
+// every byte of the buffer.
+pub mod reading; // reading.rt: the command at a place of a calls text
+pub mod printing; // printing.rt: the printed lines
+
+use construction::Words;
+
+// A field of a command: its value and the place past its separator.
+pub enum Word {
+    Value { value: u32, next: usize },
+    Malformed,
+}
+
+// A command, with its own fields only.
+pub enum Command {
+    Call {
+        process: u32,
+        program: u32,
+        inputs: Words,
+    },
+    Exit {
+        process: u32,
+    },
+    Step {
+        process: u32,
+    },
+    Trace {
+        process: u32,
+    },
+    Read {
+        variable: u32,
+    },
+    Malformed,
+}
+
+// The command at a place, and the place past its line.
+pub struct Parsed {
+    pub command: Command,
+    pub next: usize,
+}

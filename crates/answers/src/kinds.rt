@@ -1,24 +1,7 @@
-// Of which kind an answer is (construction, specs/Answers): taken, run, refused.
+// Of which kind an answer is (construction, specs/Answers): run, refused.
 use construction::Answer;
 ghost use mathlib.Core.Path.{_≡_};
-ghost use Rattle.construction.specs.Answers.{isTaken, isRun, isRefused};
-
-pub fn is_taken(answer: Answer) -> bool
-    ensures { λ r. ⌜ r ≡ isTaken answer ⌝ }
-{
-    match answer {
-        Answer::Taken => true,
-        Answer::Run => false,
-        Answer::Done {
-            number: _,
-            yields: _,
-            steps: _,
-        } => false,
-        Answer::Exited { steps: _ } => false,
-        Answer::Value(_) => false,
-        Answer::Refused(_) => false,
-    }
-}
+ghost use Rattle.construction.specs.Answers.{isRun, isRefused};
 
 pub fn is_run(answer: Answer) -> bool
     ensures { λ r. ⌜ r ≡ isRun answer ⌝ }

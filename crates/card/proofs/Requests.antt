@@ -1,6 +1,6 @@
 -- The requests by the tests that judge them
 use Prim.Native.Nat.{ℕ, _%_, _<_}
-use mathlib.Core.Bool.{Bool, true, false, cond, not, _&&_}
+use mathlib.Core.Bool.{Bool, true, false, cond, not, _&&_, true≢false}
 use mathlib.Core.Path.{_≡_, refl, sym, _∙_}
 use native.Mathlib.Nat.{mod-eq-of-lt}
 use native.Mathlib.Omega.{arith}
@@ -14,7 +14,7 @@ use Rattle.construction.specs.Cells.{openAnnouncement}
 use Rattle.construction.specs.Parts.{idleTask, announcementAt, recordAt, localAt, withLocal}
 use Rattle.construction.specs.Machine.{holderOf, advance}
 use Rattle.construction.specs.Requests.{isProcess, isProgram, isIdle, refused, invoked, exiting, answerOf, isVariable, isPending, valueOf, call, requestExit, step, read}
-use Rattle.construction.specs.Answers.{isTaken}
+use Rattle.construction.specs.Answers.{isRefused}
 use Rattle.requests.specs.Judging.{judged, callJudged, exitJudged, stepJudged}
 use Rattle.requests.specs.Reading.{pending, shown}
 use Rattle.card.proofs.Arrays.{found}
@@ -35,12 +35,12 @@ none-right : (a : Bool) → a && false ≡ false
 none-right true = refl
 none-right false = refl
 
--- an answer is taken or it refuses
-apart : (x : Answer) (r : Refusal) → x ≡ Answer.Refused r → isTaken x ≡ true → ⊥
-apart x r e h = let z : _≡_ {A = Bool} false true = rw e at h in let w : _≡_ {A = ℕ} 0 1 = cc in omega arith
+-- an answer refuses, or it is taken
+apart : (x : Answer) (r : Refusal) → x ≡ Answer.Refused r → isRefused x ≡ false → ⊥
+apart x r e h = true≢false (rw e at h)
 
-taken-not : (x : Answer) → x ≡ Answer.Taken → isTaken x ≡ false → ⊥
-taken-not x e h = let z : _≡_ {A = Bool} true false = rw e at h in let w : _≡_ {A = ℕ} 0 1 = cc in omega arith
+taken-not : (x : Answer) → x ≡ Answer.Taken → isRefused x ≡ true → ⊥
+taken-not x e h = true≢false (sym (rw e at h))
 
 -- a request by its three tests: it is refused, ..
 module _ (c : Card) (r s t : Refusal) where
@@ -48,7 +48,7 @@ module _ (c : Card) (r s t : Refusal) where
   by a b d y = cond (not a) (refused c r) (cond (not b) (refused c s) (cond (not d) (refused c t) y))
 
   refuses :
-      (a b d : Bool) (x : Answer) (y : Answered) → x ≡ judged a r b s d t → isTaken x ≡ false →
+      (a b d : Bool) (x : Answer) (y : Answered) → x ≡ judged a r b s d t → isRefused x ≡ true →
       record { card = c; answer = x } ≡ by a b d y
   refuses false b d x y e h = rw e
   refuses true false d x y e h = rw e
@@ -62,7 +62,7 @@ module _ (c : Card) (r s t : Refusal) where
     last : d ≡ true
     taken : x ≡ Answer.Taken
 
-  passes : (a b d : Bool) (x : Answer) → x ≡ judged a r b s d t → isTaken x ≡ true → Passed a b d x
+  passes : (a b d : Bool) (x : Answer) → x ≡ judged a r b s d t → isRefused x ≡ false → Passed a b d x
   passes true true true x e h = record { first = refl; next = refl; last = refl; taken = e }
   passes false b d x e h = absurd (apart x r e h)
   passes true false d x e h = absurd (apart x s e h)
@@ -84,19 +84,19 @@ module _ (c : Card) (i : ℕ) where
     call-told : x ≡ callJudged i (c .processCount) k (c .programCount) (localAt c i .task .place)
     call-told = told ∙ same-task (Answer.Refused NoProcess) (λ (t : Task). cond (not (isProgram c k)) (Answer.Refused NoProgram) (cond (not (isIdle (t .place))) (Answer.Refused Busy) Answer.Taken))
 
-    pub call-refused : (inputs : Words) → isTaken x ≡ false → record { card = c; answer = x } ≡ call c i k inputs
+    pub call-refused : (inputs : Words) → isRefused x ≡ true → record { card = c; answer = x } ≡ call c i k inputs
     unfolding call
     call-refused inputs h = refuses c NoProcess NoProgram Busy (isProcess c i) (isProgram c k) (isIdle (localAt c i .task .place)) x _ call-told h
 
     pub call-taken :
-        (inputs : Words) → isTaken x ≡ true → (d : Card) → (i < 8 → d ≡ withLocal c i (invoked (localAt c i) k inputs)) →
+        (inputs : Words) → isRefused x ≡ false → (d : Card) → (i < 8 → d ≡ withLocal c i (invoked (localAt c i) k inputs)) →
         record { card = d; answer = x } ≡ call c i k inputs
     unfolding call
     call-taken inputs h d e =
         let p = passes c NoProcess NoProgram Busy (isProcess c i) (isProgram c k) (isIdle (localAt c i .task .place)) x call-told h in
         rw (p .first, p .next, p .last, p .taken, e (in-room i (c .processCount) 8 (p .first)))
 
-    pub small-program : isTaken x ≡ true → k < 8
+    pub small-program : isRefused x ≡ false → k < 8
     small-program h =
         let p = passes c NoProcess NoProgram Busy (isProcess c i) (isProgram c k) (isIdle (localAt c i .task .place)) x call-told h in
         in-room k (c .programCount) 8 (p .next)
@@ -105,12 +105,12 @@ module _ (c : Card) (i : ℕ) where
     exit-told : x ≡ exitJudged i (c .processCount) (localAt c i .task .place)
     exit-told = told ∙ same-task (Answer.Refused NoProcess) (λ (t : Task). cond (not (not (isIdle (t .place)))) (Answer.Refused NotBusy) Answer.Taken)
 
-    pub exit-refused : isTaken x ≡ false → record { card = c; answer = x } ≡ requestExit c i
+    pub exit-refused : isRefused x ≡ true → record { card = c; answer = x } ≡ requestExit c i
     unfolding requestExit
     exit-refused h = refuses c NoProcess NotBusy NotBusy (isProcess c i) (not (isIdle (localAt c i .task .place))) true x _ exit-told h
 
     pub exit-taken :
-        isTaken x ≡ true → (d : Card) → (i < 8 → d ≡ withLocal c i (exiting (localAt c i))) →
+        isRefused x ≡ false → (d : Card) → (i < 8 → d ≡ withLocal c i (exiting (localAt c i))) →
         record { card = d; answer = x } ≡ requestExit c i
     unfolding requestExit
     exit-taken h d e =
@@ -121,11 +121,11 @@ module _ (c : Card) (i : ℕ) where
     step-told : x ≡ stepJudged i (c .processCount) (localAt c i .task .place) (c .steps) (c .limit)
     step-told = told ∙ same-task (Answer.Refused NoProcess) (λ (t : Task). cond (not (not (isIdle (t .place)))) (Answer.Refused NotBusy) (cond (not (ltb (c .steps) (c .limit))) (Answer.Refused LimitReached) Answer.Taken))
 
-    pub step-refused : isTaken x ≡ false → record { card = c; answer = x } ≡ step c i
+    pub step-refused : isRefused x ≡ true → record { card = c; answer = x } ≡ step c i
     unfolding step
     step-refused h = refuses c NoProcess NotBusy LimitReached (isProcess c i) (not (isIdle (localAt c i .task .place))) (ltb (c .steps) (c .limit)) x _ step-told h
 
-    pub step-taken : isTaken x ≡ true → (y : Answered) → y ≡ steppedAt c (i % 8) → y ≡ step c i
+    pub step-taken : isRefused x ≡ false → (y : Answered) → y ≡ steppedAt c (i % 8) → y ≡ step c i
     unfolding step
     step-taken h y e =
         let p = passes c NoProcess NotBusy LimitReached (isProcess c i) (not (isIdle (localAt c i .task .place))) (ltb (c .steps) (c .limit)) x step-told h in

@@ -1,7 +1,7 @@
 // The card of document 01 as code: call, exit request (wish), step and read (look), for every value of a card. With the traced step (crate tracing)
 // these alone take and give a card: each takes the pieces that it needs out of it, has functions on small values judge them and work on them, and
 // puts back what changed. It rests on the crates construction (types and definitions), answers, helping, machine, opening and requests.
-use answers::kinds::is_taken;
+use answers::kinds::is_refused;
 use construction::Access;
 use construction::Answer;
 use construction::Answered;
@@ -41,7 +41,7 @@ pub fn call(card: Card, process: u32, program: u32, inputs: Words) -> Answered
     let task = c.tasks[i];
     let place = task.place;
     let answer = judge_call(process, c.processCount, program, c.programCount, place);
-    if is_taken(answer) {
+    if !is_refused(answer) {
         c.tasks[i] = Task {
             place: Place::P1,
             target: 0,
@@ -65,7 +65,7 @@ pub fn request_exit(card: Card, process: u32) -> Answered
     let task = c.tasks[i];
     let place = task.place;
     let answer = judge_exit(process, c.processCount, place);
-    if is_taken(answer) {
+    if !is_refused(answer) {
         c.exits[i] = true;
     }
     Answered { card: c, answer }
@@ -82,7 +82,7 @@ pub fn step(card: Card, process: u32) -> Answered
     let task = c.tasks[i];
     let place = task.place;
     let judged = judge_step(process, c.processCount, place, c.steps, c.limit);
-    if !is_taken(judged) {
+    if is_refused(judged) {
         return Answered {
             card: c,
             answer: judged,

@@ -62,15 +62,7 @@ answerFields (Answer.Exited steps) = fields "exited" (steps ∷ [])
 answerFields (Answer.Value x) = fields "" (x ∷ [])
 answerFields (Answer.Refused r) = refusedWith (numberOf r)
 
--- tests of an answer: a call or an exit request is taken, an operation runs on, a request is refused
-abbrev pub isTaken : Answer → Bool
-isTaken Answer.Taken = true
-isTaken Answer.Run = false
-isTaken (Answer.Done number y steps) = false
-isTaken (Answer.Exited steps) = false
-isTaken (Answer.Value x) = false
-isTaken (Answer.Refused r) = false
-
+-- tests of an answer: an operation runs on, a request is refused (one that is not is taken)
 abbrev pub isRun : Answer → Bool
 isRun Answer.Taken = false
 isRun Answer.Run = true

@@ -12,7 +12,7 @@ use Rattle.construction.specs.Parts.{localAt, announcementAt, recordAt}
 use Rattle.construction.specs.Machine.{advance}
 use Rattle.construction.specs.Requests.{answerOf}
 use Rattle.construction.specs.OneAccess.{touchedCell}
-use Rattle.construction.specs.Answers.{isTaken, isRefused}
+use Rattle.construction.specs.Answers.{isRefused}
 use Rattle.construction.specs.Tracing.{reportOf}
 use Rattle.construction.specs.History.{Return, Event, eventOf, Entry, act}
 
@@ -163,7 +163,7 @@ pub record Follows (i : ℕ) (ms : List Made) : Type 0 where
 -- THE ACCESSES OF AN OPERATION, by the run itself: those of the accepted steps of process i, asked by `step` or by `trace`, since its latest taken
 -- call, newest first.
 abbrev pub calledAnew : ℕ → ℕ → Answer → List Made → List Made
-calledAnew i j a ms = cond (eqb j i && isTaken a) [] ms
+calledAnew i j a ms = cond (eqb j i && not (isRefused a)) [] ms
 
 abbrev pub stepped : Card → ℕ → ℕ → Answer → List Made → List Made
 stepped c i j a ms = cond (eqb j i && not (isRefused a)) (made c i ∷ ms) ms

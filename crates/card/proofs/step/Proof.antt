@@ -20,7 +20,7 @@ step-is :
 step-is c =
     let tested = c .before .before .before .before .before .before .before in
     requests.step-taken _ _ _ (tested .before .before .judge-step .ensures)
-    (sym (tested .before .is-taken .ensures) ∙ not-false _ (tested .if1 .left))
+    (sym (tested .before .is-refused .ensures) ∙ (tested .if1 .left))
 
 accepted :
     (c : tie.After-access-of) → let a = c .before .before .before .before .before .before .before .before .before .before .before .args in
@@ -37,7 +37,7 @@ accepted c =
     }
 
 returns : tie.Need-returns
-returns c = requests.step-refused _ _ _ (c .before .before .judge-step .ensures) (sym (c .before .is-taken .ensures) ∙ not-true _ (c .if1 .taken))
+returns c = requests.step-refused _ _ _ (c .before .before .judge-step .ensures) (sym (c .before .is-refused .ensures) ∙ (c .if1 .taken))
 
 returns-2 : tie.Need-returns-2
 returns-2 c = let at = c .before .before .before in step-is at _ (accesses.at-none (accepted at) _ (c .before .enum-told .given .1) (c .answer-of .ensures))

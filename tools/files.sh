@@ -42,7 +42,7 @@ first_refusal() {
             ln -s "$(readlink -f -- "$folder/$name")" "$room/$name"
         fi
     done
-    (cd "$room" && "$target/bin/$program" "$@" </dev/null 2>/dev/null | head -n 1) || true
+    (cd "$room" && "$target/bin/$program" "$@" </dev/null | head -n 1) 2>/dev/null || true
     rm -rf "$room"
 }
 

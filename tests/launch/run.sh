@@ -1,11 +1,15 @@
 #!/usr/bin/env bash
-# Tests tools/prove-and-run in a small repository of its own, with stand-ins for rt and for the program: what is said and where, what is kept quiet,
-# what an interrupt leaves, and when the command fails. The last line is a count; what does not hold has a line of its own and makes this fail.
+# Tests tools/prove-and-run and the scripts at the top in a small repository of its own, with stand-ins for rt and for the programs: what is said and
+# where, what is kept quiet, what an interrupt leaves, and when a command fails. What a user may not read or write is tried as nobody where this runs as
+# root. The last line is a count; what does not hold has a line of its own and makes this fail.
 set -euo pipefail
 here="$(cd "$(dirname "${BASH_SOURCE[0]}")" && pwd)"
+top="$here/../.."
 work="$(mktemp -d)"
-trap 'rm -rf "$work"' EXIT
+trap 'chmod -R u+rwx "$work" && rm -rf "$work"' EXIT
+chmod 755 "$work"
 repository="$work/repository"
+folder="$work/folder"
 passed=0
 failed=0
 
@@ -21,11 +25,14 @@ holds() {
     fi
 }
 
-# launch [ARGUMENT..]: runs the script; its status, standard output and standard error are kept
+# launch [ARGUMENT..]: runs the script of the program; call COMMAND..: runs a command. Its status, standard output and standard error are kept
 export PATH="$work/bin:$PATH" SAID="$work/errors"
-launch() {
+call() {
     status=0
-    "$repository/program" "$@" >"$work/output" 2>"$SAID" || status=$?
+    "$@" >"$work/output" 2>"$SAID" || status=$?
+}
+launch() {
+    call "$repository/program" "$@"
 }
 
 # says TEXT, prints TEXT: standard error, or output, is this text
@@ -34,6 +41,11 @@ says() {
 }
 prints() {
     [ "$(cat "$work/output")" = "$1" ]
+}
+
+# ends STATUS OUTPUT ERRORS: the whole transcript of a call
+ends() {
+    [ "$status" -eq "$1" ] && prints "$2" && says "$3"
 }
 
 # as in a fresh clone
@@ -56,24 +68,55 @@ prover_ended() {
     [ ! -e "$status" ] || grep -q '^State:.*zombie' "$status"
 }
 
-mkdir -p "$work/bin" "$repository/tools" "$work/folder"
-cp "$here/../../tools/prove-and-run" "$here/../../tools/turn.sh" "$repository/tools/"
-sed 's/bench folder/program folder/' "$here/../../bench" >"$repository/program"
-printf '# layers\nbelow:\nbeside: below  # with a comment\nprogram: beside io\nother: below\n' >"$repository/crates.txt"
+# launcher NAME USAGE FILES: a script at the top for a program
+launcher() {
+    printf '#!/bin/sh\n# Does this.\nexec "$(dirname "$(readlink -f "$0")")/tools/prove-and-run" %s "%s" "%s" "$@"\n' "$@" >"$repository/$1"
+    chmod +x "$repository/$1"
+}
 
-# rt: 'proves' a crate after the other, each by a process that ignores interrupts, as rt's provers do, and ends once it has been told of, or
-# after half a minute
+mkdir -p "$work/bin" "$repository/docs" "$folder"
+cp -R "$top/tools" "$top/check" "$repository/"
+cp "$top/docs/FORMATS.md" "$repository/docs/" || true
+sed 's/prove-and-run" bench/prove-and-run" program/' "$top/bench" >"$repository/program"
+chmod +x "$repository/program"
+launcher listing 'DIR L [M]' ''
+launcher reading 'DUMP [STEP]' ''
+printf '# layers\nbelow:\nbeside: below  # with a comment\nprogram: beside io\nlisting: below\nreading: below\n' >"$repository/crates.txt"
+for name in below beside program listing reading; do
+    mkdir -p "$repository/crates/$name/src"
+    echo "$name" >"$repository/crates/$name/src/lib.rt"
+done
+for name in program listing reading; do
+    mv "$repository/crates/$name/src/lib.rt" "$repository/crates/$name/src/main.rt"
+done
+
+# rt: 'proves' a crate after the other and stamps it as rt does, each by a process that ignores interrupts, as rt's provers do, and ends once it has
+# been told of, or after half a minute
 cat >"$work/bin/rt" <<'STANDIN'
 #!/bin/sh
-mkdir -p target/log target/stamp target/bin
-for name in below beside "$2"; do
+[ "$1" != version ] || { echo kit; exit; }
+stamp_of() {
+    {
+        printf 'kit\nmachine %s\n' "$(uname -m)"
+        (cd "crates/$1" && find src specs proofs stdin stdout args data -type f -exec sha256sum {} + 2>/dev/null | sort)
+        needs=$(sed -n "s/^$1://p" crates.txt | sed 's/#.*//')
+        echo "deps: $needs"
+        for need in $needs; do
+            if [ -d "crates/$need" ]; then cat "target/stamp/$need"; else echo "kit $need"; fi
+        done
+    } | sha256sum | cut -d' ' -f1
+}
+echo "$*" >>asked
+mkdir -p target/log target/stamp target/bin target/rlib
+for name in below $([ "$2" != program ] || echo beside) "$2"; do
     : >"target/log/$name.out"
-    if [ -e "target/stamp/$name" ]; then
+    if [ "$(cat "target/stamp/$name" 2>/dev/null)" = "$(stamp_of "$name")" ]; then
         echo "rt: $name proved (unchanged since it was last proved)" >"target/log/$name.out"
     elif [ -e "refuse-$name" ]; then
         echo "rt: $name NOT PROVED (exit 1, 1 s)" | tee "target/log/$name.out"
         exit 1
     else
+        rm -f "target/stamp/$name"
         (
             trap '' INT
             tenths=300
@@ -85,45 +128,57 @@ for name in below beside "$2"; do
         echo $! >target/prover
         wait
         echo "rt: $name proved (1 s)" >"target/log/$name.out"
-        : >"target/stamp/$name"
+        if [ -e "crates/$name/src/main.rt" ]; then cp "$name.sh" "target/bin/$name"; else mkdir -p "target/rlib/$name.rlib"; fi
+        stamp_of "$name" >"target/stamp/$name"
     fi
     cat "target/log/$name.out"
 done
-cp program.sh "target/bin/$2"
 STANDIN
-chmod +x "$work/bin/rt" "$repository/program"
+chmod +x "$work/bin/rt"
+
+# program_is TEXT [NAME]: the program is this script, in the next build and in the one that is there
 program_is() {
-    printf '#!/bin/sh\n%s\n' "$1" >"$repository/program.sh"
-    chmod +x "$repository/program.sh"
+    local name="${2:-program}"
+    printf '#!/bin/sh\n%s\n' "$1" >"$repository/$name.sh"
+    chmod +x "$repository/$name.sh"
+    [ ! -e "$repository/target/bin/$name" ] || cp "$repository/$name.sh" "$repository/target/bin/$name"
+}
+
+# files CARD CALLS: the folder has these two files
+files() {
+    rm -rf "${folder:?}"/*
+    printf "$1" >"$folder/card.txt"
+    printf "$2" >"$folder/calls.txt"
 }
 
 opening="program: proving what is to be run; the first time this takes some minutes, later only what changed is proved again.
 program: 3 crates. Ctrl-C stops; what is proved by then stays proved."
 
+files 'card\n' 'calls\n'
 program_is 'pwd; cat'
-launch "$work/folder" <<<"input"
-holds "a first run prints what the program prints, in its folder" prints "$(readlink -f "$work/folder")
-input"
-holds "a first run tells how far it is" says "$opening
+launch "$folder" <<<"input"
+holds "a first run tells how far it is, and prints what the program prints in its folder" ends 0 "$(readlink -f "$folder")
+input" "$opening
 proving below
 proved 1 of 3: below (1 s)
 proving beside
 proved 2 of 3: beside (1 s)
 proving program
 proved 3 of 3: program (1 s)"
-holds "a first run succeeds" [ "$status" -eq 0 ]
 
-launch "$work/folder" </dev/null
+rm "$repository/asked"
+launch "$folder" </dev/null
 holds "with nothing to prove it is quiet" says ""
-rm "$repository/target/stamp/program"
-launch "$work/folder" </dev/null
+holds "with nothing to prove rt is not asked" [ ! -e "$repository/asked" ]
+echo changed >>"$repository/crates/program/src/main.rt"
+launch "$folder" </dev/null
 holds "only what changed is proved again" says "$opening
 proving program
 proved 3 of 3: program (1 s)"
 
 forget
 : >"$repository/refuse-beside"
-launch "$work/folder"
+launch "$folder"
 rm "$repository/refuse-beside"
 holds "a crate that is not proved makes it fail" [ "$status" -eq 1 ]
 holds "a crate that is not proved is named" grep -q '^rt: beside NOT PROVED' "$SAID"
@@ -132,39 +187,177 @@ holds "nothing is run that is not proved" prints ""
 # a script's background commands ignore INT, so TERM stands in for Ctrl-C here
 forget
 : >"$repository/endless"
-"$repository/program" "$work/folder" >/dev/null 2>"$SAID" &
+"$repository/program" "$folder" >/dev/null 2>"$SAID" &
 written "$repository/target/prover"
 kill -s TERM $!
 wait $! 2>/dev/null || true
 rm "$repository/endless"
 holds "an interrupt ends the provers" prover_ended
 holds "an interrupt is told" grep -q '^program: stopped; ' "$SAID"
-launch "$work/folder" </dev/null
+launch "$folder" </dev/null
 holds "the run after an interrupt succeeds" [ "$status" -eq 0 ]
 
 forget
 : >"$repository/endless"
-launch "$work/folder" </dev/null &
+launch "$folder" </dev/null &
 written "$repository/target/prover"
-"$repository/program" "$work/folder" </dev/null >/dev/null 2>"$work/second" &
+"$repository/program" "$folder" </dev/null >/dev/null 2>"$work/second" &
 written "$work/second"
 rm "$repository/endless"
 wait
 holds "a second run at the same time waits for the first" [ "$(cat "$work/second")" = "program: another run is proving here; waiting for it" ]
 
-program_is 'echo printed; echo "program: it could not be done" >&2'
-launch "$work/folder"
-holds "a program that complains makes it fail" [ "$status" -eq 1 ]
-holds "the complaint is passed on" says "program: it could not be done"
-program_is yes
-timeout 20 "$repository/program" "$work/folder" 2>"$SAID" | head -n 1 >"$work/output" || true
-holds "a closed output ends the program" prints y
+exec 8<"$repository/crates.txt"
+flock 8
+program_is 'echo session'
+call timeout 20 "$repository/program" "$folder"
+holds "a run with nothing to prove waits for nobody" ends 0 session ""
+exec 8<&-
 
+# what programs say
+program_is 'echo printed; echo "program: it could not be done" >&2'
+launch "$folder"
+holds "a program that complains makes it fail, and the complaint is passed on" ends 1 printed "program: it could not be done"
+program_is '[ -e calls.txt ] || exit
+echo "half way" >&2
+for _ in 1 2 3 4 5 6 7 8 9 10; do ! grep -q half "$SAID" || { echo printed; exit; }; sleep 0.1; done
+echo "held back"'
+launch "$folder"
+holds "how far a program is comes at once, and is no failure" ends 0 printed "half way"
+program_is yes
+timeout 20 "$repository/program" "$folder" 2>"$SAID" | head -n 1 >"$work/output" || true
+holds "a closed output ends the program" prints y
+program_is 'kill -SEGV $$'
+launch "$folder" </dev/null
+holds "a program that is ended by the system makes it fail" ends 1 "" "program: the program ended with status 139"
+
+# arguments
+program_is 'pwd; echo "$#: $@"' listing
+call "$repository/listing" "$folder" 1
+call "$repository/listing" "$folder" "a b" '*'
+holds "arguments after the folder are the program's" ends 0 "$(readlink -f "$folder")
+2: a b *" ""
+call "$repository/listing" "$folder" 3
+holds "an argument in brackets may be left out" ends 0 "$(readlink -f "$folder")
+1: 3" ""
+for arguments in '' "$folder" "$folder 1 2 3"; do
+    # shellcheck disable=SC2086
+    call "$repository/listing" $arguments
+    holds "a wrong number of arguments is a wrong call" ends 2 "" "usage: ./listing DIR L [M]
+Does this."
+done
+program_is 'echo "usage: listing L" >&2' listing
+call "$repository/listing" "$folder" x
+holds "a usage line of the program is a wrong call" ends 2 "" "usage: listing L
+usage: ./listing DIR L [M]
+Does this."
+program_is 'cat "$1"; echo "$2"' reading
+call "$repository/reading" "$folder/card.txt"
+cd "$folder"
+call "$repository/reading" card.txt 7
+holds "a program that takes a file runs where its caller stands" ends 0 "card
+7" ""
+cd "$here"
+call "$repository/reading" "$work/nowhere"
+holds "a file that is not there is told" grep -q "^reading: there is no $work/nowhere; it counts as empty" "$SAID"
+
+# what is wrong with the files: the session and the status stay as they are
+program_is '[ ! -e card.txt ] || ! grep -q "^ins,99" card.txt || { echo card,refused,4,2; exit; }
+[ ! -e calls.txt ] || echo session'
+# told WHAT LINE: the session, and this line on standard error
+told() {
+    launch "$folder"
+    holds "$1" ends 0 session "program: $folder/$2"
+}
+launch "$folder"
+holds "files as they should be are not spoken of" ends 0 session ""
+rm "$folder/card.txt"
+launch "$folder"
+holds "a missing card is told" ends 0 session "program: there is no $folder/card.txt; it counts as empty"
+files 'card\n' 'calls\n'
+rm "$folder/calls.txt"
+launch "$folder"
+holds "missing calls are told" ends 0 "" "program: there is no $folder/calls.txt; it counts as empty"
+mkdir "$folder/calls.txt"
+told "a folder in the place of a file is told" "calls.txt is a folder, where a file should be; it counts as empty"
+files 'card\nvar\r\nvar\r\n' 'calls\n'
+told "lines that end in CR LF are told" "card.txt has lines that end in CR LF, line 2 first; they should end in LF alone: sed -i 's/\\r\$//' $folder/card.txt"
+files 'card\n' '\xef\xbb\xbfcalls\n'
+told "a byte order mark is told" "calls.txt begins with a byte order mark; save it as plain ASCII text, without one"
+files 'card' 'calls\n'
+told "a last line without its end is told" "card.txt has no line end behind its last line; put one there"
+files 'card\nins,99,0,0,0\n' 'calls\n'
+launch "$folder"
+holds "a refused card is told by its line, and why" ends 0 card,refused,4,2 \
+    "program: card.txt, line 2, 'ins,99,0,0,0', is refused with 4: there is no such code; docs/FORMATS.md tells what to do"
+files 'card\n' 'calls\n'
+
+# wrong calls, and help
+explained="Runs the bench program on the card and the commands of a folder, and prints the session on standard output, a line for each command.
+DIR holds card.txt, the card, and calls.txt, the commands. docs/FORMATS.md tells how both are written and what the answers mean.
+Example: ./bench examples/card-k"
+launch --help
+holds "help is given" ends 0 "usage: ./program DIR
+$explained" ""
 launch
-holds "a missing argument is refused" [ "$status" -eq 2 ]
-holds "a missing argument shows the usage" says "usage: program DIR"
+holds "a missing argument is explained" ends 2 "" "usage: ./program DIR
+$explained"
 launch "$work/nowhere"
-holds "a folder that is not there is named" says "program: no such folder: $work/nowhere"
+holds "a folder that is not there is named" ends 2 "" "program: no such folder: $work/nowhere (./program --help tells what it should hold)"
+launch "$folder/card.txt"
+holds "a file in the place of a folder is named" ends 2 "" "program: $folder/card.txt is no folder (./program --help tells what belongs in one)"
+call "$repository/check" --help
+holds "help on the check does not start it" grep -q '^usage: ./check$' "$work/output"
+holds "help on the check is no failure" [ "$status" -eq 0 ]
+call "$repository/check" now
+holds "the check takes no argument" [ "$status" -eq 2 ]
+
+# no raw errors of the shell
+program_is 'echo session'
+call sh "$repository/program" "$folder"
+holds "sh runs it too" ends 0 session ""
+call sh "$repository/check" --help
+holds "sh runs the check too" ends 0 "$("$repository/check" --help)" ""
+call bash -c "'$repository/program' '$folder' >&-"
+holds "a closed output is told" ends 1 "" "program: standard output is closed, so there is nowhere to print to"
+call bash -c "'$repository/check' >&-"
+holds "a closed output is told by the check" ends 1 "" "check: standard output is closed, so there is nowhere to print to"
+rm "$repository/target/bin/program"
+launch "$folder"
+holds "a program that is gone is built again" ends 0 session "program: target/bin/program is gone, so it is built again
+$opening
+proving program
+proved 3 of 3: program (1 s)"
+
+# what a user may not read or write; root may do all, so nobody stands in
+guest=()
+if [ "$(id -u)" -eq 0 ]; then
+    guest=(setpriv --reuid=65534 --regid=65534 --clear-groups)
+fi
+if "${guest[@]}" test -x "$repository/program"; then
+    chmod 0 "$folder/card.txt"
+    call "${guest[@]}" "$repository/program" "$folder"
+    holds "a card that may not be read is told" ends 0 session "program: $folder/card.txt may not be read (look at its permissions); it counts as empty"
+    chmod 0 "$folder"
+    call "${guest[@]}" "$repository/program" "$folder"
+    holds "a folder that may not be entered is told" ends 2 "" "program: the folder $folder may not be entered (look at its permissions)"
+    chmod 755 "$folder"
+    chmod 644 "$folder/card.txt"
+    chmod -R a-w "$repository"
+    call "${guest[@]}" "$repository/program" "$folder"
+    holds "a repository that may not be written runs what is proved" ends 0 session ""
+    call "${guest[@]}" "$repository/check"
+    holds "the check tells that it has to write" ends 1 "" \
+        "check: $repository cannot be written, and all is proved anew in its folder target; run ./check in a copy of the repository that is your own"
+    chmod -R u+w "$repository"
+    forget
+    chmod -R a-w "$repository"
+    call "${guest[@]}" "$repository/program" "$folder"
+    holds "a fresh one tells what it needs" ends 1 "" \
+        "program: it has to be proved first, and $repository/target cannot be written; make it writable, or run ./program in a copy of the repository that is your own"
+else
+    echo "skipped: what a user may not read or write (root needs setpriv to be nobody)"
+fi
 
 echo "launching: $((passed + failed)) checks, $failed failed"
 [ "$failed" -eq 0 ]

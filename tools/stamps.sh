@@ -71,7 +71,7 @@ forget_lost() {
     local name
     for name in "${crates[@]}"; do
         if [ -e "$target/stamp/$name" ] && ! is_built "$name"; then
-            tell "target/$(product_of "$name") is gone, so it is built again"
+            tell "target/$(product_of "$name") is gone or damaged, so it is built again"
             rm -f "$target/stamp/$name"
         fi
     done

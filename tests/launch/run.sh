@@ -324,7 +324,7 @@ call bash -c "'$repository/check' >&-"
 holds "a closed output is told by the check" ends 1 "" "check: standard output is closed, so there is nowhere to print to"
 rm "$repository/target/bin/program"
 launch "$folder"
-holds "a program that is gone is built again" ends 0 session "program: target/bin/program is gone, so it is built again
+holds "a program that is gone is built again" ends 0 session "program: target/bin/program is gone or damaged, so it is built again
 $opening
 proving program
 proved 3 of 3: program (1 s)"

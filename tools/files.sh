@@ -15,7 +15,7 @@ look_at() {
         ' ef bb bf' | ' ff fe'* | ' fe ff'*) tell "$1 begins with a byte order mark; save it as plain ASCII text, without one" ;;
         esac
         line="$(LC_ALL=C grep -a -n -m 1 $'\r$' -- "$1" | cut -d: -f1 || true)"
-        [ -z "$line" ] || tell "$1 has lines that end in CR LF, line $line first; they should end in LF alone: sed -i 's/\\r\$//' $1"
+        [ -z "$line" ] || tell "$1 has lines that end in CR LF, line $line first; they should end in LF alone: sed -i 's/\\r\$//' $(printf %q "$1")"
         [ "$(tail -c 1 -- "$1" | od -An -tx1)" = ' 0a' ] || tell "$1 has no line end behind its last line; put one there"
     fi
 }
@@ -25,10 +25,10 @@ meaning_of() {
     awk -F ' *[|] *' -v number="$1" '/^## / { here = /Refusals/ } here && $2 == number { gsub(/`/, "", $3); print $3; exit }' "$root/docs/FORMATS.md"
 }
 
-# line_of FILE NUMBER: a line of a file, as it can be shown
+# line_of FILE NUMBER: a line of a file as it can be shown, with ? for every byte that cannot
 line_of() {
     LC_ALL=C awk -v wanted="$2" '
-        NR == wanted { found = 1; gsub(/[^ -~]/, ""); print length($0) ? "\047" substr($0, 1, 60) "\047" : "which is empty" }
+        NR == wanted { found = 1; gsub(/[^ -~]/, "?"); print length($0) ? "\047" substr($0, 1, 60) "\047" : "which is empty" }
         END { if (!found) print "which is missing" }' <"$1"
 }
 

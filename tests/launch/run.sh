@@ -334,7 +334,7 @@ guest=()
 if [ "$(id -u)" -eq 0 ]; then
     guest=(setpriv --reuid=65534 --regid=65534 --clear-groups)
 fi
-if "${guest[@]}" test -x "$repository/program"; then
+if "${guest[@]}" test -x "$repository/program" 2>/dev/null; then
     chmod 0 "$folder/card.txt"
     call "${guest[@]}" "$repository/program" "$folder"
     holds "a card that may not be read is told" ends 0 session "program: $folder/card.txt may not be read (look at its permissions); it counts as empty"

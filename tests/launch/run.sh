@@ -220,7 +220,7 @@ launch "$folder"
 holds "a program that complains makes it fail, and the complaint is passed on" ends 1 printed "program: it could not be done"
 program_is '[ -e calls.txt ] || exit
 echo "half way" >&2
-for _ in 1 2 3 4 5 6 7 8 9 10; do ! grep -q half "$SAID" || { echo printed; exit; }; sleep 0.1; done
+for _ in $(seq 100); do ! grep -q half "$SAID" || { echo printed; exit; }; sleep 0.1; done
 echo "held back"'
 launch "$folder"
 holds "how far a program is comes at once, and is no failure" ends 0 printed "half way"

@@ -29,24 +29,24 @@ foundIn c Cell.Gate = Found.gate (c .gate)
 foundIn c (Cell.Announcement m) = Found.announcement (announcementAt c m)
 foundIn c (Cell.Record v) = Found.cell (recordAt c v)
 
--- an access that was made: what `trace` tells of it, the wish of its process then, what it found, and the answer to its step
+-- an access that was made: what `trace` tells of it, whether a wish of its operation had been taken, what it found, and the answer to its step
 pub record Made : Type 0 where
   pub report : Report
   pub wish : Bool
   pub found : Found
   pub answer : Answer
 
-unfoldable pub made : Card → ℕ → Made
-made c i =
+unfoldable pub made : Card → ℕ → Bool → Made
+made c i wish =
     record {
       report = reportOf c i;
-      wish = localAt c i .exit;
+      wish = wish;
       found = foundIn c (touchedCell c i);
       answer = answerOf (localAt (advance c i) i);
     }
 
 -- THE EDGES. After an access of process i, whose gate number last read is `number`, by its label, its swap and what it found: the label of the
--- next access, by the wish that its process has then. No line asks whether a swap won, so an edge from a swap has it won or lost.
+-- next access, by whether a wish has been taken by then. No line asks whether a swap won, so an edge from a swap has it won or lost.
 pub data Edge (i number : ℕ) : Label → Swap → Found → Bool → Label → Type 0 where
   -- P2, P3: the operation is announced under the number read
   P1-P3 : {g : Gate} {wish : Bool} → Edge i number Label.P1 Swap.None (Found.gate g) wish Label.P3
@@ -160,25 +160,31 @@ pub record Follows (i : ℕ) (ms : List Made) : Type 0 where
   pub whole : Whole i ms
   pub numbers : NumbersRead ms
 
--- THE ACCESSES OF AN OPERATION, by the run itself: those of the accepted steps of process i, asked by `step` or by `trace`, since its latest taken
--- call, newest first.
-abbrev pub calledAnew : ℕ → ℕ → Answer → List Made → List Made
-calledAnew i j a ms = cond (eqb j i && not (isRefused a)) [] ms
+-- THE ACCESSES OF AN OPERATION, by the run itself: whether a wish was taken since the latest taken call of process i, and the accesses of its accepted
+-- steps since then, asked by `step` or by `trace`, newest first.
+pub record Noticed : Type 0 where
+  pub wish : Bool
+  pub accesses : List Made
 
-abbrev pub stepped : Card → ℕ → ℕ → Answer → List Made → List Made
-stepped c i j a ms = cond (eqb j i && not (isRefused a)) (made c i ∷ ms) ms
+-- at opening, and at a taken call
+abbrev pub unnoticed : Noticed
+unnoticed = record { wish = false; accesses = [] }
+
+-- an entry of process j with this answer, if it is one of process i and was not refused
+abbrev pub ifTaken : ℕ → ℕ → Answer → Noticed → Noticed → Noticed
+ifTaken i j a x y = cond (eqb j i && not (isRefused a)) x y
 
 -- what an entry and its answer add
-unfoldable pub noticed : Card → ℕ → List Made → Entry → Answer → List Made
-noticed c i ms (Entry.Call j k inputs) a = calledAnew i j a ms
-noticed c i ms (Entry.Exit j) a = ms
-noticed c i ms (Entry.Step j) a = stepped c i j a ms
-noticed c i ms (Entry.Trace j) a = stepped c i j a ms
-noticed c i ms (Entry.Read v) a = ms
+unfoldable pub noticed : Card → ℕ → Noticed → Entry → Answer → Noticed
+noticed c i n (Entry.Call j k inputs) a = ifTaken i j a unnoticed n
+noticed c i n (Entry.Exit j) a = ifTaken i j a (record { wish = true; accesses = n .accesses }) n
+noticed c i n (Entry.Step j) a = ifTaken i j a (record { wish = n .wish; accesses = made c i (n .wish) ∷ n .accesses }) n
+noticed c i n (Entry.Trace j) a = ifTaken i j a (record { wish = n .wish; accesses = made c i (n .wish) ∷ n .accesses }) n
+noticed c i n (Entry.Read v) a = n
 
-unfoldable pub accessesFrom : Card → ℕ → List Made → List Entry → List Made
-accessesFrom c i ms [] = ms
-accessesFrom c i ms (e ∷ es) = accessesFrom (act c e .card) i (noticed c i ms e (act c e .answer)) es
+unfoldable pub noticedFrom : Card → ℕ → Noticed → List Entry → Noticed
+noticedFrom c i n [] = n
+noticedFrom c i n (e ∷ es) = noticedFrom (act c e .card) i (noticed c i n e (act c e .answer)) es
 
 abbrev pub accesses : Card → List Entry → ℕ → List Made
-accesses o es i = accessesFrom o i [] es
+accesses o es i = noticedFrom o i unnoticed es .accesses

@@ -5,7 +5,6 @@ use mathlib.Core.Bool.{Bool, true, false, cond, not, _&&_, true≢false}
 use mathlib.Core.Logic.{_≢_, _⊎_, inl, inr, ⊎-elim}
 use mathlib.Core.List.{List, [], _∷_}
 use native.Mathlib.Omega.{arith}
-use native.Mathlib.Decide.{ℕ-discrete}
 use lib.Dec.{eqb, ltb}
 use lib.ListN.{length}
 use borrow.Author.Tests.{le-ltb, ltb-true, ltb-false, leb-true, leb-false, not-true, not-false, eqb-true, eqb-false}
@@ -21,7 +20,7 @@ use Rattle.construction.specs.Answers.{isRefused}
 use Rattle.construction.specs.Tracing.{labelOf, reportOf}
 use Rattle.construction.specs.Opening.{fresh, opened}
 use Rattle.construction.specs.History.{Event, eventOf, Entry, act, Steps, Observation, observe, observeAll, opening}
-use Rattle.construction.specs.Paths.{Found, foundIn, Made, made, Edge, End, Path, Whole, numberIn, unlessSwap, lastNumber, Follows, noticed, accessesFrom, accesses}
+use Rattle.construction.specs.Paths.{Found, foundIn, Made, made, Edge, End, Leads, Path, Whole, numberIn, unlessSwap, lastNumber, Follows, Noticed, unnoticed, ifTaken, noticed, noticedFrom, accesses}
 use Rattle.construction.proofs.Basics.{on-test, cond-true, cond-false, true-or-false, and-true, and-false, clash, nobody-process, active-not-done, exit-not-done, active-not-exit, isDone-true, isDone-false, sameHolder-true, sameHolder-refl, true-false, getD-replicate-same}
 use Rattle.construction.proofs.Simulating.Simulations.{simulate-empty}
 use Rattle.construction.proofs.Invariant.World.{World}
@@ -168,6 +167,15 @@ module _ (c : Card) (i : ℕ) (Z : Sizes c) (lt : i < 8) where
   left-is Access.Note = local-same c i _ Z lt
   left-is Access.Write = local-same c i _ Z lt
 
+  -- no access alters the exit request
+  left-exit : (a : Access) → leaves a .exit ≡ own .exit
+  left-exit Access.None = refl
+  left-exit (Access.Gate a) = refl
+  left-exit (Access.Announcement a) = refl
+  left-exit Access.Help = refl
+  left-exit Access.Note = refl
+  left-exit Access.Write = refl
+
   -- where a read of the gate leads to, and one of the announcement of process m
   abbrev GateRead : Label → Place → Type 0
   GateRead label = Onto i (c .gate .seq) label Swap.None (Found.gate (c .gate)) (own .announcement)
@@ -280,12 +288,15 @@ data Ready (i : ℕ) (l : Local) : List Made → Type 0 where
       Onto i (m .report .number) (m .report .label) (m .report .swap) (m .found) (l .announcement) (l .task .place) →
       lastNumber (m ∷ ms) ≡ l .gate .seq → Ready i l (m ∷ ms)
 
-abbrev Stands : ℕ → Local → List Made → Type 0
-Stands i l ms = Follows i ms × Ready i l ms
+-- what was noticed of the operation of process i follows the lines, it stands there, and the wish taken is the one that its process keeps
+record Stands (i : ℕ) (l : Local) (n : Noticed) : Type 0 where
+  follows : Follows i (n .accesses)
+  ready : Ready i l (n .accesses)
+  wished : n .wish ≡ l .exit
 
--- one access more
+-- one access more, at which a wish had been taken or not
 module _ (c : Card) (i : ℕ) (Z : Sizes c) (lt : i < 8) (busy : isIdle (localAt c i .task .place) ≡ false) (known : Returning (localAt c i .task .place) (localAt c i .announcement .flag))
-    (ms : List Made) where
+    (taken : Bool) (ms : List Made) where
   abbrev place : Place
   place = localAt c i .task .place
 
@@ -303,14 +314,14 @@ module _ (c : Card) (i : ℕ) (Z : Sizes c) (lt : i < 8) (busy : isIdle (localAt
   landed = subst (Lands c i Z lt place wish) (sym next-is) (lands c i Z lt place wish busy known)
 
   -- the accesses before, and the new one
-  numbered : (place ≡ P1) ⊎ (lastNumber ms ≡ localAt c i .gate .seq) → made c i .report .number ≡ lastNumber (made c i ∷ ms)
+  numbered : (place ≡ P1) ⊎ (lastNumber ms ≡ localAt c i .gate .seq) → made c i taken .report .number ≡ lastNumber (made c i taken ∷ ms)
   unfolding made reportOf lastNumber accessOf swapOf
   numbered h =
       ap (λ (l : Local). l .gate .seq) next-is
       ∙ number-is c i Z lt (accessOf place wish) (lastNumber ms)
       (λ other. ⊎-elim (λ (e : place ≡ P1). absurd (other (ap (λ (p : Place). accessOf p wish) e))) (λ e. e) h)
 
-  whole : Whole i (made c i ∷ ms)
+  whole : Whole i (made c i taken ∷ ms)
   unfolding made reportOf swapOf
   whole =
       ⊎-elim
@@ -324,7 +335,7 @@ module _ (c : Card) (i : ℕ) (Z : Sizes c) (lt : i < 8) (busy : isIdle (localAt
           ap eventOf (cond-true (isIdle (next .task .place)) _ _ e)
           ∙ event-settled (next .announcement) (next .announcement .flag) (next .steps)
 
-  ready : (place ≡ P1) ⊎ (lastNumber ms ≡ localAt c i .gate .seq) → Ready i next (made c i ∷ ms)
+  ready : (place ≡ P1) ⊎ (lastNumber ms ≡ localAt c i .gate .seq) → Ready i next (made c i taken ∷ ms)
   unfolding made reportOf swapOf
   ready h =
       ⊎-elim (λ (e : isIdle (next .task .place) ≡ true). Ready.idle e)
@@ -332,30 +343,45 @@ module _ (c : Card) (i : ℕ) (Z : Sizes c) (lt : i < 8) (busy : isIdle (localAt
       Ready.going (cond-false (isIdle (next .task .place)) _ _ e) landed (sym (numbered h)))
       (true-or-false (isIdle (next .task .place)))
 
+  wish-stays : next .exit ≡ wish
+  wish-stays = ap (λ (l : Local). l .exit) next-is ∙ left-exit c i Z lt (accessOf place wish)
+
 first-label : {p : Place} (exit : Bool) → p ≡ P1 → labelOf p exit ≡ Label.P1
 first-label exit e = ap (λ (p : Place). labelOf p exit) e
 
 -- the path with it
 module _ (c : Card) (i : ℕ) (Z : Sizes c) (lt : i < 8) (busy : isIdle (localAt c i .task .place) ≡ false) (known : Returning (localAt c i .task .place) (localAt c i .announcement .flag)) where
-  stands-on : {ms : List Made} → Stands i (localAt c i) ms → Stands i (localAt (advance c i) i) (made c i ∷ ms)
+  follows-on :
+      {ms : List Made} (taken : Bool) → taken ≡ localAt c i .exit → Follows i ms → Ready i (localAt c i) ms →
+      Follows i (made c i taken ∷ ms) × Ready i (localAt (advance c i) i) (made c i taken ∷ ms)
   unfolding made reportOf
-  stands-on {ms} (F, Ready.idle e) = absurd (true-false _ e busy)
-  stands-on {ms} (F, Ready.called e) = (
+  follows-on {ms} taken w F (Ready.idle e) = absurd (true-false _ e busy)
+  follows-on {ms} taken w F (Ready.called e) = (
     record {
       path = Path.first (first-label (localAt c i .exit) e);
-      whole = whole c i Z lt busy known [];
-      numbers = (numbered c i Z lt busy known [] (inl e), tt);
+      whole = whole c i Z lt busy known taken [];
+      numbers = (numbered c i Z lt busy known taken [] (inl e), tt);
     },
-    ready c i Z lt busy known [] (inl e),
+    ready c i Z lt busy known taken [] (inl e),
   )
-  stands-on {ms} (F, Ready.going r o n) = (
+  follows-on {ms} taken w F (Ready.going {m} r o n) = (
     record {
-      path = Path.next r (toward i _ _ _ _ (localAt c i .announcement) (localAt c i .task .place) busy o (localAt c i .exit)) (F .path);
-      whole = whole c i Z lt busy known ms;
-      numbers = (numbered c i Z lt busy known ms (inr n), F .numbers);
+      path = Path.next r
+          (subst (λ (b : Bool). Leads i m b (labelOf (localAt c i .task .place) (localAt c i .exit))) (sym w)
+          (toward i _ _ _ _ (localAt c i .announcement) (localAt c i .task .place) busy o (localAt c i .exit)))
+          (F .path);
+      whole = whole c i Z lt busy known taken ms;
+      numbers = (numbered c i Z lt busy known taken ms (inr n), F .numbers);
     },
-    ready c i Z lt busy known ms (inr n),
+    ready c i Z lt busy known taken ms (inr n),
   )
+
+  stands-on :
+      (n : Noticed) → Stands i (localAt c i) n →
+      Stands i (localAt (advance c i) i) (record { wish = n .wish; accesses = made c i (n .wish) ∷ n .accesses })
+  stands-on n S =
+      let x = follows-on (n .wish) (S .wished) (S .follows) (S .ready) in
+      record { follows = x .0; ready = x .1; wished = S .wished ∙ sym (wish-stays c i Z lt busy known (n .wish) (n .accesses)) }
 
 -- what a process knows at a place, of the announcement last read
 returning : (p : Place) (F : Contents) (w : World) (i : ℕ) (l : Local) → LocAt p F w i l → Returning p (l .announcement .flag)
@@ -380,60 +406,76 @@ both j i b x y P f g =
     (λ e. ⊎-elim (λ z. g (inl (eqb-false j i z))) (λ z. g (inr (z .1))) (and-false (eqb j i) b e))
 
 -- every entry
-module _ {c : Card} {w : World} (I : CardInvariant c w) (i : ℕ) (ms : List Made) (S : Stands i (localAt c i) ms) where
+module _ {c : Card} {w : World} (I : CardInvariant c w) (i : ℕ) (n : Noticed) (S : Stands i (localAt c i) n) where
   small : (j : ℕ) → j < c .processCount → j < 8
   small j p = omega (arith, I .good .fits .few)
 
   -- the own state of another process put back
-  elsewhere : (j : ℕ) (l : Local) → j ≢ i → Stands i (localAt (withLocal c j l) i) ms
-  elsewhere j l ne = subst (λ (x : Local). Stands i x ms) (sym (local-other c j i l (λ e. ne (sym e)))) S
+  elsewhere : (j : ℕ) (l : Local) → j ≢ i → Stands i (localAt (withLocal c j l) i) n
+  elsewhere j l ne = subst (λ (x : Local). Stands i x n) (sym (local-other c j i l (λ e. ne (sym e)))) S
+
+  -- that of process j put back, which is i
+  here : (j : ℕ) (f : Local → Local) → j < c .processCount → j ≡ i → localAt (withLocal c j (f (localAt c j))) i ≡ f (localAt c i)
+  here j f p e =
+      subst (λ (n : ℕ). localAt (withLocal c j (f (localAt c j))) n ≡ f (localAt c n)) e (local-same c j _ (I .sizes) (small j p))
 
   call-stands : (j k : ℕ) (inputs : Words) → j < c .processCount →
-      Stands i (localAt (withLocal c j (invoked (localAt c j) k inputs)) i) (cond (eqb j i && true) [] ms)
+      Stands i (localAt (withLocal c j (invoked (localAt c j) k inputs)) i) (ifTaken i j Answer.Taken unnoticed n)
   call-stands j k inputs p =
-      both j i true [] ms (Stands i (localAt (withLocal c j (invoked (localAt c j) k inputs)) i))
-      (λ e _.
-      let here : localAt (withLocal c j (invoked (localAt c j) k inputs)) i ≡ invoked (localAt c j) k inputs =
-      subst (λ (n : ℕ). localAt (withLocal c j (invoked (localAt c j) k inputs)) n ≡ invoked (localAt c j) k inputs) e (local-same c j _ (I .sizes) (small j p)) in
-      (record { path = Path.none; whole = tt; numbers = tt }, Ready.called (ap (λ (l : Local). l .task .place) here)))
+      both j i true unnoticed n (Stands i (localAt (withLocal c j (invoked (localAt c j) k inputs)) i))
+      (λ e _. subst (λ (l : Local). Stands i l unnoticed) (sym (here j (λ l. invoked l k inputs) p e)) anew)
       (⊎-elim (elsewhere j _) (λ e. absurd (true≢false e)))
-
-  exit-stands : (j : ℕ) → j < c .processCount → Stands i (localAt (withLocal c j (exiting (localAt c j))) i) ms
-  exit-stands j p = go (ℕ-discrete j i)
     where
-      go : Dec (j ≡ i) → Stands i (localAt (withLocal c j (exiting (localAt c j))) i) ms
-      go (yes e) =
-          subst (λ (n : ℕ). Stands i (localAt (withLocal c n (exiting (localAt c n))) i) ms) (sym e)
-          (subst (λ (x : Local). Stands i x ms) (sym (local-same c i _ (I .sizes) (small i (subst (λ (n : ℕ). n < c .processCount) e p))))
-          (S .0, exit-ready i (localAt c i) ms (S .1)))
-      go (no ne) = elsewhere j _ ne
+      anew : Stands i (invoked (localAt c i) k inputs) unnoticed
+      anew = record {
+        follows = record { path = Path.none; whole = tt; numbers = tt };
+        ready = Ready.called refl;
+        wished = refl;
+      }
+
+  exit-stands : (j : ℕ) → j < c .processCount →
+      Stands i (localAt (withLocal c j (exiting (localAt c j))) i) (ifTaken i j Answer.Taken (record { wish = true; accesses = n .accesses }) n)
+  exit-stands j p =
+      both j i true _ n (Stands i (localAt (withLocal c j (exiting (localAt c j))) i))
+      (λ e _. subst (λ (l : Local). Stands i l (record { wish = true; accesses = n .accesses })) (sym (here j exiting p e)) asked)
+      (⊎-elim (elsewhere j _) (λ e. absurd (true≢false e)))
+    where
+      asked : Stands i (exiting (localAt c i)) (record { wish = true; accesses = n .accesses })
+      asked = record { follows = S .follows; ready = exit-ready i (localAt c i) (n .accesses) (S .ready); wished = refl }
+
+  abbrev more : Noticed
+  more = record { wish = n .wish; accesses = made c i (n .wish) ∷ n .accesses }
 
   step-stands : (j : ℕ) → j < c .processCount → isBusy c j ≡ true → c .steps < c .limit →
-      Stands i (localAt (advance c j) i) (cond (eqb j i && not (isRefused (answerOf (localAt (advance c j) j)))) (made c i ∷ ms) ms)
+      Stands i (localAt (advance c j) i) (ifTaken i j (answerOf (localAt (advance c j) j)) more n)
   step-stands j p b l =
-      both j i _ (made c i ∷ ms) ms (Stands i (localAt (advance c j) i))
-      (λ e _. subst (λ (n : ℕ). Stands i (localAt (advance c n) i) (made c i ∷ ms)) (sym e) (mine e))
+      both j i _ more n (Stands i (localAt (advance c j) i))
+      (λ e _. subst (λ (k : ℕ). Stands i (localAt (advance c k) i) more) (sym e) (mine e))
       (λ h. ⊎-elim other (λ z. absurd (true-false _ (ap not (answers (localAt (advance c j) j))) z)) h)
     where
-      mine : j ≡ i → Stands i (localAt (advance c i) i) (made c i ∷ ms)
+      mine : j ≡ i → Stands i (localAt (advance c i) i) more
       mine e =
           let q : i < c .processCount = subst (λ (n : ℕ). n < c .processCount) e p in
           let d : isBusy c i ≡ true = subst (λ (n : ℕ). isBusy c n ≡ true) e b in
           stands-on c i (I .sizes) (small i q) (not-true _ d)
-          (returning (localAt c i .task .place) (contentsOf c) w i (known (localAt c i)) (I .locs i q)) S
+          (returning (localAt c i .task .place) (contentsOf c) w i (known (localAt c i)) (I .locs i q)) n S
 
-      other : j ≢ i → Stands i (localAt (advance c j) i) ms
-      other ne = subst (λ (x : Local). Stands i x ms) (sym (inv-step c w j I p b l .elsewhere i (λ e. ne (sym e)))) S
+      other : j ≢ i → Stands i (localAt (advance c j) i) n
+      other ne = subst (λ (x : Local). Stands i x n) (sym (inv-step c w j I p b l .elsewhere i (λ e. ne (sym e)))) S
 
-  refused-kept : (e : Entry) (why : Refusal) → Stands i (localAt c i) (noticed c i ms e (Answer.Refused why))
+  -- a refused entry is not noticed
+  unheard : (j : ℕ) (x : Noticed) → Stands i (localAt c i) (cond (eqb j i && false) x n)
+  unheard j x = both j i false x n (Stands i (localAt c i)) (λ _ z. absurd (true≢false (sym z))) (λ _. S)
+
+  refused-kept : (e : Entry) (why : Refusal) → Stands i (localAt c i) (noticed c i n e (Answer.Refused why))
   unfolding noticed
-  refused-kept (Entry.Call j k inputs) why = both j i false [] ms (Stands i (localAt c i)) (λ _ z. absurd (true≢false (sym z))) (λ _. S)
-  refused-kept (Entry.Exit j) why = S
-  refused-kept (Entry.Step j) why = both j i false (made c i ∷ ms) ms (Stands i (localAt c i)) (λ _ z. absurd (true≢false (sym z))) (λ _. S)
-  refused-kept (Entry.Trace j) why = both j i false (made c i ∷ ms) ms (Stands i (localAt c i)) (λ _ z. absurd (true≢false (sym z))) (λ _. S)
+  refused-kept (Entry.Call j k inputs) why = unheard j unnoticed
+  refused-kept (Entry.Exit j) why = unheard j _
+  refused-kept (Entry.Step j) why = unheard j _
+  refused-kept (Entry.Trace j) why = unheard j _
   refused-kept (Entry.Read v) why = S
 
-  entry-stands : {e : Entry} {r : Answered} → Outcome c e r → Stands i (localAt (r .card) i) (noticed c i ms e (r .answer))
+  entry-stands : {e : Entry} {r : Answered} → Outcome c e r → Stands i (localAt (r .card) i) (noticed c i n e (r .answer))
   unfolding noticed
   entry-stands (Outcome.turned-back e why) = refused-kept e why
   entry-stands (Outcome.called j k inputs p b) = call-stands j k inputs p
@@ -443,17 +485,21 @@ module _ {c : Card} {w : World} (I : CardInvariant c w) (i : ℕ) (ms : List Mad
   entry-stands (Outcome.shown v x) = S
 
 all-stand :
-    (o : Card) (m : Observation) (i : ℕ) (ms : List Made) (es : List Entry) → Consistent o m → Stands i (localAt (m .card) i) ms →
-    Follows i (accessesFrom (m .card) i ms es)
-unfolding accessesFrom observe
-all-stand o m i ms [] O S = S .0
-all-stand o m i ms (e ∷ es) O S =
-    all-stand o (observe o m e) i (noticed (m .card) i ms e (act (m .card) e .answer)) es (entry-kept o m O e)
-    (entry-stands (O .inv) i ms S (outcome-of (m .card) e))
+    (o : Card) (m : Observation) (i : ℕ) (n : Noticed) (es : List Entry) → Consistent o m → Stands i (localAt (m .card) i) n →
+    Follows i (noticedFrom (m .card) i n es .accesses)
+unfolding noticedFrom observe
+all-stand o m i n [] O S = S .follows
+all-stand o m i n (e ∷ es) O S =
+    all-stand o (observe o m e) i (noticed (m .card) i n e (act (m .card) e .answer)) es (entry-kept o m O e)
+    (entry-stands (O .inv) i n S (outcome-of (m .card) e))
 
 -- over every text and every list of entries
 pub follows-lines : (t : List ℕ) (es : List Entry) (i : ℕ) → Follows i (accesses (opened t .card) es i)
 unfolding opened fresh observeAll accessOf
 follows-lines t es i =
-    all-stand (opened t .card) (opening (opened t .card)) i [] es (opened-consistent t [])
-    (record { path = Path.none; whole = tt; numbers = tt }, Ready.idle (ap (λ (x : Task). isIdle (x .place)) (getD-replicate-same 8 i idleTask)))
+    all-stand (opened t .card) (opening (opened t .card)) i unnoticed es (opened-consistent t [])
+    (record {
+      follows = record { path = Path.none; whole = tt; numbers = tt };
+      ready = Ready.idle (ap (λ (x : Task). isIdle (x .place)) (getD-replicate-same 8 i idleTask));
+      wished = sym (getD-replicate-same {A = Bool} 8 i false);
+    })

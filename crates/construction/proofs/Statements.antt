@@ -16,6 +16,7 @@ pub mod Waits
 pub mod Sums
 pub mod Counters
 pub mod NotedSets
+pub mod HelpPaths
 pub mod Paths
 pub mod Computing
 pub mod Examples

@@ -184,13 +184,14 @@ NumbersRead (m ∷ ms) = (m .report .number ≡ lastNumber (m ∷ ms)) × Number
 -- INSIDE HELP (lines H7 and H20 to H32): which of its edges is taken, and with which record. From P16 to P19 an operation accesses records only, so that
 -- its latest accesses of records are those of this helping.
 
--- lines H21 to H25: a record that was read is noted, unless it is newer than the number
+-- the variable of a record
 abbrev pub variableIn : Cell → ℕ
 variableIn Cell.None = 0
 variableIn Cell.Gate = 0
 variableIn (Cell.Announcement m) = 0
 variableIn (Cell.Record v) = v
 
+-- lines H21 to H25: the record that was read is noted, unless it is newer than the number
 abbrev pub withRead : ℕ → Cell → Record → Help → Help
 withRead number x r h =
     cond (ltb number (r .seq)) h

@@ -19,7 +19,7 @@ use Rattle.construction.specs.Requests.{isIdle, isBusy, invoked, exiting
 use Rattle.construction.specs.Answers.{isRefused}
 use Rattle.construction.specs.Tracing.{labelOf, reportOf}
 use Rattle.construction.specs.Opening.{fresh, opened}
-use Rattle.construction.specs.History.{Event, eventOf, Entry, act, Steps, Observation, observe, observeAll, opening}
+use Rattle.construction.specs.History.{Event, eventOf, Entry, act, Steps, Observation, observe, observeAll, opening, run}
 use Rattle.construction.specs.Paths.{Found, foundIn, Help, helpOf, Made, made, Edge, End, Leads, Path, Whole, numberIn, unlessSwap, lastNumber, helpAfter, helpIn, Due, afterWrite, dueOf, dueAfter, dueIn, Comes, FromH21ToP19, Follows, Noticed, unnoticed, ifTaken, noticed, noticedFrom, accesses}
 use Rattle.construction.proofs.Basics.{on-test, cond-true, cond-false, true-or-false, and-true, and-false, clash, nobody-process, active-not-done, exit-not-done, active-not-exit, isDone-true, isDone-false, sameHolder-true, sameHolder-refl, true-false, getD-replicate-same}
 use Rattle.construction.proofs.Simulating.Simulations.{simulate-empty}
@@ -597,17 +597,20 @@ module _ {c : Card} {w : World} (I : CardInvariant c w) (i : ℕ) (n : Noticed) 
 
 all-stand :
     (o : Card) (m : Observation) (i : ℕ) (n : Noticed) (es : List Entry) → Consistent o m → Stands (contentsOf (m .card)) i (localAt (m .card) i) n →
-    Follows i (noticedFrom (m .card) i n es .accesses)
-unfolding noticedFrom observe
-all-stand o m i n [] O S = S .follows
+    let d = observeAll o m es .card in
+    Stands (contentsOf d) i (localAt d i) (noticedFrom (m .card) i n es)
+unfolding noticedFrom observe observeAll
+all-stand o m i n [] O S = S
 all-stand o m i n (e ∷ es) O S =
     all-stand o (observe o m e) i (noticed (m .card) i n e (act (m .card) e .answer)) es (entry-kept o m O e)
     (entry-stands (O .inv) i n S (outcome-of (m .card) e))
 
 -- over every text and every list of entries
-pub follows-lines : (t : List ℕ) (es : List Entry) (i : ℕ) → Follows i (accesses (opened t .card) es i)
+opened-stands :
+    (t : List ℕ) (es : List Entry) (i : ℕ) → let d = run (opened t .card) es .card in
+    Stands (contentsOf d) i (localAt d i) (noticedFrom (opened t .card) i unnoticed es)
 unfolding opened fresh observeAll accessOf
-follows-lines t es i =
+opened-stands t es i =
     all-stand (opened t .card) (opening (opened t .card)) i unnoticed es (opened-consistent t [])
     (record {
       follows = record { path = Path.none; whole = tt; numbers = tt; helping = tt };
@@ -615,3 +618,12 @@ follows-lines t es i =
       helps = nothing-due _ (localAt (opened t .card) i) _ _ (getD-replicate-same 8 i idleTask);
       wished = sym (getD-replicate-same {A = Bool} 8 i false);
     })
+
+pub follows-lines : (t : List ℕ) (es : List Entry) (i : ℕ) → Follows i (accesses (opened t .card) es i)
+follows-lines t es i = opened-stands t es i .follows
+
+-- the exit request that a process keeps is the wish taken since its latest taken call
+pub wish-kept :
+    (t : List ℕ) (es : List Entry) (i : ℕ) →
+    localAt (run (opened t .card) es .card) i .exit ≡ noticedFrom (opened t .card) i unnoticed es .wish
+wish-kept t es i = sym (opened-stands t es i .wished)

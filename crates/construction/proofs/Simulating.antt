@@ -5,3 +5,4 @@ pub mod Dictionaries
 pub mod Marks
 pub mod Weights
 pub mod Simulations
+pub mod Resuming

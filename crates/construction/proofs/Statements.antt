@@ -3,6 +3,7 @@ pub mod OneAccess
 pub mod AnswerFields
 pub mod Refusals
 pub mod Tracing
+pub mod Swaps
 pub mod ExitRequests
 pub mod TextKept
 pub mod Linearizability
@@ -15,6 +16,7 @@ pub mod Waits
 pub mod Sums
 pub mod Counters
 pub mod NotedSets
+pub mod HelpPaths
 pub mod Paths
 pub mod Computing
 pub mod Examples

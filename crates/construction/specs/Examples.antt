@@ -541,8 +541,55 @@ refusedTold =
       reports = noReport ∷ noReport ∷ [];
     }
 
+-- 'both are 0 except from H21 to P20': a second operation on card K, whose P1 comes after a helping
+abbrev pub secondCallTold : TracedRow
+secondCallTold =
+    record {
+      text = cardK;
+      entries = called 0 (one 9) ++ (steps 0 14 ++ (called 0 (one 9) ++ traces 0 1));
+      reports = told Label.P1 Cell.Gate Swap.None 2;
+    }
+
+-- two processes: 0 takes the gate and stops; 1 helps it, tells the variable noted up to P20, and then helps itself under the next number; its next
+-- operation tells nothing noted; and 0 goes on too late, with P21 lost
+abbrev pub helpingTold : TracedRow
+helpingTold =
+    record {
+      text = cardK2;
+      entries = called 0 (one 9) ++ (steps 0 7 ++ (called 1 (one 5) ++ (traces 1 23 ++ (called 1 (one 5) ++ (traces 1 1 ++ traces 0 4)))));
+      reports =
+          told Label.P1 Cell.Gate Swap.None 1
+          ++ (told Label.P3 (Cell.Announcement 1) Swap.None 1
+          ++ (told Label.P10 Cell.Gate Swap.None 1
+          ++ (told Label.P16 (Cell.Announcement 0) Swap.None 1
+          ++ (toldNoted Label.H21 (Cell.Record 0) Swap.None 1
+          ++ (toldNoted Label.H36 (Cell.Record 0) Swap.Won 1
+          ++ (toldNoted Label.P19 (Cell.Announcement 0) Swap.Won 1
+          ++ (toldNoted Label.P20 (Cell.Announcement 0) Swap.Lost 1
+          ++ (told Label.P21 Cell.Gate Swap.Won 1
+          ++ (told Label.P22 (Cell.Announcement 1) Swap.None 1
+          ++ (told Label.P10 Cell.Gate Swap.None 2
+          ++ (told Label.C2 (Cell.Announcement 0) Swap.None 2
+          ++ (told Label.C4 (Cell.Announcement 1) Swap.None 2
+          ++ (told Label.P13 Cell.Gate Swap.Won 2
+          ++ (told Label.P14 Cell.Gate Swap.None 2
+          ++ (told Label.P16 (Cell.Announcement 1) Swap.None 2
+          ++ (toldNoted Label.H21 (Cell.Record 0) Swap.None 2
+          ++ (toldNoted Label.H36 (Cell.Record 0) Swap.Won 2
+          ++ (toldNoted Label.P19 (Cell.Announcement 1) Swap.Won 2
+          ++ (toldNoted Label.P20 (Cell.Announcement 1) Swap.Lost 2
+          ++ (told Label.P21 Cell.Gate Swap.Won 2
+          ++ (told Label.P22 (Cell.Announcement 1) Swap.None 2
+          ++ (told Label.F1 Cell.Gate Swap.None 3
+          ++ (told Label.P1 Cell.Gate Swap.None 3
+          ++ (told Label.P16 (Cell.Announcement 0) Swap.None 1
+          ++ (told Label.P21 Cell.Gate Swap.Lost 1
+          ++ (told Label.P22 (Cell.Announcement 0) Swap.None 1
+          ++ told Label.F1 Cell.Gate Swap.None 3))))))))))))))))))))))))));
+    }
+
 abbrev pub tracedRows : List TracedRow
-tracedRows = listingTold ∷ sameInputTold ∷ exitRequestedTold ∷ refusedTold ∷ []
+tracedRows = listingTold ∷ sameInputTold ∷ exitRequestedTold ∷ secondCallTold ∷ helpingTold ∷ refusedTold ∷ []
 
 -- sixteen lines of code 13, which count 32, and one more (document 02, order 9)
 abbrev pub heavy : ℕ → String → List ℕ

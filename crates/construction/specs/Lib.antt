@@ -12,6 +12,7 @@ pub mod Answers
 pub mod Requests
 pub mod OneAccess
 pub mod Tracing
+pub mod Swaps
 pub mod Reports
 pub mod Lines
 pub mod Opening

@@ -6,9 +6,13 @@ use mathlib.Core.Path.{_≡_}
 use mathlib.Core.Bool.{Bool, true, false, cond, not, _&&_}
 use mathlib.Core.Logic.{_≢_, _⊎_}
 use mathlib.Core.List.{List, [], _∷_}
-use lib.Dec.{eqb}
-use Rattle.construction.specs.Types.{Nobody, Process, Gate, Done, Active, Exit, Yield, Announcement, Record, Cell, Swap, Card, Answer, Label, Report}
-use Rattle.construction.specs.Parts.{localAt, announcementAt, recordAt}
+use lib.Dec.{eqb, ltb}
+use Rattle.construction.specs.Types.{Nobody, Process, Gate, Done, Active, Exit, Words, Yield, Announcement, Record, Program, Item, Dictionary, Pause, Ended, Faulted, Lacks, Cell, Swap, Card, Answer, Label, Report}
+use Rattle.construction.specs.Cells.{zeros, current}
+use Rattle.construction.specs.Instructions.{started, noProgram}
+use Rattle.construction.specs.Dictionary.{empty, noted, itemOf, insert}
+use Rattle.construction.specs.Helping.{simulate}
+use Rattle.construction.specs.Parts.{localAt, contentsOf, announcementAt, recordAt, programOf}
 use Rattle.construction.specs.Machine.{advance}
 use Rattle.construction.specs.Requests.{answerOf}
 use Rattle.construction.specs.OneAccess.{touchedCell}
@@ -29,24 +33,46 @@ foundIn c Cell.Gate = Found.gate (c .gate)
 foundIn c (Cell.Announcement m) = Found.announcement (announcementAt c m)
 foundIn c (Cell.Record v) = Found.cell (recordAt c v)
 
--- an access that was made: what `trace` tells of it, the wish of its process then, what it found, and the answer to its step
+-- a helping (lines H1 to H36): the variables of the card, the program and the inputs of the announcement that P16 read, and the records that H21 has
+-- read since, in sequence, each with its value before the operation (H23 to H25)
+pub record Help : Type 0 where
+  pub variables : ℕ
+  pub program : Program
+  pub inputs : Words
+  pub reads : Dictionary
+
+abbrev pub noHelp : Help
+noHelp = record { variables = 0; program = noProgram; inputs = zeros; reads = empty }
+
+-- the one that begins with what was found, under this number
+abbrev pub helpOf : Card → ℕ → Found → Help
+helpOf c number Found.nothing = noHelp
+helpOf c number (Found.gate g) = noHelp
+helpOf c number (Found.announcement a) =
+    record { variables = c .variableCount; program = programOf (contentsOf c) (a .program) number; inputs = a .words; reads = empty }
+helpOf c number (Found.cell r) = noHelp
+
+-- an access that was made: what `trace` tells of it, whether a wish of its operation had been taken, what it found and the helping that begins with
+-- that, and the answer to its step
 pub record Made : Type 0 where
   pub report : Report
   pub wish : Bool
   pub found : Found
+  pub help : Help
   pub answer : Answer
 
-unfoldable pub made : Card → ℕ → Made
-made c i =
+unfoldable pub made : Card → ℕ → Bool → Made
+made c i wish =
     record {
       report = reportOf c i;
-      wish = localAt c i .exit;
+      wish = wish;
       found = foundIn c (touchedCell c i);
+      help = helpOf c (reportOf c i .number) (foundIn c (touchedCell c i));
       answer = answerOf (localAt (advance c i) i);
     }
 
 -- THE EDGES. After an access of process i, whose gate number last read is `number`, by its label, its swap and what it found: the label of the
--- next access, by the wish that its process has then. No line asks whether a swap won, so an edge from a swap has it won or lost.
+-- next access, by whether a wish has been taken by then. No line asks whether a swap won, so an edge from a swap has it won or lost.
 pub data Edge (i number : ℕ) : Label → Swap → Found → Bool → Label → Type 0 where
   -- P2, P3: the operation is announced under the number read
   P1-P3 : {g : Gate} {wish : Bool} → Edge i number Label.P1 Swap.None (Found.gate g) wish Label.P3
@@ -73,7 +99,8 @@ pub data Edge (i number : ℕ) : Label → Swap → Found → Bool → Label →
   P14-P16 : {g : Gate} {wish : Bool} → g .holder ≢ Nobody → Edge i number Label.P14 Swap.None (Found.gate g) wish Label.P16
   P14-P22 : {g : Gate} {wish : Bool} → g .holder ≡ Nobody → Edge i number Label.P14 Swap.None (Found.gate g) wish Label.P22
   -- P17: done or newer than the number, so P21; else P18 and Help (H1): its first access is H21 (H20), or it has none (a fault is one way, document
-  -- 02, order 6) and P19 follows, as an empty dictionary has nothing to write (H31)
+  -- 02, order 6) and P19 follows, as an empty dictionary has nothing to write (H31). Inside Help `HelpsAsDue` below says which of the edges is taken, and
+  -- which record is accessed
   P16-P21 :
       {a : Announcement} {wish : Bool} → (a .flag ≡ Done) ⊎ (number < a .seq) →
       Edge i number Label.P16 Swap.None (Found.announcement a) wish Label.P21
@@ -140,7 +167,7 @@ numberIn (Found.gate g) n = g .seq
 numberIn (Found.announcement a) n = n
 numberIn (Found.cell r) n = n
 
-abbrev pub unlessSwap : Swap → ℕ → ℕ → ℕ
+abbrev pub unlessSwap : {A : Type 0} → Swap → A → A → A
 unlessSwap Swap.None read n = read
 unlessSwap Swap.Lost read n = n
 unlessSwap Swap.Won read n = n
@@ -154,31 +181,122 @@ abbrev pub NumbersRead : List Made → Type 0
 NumbersRead [] = Unit
 NumbersRead (m ∷ ms) = (m .report .number ≡ lastNumber (m ∷ ms)) × NumbersRead ms
 
+-- INSIDE HELP (lines H7 and H20 to H32): which of its edges is taken, and with which record. From P16 to P19 an operation accesses records only, so that
+-- its latest accesses of records are those of this helping.
+
+-- the variable of a record
+abbrev pub variableIn : Cell → ℕ
+variableIn Cell.None = 0
+variableIn Cell.Gate = 0
+variableIn (Cell.Announcement m) = 0
+variableIn (Cell.Record v) = v
+
+-- lines H21 to H25: the record that was read is noted, unless it is newer than the number
+abbrev pub withRead : ℕ → Cell → Record → Help → Help
+withRead number x r h =
+    cond (ltb number (r .seq)) h
+    (record { variables = h .variables; program = h .program; inputs = h .inputs; reads = insert (h .reads) (itemOf number (variableIn x) r) })
+
+-- the helping after an access, by the one before it: P16 begins it, H21 reads, H36 is a swap
+abbrev pub helpAfter : Found → Swap → ℕ → Cell → Help → Help → Help
+helpAfter Found.nothing s number x begun h = h
+helpAfter (Found.gate g) s number x begun h = h
+helpAfter (Found.announcement a) s number x begun h = begun
+helpAfter (Found.cell r) s number x begun h = unlessSwap s (withRead number x r h) h
+
+unfoldable pub helpIn : List Made → Help
+helpIn [] = noHelp
+helpIn (m ∷ ms) = helpAfter (m .found) (m .report .swap) (m .report .number) (m .report .cell) (m .help) (helpIn ms)
+
+-- what is due in a helping: the record of this variable is read (H21); or those of these are written (H36), in this sequence, and then P19 follows
+pub data Due : Type 0 where
+  read : ℕ → Due
+  write : List ℕ → Due
+
+-- lines H31 and H32: the variables with lower seq and altered value, in order of first touch. The test is written out as line H32 has it, apart from the
+-- one that the machine goes by (`altered`)
+unfoldable pub alteredIn : ℕ → List Item → List ℕ
+alteredIn number [] = []
+alteredIn number (e ∷ es) =
+    cond (ltb (e .cell .seq) number && not (eqb (current (e .cell)) (e .value))) (e .variable ∷ alteredIn number es) (alteredIn number es)
+
+-- lines H7, H20 and H31: the program, run from its start on the values read, lacks a variable, or faults and writes nothing (document 02, order 6), or ends
+abbrev pub dueBy : ℕ → Pause → Dictionary → Due
+dueBy number (Lacks v) d = Due.read v
+dueBy number Faulted d = Due.write []
+dueBy number Ended d = Due.write (alteredIn number (noted d))
+
+abbrev pub dueOf : ℕ → Help → Due
+dueOf number h =
+    let x = simulate (h .variables) (h .program) (h .inputs) started (h .reads) in
+    dueBy number (x .pause) (x .dictionary)
+
+-- line H31: each once
+abbrev pub afterWrite : Due → Due
+afterWrite (Due.read v) = Due.read v
+afterWrite (Due.write []) = Due.write []
+afterWrite (Due.write (v ∷ vs)) = Due.write vs
+
+-- what is due after an access: after P16 and H21 by the helping then, but nothing more after a record newer than the number (H22); after H36 the rest
+abbrev pub dueAfter : Found → Swap → ℕ → Due → Due → Due
+dueAfter Found.nothing s number begun before = Due.write []
+dueAfter (Found.gate g) s number begun before = Due.write []
+dueAfter (Found.announcement a) s number begun before = begun
+dueAfter (Found.cell r) s number begun before = unlessSwap s (cond (ltb number (r .seq)) (Due.write []) begun) (afterWrite before)
+
+unfoldable pub dueIn : List Made → Due
+dueIn [] = Due.write []
+dueIn (m ∷ ms) = dueAfter (m .found) (m .report .swap) (m .report .number) (dueOf (m .report .number) (helpIn (m ∷ ms))) (dueIn ms)
+
+-- the access that is due, by its label and its cell
+pub data Comes : Due → Label → Cell → Type 0 where
+  read : {v : ℕ} → Comes (Due.read v) Label.H21 (Cell.Record v)
+  write : {v : ℕ} {vs : List ℕ} → Comes (Due.write (v ∷ vs)) Label.H36 (Cell.Record v)
+  end : {x : Cell} → Comes (Due.write []) Label.P19 x
+
+-- the accesses of Help, and the one that follows it
+pub data FromH21ToP19 : Label → Type 0 where
+  at-H21 : FromH21ToP19 Label.H21
+  at-H36 : FromH21ToP19 Label.H36
+  at-P19 : FromH21ToP19 Label.P19
+
+-- each of these was due
+abbrev pub HelpsAsDue : List Made → Type 0
+HelpsAsDue [] = Unit
+HelpsAsDue (m ∷ ms) = (FromH21ToP19 (m .report .label) → Comes (dueIn ms) (m .report .label) (m .report .cell)) × HelpsAsDue ms
+
 -- the accesses of an operation follow the lines
 pub record Follows (i : ℕ) (ms : List Made) : Type 0 where
   pub path : Path i ms
   pub whole : Whole i ms
   pub numbers : NumbersRead ms
+  pub helping : HelpsAsDue ms
 
--- THE ACCESSES OF AN OPERATION, by the run itself: those of the accepted steps of process i, asked by `step` or by `trace`, since its latest taken
--- call, newest first.
-abbrev pub calledAnew : ℕ → ℕ → Answer → List Made → List Made
-calledAnew i j a ms = cond (eqb j i && not (isRefused a)) [] ms
+-- THE ACCESSES OF AN OPERATION, by the run itself: whether a wish was taken since the latest taken call of process i, and the accesses of its accepted
+-- steps since then, asked by `step` or by `trace`, newest first.
+pub record Noticed : Type 0 where
+  pub wish : Bool
+  pub accesses : List Made
 
-abbrev pub stepped : Card → ℕ → ℕ → Answer → List Made → List Made
-stepped c i j a ms = cond (eqb j i && not (isRefused a)) (made c i ∷ ms) ms
+-- at opening, and at a taken call
+abbrev pub unnoticed : Noticed
+unnoticed = record { wish = false; accesses = [] }
+
+-- an entry of process j with this answer, if it is one of process i and was not refused
+abbrev pub ifTaken : ℕ → ℕ → Answer → Noticed → Noticed → Noticed
+ifTaken i j a x y = cond (eqb j i && not (isRefused a)) x y
 
 -- what an entry and its answer add
-unfoldable pub noticed : Card → ℕ → List Made → Entry → Answer → List Made
-noticed c i ms (Entry.Call j k inputs) a = calledAnew i j a ms
-noticed c i ms (Entry.Exit j) a = ms
-noticed c i ms (Entry.Step j) a = stepped c i j a ms
-noticed c i ms (Entry.Trace j) a = stepped c i j a ms
-noticed c i ms (Entry.Read v) a = ms
+unfoldable pub noticed : Card → ℕ → Noticed → Entry → Answer → Noticed
+noticed c i n (Entry.Call j k inputs) a = ifTaken i j a unnoticed n
+noticed c i n (Entry.Exit j) a = ifTaken i j a (record { wish = true; accesses = n .accesses }) n
+noticed c i n (Entry.Step j) a = ifTaken i j a (record { wish = n .wish; accesses = made c i (n .wish) ∷ n .accesses }) n
+noticed c i n (Entry.Trace j) a = ifTaken i j a (record { wish = n .wish; accesses = made c i (n .wish) ∷ n .accesses }) n
+noticed c i n (Entry.Read v) a = n
 
-unfoldable pub accessesFrom : Card → ℕ → List Made → List Entry → List Made
-accessesFrom c i ms [] = ms
-accessesFrom c i ms (e ∷ es) = accessesFrom (act c e .card) i (noticed c i ms e (act c e .answer)) es
+unfoldable pub noticedFrom : Card → ℕ → Noticed → List Entry → Noticed
+noticedFrom c i n [] = n
+noticedFrom c i n (e ∷ es) = noticedFrom (act c e .card) i (noticed c i n e (act c e .answer)) es
 
 abbrev pub accesses : Card → List Entry → ℕ → List Made
-accesses o es i = accessesFrom o i [] es
+accesses o es i = noticedFrom o i unnoticed es .accesses

@@ -93,9 +93,17 @@ trace c i =
 abbrev pub untold : Traced → Answered
 untold r = record { card = r .card; answer = r .answer }
 
+-- 'except from H21 to P20': the accesses of helping from its first read of a record on, by the paper's labels in their sequence. This list is no part
+-- of what computes a report (`isNoting`)
+pub data FromH21ToP20 : Label → Type 0 where
+  at-H21 : FromH21ToP20 Label.H21
+  at-H36 : FromH21ToP20 Label.H36
+  at-P19 : FromH21ToP20 Label.P19
+  at-P20 : FromH21ToP20 Label.P20
+
 -- what the word and the count of a report say of the dictionary after the access: from H21 to P20 the word is the set of the variables noted
--- there and the count is its length; elsewhere both are 0
+-- there and the count is its length; at every other label both are 0
 pub record TellsNoted (c : Card) (i : ℕ) : Type 0 where
-  pub noting : isNoting (reportOf c i .label) ≡ true → Marks (reportOf c i .noted) (localAt (advance c i) i .dictionary)
-  pub count : isNoting (reportOf c i .label) ≡ true → reportOf c i .count ≡ localAt (advance c i) i .dictionary .length
-  pub silent : isNoting (reportOf c i .label) ≡ false → (reportOf c i .noted ≡ 0) × (reportOf c i .count ≡ 0)
+  pub noting : FromH21ToP20 (reportOf c i .label) → Marks (reportOf c i .noted) (localAt (advance c i) i .dictionary)
+  pub count : FromH21ToP20 (reportOf c i .label) → reportOf c i .count ≡ localAt (advance c i) i .dictionary .length
+  pub silent : (FromH21ToP20 (reportOf c i .label) → ⊥) → (reportOf c i .noted ≡ 0) × (reportOf c i .count ≡ 0)

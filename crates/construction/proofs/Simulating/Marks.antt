@@ -155,7 +155,7 @@ assign-keys d v x h = (
   refl,
 )
 
-stores-map : (P Q : ℕ → Type 0) (l : List Store) → ((v : ℕ) → P v → Q v) → EachStore P l → EachStore Q l
+pub stores-map : (P Q : ℕ → Type 0) (l : List Store) → ((v : ℕ) → P v → Q v) → EachStore P l → EachStore Q l
 stores-map P Q [] f q = tt
 stores-map P Q (x ∷ l) f q = (f (x .variable) (q .0), stores-map P Q l f (q .1))
 

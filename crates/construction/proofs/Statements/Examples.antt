@@ -42,7 +42,7 @@ rows-hold = all-hold rows refl
 -- the pieces that speak of lines
 pub rows-told : AllTold tracedRows
 unfolding answering
-rows-told = (refl, (refl, (refl, (refl, tt))))
+rows-told = (refl, (refl, (refl, (refl, (refl, (refl, tt))))))
 
 pub texts-refused : AllTextsRefused refusedTexts
 unfolding reading verdictFields

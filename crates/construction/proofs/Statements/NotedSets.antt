@@ -1,7 +1,7 @@
 -- Over every list of entries the word of a process is the set of the variables that its dictionary notes (document 02, order 1), and a report tells it.
 use Prim.Native.Nat.{ℕ, _<_}
-use mathlib.Core.Path.{_≡_, refl, sym, _∙_}
-use mathlib.Core.Bool.{Bool, true, false, cond, true≢false, false≢true}
+use mathlib.Core.Path.{_≡_, refl, sym, subst, ap, _∙_}
+use mathlib.Core.Bool.{Bool, true, false, cond}
 use mathlib.Core.List.{List}
 use native.Mathlib.Omega.{arith}
 use native.Mathlib.Decide.{ℕ-discrete}
@@ -10,12 +10,12 @@ use lib.Dec.{ltb}
 use lib.ListN.{length, getD, set}
 use lib.Seq.{getD-set-same, getD-set-other}
 use borrow.Author.Tests.{le-ltb}
-use Rattle.construction.specs.Types.{Gate, Words, Announcement, Record, Program, Dictionary, Simulation, Place, P5, H21, Access, Task, Helped, Card, Answered}
+use Rattle.construction.specs.Types.{Gate, Words, Announcement, Record, Program, Dictionary, Simulation, Place, P5, H21, Access, Task, Helped, Card, Answered, Label}
 use Rattle.construction.specs.Dictionary.{empty, noted, find, has, itemOf}
 use Rattle.construction.specs.Marks.{Marks}
 use Rattle.construction.specs.Parts.{Local, localAt, contentsOf, announcementAt, programOf}
 use Rattle.construction.specs.Machine.{accessOf, accessIn, holderOf, beginHelp, note, perform, advance}
-use Rattle.construction.specs.Tracing.{labelOf, isNoting, reportOf, TellsNoted}
+use Rattle.construction.specs.Tracing.{labelOf, notedAt, reportOf, FromH21ToP20, TellsNoted}
 use Rattle.construction.specs.Opening.{fresh, opened}
 use Rattle.construction.specs.History.{Entry, observe, run}
 use Rattle.construction.proofs.Basics.{on-test, clash, getD-replicate-same}
@@ -141,14 +141,33 @@ noted-sets t =
     opened-keeps t (λ m. AllMarked (m .card)) (λ m O e. entry-marked (O .inv) (outcome (m .card) e))
     (λ i. rw (getD-replicate-same 8 i empty, getD-replicate-same {A = ℕ} 8 i 0) marks-empty)
 
--- .. and the report of every accepted step tells it
-abbrev Told : Bool → ℕ → Dictionary → Type 0
-Told b word d =
-    (b ≡ true → Marks (cond b word 0) d × (ones (cond b word 0) ≡ d .length)) × (b ≡ false → (cond b word 0 ≡ 0) × (ones (cond b word 0) ≡ 0))
+-- .. and the report of every accepted step tells it: the word goes by the labels from H21 to P20
+noting-told : (l : Label) (word : ℕ) → FromH21ToP20 l → notedAt l word ≡ word
+noting-told Label.H21 word FromH21ToP20.at-H21 = refl
+noting-told Label.H36 word FromH21ToP20.at-H36 = refl
+noting-told Label.P19 word FromH21ToP20.at-P19 = refl
+noting-told Label.P20 word FromH21ToP20.at-P20 = refl
 
-told : (b : Bool) (word : ℕ) (d : Dictionary) → Marks word d → Told b word d
-told true word d M = (λ _. (M, M .count), λ e. absurd (true≢false e))
-told false word d M = (λ e. absurd (false≢true e), λ _. (refl, marks-empty .count))
+silent-told : (l : Label) (word : ℕ) → (FromH21ToP20 l → ⊥) → notedAt l word ≡ 0
+silent-told Label.None word other = refl
+silent-told Label.P1 word other = refl
+silent-told Label.P3 word other = refl
+silent-told Label.P6 word other = refl
+silent-told Label.P7 word other = refl
+silent-told Label.P10 word other = refl
+silent-told Label.C2 word other = refl
+silent-told Label.C4 word other = refl
+silent-told Label.P13 word other = refl
+silent-told Label.P14 word other = refl
+silent-told Label.P16 word other = refl
+silent-told Label.H21 word other = absurd (other FromH21ToP20.at-H21)
+silent-told Label.H36 word other = absurd (other FromH21ToP20.at-H36)
+silent-told Label.P19 word other = absurd (other FromH21ToP20.at-P19)
+silent-told Label.P20 word other = absurd (other FromH21ToP20.at-P20)
+silent-told Label.P21 word other = refl
+silent-told Label.P22 word other = refl
+silent-told Label.F1 word other = refl
+silent-told Label.F3 word other = refl
 
 pub tells-noted :
     (t : List ℕ) (es : List Entry) (i : ℕ) → i < run (opened t .card) es .card .processCount → TellsNoted (run (opened t .card) es .card) i
@@ -156,7 +175,11 @@ unfolding reportOf
 tells-noted t es i lt =
     let c = run (opened t .card) es .card in
     let l = localAt c i in
+    let label = labelOf (l .task .place) (l .exit) in
     let after = localAt (advance c i) i in
-    let x = told (isNoting (labelOf (l .task .place) (l .exit))) (after .mask) (after .dictionary)
-    (step-marked (opened-consistent t es .inv) i lt (noted-sets t es) i) in
-    record { noting = λ h. x .0 h .0; count = λ h. x .0 h .1; silent = x .1 }
+    let M : Marked after = step-marked (opened-consistent t es .inv) i lt (noted-sets t es) i in
+    record {
+      noting = λ h. subst (λ (word : ℕ). Marks word (after .dictionary)) (sym (noting-told label (after .mask) h)) M;
+      count = λ h. ap ones (noting-told label (after .mask) h) ∙ M .count;
+      silent = λ h. let e = silent-told label (after .mask) h in (e, ap ones e ∙ marks-empty .count);
+    }

@@ -5,23 +5,22 @@ use mathlib.Core.Bool.{Bool, true, false, cond, not, _&&_, true≢false}
 use mathlib.Core.Logic.{_≢_, _⊎_, inl, inr, ⊎-elim}
 use mathlib.Core.List.{List, [], _∷_}
 use native.Mathlib.Omega.{arith}
-use native.Mathlib.Decide.{ℕ-discrete}
 use lib.Dec.{eqb, ltb}
 use lib.ListN.{length}
 use borrow.Author.Tests.{le-ltb, ltb-true, ltb-false, leb-true, leb-false, not-true, not-false, eqb-true, eqb-false}
-use Rattle.construction.specs.Types.{Holder, Nobody, Process, Gate, Flag, Done, Active, Exit, Words, Announcement, Record, Program, Dictionary, Simulation, Pause, Ended, Faulted, Lacks, Place, Idle, P1, P3, P5, P7, P10, C2, C4, P13, P14, P16, H21, H36, P19, P20, P21, P22, F1, F3, GateAccess, Access, Swap, Task, Began, Helped, Card, Refusal, Answer, Answered, Label, Contents}
+use Rattle.construction.specs.Types.{Holder, Nobody, Process, Gate, Flag, Done, Active, Exit, Words, Announcement, Record, Program, Dictionary, Simulation, Pause, Ended, Faulted, Lacks, Place, Idle, P1, P3, P5, P7, P10, C2, C4, P13, P14, P16, H21, H36, P19, P20, P21, P22, F1, F3, GateAccess, Access, Cell, Swap, Task, Began, Helped, Card, Refusal, Answer, Answered, Label, Contents}
 use Rattle.construction.specs.Cells.{isDone, sameHolder, swapGate, swapAnnouncement, swapRecord, released}
 use Rattle.construction.specs.Instructions.{started}
 use Rattle.construction.specs.Dictionary.{empty, noted, insert, itemOf, nextWrite}
 use Rattle.construction.specs.Helping.{simulate}
-use Rattle.construction.specs.Parts.{idleTask, Local, localAt, contentsOf, announcementAt, recordAt, withLocal}
+use Rattle.construction.specs.Parts.{idleTask, Local, localAt, contentsOf, announcementAt, recordAt, programOf, withLocal}
 use Rattle.construction.specs.Machine.{accessOf, accessGate, accessAnnouncement, byHolder, byFlag, holderOf, firstChoice, outcome, helps, afterPause, writeFrom, beginHelp, note, writing, writtenVariable, whose, cellOf, after, stepGate, stepAnnouncement, stepHelp, stepNote, stepWrite, perform, advance, swapOf}
 use Rattle.construction.specs.Requests.{isIdle, isBusy, invoked, exiting, returned, answerOf}
 use Rattle.construction.specs.Answers.{isRefused}
 use Rattle.construction.specs.Tracing.{labelOf, reportOf}
 use Rattle.construction.specs.Opening.{fresh, opened}
-use Rattle.construction.specs.History.{Event, eventOf, Entry, act, Steps, Observation, observe, observeAll, opening}
-use Rattle.construction.specs.Paths.{Found, foundIn, Made, made, Edge, End, Path, Whole, numberIn, unlessSwap, lastNumber, Follows, noticed, accessesFrom, accesses}
+use Rattle.construction.specs.History.{Event, eventOf, Entry, act, Steps, Observation, observe, observeAll, opening, run}
+use Rattle.construction.specs.Paths.{Found, foundIn, Help, helpOf, Made, made, Edge, End, Leads, Path, Whole, numberIn, unlessSwap, lastNumber, helpAfter, helpIn, Due, afterWrite, dueOf, dueAfter, dueIn, Comes, FromH21ToP19, Follows, Noticed, unnoticed, ifTaken, noticed, noticedFrom, accesses}
 use Rattle.construction.proofs.Basics.{on-test, cond-true, cond-false, true-or-false, and-true, and-false, clash, nobody-process, active-not-done, exit-not-done, active-not-exit, isDone-true, isDone-false, sameHolder-true, sameHolder-refl, true-false, getD-replicate-same}
 use Rattle.construction.proofs.Simulating.Simulations.{simulate-empty}
 use Rattle.construction.proofs.Invariant.World.{World}
@@ -32,6 +31,9 @@ use Rattle.construction.proofs.Observing.Outcomes.{Outcome, outcome as 
 use Rattle.construction.proofs.Observing.Consistency.{Consistent, entry-kept}
 use Rattle.construction.proofs.Observing.Runs.{opened-consistent}
 use Rattle.construction.proofs.Statements.Tracing.{answers}
+use Rattle.construction.proofs.Statements.OneAccess.{one-access}
+use Rattle.construction.proofs.Statements.HelpPaths.{HelpAt, write-due, begin-due, note-due}
+use Rattle.construction.proofs.Simulating.Sequential.{Short}
 
 -- how an operation returns whose process last read this announcement
 abbrev settled : Announcement → Event
@@ -123,7 +125,7 @@ record-swapped : (cell r new : Record) → outcome (swapRecord cell r new .won) 
 record-swapped cell r new = swapped (swapRecord cell r new .won)
 
 -- a swap tells nothing of the gate's number, and what is no gate has none
-unread : (won : Bool) (x n : ℕ) → unlessSwap (outcome won) x n ≡ n
+unread : {A : Type 0} (won : Bool) (x n : A) → unlessSwap (outcome won) x n ≡ n
 unread true x n = refl
 unread false x n = refl
 
@@ -132,9 +134,25 @@ as-before Swap.None n = refl
 as-before Swap.Lost n = refl
 as-before Swap.Won n = refl
 
--- what a process knows of the announcement last read where it is about to return
+-- what a process knows of the announcement last read where it is about to return, and of its dictionary where it reads one record more
 abbrev Returning : Place → Flag → Type 0
 Returning p f = (p ≡ F1) ⊎ (p ≡ F3) → f ≡ Done
+
+abbrev Roomy : Place → Dictionary → Type 0
+Roomy p d = p ≡ H21 → d .length < 32
+
+-- the top of the loop is no part of a helping
+top-not-due : (exit : Bool) → FromH21ToP19 (labelOf P5 exit) → ⊥
+top-not-due true = elim [ ]
+top-not-due false = elim [ ]
+
+-- what it knows of its helping and of what is due there; nothing, where it has no operation
+abbrev HelpOf : Contents → Local → Help → Due → Type 0
+HelpOf t l h due = HelpAt t (l .task .place) (l .task .target) (l .gate .seq) (l .announcement) (l .simulation) (l .dictionary) h due
+
+nothing-due : (t : Contents) (l : Local) (h : Help) (due : Due) → l .task ≡ idleTask → HelpOf t l h due
+nothing-due t l h due e =
+    subst (λ (x : Task). HelpAt t (x .place) (x .target) (l .gate .seq) (l .announcement) (l .simulation) (l .dictionary) h due) (sym e) tt
 
 -- the access of process i at a place
 module _ (c : Card) (i : ℕ) (Z : Sizes c) (lt : i < 8) where
@@ -167,6 +185,15 @@ module _ (c : Card) (i : ℕ) (Z : Sizes c) (lt : i < 8) where
   left-is Access.Help = local-same c i _ Z lt
   left-is Access.Note = local-same c i _ Z lt
   left-is Access.Write = local-same c i _ Z lt
+
+  -- no access alters the exit request
+  left-exit : (a : Access) → leaves a .exit ≡ own .exit
+  left-exit Access.None = refl
+  left-exit (Access.Gate a) = refl
+  left-exit (Access.Announcement a) = refl
+  left-exit Access.Help = refl
+  left-exit Access.Note = refl
+  left-exit Access.Write = refl
 
   -- where a read of the gate leads to, and one of the announcement of process m
   abbrev GateRead : Label → Place → Type 0
@@ -257,6 +284,67 @@ module _ (c : Card) (i : ℕ) (Z : Sizes c) (lt : i < 8) where
   number-is Access.Note n h = sym (h (λ e. clash (cc)))
   number-is Access.Write n h = sym (h (λ e. clash (cc))) ∙ sym (as-before (perform Access.Write c i .swap) n)
 
+  -- the helping, and what is due there, once the access is made
+  abbrev help-after : Place → Bool → Help → ℕ → Help
+  help-after p exit h number =
+      helpAfter (found p exit) (perform (accessOf p exit) c i .swap) number (cellOf (accessOf p exit) (contentsOf c) i own)
+      (helpOf c number (found p exit)) h
+
+  abbrev due-after : Place → Bool → Help → Due → ℕ → Due
+  due-after p exit h due number = dueAfter (found p exit) (perform (accessOf p exit) c i .swap) number (dueOf number (help-after p exit h number)) due
+
+  -- as it is known at a place, of the own state that an access leaves
+  abbrev HelpNext : Place → Bool → Help → Due → Place → Type 0
+  HelpNext p exit h due next =
+      let l = leaves (accessOf p exit) in
+      HelpAt (contentsOf c) next (l .task .target) (l .gate .seq) (l .announcement) (l .simulation) (l .dictionary)
+      (help-after p exit h (l .gate .seq)) (due-after p exit h due (l .gate .seq))
+
+  module _ (short : (k number : ℕ) → Short (c .variableCount) (programOf (contentsOf c) k number)) (h : Help) (due : Due) where
+    -- the access that is made was due
+    was-due :
+        (p : Place) (exit : Bool) →
+        HelpAt (contentsOf c) p (own .task .target) (own .gate .seq) (own .announcement) (own .simulation) (own .dictionary) h due →
+        FromH21ToP19 (labelOf p exit) → Comes due (labelOf p exit) (cellOf (accessOf p exit) (contentsOf c) i own)
+    unfolding accessOf writing
+    was-due P5 exit q z = absurd (top-not-due exit z)
+    was-due H21 exit q z = subst (λ (x : Due). Comes x Label.H21 (Cell.Record (own .task .target))) (sym (q .lacks)) Comes.read
+    was-due H36 exit q z = subst (λ (x : Due). Comes x Label.H36 (Cell.Record (writtenVariable own))) (sym q) Comes.write
+    was-due P19 exit q z = subst (λ (x : Due). Comes x Label.P19 (Cell.Announcement (holderOf (own .gate .holder)))) (sym q) Comes.end
+
+    -- what is due next is what the place it leads to does
+    stays-due :
+        (p : Place) (exit : Bool) → isIdle p ≡ false → Roomy p (own .dictionary) →
+        HelpAt (contentsOf c) p (own .task .target) (own .gate .seq) (own .announcement) (own .simulation) (own .dictionary) h due →
+        HelpNext p exit h due (leaves (accessOf p exit) .task .place)
+    unfolding accessOf perform accessGate accessAnnouncement writing
+    stays-due Idle exit n room q = absurd (true≢false n)
+    stays-due P1 exit n room q = on-holder (HelpNext P1 exit h due) (c .gate .holder) P3 P3 (λ _. tt) (λ _. tt)
+    stays-due P3 exit n room q = tt
+    stays-due P5 true n room q = tt
+    stays-due P5 false n room q = on-holder (HelpNext P5 false h due) (c .gate .holder) P16 C2 (λ _. tt) (λ _. tt)
+    stays-due P7 exit n room q = on-flag (HelpNext P7 exit h due) (announcementAt c i .flag) F1 P10 P10 (λ _. tt) (λ _. tt) (λ _. tt)
+    stays-due P10 exit n room q = on-holder (HelpNext P10 exit h due) (c .gate .holder) P16 C2 (λ _. tt) (λ _. tt)
+    stays-due C2 exit n room q =
+        on-flag (HelpNext C2 exit h due) (announcementAt c (firstChoice (own .gate .seq) (c .processCount)) .flag) C4 P13 C4 (λ _. tt) (λ _. tt) (λ _. tt)
+    stays-due C4 exit n room q = on-flag (HelpNext C4 exit h due) (announcementAt c i .flag) F1 P13 P13 (λ _. tt) (λ _. tt) (λ _. tt)
+    stays-due P13 exit n room q = tt
+    stays-due P14 exit n room q = on-holder (HelpNext P14 exit h due) (c .gate .holder) P16 P22 (λ _. tt) (λ _. tt)
+    stays-due P16 exit n room q =
+        begin-due (contentsOf c) (own .gate .seq) (announcementAt c (holderOf (own .gate .holder))) (own .task) (own .simulation) (own .dictionary) _ refl
+    stays-due H21 exit n room q =
+        note-due (contentsOf c) (own .gate .seq) (own .announcement) (own .task) (own .simulation) (own .dictionary) (own .mask) h due
+        (recordAt c (own .task .target)) (short (own .announcement .program) (own .gate .seq)) (room refl) q
+    stays-due H36 exit n room q =
+        write-due (contentsOf c) (own .gate .seq) (own .announcement) (suc (own .task .target)) (own .simulation) (own .dictionary) _ _
+        (unread (swapRecord (recordAt c (writtenVariable own)) _ _ .won) _ _ ∙ ap afterWrite q)
+    stays-due P19 exit n room q = tt
+    stays-due P20 exit n room q = tt
+    stays-due P21 exit n room q = tt
+    stays-due P22 exit n room q = on-flag (HelpNext P22 exit h due) (announcementAt c i .flag) F1 P5 Idle (λ _. tt) (λ _. tt) (λ _. tt)
+    stays-due F1 exit n room q = on-test (HelpNext F1 exit h due) (sameHolder (c .gate .holder) (Process i)) (λ _. tt) (λ _. tt)
+    stays-due F3 exit n room q = tt
+
 -- the edges to a place that is not idle, and the end at one that is
 module _ (i number : ℕ) (label : Label) (s : Swap) (f : Found) (last : Announcement) where
   toward : (p : Place) → isIdle p ≡ false → Onto i number label s f last p → Toward i number label s f last p
@@ -280,12 +368,18 @@ data Ready (i : ℕ) (l : Local) : List Made → Type 0 where
       Onto i (m .report .number) (m .report .label) (m .report .swap) (m .found) (l .announcement) (l .task .place) →
       lastNumber (m ∷ ms) ≡ l .gate .seq → Ready i l (m ∷ ms)
 
-abbrev Stands : ℕ → Local → List Made → Type 0
-Stands i l ms = Follows i ms × Ready i l ms
+-- what was noticed of the operation of process i follows the lines, it stands there, its helping is the one noticed, and the wish taken is the one
+-- that its process keeps
+record Stands (t : Contents) (i : ℕ) (l : Local) (n : Noticed) : Type 0 where
+  follows : Follows i (n .accesses)
+  ready : Ready i l (n .accesses)
+  helps : HelpOf t l (helpIn (n .accesses)) (dueIn (n .accesses))
+  wished : n .wish ≡ l .exit
 
--- one access more
+-- one access more, at which a wish had been taken or not
 module _ (c : Card) (i : ℕ) (Z : Sizes c) (lt : i < 8) (busy : isIdle (localAt c i .task .place) ≡ false) (known : Returning (localAt c i .task .place) (localAt c i .announcement .flag))
-    (ms : List Made) where
+    (room : Roomy (localAt c i .task .place) (localAt c i .dictionary)) (short : (k number : ℕ) → Short (c .variableCount) (programOf (contentsOf c) k number))
+    (taken : Bool) (ms : List Made) where
   abbrev place : Place
   place = localAt c i .task .place
 
@@ -303,14 +397,14 @@ module _ (c : Card) (i : ℕ) (Z : Sizes c) (lt : i < 8) (busy : isIdle (localAt
   landed = subst (Lands c i Z lt place wish) (sym next-is) (lands c i Z lt place wish busy known)
 
   -- the accesses before, and the new one
-  numbered : (place ≡ P1) ⊎ (lastNumber ms ≡ localAt c i .gate .seq) → made c i .report .number ≡ lastNumber (made c i ∷ ms)
+  numbered : (place ≡ P1) ⊎ (lastNumber ms ≡ localAt c i .gate .seq) → made c i taken .report .number ≡ lastNumber (made c i taken ∷ ms)
   unfolding made reportOf lastNumber accessOf swapOf
   numbered h =
       ap (λ (l : Local). l .gate .seq) next-is
       ∙ number-is c i Z lt (accessOf place wish) (lastNumber ms)
       (λ other. ⊎-elim (λ (e : place ≡ P1). absurd (other (ap (λ (p : Place). accessOf p wish) e))) (λ e. e) h)
 
-  whole : Whole i (made c i ∷ ms)
+  whole : Whole i (made c i taken ∷ ms)
   unfolding made reportOf swapOf
   whole =
       ⊎-elim
@@ -324,7 +418,7 @@ module _ (c : Card) (i : ℕ) (Z : Sizes c) (lt : i < 8) (busy : isIdle (localAt
           ap eventOf (cond-true (isIdle (next .task .place)) _ _ e)
           ∙ event-settled (next .announcement) (next .announcement .flag) (next .steps)
 
-  ready : (place ≡ P1) ⊎ (lastNumber ms ≡ localAt c i .gate .seq) → Ready i next (made c i ∷ ms)
+  ready : (place ≡ P1) ⊎ (lastNumber ms ≡ localAt c i .gate .seq) → Ready i next (made c i taken ∷ ms)
   unfolding made reportOf swapOf
   ready h =
       ⊎-elim (λ (e : isIdle (next .task .place) ≡ true). Ready.idle e)
@@ -332,30 +426,66 @@ module _ (c : Card) (i : ℕ) (Z : Sizes c) (lt : i < 8) (busy : isIdle (localAt
       Ready.going (cond-false (isIdle (next .task .place)) _ _ e) landed (sym (numbered h)))
       (true-or-false (isIdle (next .task .place)))
 
+  -- its helping, and what is due there
+  due : HelpOf (contentsOf c) (localAt c i) (helpIn ms) (dueIn ms) →
+      FromH21ToP19 (made c i taken .report .label) → Comes (dueIn ms) (made c i taken .report .label) (made c i taken .report .cell)
+  unfolding made reportOf
+  due q = was-due c i Z lt short (helpIn ms) (dueIn ms) place wish q
+
+  helping : HelpOf (contentsOf c) (localAt c i) (helpIn ms) (dueIn ms) →
+      HelpOf (contentsOf c) next (helpIn (made c i taken ∷ ms)) (dueIn (made c i taken ∷ ms))
+  unfolding made reportOf swapOf helpIn dueIn
+  helping q =
+      subst (λ (l : Local). HelpOf (contentsOf c) l (help-after c i Z lt place wish (helpIn ms) (l .gate .seq)) (due-after c i Z lt place wish (helpIn ms) (dueIn ms) (l .gate .seq)))
+      (sym next-is) (stays-due c i Z lt short (helpIn ms) (dueIn ms) place wish busy room q)
+
+  wish-stays : next .exit ≡ wish
+  wish-stays = ap (λ (l : Local). l .exit) next-is ∙ left-exit c i Z lt (accessOf place wish)
+
 first-label : {p : Place} (exit : Bool) → p ≡ P1 → labelOf p exit ≡ Label.P1
 first-label exit e = ap (λ (p : Place). labelOf p exit) e
 
 -- the path with it
-module _ (c : Card) (i : ℕ) (Z : Sizes c) (lt : i < 8) (busy : isIdle (localAt c i .task .place) ≡ false) (known : Returning (localAt c i .task .place) (localAt c i .announcement .flag)) where
-  stands-on : {ms : List Made} → Stands i (localAt c i) ms → Stands i (localAt (advance c i) i) (made c i ∷ ms)
+module _ (c : Card) (i : ℕ) (Z : Sizes c) (lt : i < 8) (busy : isIdle (localAt c i .task .place) ≡ false) (known : Returning (localAt c i .task .place) (localAt c i .announcement .flag))
+    (room : Roomy (localAt c i .task .place) (localAt c i .dictionary)) (short : (k number : ℕ) → Short (c .variableCount) (programOf (contentsOf c) k number)) where
+  follows-on :
+      {ms : List Made} (taken : Bool) → taken ≡ localAt c i .exit → HelpOf (contentsOf c) (localAt c i) (helpIn ms) (dueIn ms) →
+      Follows i ms → Ready i (localAt c i) ms → Follows i (made c i taken ∷ ms) × Ready i (localAt (advance c i) i) (made c i taken ∷ ms)
   unfolding made reportOf
-  stands-on {ms} (F, Ready.idle e) = absurd (true-false _ e busy)
-  stands-on {ms} (F, Ready.called e) = (
+  follows-on {ms} taken w q F (Ready.idle e) = absurd (true-false _ e busy)
+  follows-on {ms} taken w q F (Ready.called e) = (
     record {
       path = Path.first (first-label (localAt c i .exit) e);
-      whole = whole c i Z lt busy known [];
-      numbers = (numbered c i Z lt busy known [] (inl e), tt);
+      whole = whole c i Z lt busy known room short taken [];
+      numbers = (numbered c i Z lt busy known room short taken [] (inl e), tt);
+      helping = (due c i Z lt busy known room short taken [] q, tt);
     },
-    ready c i Z lt busy known [] (inl e),
+    ready c i Z lt busy known room short taken [] (inl e),
   )
-  stands-on {ms} (F, Ready.going r o n) = (
+  follows-on {ms} taken w q F (Ready.going {m} r o n) = (
     record {
-      path = Path.next r (toward i _ _ _ _ (localAt c i .announcement) (localAt c i .task .place) busy o (localAt c i .exit)) (F .path);
-      whole = whole c i Z lt busy known ms;
-      numbers = (numbered c i Z lt busy known ms (inr n), F .numbers);
+      path = Path.next r
+          (subst (λ (b : Bool). Leads i m b (labelOf (localAt c i .task .place) (localAt c i .exit))) (sym w)
+          (toward i _ _ _ _ (localAt c i .announcement) (localAt c i .task .place) busy o (localAt c i .exit)))
+          (F .path);
+      whole = whole c i Z lt busy known room short taken ms;
+      numbers = (numbered c i Z lt busy known room short taken ms (inr n), F .numbers);
+      helping = (due c i Z lt busy known room short taken ms q, F .helping);
     },
-    ready c i Z lt busy known ms (inr n),
+    ready c i Z lt busy known room short taken ms (inr n),
   )
+
+  stands-on :
+      (n : Noticed) → Stands (contentsOf c) i (localAt c i) n →
+      Stands (contentsOf c) i (localAt (advance c i) i) (record { wish = n .wish; accesses = made c i (n .wish) ∷ n .accesses })
+  stands-on n S =
+      let x = follows-on (n .wish) (S .wished) (S .helps) (S .follows) (S .ready) in
+      record {
+        follows = x .0;
+        ready = x .1;
+        helps = helping c i Z lt busy known room short (n .wish) (n .accesses) (S .helps);
+        wished = S .wished ∙ sym (wish-stays c i Z lt busy known room short (n .wish) (n .accesses));
+      }
 
 -- what a process knows at a place, of the announcement last read
 returning : (p : Place) (F : Contents) (w : World) (i : ℕ) (l : Local) → LocAt p F w i l → Returning p (l .announcement .flag)
@@ -365,6 +495,10 @@ returning p F w i l q =
   where
     at : (x : Place) → p ≡ x → LocAt x F w i l
     at x e = subst (λ (y : Place). LocAt y F w i l) e q
+
+-- .. and of its dictionary
+roomy : (p : Place) (F : Contents) (w : World) (i : ℕ) (l : Local) → LocAt p F w i l → Roomy p (l .dictionary)
+roomy p F w i l q e = subst (λ (x : Place). LocAt x F w i l) e q .2 .spare
 
 -- an exit request leaves where an operation stands
 exit-ready : (i : ℕ) (l : Local) (ms : List Made) → Ready i l ms → Ready i (exiting l) ms
@@ -380,60 +514,79 @@ both j i b x y P f g =
     (λ e. ⊎-elim (λ z. g (inl (eqb-false j i z))) (λ z. g (inr (z .1))) (and-false (eqb j i) b e))
 
 -- every entry
-module _ {c : Card} {w : World} (I : CardInvariant c w) (i : ℕ) (ms : List Made) (S : Stands i (localAt c i) ms) where
+module _ {c : Card} {w : World} (I : CardInvariant c w) (i : ℕ) (n : Noticed) (S : Stands (contentsOf c) i (localAt c i) n) where
   small : (j : ℕ) → j < c .processCount → j < 8
   small j p = omega (arith, I .good .fits .few)
 
   -- the own state of another process put back
-  elsewhere : (j : ℕ) (l : Local) → j ≢ i → Stands i (localAt (withLocal c j l) i) ms
-  elsewhere j l ne = subst (λ (x : Local). Stands i x ms) (sym (local-other c j i l (λ e. ne (sym e)))) S
+  elsewhere : (j : ℕ) (l : Local) → j ≢ i → Stands (contentsOf c) i (localAt (withLocal c j l) i) n
+  elsewhere j l ne = subst (λ (x : Local). Stands (contentsOf c) i x n) (sym (local-other c j i l (λ e. ne (sym e)))) S
+
+  -- that of process j put back, which is i
+  here : (j : ℕ) (f : Local → Local) → j < c .processCount → j ≡ i → localAt (withLocal c j (f (localAt c j))) i ≡ f (localAt c i)
+  here j f p e =
+      subst (λ (n : ℕ). localAt (withLocal c j (f (localAt c j))) n ≡ f (localAt c n)) e (local-same c j _ (I .sizes) (small j p))
 
   call-stands : (j k : ℕ) (inputs : Words) → j < c .processCount →
-      Stands i (localAt (withLocal c j (invoked (localAt c j) k inputs)) i) (cond (eqb j i && true) [] ms)
+      Stands (contentsOf c) i (localAt (withLocal c j (invoked (localAt c j) k inputs)) i) (ifTaken i j Answer.Taken unnoticed n)
   call-stands j k inputs p =
-      both j i true [] ms (Stands i (localAt (withLocal c j (invoked (localAt c j) k inputs)) i))
-      (λ e _.
-      let here : localAt (withLocal c j (invoked (localAt c j) k inputs)) i ≡ invoked (localAt c j) k inputs =
-      subst (λ (n : ℕ). localAt (withLocal c j (invoked (localAt c j) k inputs)) n ≡ invoked (localAt c j) k inputs) e (local-same c j _ (I .sizes) (small j p)) in
-      (record { path = Path.none; whole = tt; numbers = tt }, Ready.called (ap (λ (l : Local). l .task .place) here)))
+      both j i true unnoticed n (Stands (contentsOf c) i (localAt (withLocal c j (invoked (localAt c j) k inputs)) i))
+      (λ e _. subst (λ (l : Local). Stands (contentsOf c) i l unnoticed) (sym (here j (λ l. invoked l k inputs) p e)) anew)
       (⊎-elim (elsewhere j _) (λ e. absurd (true≢false e)))
-
-  exit-stands : (j : ℕ) → j < c .processCount → Stands i (localAt (withLocal c j (exiting (localAt c j))) i) ms
-  exit-stands j p = go (ℕ-discrete j i)
     where
-      go : Dec (j ≡ i) → Stands i (localAt (withLocal c j (exiting (localAt c j))) i) ms
-      go (yes e) =
-          subst (λ (n : ℕ). Stands i (localAt (withLocal c n (exiting (localAt c n))) i) ms) (sym e)
-          (subst (λ (x : Local). Stands i x ms) (sym (local-same c i _ (I .sizes) (small i (subst (λ (n : ℕ). n < c .processCount) e p))))
-          (S .0, exit-ready i (localAt c i) ms (S .1)))
-      go (no ne) = elsewhere j _ ne
+      anew : Stands (contentsOf c) i (invoked (localAt c i) k inputs) unnoticed
+      anew = record {
+        follows = record { path = Path.none; whole = tt; numbers = tt; helping = tt };
+        ready = Ready.called refl;
+        helps = tt;
+        wished = refl;
+      }
+
+  exit-stands : (j : ℕ) → j < c .processCount →
+      Stands (contentsOf c) i (localAt (withLocal c j (exiting (localAt c j))) i) (ifTaken i j Answer.Taken (record { wish = true; accesses = n .accesses }) n)
+  exit-stands j p =
+      both j i true _ n (Stands (contentsOf c) i (localAt (withLocal c j (exiting (localAt c j))) i))
+      (λ e _. subst (λ (l : Local). Stands (contentsOf c) i l (record { wish = true; accesses = n .accesses })) (sym (here j exiting p e)) asked)
+      (⊎-elim (elsewhere j _) (λ e. absurd (true≢false e)))
+    where
+      asked : Stands (contentsOf c) i (exiting (localAt c i)) (record { wish = true; accesses = n .accesses })
+      asked = record { follows = S .follows; ready = exit-ready i (localAt c i) (n .accesses) (S .ready); helps = S .helps; wished = refl }
+
+  abbrev more : Noticed
+  more = record { wish = n .wish; accesses = made c i (n .wish) ∷ n .accesses }
 
   step-stands : (j : ℕ) → j < c .processCount → isBusy c j ≡ true → c .steps < c .limit →
-      Stands i (localAt (advance c j) i) (cond (eqb j i && not (isRefused (answerOf (localAt (advance c j) j)))) (made c i ∷ ms) ms)
+      Stands (contentsOf (advance c j)) i (localAt (advance c j) i) (ifTaken i j (answerOf (localAt (advance c j) j)) more n)
   step-stands j p b l =
-      both j i _ (made c i ∷ ms) ms (Stands i (localAt (advance c j) i))
-      (λ e _. subst (λ (n : ℕ). Stands i (localAt (advance c n) i) (made c i ∷ ms)) (sym e) (mine e))
-      (λ h. ⊎-elim other (λ z. absurd (true-false _ (ap not (answers (localAt (advance c j) j))) z)) h)
+      subst (λ (t : Contents). Stands t i (localAt (advance c j) i) (ifTaken i j (answerOf (localAt (advance c j) j)) more n)) (one-access c j .text)
+      (both j i _ more n (Stands (contentsOf c) i (localAt (advance c j) i))
+      (λ e _. subst (λ (k : ℕ). Stands (contentsOf c) i (localAt (advance c k) i) more) (sym e) (mine e))
+      (λ h. ⊎-elim other (λ z. absurd (true-false _ (ap not (answers (localAt (advance c j) j))) z)) h))
     where
-      mine : j ≡ i → Stands i (localAt (advance c i) i) (made c i ∷ ms)
+      mine : j ≡ i → Stands (contentsOf c) i (localAt (advance c i) i) more
       mine e =
           let q : i < c .processCount = subst (λ (n : ℕ). n < c .processCount) e p in
           let d : isBusy c i ≡ true = subst (λ (n : ℕ). isBusy c n ≡ true) e b in
           stands-on c i (I .sizes) (small i q) (not-true _ d)
-          (returning (localAt c i .task .place) (contentsOf c) w i (known (localAt c i)) (I .locs i q)) S
+          (returning (localAt c i .task .place) (contentsOf c) w i (known (localAt c i)) (I .locs i q))
+          (roomy (localAt c i .task .place) (contentsOf c) w i (known (localAt c i)) (I .locs i q)) (I .good .fits .short) n S
 
-      other : j ≢ i → Stands i (localAt (advance c j) i) ms
-      other ne = subst (λ (x : Local). Stands i x ms) (sym (inv-step c w j I p b l .elsewhere i (λ e. ne (sym e)))) S
+      other : j ≢ i → Stands (contentsOf c) i (localAt (advance c j) i) n
+      other ne = subst (λ (x : Local). Stands (contentsOf c) i x n) (sym (inv-step c w j I p b l .elsewhere i (λ e. ne (sym e)))) S
 
-  refused-kept : (e : Entry) (why : Refusal) → Stands i (localAt c i) (noticed c i ms e (Answer.Refused why))
+  -- a refused entry is not noticed
+  unheard : (j : ℕ) (x : Noticed) → Stands (contentsOf c) i (localAt c i) (cond (eqb j i && false) x n)
+  unheard j x = both j i false x n (Stands (contentsOf c) i (localAt c i)) (λ _ z. absurd (true≢false (sym z))) (λ _. S)
+
+  refused-kept : (e : Entry) (why : Refusal) → Stands (contentsOf c) i (localAt c i) (noticed c i n e (Answer.Refused why))
   unfolding noticed
-  refused-kept (Entry.Call j k inputs) why = both j i false [] ms (Stands i (localAt c i)) (λ _ z. absurd (true≢false (sym z))) (λ _. S)
-  refused-kept (Entry.Exit j) why = S
-  refused-kept (Entry.Step j) why = both j i false (made c i ∷ ms) ms (Stands i (localAt c i)) (λ _ z. absurd (true≢false (sym z))) (λ _. S)
-  refused-kept (Entry.Trace j) why = both j i false (made c i ∷ ms) ms (Stands i (localAt c i)) (λ _ z. absurd (true≢false (sym z))) (λ _. S)
+  refused-kept (Entry.Call j k inputs) why = unheard j unnoticed
+  refused-kept (Entry.Exit j) why = unheard j _
+  refused-kept (Entry.Step j) why = unheard j _
+  refused-kept (Entry.Trace j) why = unheard j _
   refused-kept (Entry.Read v) why = S
 
-  entry-stands : {e : Entry} {r : Answered} → Outcome c e r → Stands i (localAt (r .card) i) (noticed c i ms e (r .answer))
+  entry-stands : {e : Entry} {r : Answered} → Outcome c e r → Stands (contentsOf (r .card)) i (localAt (r .card) i) (noticed c i n e (r .answer))
   unfolding noticed
   entry-stands (Outcome.turned-back e why) = refused-kept e why
   entry-stands (Outcome.called j k inputs p b) = call-stands j k inputs p
@@ -443,17 +596,34 @@ module _ {c : Card} {w : World} (I : CardInvariant c w) (i : ℕ) (ms : List Mad
   entry-stands (Outcome.shown v x) = S
 
 all-stand :
-    (o : Card) (m : Observation) (i : ℕ) (ms : List Made) (es : List Entry) → Consistent o m → Stands i (localAt (m .card) i) ms →
-    Follows i (accessesFrom (m .card) i ms es)
-unfolding accessesFrom observe
-all-stand o m i ms [] O S = S .0
-all-stand o m i ms (e ∷ es) O S =
-    all-stand o (observe o m e) i (noticed (m .card) i ms e (act (m .card) e .answer)) es (entry-kept o m O e)
-    (entry-stands (O .inv) i ms S (outcome-of (m .card) e))
+    (o : Card) (m : Observation) (i : ℕ) (n : Noticed) (es : List Entry) → Consistent o m → Stands (contentsOf (m .card)) i (localAt (m .card) i) n →
+    let d = observeAll o m es .card in
+    Stands (contentsOf d) i (localAt d i) (noticedFrom (m .card) i n es)
+unfolding noticedFrom observe observeAll
+all-stand o m i n [] O S = S
+all-stand o m i n (e ∷ es) O S =
+    all-stand o (observe o m e) i (noticed (m .card) i n e (act (m .card) e .answer)) es (entry-kept o m O e)
+    (entry-stands (O .inv) i n S (outcome-of (m .card) e))
 
 -- over every text and every list of entries
-pub follows-lines : (t : List ℕ) (es : List Entry) (i : ℕ) → Follows i (accesses (opened t .card) es i)
+opened-stands :
+    (t : List ℕ) (es : List Entry) (i : ℕ) → let d = run (opened t .card) es .card in
+    Stands (contentsOf d) i (localAt d i) (noticedFrom (opened t .card) i unnoticed es)
 unfolding opened fresh observeAll accessOf
-follows-lines t es i =
-    all-stand (opened t .card) (opening (opened t .card)) i [] es (opened-consistent t [])
-    (record { path = Path.none; whole = tt; numbers = tt }, Ready.idle (ap (λ (x : Task). isIdle (x .place)) (getD-replicate-same 8 i idleTask)))
+opened-stands t es i =
+    all-stand (opened t .card) (opening (opened t .card)) i unnoticed es (opened-consistent t [])
+    (record {
+      follows = record { path = Path.none; whole = tt; numbers = tt; helping = tt };
+      ready = Ready.idle (ap (λ (x : Task). isIdle (x .place)) (getD-replicate-same 8 i idleTask));
+      helps = nothing-due _ (localAt (opened t .card) i) _ _ (getD-replicate-same 8 i idleTask);
+      wished = sym (getD-replicate-same {A = Bool} 8 i false);
+    })
+
+pub follows-lines : (t : List ℕ) (es : List Entry) (i : ℕ) → Follows i (accesses (opened t .card) es i)
+follows-lines t es i = opened-stands t es i .follows
+
+-- the exit request that a process keeps is the wish taken since its latest taken call
+pub wish-kept :
+    (t : List ℕ) (es : List Entry) (i : ℕ) →
+    localAt (run (opened t .card) es .card) i .exit ≡ noticedFrom (opened t .card) i unnoticed es .wish
+wish-kept t es i = sym (opened-stands t es i .wished)

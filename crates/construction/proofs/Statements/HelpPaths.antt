@@ -1,0 +1,191 @@
+-- What is due in a helping by its own reads (specs/Paths) is what the machine does next.
+use Prim.Native.Nat.{ℕ, suc, _+_, _≤_, _<_}
+use mathlib.Core.Path.{_≡_, refl, sym, subst, ap, _∙_}
+use mathlib.Core.Bool.{Bool, true, false, cond}
+use mathlib.Core.Logic.{⊎-elim}
+use mathlib.Core.List.{List, [], _∷_}
+use native.Mathlib.Omega.{arith}
+use lib.Dec.{ltb}
+use lib.ListN.{length, getD, drop, length-take, length-drop, length-replicate}
+use lib.Seq.{getD-take, getD-drop, drop-drop}
+use borrow.Author.Tests.{ltb-true, ltb-false}
+use Rattle.construction.specs.Types.{Announcement, Record, Item, Dictionary, Simulation, Pause, Ended, Faulted, Lacks, Simulated, Place, Idle, P1, P3, P5, P7, P10, C2, C4, P13, P14, P16, H21, H36, P19, P20, P21, P22, F1, F3, Cell, Task, Began, Helped, Label, Contents}
+use Rattle.construction.specs.Instructions.{started}
+use Rattle.construction.specs.Dictionary.{noItem, empty, noted, insert, itemOf, altered, unaltered, nextWrite}
+use Rattle.construction.specs.Helping.{simulate}
+use Rattle.construction.specs.Parts.{programOf}
+use Rattle.construction.specs.Marks.{withBit}
+use Rattle.construction.specs.Machine.{goTo, helps, afterPause, writeFrom, helped, beginHelp, note}
+use Rattle.construction.specs.Paths.{Found, Help, Due, alteredIn, dueBy, dueOf, afterWrite, withRead}
+use Rattle.construction.proofs.Basics.{on-test, true-or-false}
+use Rattle.construction.proofs.Simulating.Sequential.{Short}
+use Rattle.construction.proofs.Simulating.Dictionaries.{insert-items}
+use Rattle.construction.proofs.Simulating.Simulations.{simulate-empty, simulate-length}
+use Rattle.construction.proofs.Simulating.Resuming.{resumes}
+
+-- the altered items of a list: the first one, and those after it
+altered-first :
+    (number : ℕ) (b : List Item) → unaltered number b < length b →
+    alteredIn number b ≡ getD b (unaltered number b) noItem .variable ∷ alteredIn number (drop (suc (unaltered number b)) b)
+unfolding alteredIn unaltered altered
+altered-first number [] h = absurd (omega arith)
+altered-first number (e ∷ b) h =
+    ⊎-elim (λ (t : altered number e ≡ true). rw t)
+    (λ (f : altered number e ≡ false). rw f (altered-first number b (omega (arith, rw f at h))))
+    (true-or-false (altered number e))
+
+altered-none : (number : ℕ) (b : List Item) → length b ≤ unaltered number b → alteredIn number b ≡ []
+unfolding alteredIn unaltered altered
+altered-none number [] h = refl
+altered-none number (e ∷ b) h =
+    ⊎-elim (λ (t : altered number e ≡ true). absurd (omega (arith, rw t at h)))
+    (λ (f : altered number e ≡ false). rw f (altered-none number b (omega (arith, rw f at h))))
+    (true-or-false (altered number e))
+
+-- those of a dictionary from place k on: the next write and those after it, or none
+module _ (number : ℕ) (d : Dictionary) (k : ℕ) where
+  next-due :
+      nextWrite number d k < length (noted d) →
+      alteredIn number (drop k (noted d))
+      ≡ getD (d .items) (nextWrite number d k) noItem .variable ∷ alteredIn number (drop (suc (nextWrite number d k)) (noted d))
+  unfolding nextWrite
+  next-due h =
+      let u = unaltered number (drop k (noted d)) in
+      let rest : k + suc u ≡ suc (k + u) = omega arith in
+      altered-first number (drop k (noted d)) (rw length-drop (omega arith))
+      ∙ (ap (λ (e : Item). e .variable ∷ alteredIn number (drop (suc u) (drop k (noted d))))
+      (getD-drop k (noted d) u noItem ∙ getD-take (d .length) (d .items) (k + u) noItem (omega (arith, length-take (d .length) (d .items))))
+      ∙ ap (λ (b : List Item). getD (d .items) (k + u) noItem .variable ∷ alteredIn number b)
+      (drop-drop (suc u) k (noted d) ∙ ap (λ (j : ℕ). drop j (noted d)) rest))
+
+  none-due : length (noted d) ≤ nextWrite number d k → alteredIn number (drop k (noted d)) ≡ []
+  unfolding nextWrite
+  none-due h = altered-none number (drop k (noted d)) (rw length-drop (omega arith))
+
+-- a helping of the announcement a under a number, on a card with this text
+abbrev pub helpWith : Contents → ℕ → Announcement → Dictionary → Help
+helpWith t number a reads =
+    record { variables = t .variableCount; program = programOf t (a .program) number; inputs = a .words; reads = reads }
+
+abbrev simulated : Contents → ℕ → Announcement → Simulation → Dictionary → Simulated
+simulated t number a s d = simulate (t .variableCount) (programOf t (a .program) number) (a .words) s d
+
+-- at H21: from its start, on what was read, the simulation comes to where it stands
+pub record Reading (t : Contents) (v number : ℕ) (a : Announcement) (s : Simulation) (d : Dictionary) (h : Help) (due : Due) : Type 0 where
+  pub reads : Dictionary
+  pub helps : h ≡ helpWith t number a reads
+  pub array : length (reads .items) ≡ 32
+  pub stands : simulated t number a started reads ≡ record { pause = Lacks v; simulation = s; dictionary = d }
+  pub lacks : due ≡ Due.read v
+
+-- what is known of a helping and of what is due there, by the place and the target of a process, the number, the announcement, the simulation and
+-- the dictionary that it keeps
+abbrev pub HelpAt : Contents → Place → ℕ → ℕ → Announcement → Simulation → Dictionary → Help → Due → Type 0
+HelpAt t Idle v number a s d h due = Unit
+HelpAt t P1 v number a s d h due = Unit
+HelpAt t P3 v number a s d h due = Unit
+HelpAt t P5 v number a s d h due = Unit
+HelpAt t P7 v number a s d h due = Unit
+HelpAt t P10 v number a s d h due = Unit
+HelpAt t C2 v number a s d h due = Unit
+HelpAt t C4 v number a s d h due = Unit
+HelpAt t P13 v number a s d h due = Unit
+HelpAt t P14 v number a s d h due = Unit
+HelpAt t P16 v number a s d h due = Unit
+HelpAt t H21 v number a s d h due = Reading t v number a s d h due
+HelpAt t H36 v number a s d h due =
+    due ≡ Due.write (getD (d .items) v noItem .variable ∷ alteredIn number (drop (suc v) (noted d)))
+HelpAt t P19 v number a s d h due = due ≡ Due.write []
+HelpAt t P20 v number a s d h due = Unit
+HelpAt t P21 v number a s d h due = Unit
+HelpAt t P22 v number a s d h due = Unit
+HelpAt t F1 v number a s d h due = Unit
+HelpAt t F3 v number a s d h due = Unit
+
+module _ (t : Contents) (number : ℕ) (a : Announcement) where
+  abbrev OnTask : Task → Simulation → Dictionary → Help → Due → Type 0
+  OnTask x s d h due = HelpAt t (x .place) (x .target) number a s d h due
+
+  -- lines H31 and H32: from place k on
+  pub write-due :
+      (k : ℕ) (s : Simulation) (d : Dictionary) (h : Help) (due : Due) → due ≡ Due.write (alteredIn number (drop k (noted d))) →
+      OnTask (writeFrom number d k) s d h due
+  write-due k s d h due e =
+      on-test (λ (x : Task). OnTask x s d h due) (ltb (nextWrite number d k) (length (noted d)))
+      (λ z. e ∙ ap Due.write (next-due number d k (ltb-true _ _ z)))
+      (λ z. e ∙ ap Due.write (none-due number d k (ltb-false _ _ z)))
+
+  -- as the simulation stands
+  pause-due :
+      (p : Pause) (s : Simulation) (d reads : Dictionary) (h : Help) (due : Due) → h ≡ helpWith t number a reads → length (reads .items) ≡ 32 →
+      simulated t number a started reads ≡ record { pause = p; simulation = s; dictionary = d } → due ≡ dueBy number p d →
+      OnTask (afterPause number d p) s d h due
+  pause-due Ended s d reads h due q array e z = write-due 0 s d h due z
+  pause-due Faulted s d reads h due q array e z = z
+  pause-due (Lacks v) s d reads h due q array e z = record { reads = reads; helps = q; array = array; stands = e; lacks = z }
+
+  stand-due :
+      (x : Simulated) (reads : Dictionary) (h : Help) → h ≡ helpWith t number a reads → length (reads .items) ≡ 32 →
+      simulated t number a started reads ≡ x → OnTask (afterPause number (x .dictionary) (x .pause)) (x .simulation) (x .dictionary) h (dueOf number h)
+  stand-due x reads h q array e =
+      pause-due (x .pause) (x .simulation) (x .dictionary) reads h (dueOf number h) q array e
+      (ap (dueOf number) q ∙ ap (λ (y : Simulated). dueBy number (y .pause) (y .dictionary)) e)
+
+  -- lines P17, P18 and H1
+  pub begin-due :
+      (task : Task) (s : Simulation) (d : Dictionary) (h : Help) → h ≡ helpWith t number a empty →
+      let x = beginHelp (t .variableCount) (programOf t (a .program) number) a number task s in
+      OnTask (x .task) (x .simulation) (cond (x .helps) empty d) h (dueOf number h)
+  unfolding beginHelp
+  begin-due task s d h q =
+      on-test (λ (x : Began). OnTask (x .task) (x .simulation) (cond (x .helps) empty d) h (dueOf number h)) (helps a number)
+      (λ _. let x = simulated t number a started empty in
+      subst (λ (y : Dictionary). OnTask (afterPause number (x .dictionary) (x .pause)) (x .simulation) y h (dueOf number h))
+      (simulate-empty (t .variableCount) (programOf t (a .program) number) (a .words))
+      (stand-due x empty h q (length-replicate 32 noItem) refl))
+      (λ _. tt)
+
+  -- lines H21 to H25
+  pub note-due :
+      (task : Task) (s : Simulation) (d : Dictionary) (mask : ℕ) (h : Help) (due : Due) (r : Record) →
+      Short (t .variableCount) (programOf t (a .program) number) → d .length < 32 → Reading t (task .target) number a s d h due →
+      let x = note (t .variableCount) (programOf t (a .program) number) (a .words) r number task s d mask in
+      let g = withRead number (Cell.Record (task .target)) r h in
+      OnTask (x .task) (x .simulation) (x .dictionary) g (cond (ltb number (r .seq)) (Due.write []) (dueOf number g))
+  unfolding note
+  note-due task s d mask h due r short spare q = by-test (ltb number (r .seq))
+    where
+      e : Item
+      e = itemOf number (task .target) r
+
+      went : Simulated
+      went = simulated t number a s (insert d e)
+
+      more : Help
+      more = record { variables = h .variables; program = h .program; inputs = h .inputs; reads = insert (h .reads) e }
+
+      more-is : more ≡ helpWith t number a (insert (q .reads) e)
+      more-is =
+          ap (λ (g : Help). record { variables = g .variables; program = g .program; inputs = g .inputs; reads = insert (g .reads) e }) (q .helps)
+
+      -- the dictionary read is as long as the one kept
+      room : q .reads .length < 32
+      room =
+          omega (
+            arith,
+            simulate-length (t .variableCount) (programOf t (a .program) number) (a .words) started (q .reads),
+            ap (λ (x : Simulated). x .dictionary .length) (q .stands),
+          )
+
+      goes-on : simulated t number a started (insert (q .reads) e) ≡ went
+      goes-on =
+          resumes (t .variableCount) (programOf t (a .program) number) (a .words) short e (task .target) started (q .reads) room (q .array)
+          (ap (λ (x : Simulated). x .pause) (q .stands))
+          ∙ ap (λ (x : Simulated). simulated t number a (x .simulation) (insert (x .dictionary) e)) (q .stands)
+
+      by-test : (b : Bool) →
+          let x : Helped = cond b (record { task = goTo task P19; simulation = s; dictionary = d; mask = mask })
+          (helped number went (withBit mask (task .target))) in
+          OnTask (x .task) (x .simulation) (x .dictionary) (cond b h more) (cond b (Due.write []) (dueOf number (cond b h more)))
+      by-test true = refl
+      by-test false = stand-due went (insert (q .reads) e) more more-is (insert-items (q .reads) e ∙ q .array) goes-on

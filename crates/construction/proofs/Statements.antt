@@ -2,6 +2,8 @@
 pub mod OneAccess
 pub mod AnswerFields
 pub mod Refusals
+pub mod LineRefusals
+pub mod TextRefusals
 pub mod Tracing
 pub mod Swaps
 pub mod ExitRequests

@@ -3,12 +3,15 @@
 use Prim.Native.Nat.{ℕ, _≤_, _<_}
 use mathlib.Core.Path.{_≡_}
 use mathlib.Core.Bool.{true, false}
+use mathlib.Core.Logic.{_⊎_}
 use mathlib.Core.List.{List}
-use Rattle.construction.specs.Types.{Done, Words, Instruction, Program, Effect, H21, Card}
-use Rattle.construction.specs.Cells.{zeros, faultYield}
+use Rattle.construction.specs.Types.{Done, Words, Instruction, Program, Effect, P3, H21, Card}
+use Rattle.construction.specs.Cells.{zeros, faultYield, yieldOf}
 use Rattle.construction.specs.Instructions.{word, effectOf}
 use Rattle.construction.specs.Sequential.{sequential}
 use Rattle.construction.specs.Parts.{announcementAt, localAt}
+use Rattle.construction.specs.History.{Entry, act, Steps, Observation}
+use Rattle.construction.specs.Numbers.{latestFinish}
 
 -- codes 5 and 6 with a number of n or more
 pub record PastFaults (n : ℕ) (inputs r : Words) : Type 0 where
@@ -26,6 +29,23 @@ abbrev pub MarkedDone : Card → Type 0
 MarkedDone c =
     (i : ℕ) → announcementAt c i .fault ≡ true →
     (announcementAt c i .flag ≡ Done) × (announcementAt c i .words ≡ zeros)
+
+-- an entry at which process i announces its next operation (lines P2, P3)
+pub record Announces (c : Card) (e : Entry) (i : ℕ) : Type 0 where
+  pub step : Steps e i
+  pub place : localAt c i .task .place ≡ P3
+
+-- The converse: an operation that the bench ended as a fault has its mark in the announcement from its finishing on, returned or not, until
+-- its process announces the next one; and one that it did not has none.
+pub record YieldsKept (m : Observation) : Type 0 where
+  -- while the flag is done, outputs and mark are what the bench got for the process's latest finished operation, 0 and none if it has none ..
+  pub finished :
+      (i : ℕ) → i < m .card .processCount → announcementAt (m .card) i .flag ≡ Done →
+      yieldOf (announcementAt (m .card) i) ≡ latestFinish (m .history .operations) (m .history .order) i .yields
+  -- .. and no entry alters an announcement that is done but that at which its own process announces
+  pub stays :
+      (e : Entry) (i : ℕ) → announcementAt (m .card) i .flag ≡ Done →
+      (announcementAt (act (m .card) e .card) i ≡ announcementAt (m .card) i) ⊎ Announces (m .card) e i
 
 -- a helper that still reads has no mark, so that one that meets a greater seq goes to P19 without it
 abbrev pub UnmarkedReading : Card → Type 0

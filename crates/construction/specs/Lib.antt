@@ -9,6 +9,7 @@ pub mod Helping
 pub mod Parts
 pub mod Machine
 pub mod Answers
+pub mod KnownAnswers
 pub mod Requests
 pub mod OneAccess
 pub mod Tracing
@@ -18,6 +19,7 @@ pub mod Lines
 pub mod Opening
 pub mod Writing
 pub mod Weight
+pub mod TextJudging
 pub mod Limits
 pub mod History
 pub mod Paths

@@ -8,6 +8,7 @@ use mathlib.Core.List.{List, [], _∷_}
 use lib.ListN.{length}
 use lib.Dec.{eqb}
 use Rattle.construction.specs.Types.{Done}
+use Rattle.construction.specs.Cells.{noYield}
 use Rattle.construction.specs.Parts.{announcementAt}
 use Rattle.construction.specs.History.{Invocation, Finish, Observation}
 
@@ -16,10 +17,11 @@ unfoldable pub callerOf : List Invocation → ℕ → ℕ
 callerOf [] k = 0
 callerOf (x ∷ xs) k = cond (eqb (length xs) k) (x .process) (callerOf xs k)
 
--- the gate number of the latest finished operation of a process, 0 if it has none; and whether it has one
-unfoldable pub latestNumber : List Invocation → List Finish → ℕ → ℕ
-latestNumber xs [] i = 0
-latestNumber xs (f ∷ fs) i = cond (eqb (callerOf xs (f .operation)) i) (f .gate) (latestNumber xs fs i)
+-- the latest finished operation of a process, with its gate number and what the bench got for it: number 0, outputs 0 and no mark if it has
+-- none; and whether it has one
+unfoldable pub latestFinish : List Invocation → List Finish → ℕ → Finish
+latestFinish xs [] i = record { operation = 0; gate = 0; yields = noYield }
+latestFinish xs (f ∷ fs) i = cond (eqb (callerOf xs (f .operation)) i) f (latestFinish xs fs i)
 
 unfoldable pub hasFinished : List Invocation → List Finish → ℕ → Bool
 hasFinished xs [] i = false
@@ -33,7 +35,7 @@ pub record NumbersKept (m : Observation) : Type 0 where
   -- while the flag is done it is that of the process's latest finished operation ..
   pub finished :
       (i : ℕ) → i < m .card .processCount → announcementAt (m .card) i .flag ≡ Done →
-      announcementAt (m .card) i .number ≡ latestNumber (m .history .operations) (m .history .order) i
+      announcementAt (m .card) i .number ≡ latestFinish (m .history .operations) (m .history .order) i .gate
   -- .. and so 0 exactly if no operation of the process has finished yet
   pub never :
       (i : ℕ) → i < m .card .processCount → announcementAt (m .card) i .flag ≡ Done →

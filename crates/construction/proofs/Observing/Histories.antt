@@ -12,7 +12,7 @@ use borrow.Author.Tests.{eqb-true, eqb-false, eq-eqb, ne-eqb}
 use Rattle.construction.specs.Types.{Flag, Done, Active, Exit, Announcement}
 use Rattle.construction.specs.Cells.{isDone, openAnnouncement}
 use Rattle.construction.specs.History.{Invocation, Finish, Return, Response, hasCalled, latest, turned}
-use Rattle.construction.specs.Numbers.{callerOf, latestNumber}
+use Rattle.construction.specs.Numbers.{callerOf, latestFinish}
 use Rattle.construction.proofs.Basics.{on-test}
 use Rattle.construction.specs.Linearizability.{times, rank, finishOf, hasReturned, Numbered, Agrees, isFault, returnedFault, AllAgree}
 
@@ -78,12 +78,12 @@ caller-latest (x ∷ xs) i h =
 -- one more call alters nothing of what finished before it
 pub latest-asked :
     (x : Invocation) (xs : List Invocation) (fs : List Finish) (i : ℕ) → ((k : ℕ) → length xs ≤ k → times k fs ≡ 0) →
-    latestNumber (x ∷ xs) fs i ≡ latestNumber xs fs i
-unfolding latestNumber callerOf times
+    latestFinish (x ∷ xs) fs i ≡ latestFinish xs fs i
+unfolding latestFinish callerOf times
 latest-asked x xs [] i h = refl
 latest-asked x xs (f ∷ fs) i h =
     rw (passed (length xs) (f .operation) (x .process) (callerOf xs (f .operation)) here)
-    (ap (λ (n : ℕ). cond (eqb (callerOf xs (f .operation)) i) (f .gate) n) (latest-asked x xs fs i before))
+    (ap (λ (g : Finish). cond (eqb (callerOf xs (f .operation)) i) f g) (latest-asked x xs fs i before))
   where
     here : length xs ≢ f .operation
     here e =

@@ -5,9 +5,9 @@ use mathlib.Core.Bool.{not}
 use mathlib.Core.List.{List, [], _∷_}
 use native.Mathlib.Omega.{arith}
 use lib.ListN.{getD}
-use Rattle.construction.specs.Types.{Announcement, Task, Card, Contents}
+use Rattle.construction.specs.Types.{Task, Card, Contents}
 use Rattle.construction.specs.Cells.{openAnnouncement}
-use Rattle.construction.specs.Numbers.{latestNumber}
+use Rattle.construction.specs.Numbers.{latestFinish}
 use Rattle.construction.specs.Instructions.{noProgram}
 use Rattle.construction.specs.Parts.{idleTask}
 use Rattle.construction.specs.Requests.{isIdle}
@@ -16,6 +16,7 @@ use Rattle.construction.specs.History.{Entry, Observation, opening, obse
 use Rattle.construction.proofs.Basics.{true-false, getD-replicate-same}
 use Rattle.construction.proofs.Text.Bounds.{Bounded, opened-bounded}
 use Rattle.construction.proofs.Simulating.Sequential.{Short}
+use Rattle.construction.proofs.Invariant.World.{resultOf}
 use Rattle.construction.proofs.Invariant.Cards.{firstWorld, inv-fresh}
 use Rattle.construction.proofs.Observing.Consistency.{Consistent, entry-kept}
 use Rattle.construction.specs.Machine.{accessOf}
@@ -31,7 +32,7 @@ short-code : (x : Contents) → Bounded x → (k : ℕ) → Short (x .variableCo
 short-code x B k = record { ends = omega (arith, B .lines k); light = B .weights k; some = B .some k }
 
 fresh-consistent : (x : Contents) → Bounded x → Consistent (fresh x) (opening (fresh x))
-unfolding fresh times hasReturned accessOf latestNumber
+unfolding fresh times hasReturned accessOf latestFinish
 fresh-consistent x B =
     record {
       world = firstWorld x;
@@ -46,7 +47,7 @@ fresh-consistent x B =
             known = λ k h. refl;
             unborn = λ k h. refl;
             single = tt;
-            last = λ j l d. ap (λ (a : Announcement). a .number) (getD-replicate-same 8 j openAnnouncement);
+            last = λ j l d. ap resultOf (getD-replicate-same 8 j openAnnouncement);
             own = λ j l b. absurd (true-false _ b (ap (λ (t : Task). not (isIdle (t .place))) (getD-replicate-same 8 j idleTask)));
           };
       text = refl;

@@ -17,11 +17,11 @@ use Rattle.construction.specs.Parts.{noOperation}
 use Rattle.construction.specs.History.{Invocation, Finish, History, hasCalled, latest, latestCall, turned, benchRun, withFinish, Return, Event, withResponse}
 use Rattle.construction.proofs.Basics.{on-set, true-false, ne-isDone}
 use Rattle.construction.proofs.Observing.Histories.{on-equal, chosen, passed, latest-below, latest-apart, agree-longer, caller-latest, latest-asked, turns, turned-same, turned-not, turned-one}
-use Rattle.construction.proofs.Invariant.World.{World, announcementIn, callIn, Result, noResult, resultIn, endingIn, WorldInvariant, asking, ending, Move}
+use Rattle.construction.proofs.Invariant.World.{World, announcementIn, callIn, Result, noResult, resultIn, resultOf, endingIn, WorldInvariant, asking, ending, Move}
 use Rattle.construction.proofs.Invariant.World.Move.{stay, ask, announce, leave, take, write, end, free}
 use Rattle.construction.proofs.Invariant.WorldKept.{announcements-set, ends-now}
 use Rattle.construction.specs.Linearizability.{times, finishOf, hasReturned, Numbered, Agrees, AllAgree, ReturnedOnce, UnderWay}
-use Rattle.construction.specs.Numbers.{callerOf, latestNumber}
+use Rattle.construction.specs.Numbers.{callerOf, latestFinish}
 
 -- the flag of process j is done
 abbrev pub doneIn : World → ℕ → Bool
@@ -34,6 +34,10 @@ requestOf x = record { program = x .program; inputs = x .inputs }
 -- what the order has to say of an operation with a result
 abbrev pub finishAs : ℕ → Result → Finish
 finishAs k r = record { operation = k; gate = r .number; yields = r .yields }
+
+-- what an operation in the order came to
+abbrev pub resultFrom : Finish → Result
+resultFrom f = record { number = f .gate; yields = f .yields }
 
 -- Process j has an operation under way, its latest taken call. That stands in the order once if it has ended,
 -- with its gate number and what the sequential run yields, and else not.
@@ -61,7 +65,7 @@ pub record Tracks (p : ℕ) (busy announced : ℕ → Bool) (w : World) (s : His
   pub known : (k : ℕ) → length (s .operations) ≤ k → times k (s .order) ≡ 0
   pub unborn : (k : ℕ) → length (s .operations) ≤ k → hasReturned k (s .returns) ≡ false
   pub own : (j : ℕ) → j < p → busy j ≡ true → Own (announced j) w s j
-  pub last : (j : ℕ) → j < p → doneIn w j ≡ true → announcementIn w j .number ≡ latestNumber (s .operations) (s .order) j
+  pub last : (j : ℕ) → j < p → doneIn w j ≡ true → resultOf (announcementIn w j) ≡ resultFrom (latestFinish (s .operations) (s .order) j)
 
 pub under-way : {ended : Bool} {call : Operation} {result : Result} {s : History} {j : ℕ} → Operating ended call result s j → UnderWay s j
 under-way O = record { called = O .asked; unreturned = O .unreturned }
@@ -165,7 +169,7 @@ tracks-calm {announced = announced} {w = w} {v} {s} C f T =
       single = T .single;
       last = λ j lt t.
           let e = C .kept j t in
-          ap (λ (a : Announcement). a .number) e ∙ T .last j lt (sym (ap (λ (a : Announcement). isDone (a .flag)) e) ∙ t);
+          ap resultOf e ∙ T .last j lt (sym (ap (λ (a : Announcement). isDone (a .flag)) e) ∙ t);
     }
 
 -- a move that finishes the operation of m, whose number the sequential run gives it too
@@ -217,7 +221,7 @@ module _
       })
 
   pub tracks-finished : announced m ≡ true → Tracks p busy announced (ending F w m) (withFinish o (w .gate .seq) m s)
-  unfolding times latestNumber
+  unfolding times latestFinish
   tracks-finished ann =
       record {
         words = ap (λ (e : Ending). e .words) same-run;
@@ -234,9 +238,12 @@ module _
         own = λ j l b. one j (ℕ-discrete j m) (T .own j l b);
         single = T .single;
         last = λ j l.
-            announcements-set G (λ x. isDone (x .flag) ≡ true → x .number ≡ latestNumber (s .operations) (withFinish o (w .gate .seq) m s .order) j)
-            m j _ lt (λ e _. rw e (sym (chosen _ m (w .gate .seq) (latestNumber (s .operations) (s .order) m) caller)))
-            (λ ne t. T .last j l t ∙ sym (passed _ j (w .gate .seq) (latestNumber (s .operations) (s .order) j) (λ q. ne (sym q ∙ caller))));
+            announcements-set G (λ x. isDone (x .flag) ≡ true → resultOf x ≡ resultFrom (latestFinish (s .operations) (withFinish o (w .gate .seq) m s .order) j))
+            m j _ lt
+            (λ e _. rw e
+            (ap (λ (x : Ending). record { number = w .gate .seq; yields = x .yields }) (sym same-run)
+            ∙ ap resultFrom (sym (chosen _ m _ (latestFinish (s .operations) (s .order) m) caller))))
+            (λ ne t. T .last j l t ∙ ap resultFrom (sym (passed _ j _ (latestFinish (s .operations) (s .order) j) (λ q. ne (sym q ∙ caller)))));
       }
     where
       one : (j : ℕ) → Dec (j ≡ m) → Own (announced j) w s j → Own (announced j) (ending F w m) (withFinish o (w .gate .seq) m s) j
@@ -306,7 +313,7 @@ module _
         unborn = λ k h. T .unborn k (omega arith);
         own = on-process (λ j. Own (announced′ j) (asking w i (requestOf x)) after j) (λ _. new) old;
         single = T .single;
-        last = λ j l t. T .last j l t ∙ sym (latest-asked x (s .operations) (s .order) j (T .known));
+        last = λ j l t. T .last j l t ∙ ap resultFrom (sym (latest-asked x (s .operations) (s .order) j (T .known)));
       }
     where
       after : History

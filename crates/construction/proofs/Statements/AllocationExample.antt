@@ -1,9 +1,11 @@
--- The theorem on hands is not empty (document 02, order 9): a card on which one process helps the other to take a cell, its premises proved and its
--- conclusions computed; and for each premise a card that breaks it alone, on which a cell comes into two hands.
+-- The theorem on hands is not empty (document 02, order 9): a card on which one process helps the other to take a cell, from the starting chain and
+-- again once both have given theirs back, its premises proved and its conclusions computed; and for each premise a card that breaks it alone, on
+-- which a cell comes into two hands.
 use Prim.Native.Nat.{ℕ}
 use mathlib.Core.Path.{_≡_, refl}
 use mathlib.Core.Bool.{true}
 use mathlib.Core.List.{List, [], _∷_, _++_}
+use lib.ListN.{getD}
 use Rattle.construction.specs.Types.{Card}
 use Rattle.construction.specs.Opening.{opened}
 use Rattle.construction.specs.Answers.{bytes}
@@ -34,12 +36,23 @@ by i a = record { process = i; action = a }
 abbrev text : List ℕ
 text = bytes "card,2,3,3,200\nvar,1\nvar,2\nvar,0\n" ++ body
 
--- process 1 announces its operation; process 0 helps it to finish before its own; then process 1 gives its cell back
+-- process 1 announces its operation; process 0 helps it to finish before its own; then each gives its cell back, process 1 first
+abbrev toGivenBack : List Entry
+toGivenBack = takes 1 ∷ takes 0 ∷ (steps 1 2 ++ (steps 0 28 ++ (steps 1 4 ++ (gives 1 1 ∷ (steps 1 15 ++ (gives 0 2 ∷ steps 0 16))))))
+
+-- both take a cell again: process 1 announces its operation and makes no other step; process 0 helps it to finish before its own
 abbrev entries : List Entry
-entries = takes 1 ∷ takes 0 ∷ (steps 1 2 ++ (steps 0 28 ++ (steps 1 4 ++ (gives 1 1 ∷ steps 1 15))))
+entries = toGivenBack ++ (takes 1 ∷ takes 0 ∷ (steps 1 2 ++ steps 0 28))
 
 abbrev card : Card
 card = opened text .card
+
+-- what is done until both have given back, and in all, newest first: process 1 is helped to cell 2, which process 0 gave back last, and process 0 gets cell 1
+abbrev untilBack : List Performed
+untilBack = by 0 (Action.Gave 2) ∷ by 1 (Action.Gave 1) ∷ by 0 (Action.Took 2) ∷ by 1 (Action.Took 1) ∷ []
+
+abbrev inAll : List Performed
+inAll = by 0 (Action.Took 1) ∷ by 1 (Action.Took 2) ∷ untilBack
 
 -- a chain that comes back to its first cell
 abbrev looped : List ℕ
@@ -63,12 +76,16 @@ pub record InBoth (t : List ℕ) (es : List Entry) : Type 0 where
   pub second : among 1 (hand (performed (opened t .card) es) 1) ≡ true
 
 pub record Computed : Type 0 where
-  pub actions : performed card entries ≡ by 1 (Action.Gave 1) ∷ by 0 (Action.Took 2) ∷ by 1 (Action.Took 1) ∷ []
-  -- what is in hand, what is free, and what was given back
-  pub own : hand (performed card entries) 0 ≡ 2 ∷ []
-  pub other : hand (performed card entries) 1 ≡ []
-  pub free : chain (wordsAfter (startWords card) (performed card entries)) ≡ 1 ∷ []
-  pub back : givenBack (performed card entries) ≡ 1 ∷ []
+  pub actions : performed card entries ≡ inAll
+  -- once both have given back: what is in hand, what is free, and what was given back, the last one first
+  pub own-empty : hand untilBack 0 ≡ []
+  pub other-empty : hand untilBack 1 ≡ []
+  pub free : chain (wordsAfter (startWords card) untilBack) ≡ 2 ∷ 1 ∷ []
+  pub back : givenBack untilBack ≡ 2 ∷ 1 ∷ []
+  -- at the end: each has the cell that the other gave back, and none is free
+  pub own : hand (performed card entries) 0 ≡ 1 ∷ []
+  pub other : hand (performed card entries) 1 ≡ 2 ∷ []
+  pub none : chain (wordsAfter (startWords card) (performed card entries)) ≡ []
   -- the chain with a repeat, the store to variable 0, the cell of another's hand: each leaves the other two premises
   pub repeated : chain (startWords (opened looped .card)) ≡ 1 ∷ 1 ∷ []
   pub stored : performed card takeStored ≡ by 1 (Action.Took 1) ∷ by 0 (Action.Stored 0 1) ∷ by 0 (Action.Took 1) ∷ []
@@ -83,7 +100,7 @@ performing : Unit {0}
 unfolding observing counting performedFrom performedAll operationAt
 performing = tt
 
-acted : performed card entries ≡ by 1 (Action.Gave 1) ∷ by 0 (Action.Took 2) ∷ by 1 (Action.Took 1) ∷ []
+acted : performed card entries ≡ inAll
 unfolding performing
 acted = refl
 
@@ -103,10 +120,13 @@ pub computed : Computed
 unfolding counting
 computed = record {
   actions = acted;
+  own-empty = refl;
+  other-empty = refl;
+  free = unfold reading in refl;
+  back = refl;
   own = rw acted;
   other = rw acted;
-  free = rw acted (unfold reading in refl);
-  back = rw acted;
+  none = rw acted (unfold reading in refl);
   repeated = unfold reading in refl;
   stored = acted-stored;
   foreign = acted-foreign;
@@ -118,10 +138,25 @@ chain-alone = (refl, (refl, tt))
 
 pub disciplined : Disciplined card entries
 unfolding counting
-disciplined = record { chain = chain-alone; touches = rw acted (tt, (tt, (tt, tt))); gives = rw acted (refl, (tt, (tt, tt))) }
+disciplined = record { chain = chain-alone; touches = rw acted (tt, (tt, (tt, (tt, (tt, (tt, tt)))))); gives = rw acted (tt, (tt, (refl, (refl, (tt, (tt, tt)))))) }
 
 pub allocating : Allocating card entries
 allocating = allocation text entries disciplined
+
+-- 'of the free cells given back the last one is the next taken', as the theorem says it of this card: whichever process takes a cell next, it is
+-- cell 2, which variable 0 holds; and then it is cell 1
+pub record Reused : Type 0 where
+  pub next : getD (wordsAfter (startWords card) untilBack) 0 0 ≡ 2
+  pub last : (i c : ℕ) → performed card entries ≡ by 0 (Action.Took 1) ∷ by i (Action.Took c) ∷ untilBack → c ≡ 2
+  pub other : (i c : ℕ) → performed card entries ≡ by i (Action.Took c) ∷ by 1 (Action.Took 2) ∷ untilBack → c ≡ 1
+
+pub reused : Reused
+unfolding counting
+reused = record {
+  next = allocating .hands (by 0 (Action.Took 1) ∷ by 1 (Action.Took 2) ∷ []) untilBack acted .next 2 (1 ∷ []) refl;
+  last = λ i c e. allocating .last (by 0 (Action.Took 1) ∷ []) untilBack i c 2 (1 ∷ []) e refl;
+  other = λ i c e. allocating .last [] (by 1 (Action.Took 2) ∷ untilBack) i c 1 [] e refl;
+}
 
 -- each premise broken alone
 pub loop-breaks : InBoth looped takeBoth

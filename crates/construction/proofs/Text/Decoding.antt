@@ -14,11 +14,11 @@ use Rattle.construction.proofs.Basics.{on-test, and-true, clash}
 use Rattle.construction.proofs.Text.Lines.{range-true}
 
 -- ---- what holds of each row of a table, and of a code past the last, holds of the row of every code
-abbrev Rows : (ℕ → CodeRow → Type 0) → List CodeRow → Type 0
+abbrev pub Rows : (ℕ → CodeRow → Type 0) → List CodeRow → Type 0
 Rows P [] = (k : ℕ) → P k noRow
 Rows P (r ∷ l) = P 0 r × Rows (λ k. P (suc k)) l
 
-rows-at : (P : ℕ → CodeRow → Type 0) (l : List CodeRow) → Rows P l → (k : ℕ) → P k (getD l k noRow)
+pub rows-at : (P : ℕ → CodeRow → Type 0) (l : List CodeRow) → Rows P l → (k : ℕ) → P k (getD l k noRow)
 rows-at P [] h k = h k
 rows-at P (r ∷ l) h zero = h .0
 rows-at P (r ∷ l) h (suc k) = rows-at (λ j. P (suc j)) l (h .1) k

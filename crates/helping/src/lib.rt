@@ -24,9 +24,8 @@ use dictionary::with_bit;
 ghost use mathlib.Core.Path.{_≡_};
 ghost use Prim.Native.Nat.{_≤_};
 ghost use lib.ListN.{take};
-ghost use Rattle.construction.specs.Machine.{helps, beginHelp, note, writing};
+ghost use Rattle.construction.specs.Machine.{writeTask, pauseTask, helps, beginHelp, note, writing};
 ghost use Rattle.helping.specs.Numbers.{keys, values};
-ghost use Rattle.helping.specs.Pauses.{writeTask, pauseTask};
 
 // The variables and the values of items.
 struct Numbers {

@@ -25,8 +25,7 @@ fn find(keys: &[u8; 32], end: u8, variable: u8) -> u8
 {
     let mut k: u8 = 0;
     while k < end {
-        let at = k as usize;
-        if keys[at] == variable {
+        if keys[k as usize] == variable {
             return k;
         }
         k = k + 1;
@@ -60,8 +59,7 @@ pub(crate) fn simulate(
     let mut fuel: u8 = 32;
     while 0 < fuel {
         fuel = fuel - 1;
-        let at = (s.counter % 32) as usize;
-        let line = program.lines[at];
+        let line = program.lines[(s.counter % 32) as usize];
         let effect = next_effect(n, program.length, line, inputs, s);
         match effect {
             Effect::Stop => return Paused {

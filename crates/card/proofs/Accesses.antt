@@ -16,8 +16,7 @@ use Rattle.construction.specs.Instructions.{noProgram}
 use Rattle.construction.specs.Dictionary.{empty}
 use Rattle.construction.specs.Parts.{Local, idleTask, localAt, withCells, withGate, withOwn, withLocal, withSteps}
 use Rattle.construction.specs.Machine.{accessOf, accessIn, after, accessGate, accessAnnouncement, whose, holderOf, beginHelp, note, writing, write, writtenVariable, perform, advance}
-use Rattle.construction.specs.Requests.{invoked, exiting}
-use Rattle.requests.specs.Judging.{stepAnswer}
+use Rattle.construction.specs.Requests.{invoked, exiting, stepAnswer}
 use Rattle.card.proofs.Arrays.{Rooms, found}
 use Rattle.card.proofs.Requests.{steppedAt}
 

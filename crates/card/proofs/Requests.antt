@@ -7,16 +7,14 @@ use native.Mathlib.Omega.{arith}
 use lib.Dec.{ltb}
 use lib.ListN.{length, getD}
 use borrow.Author.Tests.{ltb-true, not-false}
-use Rattle.construction.specs.declared.{Holder.Holder, Words.Words, Announcement.Announcement, Task.Task, Card.Card, Refusal.Refusal, Answer.Answer, Answered.Answered}
-use Rattle.construction.specs.declared.Holder.the-variants.{Nobody, Process}
+use Rattle.construction.specs.declared.{Words.Words, Announcement.Announcement, Task.Task, Card.Card, Refusal.Refusal, Answer.Answer, Answered.Answered}
 use Rattle.construction.specs.declared.Refusal.the-variants.{NoProcess, NoProgram, Busy, NotBusy, NoPlace, LimitReached}
 use Rattle.construction.specs.Cells.{openAnnouncement}
-use Rattle.construction.specs.Parts.{idleTask, announcementAt, recordAt, localAt, withLocal}
+use Rattle.construction.specs.Parts.{idleTask, recordAt, localAt, withLocal}
 use Rattle.construction.specs.Machine.{holderOf, advance}
-use Rattle.construction.specs.Requests.{isProcess, isProgram, isIdle, refused, invoked, exiting, answerOf, isVariable, isPending, valueOf, call, requestExit, step, read}
+use Rattle.construction.specs.Requests.{isProcess, isProgram, isIdle, refused, invoked, exiting, answerOf, isVariable, shown, valueOf, call, requestExit, step, read}
 use Rattle.construction.specs.Answers.{isRefused}
 use Rattle.requests.specs.Judging.{judged, callJudged, exitJudged, stepJudged}
-use Rattle.requests.specs.Reading.{pending, shown}
 use Rattle.card.proofs.Arrays.{found}
 
 -- a step that was accepted
@@ -132,10 +130,6 @@ module _ (c : Card) (i : ℕ) where
         e ∙ rw (p .first, p .next, p .last, mod-eq-of-lt (in-room i (c .processCount) 8 (p .first)))
 
 -- a read by the pieces that it looks at
-holder-pends : (c : Card) (h : Holder) → pending h (announcementAt c (holderOf h)) ≡ isPending c h
-holder-pends c Nobody = refl
-holder-pends c (Process m) = refl
-
 module _ (c : Card) (v : ℕ) (b : Bool) (told : b ≡ isVariable c v) where
   pub read-refused : not b ≡ true → record { card = c; answer = Answer.Refused NoPlace } ≡ read c v
   unfolding read
@@ -150,4 +144,4 @@ module _ (c : Card) (v : ℕ) (b : Bool) (told : b ≡ isVariable c v) where
       (x : ℕ) → x ≡ shown (c .gate) a (recordAt c v) → record { card = c; answer = Answer.Value x } ≡ read c v
   unfolding read valueOf
   read-shown h full m em a ea x ex =
-      rw (← told, h, ex, found (c .announcements) 8 full m openAnnouncement openAnnouncement a ea, em, holder-pends c (c .gate .holder))
+      rw (← told, h, ex, found (c .announcements) 8 full m openAnnouncement openAnnouncement a ea, em)

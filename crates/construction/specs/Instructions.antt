@@ -61,7 +61,7 @@ effectOf n inputs r (Instruction.Output a b) = Effect.Output a (word r b)
 effectOf n inputs r (Instruction.Allocate a) = Effect.Allocate a
 effectOf n inputs r (Instruction.Free a) = free n (word r a)
 
--- the place after the next one and c more; past the end it stands at the end
+-- the place after the next one and c more, at most the end of the room for a program
 unfoldable pub forward : ℕ → ℕ → ℕ
 forward k c = min 32 (suc (k + c))
 
@@ -100,9 +100,29 @@ noProgram = record { length = 0; lines = replicate 32 noLine }
 unfoldable pub fetch : Program → ℕ → Instruction
 fetch program k = cond (ltb k (program .length)) (getD (program .lines) k noLine .instruction) Instruction.Stop
 
--- what the instruction at the counter does
+-- an instruction with so many behind it: 'a skip past the end stands at the end' (document 02, order 5)
+abbrev pub shortened : ℕ → Instruction → Instruction
+shortened remaining Instruction.Stop = Instruction.Stop
+shortened remaining (Instruction.Input a b) = Instruction.Input a b
+shortened remaining (Instruction.Constant a b) = Instruction.Constant a b
+shortened remaining (Instruction.Load a v) = Instruction.Load a v
+shortened remaining (Instruction.Store v b) = Instruction.Store v b
+shortened remaining (Instruction.LoadAt a b) = Instruction.LoadAt a b
+shortened remaining (Instruction.StoreAt a b) = Instruction.StoreAt a b
+shortened remaining (Instruction.Add a b) = Instruction.Add a b
+shortened remaining (Instruction.Subtract a b) = Instruction.Subtract a b
+shortened remaining (Instruction.SkipEqual a b c) = Instruction.SkipEqual a b (min c remaining)
+shortened remaining (Instruction.SkipLess a b c) = Instruction.SkipLess a b (min c remaining)
+shortened remaining (Instruction.Output a b) = Instruction.Output a b
+shortened remaining (Instruction.Allocate a) = Instruction.Allocate a
+shortened remaining (Instruction.Free a) = Instruction.Free a
+
+-- the instruction at the counter, and what it does
+abbrev pub nextInstruction : Program → ℕ → Instruction
+nextInstruction program k = shortened (program .length - suc k) (fetch program k)
+
 abbrev pub nextEffect : ℕ → Program → Words → Simulation → Effect
-nextEffect n program inputs s = effectOf n inputs (s .registers) (fetch program (s .counter))
+nextEffect n program inputs s = effectOf n inputs (s .registers) (nextInstruction program (s .counter))
 
 -- a number from low to high
 abbrev pub inRange : ℕ → ℕ → ℕ → Bool

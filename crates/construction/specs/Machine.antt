@@ -147,18 +147,24 @@ accessAnnouncement AnnouncementAccess.ReadFirst m cell operation g a y task =
 accessAnnouncement (AnnouncementAccess.Finish flag next) m cell operation g a y task =
     replaceAnnouncement cell a task (flagged a flag) (finished a g y) next
 
--- lines H31 and H32: the next write from item k on, or P19
-abbrev pub writeFrom : ℕ → Dictionary → ℕ → Task
-writeFrom number d k =
-    cond (ltb (nextWrite number d k) (length (noted d)))
-    (record { place = H36; target = nextWrite number d k })
-    (record { place = P19; target = 0 })
+-- lines H31 and H32: the write of item `next` of so many, or P19 past the last; ..
+abbrev pub writeTask : ℕ → ℕ → Task
+writeTask next end = cond (ltb next end) (record { place = H36; target = next }) (record { place = P19; target = 0 })
 
--- a simulation that lacks a variable reads its record; one that ended writes what it altered; one that ended as a fault writes nothing
+-- .. the next write from item k on
+abbrev pub writeFrom : ℕ → Dictionary → ℕ → Task
+writeFrom number d k = writeTask (nextWrite number d k) (length (noted d))
+
+-- a simulation that lacks a variable reads its record; one that ended writes what it altered, from item `next` of so many on; one that ended as
+-- a fault writes nothing; ..
+abbrev pub pauseTask : Pause → ℕ → ℕ → Task
+pauseTask Ended next end = writeTask next end
+pauseTask Faulted next end = record { place = P19; target = 0 }
+pauseTask (Lacks v) next end = record { place = H21; target = v }
+
+-- .. with its dictionary
 abbrev pub afterPause : ℕ → Dictionary → Pause → Task
-afterPause number d Ended = writeFrom number d 0
-afterPause number d Faulted = record { place = P19; target = 0 }
-afterPause number d (Lacks v) = record { place = H21; target = v }
+afterPause number d p = pauseTask p (nextWrite number d 0) (length (noted d))
 
 -- a helper goes on as its simulation stands
 abbrev pub helped : ℕ → Simulated → ℕ → Helped
@@ -212,14 +218,19 @@ accessIn l = accessOf (l .task .place) (l .exit)
 abbrev pub writtenVariable : Local → ℕ
 writtenVariable l = writing (l .gate .seq) (l .task) (l .dictionary) .item .variable
 
--- the cell that an access touches: at P16 the announcement of the gate's holder, at H21 the record that the simulation lacks, at H36 that of the item in turn
+-- the cell that an access touches: at P16 the announcement of the gate's holder, at H21 the record that the simulation lacks, at H36 that of the item in turn;
+-- of p processes, process i that last read the gate g, with the variables of H21 and H36; ..
+abbrev pub cellBy : Access → ℕ → ℕ → Gate → ℕ → ℕ → Cell
+cellBy Access.None p i g lacking written = Cell.None
+cellBy (Access.Gate a) p i g lacking written = Cell.Gate
+cellBy (Access.Announcement a) p i g lacking written = Cell.Announcement (whose a p i g)
+cellBy Access.Help p i g lacking written = Cell.Announcement (holderOf (g .holder))
+cellBy Access.Note p i g lacking written = Cell.Record lacking
+cellBy Access.Write p i g lacking written = Cell.Record written
+
+-- .. with its own state
 abbrev pub cellOf : Access → Contents → ℕ → Local → Cell
-cellOf Access.None t i l = Cell.None
-cellOf (Access.Gate a) t i l = Cell.Gate
-cellOf (Access.Announcement a) t i l = Cell.Announcement (whose a (t .processCount) i (l .gate))
-cellOf Access.Help t i l = Cell.Announcement (holderOf (l .gate .holder))
-cellOf Access.Note t i l = Cell.Record (l .task .target)
-cellOf Access.Write t i l = Cell.Record (writtenVariable l)
+cellOf a t i l = cellBy a (t .processCount) i (l .gate) (l .task .target) (writtenVariable l)
 
 -- a process after an access: it goes on with its task, the gate and the announcement last read, its simulation, its dictionary and the set of
 -- the variables noted there, and the step is counted as its own, in 64 bits

@@ -2,10 +2,10 @@
 use Prim.Native.Nat.{ℕ}
 use mathlib.Core.Bool.{Bool, true, false, cond, not, _&&_}
 use lib.Dec.{eqb, ltb}
-use Rattle.construction.specs.Types.{Holder, Nobody, Process, Flag, Done, Active, Exit, Words, Announcement, Place, P1, Access, Card, Refusal, NoProcess, NoProgram, Busy, NotBusy, NoPlace, LimitReached, Answer, Answered}
+use Rattle.construction.specs.Types.{Holder, Nobody, Process, Gate, Flag, Done, Active, Exit, Words, Announcement, Record, Place, P1, Access, Card, Refusal, NoProcess, NoProgram, Busy, NotBusy, NoPlace, LimitReached, Answer, Answered}
 use Rattle.construction.specs.Cells.{yieldOf, isDone, current, previous}
 use Rattle.construction.specs.Parts.{Local, localAt, announcementAt, recordAt, withLocal}
-use Rattle.construction.specs.Machine.{accessOf, advance}
+use Rattle.construction.specs.Machine.{accessOf, holderOf, advance}
 
 -- a card has room for 8 processes, 8 programs and 64 variables
 abbrev pub isProcess : Card → ℕ → Bool
@@ -93,10 +93,13 @@ returned a Done steps = Answer.Done (a .number) (yieldOf a) steps
 returned a Active steps = Answer.Done (a .number) (yieldOf a) steps
 returned a Exit steps = Answer.Exited steps
 
--- 'Returning is local work of the last access'
+-- 'Returning is local work of the last access': the answer to a step, by the place after it, the announcement last read and the own steps; ..
+abbrev pub stepAnswer : Place → Announcement → ℕ → Answer
+stepAnswer place a steps = cond (isIdle place) (returned a (a .flag) steps) Answer.Run
+
+-- .. of a process
 abbrev pub answerOf : Local → Answer
-answerOf l =
-    cond (isIdle (l .task .place)) (returned (l .announcement) (l .announcement .flag) (l .steps)) Answer.Run
+answerOf l = stepAnswer (l .task .place) (l .announcement) (l .steps)
 
 -- step: refusals 5, 8, 10
 unfoldable pub step : Card → ℕ → Answered
@@ -106,16 +109,22 @@ step c i =
     (cond (not (ltb (c .steps) (c .limit))) (refused c LimitReached)
     (record { card = advance c i; answer = answerOf (localAt (advance c i) i) })))
 
--- the gate has a holder whose flag is not done
-abbrev pub isPending : Card → Holder → Bool
-isPending c Nobody = false
-isPending c (Process m) = not (isDone (announcementAt c m .flag))
+-- the gate has a holder whose flag is not done: by the announcement of that holder
+abbrev pub pending : Holder → Announcement → Bool
+pending Nobody a = false
+pending (Process m) a = not (isDone (a .flag))
 
--- 'Look shows variable v: val[1 - toggle] if the gate has a holder whose flag is not done and v's record has the gate's seq; otherwise val[toggle].'
+abbrev pub unfinished : Gate → Announcement → Record → Bool
+unfinished g a r = pending (g .holder) a && eqb (r .seq) (g .seq)
+
+-- 'Look shows variable v: val[1 - toggle] if the gate has a holder whose flag is not done and v's record has the gate's seq; otherwise val[toggle]',
+-- by the gate, the announcement of its holder and v's record; ..
+abbrev pub shown : Gate → Announcement → Record → ℕ
+shown g a r = cond (unfinished g a r) (previous r) (current r)
+
+-- .. on a card
 unfoldable pub valueOf : Card → ℕ → ℕ
-valueOf c v =
-    cond (isPending c (c .gate .holder) && eqb (recordAt c v .seq) (c .gate .seq))
-    (previous (recordAt c v)) (current (recordAt c v))
+valueOf c v = shown (c .gate) (announcementAt c (holderOf (c .gate .holder))) (recordAt c v)
 
 -- read: refusal 9
 unfoldable pub read : Card → ℕ → Answered

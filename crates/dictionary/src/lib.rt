@@ -44,8 +44,7 @@ pub fn insert(dictionary: Dictionary, item: Item) -> Dictionary
     let mut d = dictionary;
     let length = d.length;
     if length < 32 {
-        let at = length as usize;
-        d.items[at] = item;
+        d.items[length as usize] = item;
         d.length = length + 1;
     }
     d
@@ -76,8 +75,7 @@ pub fn next_write(seq: u64, dictionary: Dictionary, from: u8) -> u8
     let end = noted(dictionary.length);
     let mut k = from;
     while k < end {
-        let at = k as usize;
-        let item = dictionary.items[at];
+        let item = dictionary.items[k as usize];
         if altered(seq, item) {
             return k;
         }

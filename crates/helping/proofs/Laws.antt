@@ -1,5 +1,5 @@
 -- The simulation by the tests that decide it, over plain values
-use Prim.Native.Nat.{ℕ, zero, suc, _+_, _%_, _<_, _≤_}
+use Prim.Native.Nat.{ℕ, zero, suc, _+_, _-_, _%_, _<_, _≤_}
 use mathlib.Core.Bool.{Bool, true, false, not}
 use mathlib.Core.Logic.{⊎-elim}
 use mathlib.Core.List.{List, [], _∷_, map}
@@ -10,8 +10,8 @@ use lib.Dec.{eqb, leb, ltb}
 use lib.ListN.{length, getD, set, take, drop, length-take, length-set, length-map, drop-of-length-le}
 use lib.Seq.{set-getD, drop-cons, getD-take, map-set-same, length-take-le, take-set-lt}
 use borrow.Author.Tests.{eq-eqb, ne-eqb, lt-ltb, le-ltb, eqb-true, leb-true, leb-false, not-true}
-use Rattle.construction.specs.declared.{Words.Words, Program.Program, Effect.Effect, Item.Item, Dictionary.Dictionary, Simulation.Simulation, Simulated.Simulated}
-use Rattle.construction.specs.Instructions.{isCell, effectOf, noLine, nextEffect, withRegister, withOutput, skipped, faulted}
+use Rattle.construction.specs.declared.{Words.Words, Instruction.Instruction, Program.Program, Effect.Effect, Item.Item, Dictionary.Dictionary, Simulation.Simulation, Simulated.Simulated}
+use Rattle.construction.specs.Instructions.{isCell, effectOf, noLine, shortened, nextEffect, withRegister, withOutput, skipped, faulted}
 use Rattle.programs.specs.Fetching.{instructionAt}
 use Rattle.programs.proofs.Laws.{fetched}
 use Rattle.programs.specs.Cells.{isAstray}
@@ -348,9 +348,10 @@ module _ {n : ℕ} {program : Program} {inputs : Words} {total : Simulated} {ks 
 -- the effect by the line at the counter
 pub effect-is :
     (n : ℕ) (program : Program) (inputs : Words) (s : Simulation) (e : Effect) → length (program .lines) ≡ 32 →
-    e ≡ effectOf n inputs (s .registers) (instructionAt (program .length) (s .counter) (getD (program .lines) (s .counter % 32) noLine)) →
+    e ≡ effectOf n inputs (s .registers) (shortened (program .length - suc (s .counter)) (instructionAt (program .length) (s .counter) (getD (program .lines) (s .counter % 32) noLine))) →
     e ≡ nextEffect n program inputs s
-effect-is n program inputs s e z p = p ∙ ap (effectOf n inputs (s .registers)) (fetched program (s .counter) z)
+effect-is n program inputs s e z p =
+    p ∙ ap (λ (i : Instruction). effectOf n inputs (s .registers) (shortened (program .length - suc (s .counter)) i)) (fetched program (s .counter) z)
 
 -- where the loop begins and ends
 module _ (n : ℕ) (program : Program) (inputs : Words) (s : Simulation) (d : Dictionary) where

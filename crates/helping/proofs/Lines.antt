@@ -14,10 +14,9 @@ use Rattle.construction.specs.Instructions.{started}
 use Rattle.construction.specs.Dictionary.{noItem, empty, noted, itemOf, insert, nextWrite, unaltered}
 use Rattle.construction.specs.Marks.{withBit}
 use Rattle.construction.specs.Helping.{simulate}
-use Rattle.construction.specs.Machine.{goTo, writeFrom, afterPause, helps, beginHelp, note, writing}
+use Rattle.construction.specs.Machine.{goTo, writeTask, pauseTask, afterPause, helps, beginHelp, note, writing}
 use Rattle.helping.specs.declared.simulation.Paused.{Paused}
 use Rattle.helping.specs.Numbers.{withValues, Numbered, standing}
-use Rattle.helping.specs.Pauses.{writeTask, pauseTask}
 use Rattle.helping.proofs.Laws as laws
 
 -- a program that starts has nothing to write yet
@@ -65,7 +64,7 @@ module _ (n : ℕ) (program : Program) (inputs : Words) (cell : Record) (number 
       _≡_ {A = Helped} (record { task = t; simulation = r .simulation; dictionary = d₁; mask = more }) (note n program inputs cell number task s d mask)
   unfolding note
   noted-on p e ee d₀ ed {end = end} h after r er d₁ e₁ next en t et more em =
-      rw (le-ltb _ _ p, ← ee, ← ed, er, ← e₁, et, em, goes-on number d₁ (r .pause) next end en (rw e₁ (laws.keyed h (take end after) .0)))
+      rw (le-ltb _ _ p, ← ee, ← ed, er, et, em, goes-on number d₁ (r .pause) next end en (rw e₁ (laws.keyed h (take end after) .0)), e₁)
 
 module _ (number : ℕ) (task : Task) (d : Dictionary) (full : length (d .items) ≡ 32) where
   pub written :

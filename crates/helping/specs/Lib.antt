@@ -1,3 +1,2 @@
 -- The definitions that the contracts of helping add to those of construction
 pub mod Numbers
-pub mod Pauses

@@ -24,9 +24,8 @@ use dictionary::with_bit;
 ghost use mathlib.Core.Path.{_≡_};
 ghost use Prim.Native.Nat.{_≤_};
 ghost use lib.ListN.{take};
-ghost use Rattle.construction.specs.Machine.{helps, beginHelp, note, writing};
+ghost use Rattle.construction.specs.Machine.{writeTask, pauseTask, helps, beginHelp, note, writing};
 ghost use Rattle.helping.specs.Numbers.{keys, values};
-ghost use Rattle.helping.specs.Pauses.{writeTask, pauseTask};
 
 // The variables and the values of items.
 struct Numbers {
@@ -127,9 +126,8 @@ fn numbers_of(dictionary: Dictionary, end: u8) -> Numbers
     let mut values = [0u32; 32];
     let mut k: u8 = 0;
     while k < end {
-        let at = k as usize;
-        keys[at] = dictionary.items[at].variable;
-        values[at] = dictionary.items[at].value;
+        keys[k as usize] = dictionary.items[k as usize].variable;
+        values[k as usize] = dictionary.items[k as usize].value;
         k = k + 1;
     }
     Numbers { keys, values }
@@ -172,8 +170,7 @@ pub fn note(
     let state = paused.simulation;
     let mut k: u8 = 0;
     while k < end {
-        let at = k as usize;
-        d.items[at].value = values[at];
+        d.items[k as usize].value = values[k as usize];
         k = k + 1;
     }
     let next = next_write(number, d, 0);
@@ -189,10 +186,10 @@ pub fn note(
 pub fn writing(number: u64, task: Task, dictionary: Dictionary) -> Writing
     ensures { λ r. ⌜ r ≡ writing number task dictionary ⌝ }
 {
-    let at = task.target as usize;
-    if at < 32 {
-        let item = dictionary.items[at];
-        let next = next_write(number, dictionary, task.target + 1);
+    let target = task.target;
+    if target < 32 {
+        let item = dictionary.items[target as usize];
+        let next = next_write(number, dictionary, target + 1);
         return Writing {
             item,
             task: write_from(next, noted(dictionary.length)),

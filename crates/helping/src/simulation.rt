@@ -6,9 +6,9 @@ use construction::Program;
 use construction::Simulation;
 use construction::Words;
 ghost use mathlib.Core.Path.{_≡_};
-ghost use Rattle.construction.specs.Instructions.{effectOf};
+ghost use Rattle.construction.specs.Instructions.{effectOf, shortened};
 ghost use Rattle.programs.specs.Fetching.{instructionAt};
-ghost use Prim.Native.Nat.{_≤_};
+ghost use Prim.Native.Nat.{suc, _-_, _≤_};
 ghost use lib.ListN.{length, take};
 ghost use Rattle.helping.specs.Numbers.{placeOf, Runs};
 
@@ -25,8 +25,7 @@ fn find(keys: &[u8; 32], end: u8, variable: u8) -> u8
 {
     let mut k: u8 = 0;
     while k < end {
-        let at = k as usize;
-        if keys[at] == variable {
+        if keys[k as usize] == variable {
             return k;
         }
         k = k + 1;
@@ -36,11 +35,12 @@ fn find(keys: &[u8; 32], end: u8, variable: u8) -> u8
 
 // What the instruction at the counter does, given the line that stands there in a program of this length.
 fn next_effect(n: u8, length: u8, line: Line, inputs: Words, simulation: Simulation) -> Effect
-    ensures { λ r. ⌜ r ≡ effectOf n inputs (simulation .registers) (instructionAt length (simulation .counter) line) ⌝ }
+    ensures { λ r. ⌜ r ≡ effectOf n inputs (simulation .registers) (shortened (length - suc (simulation .counter)) (instructionAt length (simulation .counter) line)) ⌝ }
 {
     let registers = simulation.registers;
+    let remaining = programs::remaining_after(length, simulation.counter);
     let instruction = programs::instruction_at(length, simulation.counter, line);
-    programs::effect_of(n, inputs, registers, instruction)
+    programs::effect_of(n, inputs, registers, remaining, instruction)
 }
 
 // Lines H7 and H20 to H30: the program runs until it ends, or ends as a fault, or lacks a variable.
@@ -60,8 +60,7 @@ pub(crate) fn simulate(
     let mut fuel: u8 = 32;
     while 0 < fuel {
         fuel = fuel - 1;
-        let at = (s.counter % 32) as usize;
-        let line = program.lines[at];
+        let line = program.lines[(s.counter % 32) as usize];
         let effect = next_effect(n, program.length, line, inputs, s);
         match effect {
             Effect::Stop => return Paused {

@@ -10,7 +10,8 @@ use construction::Words;
 use construction::Yield;
 ghost use mathlib.Core.Path.{_≡_};
 ghost use mathlib.Core.Bool.{cond};
-ghost use Rattle.construction.specs.Instructions.{word, withWord, sum, difference, load, store, isCell, free, effectOf};
+ghost use Prim.Native.Nat.{suc, _-_, min};
+ghost use Rattle.construction.specs.Instructions.{word, withWord, sum, difference, load, store, isCell, free, effectOf, shortened};
 ghost use Rattle.programs.specs.Cells.{isAstray};
 ghost use Rattle.programs.specs.Fetching.{instructionAt};
 ghost use Rattle.construction.specs.Instructions.{forward, withRegister, withOutput, skipped, faulted};
@@ -110,11 +111,19 @@ pub fn free(n: u8, number: u32) -> Effect
     Effect::Fault
 }
 
-fn skip_if(test: bool, count: u8) -> Effect
-    ensures { λ r. ⌜ r ≡ Effect.Skip (cond test count 0) ⌝ }
+// The lesser of two counts.
+fn least(x: u8, y: u8) -> u8
+    ensures { λ r. ⌜ r ≡ min x y ⌝ }
+{
+    if x < y { x } else { y }
+}
+
+// A skip by a test, of at most the instructions that are left.
+fn skip_if(test: bool, count: u8, remaining: u8) -> Effect
+    ensures { λ r. ⌜ r ≡ Effect.Skip (cond test (min count remaining) 0) ⌝ }
 {
     Effect::Skip {
-        count: if test { count } else { 0 },
+        count: if test { least(count, remaining) } else { 0 },
     }
 }
 
@@ -124,9 +133,9 @@ fn set(register: u8, value: u32) -> Effect
     Effect::Set { register, value }
 }
 
-// What an instruction does on a card of n variables, with the registers r.
-pub fn effect_of(n: u8, inputs: Words, r: Words, instruction: Instruction) -> Effect
-    ensures { λ e. ⌜ e ≡ effectOf n inputs r instruction ⌝ }
+// What an instruction does on a card of n variables, with the registers r and so many instructions behind it.
+pub fn effect_of(n: u8, inputs: Words, r: Words, remaining: u8, instruction: Instruction) -> Effect
+    ensures { λ e. ⌜ e ≡ effectOf n inputs r (shortened remaining instruction) ⌝ }
 {
     match instruction {
         Instruction::Stop => Effect::Stop,
@@ -147,10 +156,12 @@ pub fn effect_of(n: u8, inputs: Words, r: Words, instruction: Instruction) -> Ef
         Instruction::SkipEqual { left, right, skip } => skip_if(
             word(r, left) == word(r, right),
             skip,
+            remaining,
         ),
         Instruction::SkipLess { left, right, skip } => skip_if(
             word(r, left) < word(r, right),
             skip,
+            remaining,
         ),
         Instruction::Output { output, register } => Effect::Output {
             output,
@@ -233,6 +244,17 @@ pub fn faulted(simulation: Simulation) -> Simulation
             },
             fault: true,
         },
+    }
+}
+
+// How many instructions of a program of this length stand behind the one at a place.
+pub fn remaining_after(length: u8, counter: u8) -> u8
+    ensures { λ r. ⌜ r ≡ length - suc counter ⌝ }
+{
+    if counter < length {
+        length - counter - 1
+    } else {
+        0
     }
 }
 

@@ -69,8 +69,7 @@ pub fn weight(program: Program) -> u8
     let mut total: u8 = 0;
     let mut k: u8 = 0;
     while k < 32 {
-        let at = k as usize;
-        let line = program.lines[at];
+        let line = program.lines[k as usize];
         let instruction = instruction_at(program.length, k, line);
         total = total + weight_of(instruction);
         k = k + 1;
@@ -86,8 +85,7 @@ pub fn heaviest(programs: [Program; 8]) -> u8
     let mut k: u8 = 8;
     while 0 < k {
         k = k - 1;
-        let at = k as usize;
-        let program = programs[at];
+        let program = programs[k as usize];
         let one = weight(program);
         if most < one {
             most = one;

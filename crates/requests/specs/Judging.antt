@@ -1,10 +1,12 @@
--- Whether a request is taken, by numbers and the place of its process: refusals 5 to 8 and 10 in their order
+-- Whether a request is taken, by numbers and the place of its process: refusals 5 to 8 and 10 in their order. These are the tests of `call`,
+-- `requestExit` and `step` of construction without the card that those give: the functions that judge have none. `call-refused`, `call-taken` and
+-- their like for the others (card/proofs/Requests) say that the two agree.
 use Prim.Native.Nat.{ℕ}
 use mathlib.Core.Bool.{Bool, cond, not, _&&_}
 use lib.Dec.{ltb}
-use Rattle.construction.specs.declared.{Announcement.Announcement, Place.Place, Refusal.Refusal, Answer.Answer}
+use Rattle.construction.specs.declared.{Place.Place, Refusal.Refusal, Answer.Answer}
 use Rattle.construction.specs.declared.Refusal.the-variants.{NoProcess, NoProgram, Busy, NotBusy, LimitReached}
-use Rattle.construction.specs.Requests.{isIdle, returned}
+use Rattle.construction.specs.Requests.{isIdle}
 
 -- the first of three tests that fails gives its refusal
 abbrev pub judged : Bool → Refusal → Bool → Refusal → Bool → Refusal → Answer
@@ -22,7 +24,3 @@ exitJudged i p place =
 abbrev pub stepJudged : ℕ → ℕ → Place → ℕ → ℕ → Answer
 stepJudged i p place steps limit =
     judged (ltb i p && ltb i 8) NoProcess (not (isIdle place)) NotBusy (ltb steps limit) LimitReached
-
--- the answer to a step that was taken: `answerOf` of a process, by its place, the announcement last read and its own steps
-abbrev pub stepAnswer : Place → Announcement → ℕ → Answer
-stepAnswer place a steps = cond (isIdle place) (returned a (a .flag) steps) Answer.Run

@@ -9,7 +9,8 @@ use machine::places::is_idle;
 ghost use mathlib.Core.Path.{_≡_};
 ghost use mathlib.Core.Bool.{_&&_};
 ghost use lib.Dec.{ltb};
-ghost use Rattle.requests.specs.Judging.{callJudged, exitJudged, stepJudged, stepAnswer};
+ghost use Rattle.construction.specs.Requests.{stepAnswer};
+ghost use Rattle.requests.specs.Judging.{callJudged, exitJudged, stepJudged};
 
 // Whether a number is below a count and below the room for it.
 pub fn is_below(number: u32, count: u8, room: u32) -> bool

@@ -4,7 +4,7 @@ use construction::Gate;
 use construction::Holder;
 use construction::Record;
 ghost use mathlib.Core.Path.{_≡_};
-ghost use Rattle.requests.specs.Reading.{pending, unfinished, shown};
+ghost use Rattle.construction.specs.Requests.{pending, unfinished, shown};
 
 // Whether the gate has a holder, whose announcement this is and is not done.
 fn is_pending(holder: Holder, announcement: Announcement) -> bool

@@ -8,17 +8,17 @@ use native.Mathlib.Omega.{arith}
 use lib.Dec.{ltb}
 use lib.ListN.{getD}
 use Rattle.opening.proofs.Laws.{inside}
-use Rattle.construction.specs.declared.{Announcement.Announcement, Record.Record, Access.Access, Cell.Cell, Swap.Swap, Writing.Writing, Card.Card, Refusal.Refusal, Answered.Answered, Label.Label, Report.Report, Traced.Traced, Contents.Contents}
+use Rattle.construction.specs.declared.{Announcement.Announcement, Record.Record, Access.Access, Cell.Cell, Swap.Swap, Writing.Writing, Card.Card, Refusal.Refusal, Answered.Answered, Label.Label, Report.Report, Traced.Traced}
 use Rattle.construction.specs.declared.Refusal.the-variants.{NoProcess, NotBusy, LimitReached}
 use Rattle.construction.specs.Cells.{openAnnouncement, openRecord}
 use Rattle.construction.specs.Dictionary.{empty}
-use Rattle.construction.specs.Parts.{noGate, contentsOf, announcementAt, recordAt, Local, localAt}
-use Rattle.construction.specs.Machine.{accessOf, accessIn, cellOf, writing, writtenVariable, perform, advance, swapOf}
+use Rattle.construction.specs.Parts.{noGate, contentsOf, announcementAt, recordAt, localAt}
+use Rattle.construction.specs.Machine.{accessOf, accessIn, cellBy, cellOf, writing, perform, advance, swapOf}
 use Rattle.construction.specs.OneAccess.{touchedCell}
 use Rattle.construction.specs.Requests.{isProcess, isIdle, refused, step}
 use Rattle.construction.specs.Answers.{isRefused}
 use Rattle.construction.specs.Tracing.{labelOf, reportWith, reportOf, noReport, trace}
-use Rattle.tracing.specs.Pieces.{cellBy, announcementIn, recordIn, swapBy}
+use Rattle.tracing.specs.Pieces.{announcementIn, recordIn, swapBy}
 use Rattle.card.proofs.Arrays.{Rooms, found}
 use Rattle.card.proofs.Requests.{steppedAt, in-room}
 
@@ -39,18 +39,8 @@ accepted c i h =
     let p = unrefused c NoProcess NotBusy LimitReached (isProcess c i) (not (isIdle (localAt c i .task .place))) (ltb (c .steps) (c .limit)) (steppedAt c i) h in
     (in-room i (c .processCount) 8 (p .0), p .1)
 
--- the cell and the swap of an access, by pieces
-cell-is :
-    (a : Access) (t : Contents) (i : ℕ) (l : Local) →
-    cellOf a t i l ≡ cellBy a (t .processCount) i (l .gate) (l .task .target) (writtenVariable l)
-cell-is Access.None t i l = refl
-cell-is (Access.Gate a) t i l = refl
-cell-is (Access.Announcement a) t i l = refl
-cell-is Access.Help t i l = refl
-cell-is Access.Note t i l = refl
-cell-is Access.Write t i l = refl
-
-swap-is :
+-- the swap of an access by pieces is that of the access on the card
+pub swap-is :
     (c : Card) (i : ℕ) (a : Access) → let l = localAt c i in
     let x = cellOf a (contentsOf c) i l in
     perform a c i .swap
@@ -88,9 +78,7 @@ module _ {c : Card} {i : ℕ} {label : Label} {a : Access} {w : Writing} {x : Ce
   written-is = rw own-dictionary at (p .writes)
 
   touched-is : x ≡ touchedCell c i
-  touched-is =
-      p .touches
-      ∙ (rw (p .chosen, written-is) (sym (cell-is (accessIn (localAt c i)) (contentsOf c) i (localAt c i))))
+  touched-is = p .touches ∙ rw (p .chosen, written-is)
 
   swap-told : s ≡ swapOf c i
   unfolding swapOf

@@ -22,9 +22,10 @@ use machine::places::holder_of;
 use machine::record::write;
 ghost use mathlib.Core.Path.{_≡_};
 ghost use mathlib.Core.Bool.{cond};
+ghost use Rattle.construction.specs.Machine.{cellBy};
 ghost use Rattle.construction.specs.Tracing.{labelOf, isNoting, notedAt, reportWith, noReport};
 ghost use Rattle.construction.specs.Answers.{isRefused};
-ghost use Rattle.tracing.specs.Pieces.{cellBy, announcementIn, recordIn, swapBy};
+ghost use Rattle.tracing.specs.Pieces.{announcementIn, recordIn, swapBy};
 
 // At the top of the loop: with an exit request P6, without one P10.
 fn top_label(exit: bool) -> Label

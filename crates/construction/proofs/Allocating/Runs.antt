@@ -8,7 +8,7 @@ use lib.Dec.{eqb, ltb}
 use lib.ListN.{length, length-set}
 use borrow.Author.Tests.{eqb-true}
 use Rattle.construction.specs.Types.{Words, Instruction, Program, Effect, Simulation}
-use Rattle.construction.specs.Instructions.{word, isCell, load, store, free, effectOf, nextEffect, fetch, faulted, withRegister, started}
+use Rattle.construction.specs.Instructions.{word, isCell, load, store, free, effectOf, nextInstruction, nextEffect, faulted, withRegister, started}
 use Rattle.construction.specs.Effects.{Store, put, Executed, allocated, execute, onExecuted}
 use Rattle.construction.specs.Sequential.{ending, wordAt, withStores, nextExecuted, runFrom, sequential}
 use Rattle.construction.specs.Allocation.{Action, Performed, actedOn, wordsAfter, actionsOf, performedBy, performedFrom, performedIn, OnlyByCodes, OnlyFromHands}
@@ -177,7 +177,7 @@ module _ (n : ℕ) (program : Program) (inputs : Words) (i : ℕ) where
       now s words h =
           subst (λ (k : ℕ). AllPossible words (performedBy i (actionsOf k (wordAt words) (nextEffect n program inputs s)))) (sym h)
           (possible-effect i words (nextEffect n program inputs s)
-          (subst (λ (k : ℕ). FreesCell k (nextEffect n program inputs s)) h (frees-cell n inputs (s .registers) (fetch program (s .counter)))))
+          (subst (λ (k : ℕ). FreesCell k (nextEffect n program inputs s)) h (frees-cell n inputs (s .registers) (nextInstruction program (s .counter)))))
 
   -- a whole run; one that ends as a fault does nothing
   pub in-words : (words : List ℕ) → wordsAfter words (performedIn n program inputs i words) ≡ sequential n program inputs words .words

@@ -9,7 +9,8 @@ use borrow.Author.Tests.{eqb-true, eqb-false, not-false}
 use Rattle.construction.specs.Types.{Holder, Nobody, Process, Flag, Done, Active, Exit, Announcement, Place, Idle, Card, Answer, Contents}
 use Rattle.construction.specs.Cells.{isDone, current, previous}
 use Rattle.construction.specs.Parts.{announcementAt, recordAt, localAt, Local, contentsOf}
-use Rattle.construction.specs.Requests.{isBusy, isPending, valueOf, returned, answerOf, isIdle}
+use Rattle.construction.specs.Machine.{holderOf}
+use Rattle.construction.specs.Requests.{isBusy, pending, valueOf, returned, answerOf, isIdle}
 use Rattle.construction.proofs.Basics.{on-test, true-false, true-or-false, active-not-done, exit-not-done}
 use Rattle.construction.proofs.Invariant.World.{Round, World, announcementIn, Result, resultOf, resultIn, roundIn, wordAt, Phase, WorldInvariant, Quiet}
 use Rattle.construction.proofs.Invariant.Assertions.{LocAt, known}
@@ -47,7 +48,7 @@ module _ (c : Card) (w : World) (I : CardInvariant c w) (v : ℕ) (vl : v < c .v
   by-flag m ph Active e = under-way m ph (active-not-done e)
   by-flag m ph Exit e = under-way m ph (exit-not-done e)
 
-  by-holder : (h : Holder) → Phase h W → shown (isPending c h) ≡ wordAt (w .words) v
+  by-holder : (h : Holder) → Phase h W → shown (pending h (announcementAt c (holderOf h))) ≡ wordAt (w .words) v
   by-holder Nobody ph = good .recorded .words-are v vl (omega (arith, ph .0, ph .1))
   by-holder (Process m) ph = by-flag m ph (announcementAt c m .flag) refl
 

@@ -1,5 +1,5 @@
 -- A helper's simulation on its dictionary agrees with the sequential run (lines H1 to H30).
-use Prim.Native.Nat.{ℕ, zero, suc, _+_, _≤_, _<_}
+use Prim.Native.Nat.{ℕ, zero, suc, _+_, _-_, _≤_, _<_}
 use mathlib.Core.Path.{_≡_, refl, sym, subst, ap, _∙_}
 use mathlib.Core.Bool.{true, false, cond, false≢true}
 use mathlib.Core.List.{List, [], _∷_, _++_}
@@ -8,7 +8,7 @@ use native.Mathlib.Omega.{arith}
 use native.Mathlib.Decide.{ℕ-discrete}
 use lib.ListN.{length, getD, set, length-set, length-replicate}
 use Rattle.construction.specs.Types.{Words, Program, Effect, Item, Dictionary, Simulation, Pause, Ended, Faulted, Lacks, Simulated}
-use Rattle.construction.specs.Instructions.{isCell, nextEffect, fetch, faulted, started}
+use Rattle.construction.specs.Instructions.{isCell, nextInstruction, nextEffect, fetch, faulted, started}
 use Rattle.construction.specs.Effects.{Store, Executed, touched, execute, onExecuted}
 use Rattle.construction.specs.Sequential.{Ending, ending, wordAt, withStores, nextExecuted, runFrom, committed, sequential}
 use Rattle.construction.specs.Dictionary.{noItem, empty, noted, find, has, withValue, assign, insert}
@@ -20,7 +20,7 @@ use Rattle.construction.proofs.Simulating.Dictionaries.{hasIn, valueIn,
 use Rattle.construction.proofs.Simulating.Dictionaries.{value-none, value-put-same, value-put-other, value-snoc-same, value-snoc-other}
 use Rattle.construction.proofs.Simulating.Dictionaries.{has-put, has-position, has-snoc, has-more, found, noted-assign, noted-insert, insert-length, insert-items, assign-items}
 use Rattle.construction.specs.Weight.{weightOf, weightBefore, weight}
-use Rattle.construction.proofs.Simulating.Weights.{weight-later, weight-suc}
+use Rattle.construction.proofs.Simulating.Weights.{weight-shortened, weight-later, weight-suc}
 use borrow.Author.Tests.{ltb-true, ltb-false}
 use lib.Dec.{ltb}
 
@@ -286,7 +286,10 @@ module _ (n : ℕ) (program : Program) (inputs : Words) (ws : List ℕ) (R : End
       effect = nextEffect n program inputs s
 
       touching : (look : ℕ → ℕ) → Touching n (weightOf (fetch program (s .counter))) (touched n look effect)
-      touching look = touches n look inputs (s .registers) (fetch program (s .counter)) (λ h. short .some (omega (arith, weighs (s .counter))))
+      touching look =
+          let same = weight-shortened (program .length - suc (s .counter)) (fetch program (s .counter)) in
+          subst (λ (w : ℕ). Touching n w (touched n look effect)) same
+          (touches n look inputs (s .registers) (nextInstruction program (s .counter)) (λ h. short .some (omega (arith, same, weighs (s .counter)))))
 
       -- what is noted has the value that the words have
       same-noted : (v : ℕ) → v < n → hasIn (noted d) v ≡ true → noteOf d v ≡ wordAt (q .mem) v

@@ -7,7 +7,7 @@ use native.Mathlib.Nat.{eq-or-lt-of-le, le-of-eq, le-trans, le-max-left, le-max-
 use mathlib.Core.Logic.{⊎-elim}
 use lib.ListN.{getD}
 use Rattle.construction.specs.Types.{Instruction, Program, Contents}
-use Rattle.construction.specs.Instructions.{fetch, noProgram}
+use Rattle.construction.specs.Instructions.{fetch, shortened, noProgram}
 use Rattle.construction.specs.Parts.{programOf}
 use Rattle.construction.specs.Weight.{weightOf, weightBefore, weight, heaviest, cardWeight}
 
@@ -27,6 +27,23 @@ weight-two (Instruction.SkipLess a b c) = omega arith
 weight-two (Instruction.Output a b) = omega arith
 weight-two (Instruction.Allocate a) = omega arith
 weight-two (Instruction.Free a) = omega arith
+
+-- a shorter skip weighs the same
+pub weight-shortened : (left : ℕ) (i : Instruction) → weightOf (shortened left i) ≡ weightOf i
+weight-shortened left Instruction.Stop = refl
+weight-shortened left (Instruction.Input a b) = refl
+weight-shortened left (Instruction.Constant a b) = refl
+weight-shortened left (Instruction.Load a v) = refl
+weight-shortened left (Instruction.Store v b) = refl
+weight-shortened left (Instruction.LoadAt a b) = refl
+weight-shortened left (Instruction.StoreAt a b) = refl
+weight-shortened left (Instruction.Add a b) = refl
+weight-shortened left (Instruction.Subtract a b) = refl
+weight-shortened left (Instruction.SkipEqual a b c) = refl
+weight-shortened left (Instruction.SkipLess a b c) = refl
+weight-shortened left (Instruction.Output a b) = refl
+weight-shortened left (Instruction.Allocate a) = refl
+weight-shortened left (Instruction.Free a) = refl
 
 -- no more than twice the places, and no less at a later place
 pub weight-places : (program : Program) (k : ℕ) → weightBefore program k ≤ k + k

@@ -73,6 +73,7 @@ note-spec =
     (λ c. omega arith)
     (λ c. omega arith)
     (λ c. omega arith)
+    (λ c. omega arith)
     loop-again
     (λ c κs. search needs)
     (λ c κs. search needs)

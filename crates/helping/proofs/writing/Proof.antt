@@ -8,7 +8,7 @@ use Rattle.helping.proofs.writing.Tie as tie
 
 returns : tie.Need-returns
 returns c =
-    let start = c .before .before .before .before .before .before .before in
+    let start = c .before .before .before .before .before in
     let d = start .args .t3 in
     let good = start .good .1 .1 .0 in
     lines.written _ _ d (rooms.items d _ good) _ (c .before .before .next-write .ensures) _
@@ -16,7 +16,7 @@ returns c =
 
 returns-2 : tie.Need-returns-2
 returns-2 c =
-    let start = c .before .before .before in
+    let start = c .before .before in
     let d = start .args .t3 in
     rw (c .no-item .ensures)
     (lines.past-items _ _ d (rooms.items d _ (start .good .1 .1 .0)) (omega (arith, c .before .if1 .left)))

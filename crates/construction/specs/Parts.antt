@@ -1,9 +1,10 @@
 -- The parts of a card: the shared cells, the own state of each process, and the card with one part replaced.
 use Prim.Native.Nat.{ℕ}
-use mathlib.Core.Bool.{Bool, false}
+use mathlib.Core.Bool.{Bool, false, cond}
 use mathlib.Core.List.{List}
 use lib.ListN.{getD, set}
-use Rattle.construction.specs.Types.{Nobody, Gate, Announcement, Record, Program, Dictionary, Simulation, Idle, Task, Operation, Card, Contents}
+use lib.Dec.{ltb}
+use Rattle.construction.specs.Types.{Nobody, Gate, Announcement, Record, Program, Revision, Dictionary, Simulation, Idle, Task, Operation, Card, Contents}
 use Rattle.construction.specs.Cells.{zeros, openAnnouncement, openRecord}
 use Rattle.construction.specs.Instructions.{started, noProgram}
 use Rattle.construction.specs.Dictionary.{empty}
@@ -63,9 +64,24 @@ localAt c i =
       mask = getD (c .masks) i 0;
     }
 
--- the program that an operation with this gate number runs: the same under every number, as no request changes a program (docs/DECISIONS, 12)
-abbrev pub programOf : Contents → ℕ → ℕ → Program
-programOf t k number = getD (t .programs) k noProgram
+-- a program that was never changed
+abbrev pub unrevised : Program → Revision
+unrevised x = record { from = 0; earlier = x; later = x }
+
+abbrev pub revisionOf : List Revision → ℕ → Revision
+revisionOf l k = getD l k (unrevised noProgram)
+
+-- the program that an operation with this gate number runs (document 02, order 11): the later text from its number on
+unfoldable pub programOf : List Revision → ℕ → ℕ → Program
+programOf l k number = cond (ltb number (revisionOf l k .from)) (revisionOf l k .earlier) (revisionOf l k .later)
+
+-- what a card's programs are: what it was opened with, and what became of that
+pub record Script : Type 0 where
+  pub contents : Contents
+  pub revisions : List Revision
+
+abbrev pub scriptOf : Card → Script
+scriptOf c = record { contents = contentsOf c; revisions = c .revisions }
 
 -- a card of the same text: its shared cells, its accepted steps, and what its processes keep
 abbrev pub withState :
@@ -79,6 +95,7 @@ withState c gate announcements records steps tasks operations exits counts gates
       limit = c .limit;
       starts = c .starts;
       programs = c .programs;
+      revisions = c .revisions;
       gate = gate;
       announcements = announcements;
       records = records;
@@ -126,3 +143,29 @@ abbrev pub withSteps : Card → ℕ → Card
 withSteps c k =
     withState c (c .gate) (c .announcements) (c .records) k
     (c .tasks) (c .operations) (c .exits) (c .counts) (c .gates) (c .copies) (c .simulations) (c .dictionaries) (c .masks)
+
+-- the card with another text of program k
+abbrev pub withRevision : Card → ℕ → Revision → Card
+withRevision c k r =
+    record {
+      processCount = c .processCount;
+      variableCount = c .variableCount;
+      programCount = c .programCount;
+      limit = c .limit;
+      starts = c .starts;
+      programs = c .programs;
+      revisions = set (c .revisions) k r;
+      gate = c .gate;
+      announcements = c .announcements;
+      records = c .records;
+      steps = c .steps;
+      tasks = c .tasks;
+      operations = c .operations;
+      exits = c .exits;
+      counts = c .counts;
+      gates = c .gates;
+      copies = c .copies;
+      simulations = c .simulations;
+      dictionaries = c .dictionaries;
+      masks = c .masks;
+    }

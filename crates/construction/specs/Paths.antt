@@ -175,6 +175,7 @@ noticed c i ms (Entry.Exit j) a = ms
 noticed c i ms (Entry.Step j) a = stepped c i j a ms
 noticed c i ms (Entry.Trace j) a = stepped c i j a ms
 noticed c i ms (Entry.Read v) a = ms
+noticed c i ms (Entry.Change k from t) a = ms
 
 unfoldable pub accessesFrom : Card → ℕ → List Made → List Entry → List Made
 accessesFrom c i ms [] = ms

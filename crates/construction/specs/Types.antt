@@ -17,6 +17,7 @@ pub use Rattle.construction.specs.declared.Decoded.{Decoded}
 pub use Rattle.construction.specs.declared.Encoded.{Encoded}
 pub use Rattle.construction.specs.declared.Line.{Line}
 pub use Rattle.construction.specs.declared.Program.{Program}
+pub use Rattle.construction.specs.declared.Revision.{Revision}
 pub use Rattle.construction.specs.declared.Effect.{Effect}
 pub use Rattle.construction.specs.declared.Item.{Item}
 pub use Rattle.construction.specs.declared.Dictionary.{Dictionary}
@@ -40,7 +41,7 @@ pub use Rattle.construction.specs.declared.Writing.{Writing}
 pub use Rattle.construction.specs.declared.Operation.{Operation}
 pub use Rattle.construction.specs.declared.Card.{Card}
 pub use Rattle.construction.specs.declared.Refusal.{Refusal}
-pub use Rattle.construction.specs.declared.Refusal.the-variants.{TooLong, Malformed, OutOfRange, UnknownCode, NoProcess, NoProgram, Busy, NotBusy, NoPlace, LimitReached, ShortBuffer, OperandOutOfRange, UnusedOperand, TooHeavy}
+pub use Rattle.construction.specs.declared.Refusal.the-variants.{TooLong, Malformed, OutOfRange, UnknownCode, NoProcess, NoProgram, Busy, NotBusy, NoPlace, LimitReached, ShortBuffer, OperandOutOfRange, UnusedOperand, TooHeavy, NotAhead, Unsettled}
 pub use Rattle.construction.specs.declared.Answer.{Answer}
 pub use Rattle.construction.specs.declared.Answered.{Answered}
 pub use Rattle.construction.specs.declared.Label.{Label}

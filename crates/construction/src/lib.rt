@@ -111,6 +111,14 @@ pub struct Program {
     pub lines: [Line; 32],
 }
 
+// A program as the card keeps it (document 02, order 11): the text that operations with a gate number below `from` run, and the one from there on.
+// At opening both are the opening text, and `from` is 0.
+pub struct Revision {
+    pub from: u64,
+    pub earlier: Program,
+    pub later: Program,
+}
+
 // What one instruction does: a register set, a variable loaded or stored, an output set, instructions skipped, the first free cell taken, a cell
 // given back, the end, or the end as a fault.
 pub enum Effect {
@@ -293,6 +301,8 @@ pub struct Card {
     // the starting values, and the sheets
     pub starts: [u32; 64],
     pub programs: [Program; 8],
+    // the sheets as they were changed since (document 02, order 11)
+    pub revisions: [Revision; 8],
     // the shared cells: the gate, the announcement of each process, the record of each variable
     pub gate: Gate,
     pub announcements: [Announcement; 8],
@@ -315,7 +325,7 @@ pub struct Card {
     pub masks: [u64; 8],
 }
 
-// Why something is refused: rows 1 to 11 of document 01's table, 12 and 13 of document 02, order 8, and 14 of its order 9.
+// Why something is refused: rows 1 to 11 of document 01's table, 12 and 13 of document 02, order 8, 14 of its order 9, 15 and 16 of its order 11.
 pub enum Refusal {
     TooLong,
     Malformed,
@@ -331,9 +341,12 @@ pub enum Refusal {
     OperandOutOfRange,
     UnusedOperand,
     TooHeavy,
+    NotAhead,
+    Unsettled,
 }
 
-// The answer to a call, an exit request, a step or a read. Done covers document 02's `fault` (order 6): what it yields tells which.
+// The answer to a call, an exit request, a step, a read or a change. Done covers document 02's `fault` (order 6): what it yields tells which. A change is
+// refused with a line of its text (order 11).
 pub enum Answer {
     Taken,
     Run,
@@ -347,6 +360,10 @@ pub enum Answer {
     },
     Value(u32),
     Refused(Refusal),
+    RefusedAt {
+        refusal: Refusal,
+        line: u64,
+    },
 }
 
 // The card after an entry, with the answer.

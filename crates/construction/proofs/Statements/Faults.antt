@@ -5,7 +5,7 @@ use mathlib.Core.List.{List}
 use borrow.Author.Tests.{le-ltb}
 use Rattle.construction.specs.Types.{Words, Program, Place}
 use Rattle.construction.specs.Instructions.{word, load, store, effectOf}
-use Rattle.construction.specs.Parts.{localAt, contentsOf}
+use Rattle.construction.specs.Parts.{localAt}
 use Rattle.construction.specs.Opening.{opened}
 use Rattle.construction.specs.History.{Entry, run}
 use Rattle.construction.specs.Faults.{PastFaults, FaultLeavesAll, MarkedDone, UnmarkedReading}
@@ -13,6 +13,7 @@ use Rattle.construction.proofs.Simulating.Sequential.{sequential-fault}
 use Rattle.construction.proofs.Invariant.Assertions.{LocAt, known}
 use Rattle.construction.proofs.Invariant.Cards.{good-is}
 use Rattle.construction.proofs.Observing.Runs.{opened-consistent}
+use Rattle.construction.proofs.Invariant.World.{frameOf}
 
 pub past-faults : (n : ℕ) (inputs r : Words) → PastFaults n inputs r
 unfolding effectOf load store
@@ -32,4 +33,4 @@ pub unmarked-reading : (t : List ℕ) (es : List Entry) → UnmarkedReading (run
 unmarked-reading t es i l e =
     let O = opened-consistent t es in
     let c = run (opened t .card) es .card in
-    (subst (λ (p : Place). LocAt p (contentsOf c) (O .world) i (known (localAt c i))) e (O .inv .locs i l)) .2 .core .unmarked
+    (subst (λ (p : Place). LocAt p (frameOf c (O .world)) (O .world) i (known (localAt c i))) e (O .inv .locs i l)) .2 .core .unmarked

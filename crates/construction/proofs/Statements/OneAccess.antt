@@ -8,7 +8,7 @@ use native.Mathlib.Decide.{decLt}
 use lib.ListN.{length, getD, set, length-set}
 use lib.Seq.{set-out, getD-set-same, getD-set-other}
 use Rattle.construction.specs.Types.{Gate, Announcement, Record, Access, Cell, Card}
-use Rattle.construction.specs.Parts.{Local, localAt, contentsOf, announcementAt, recordAt, withGate, withAnnouncement, withRecord, withLocal, withSteps}
+use Rattle.construction.specs.Parts.{Local, localAt, contentsOf, announcementAt, recordAt, withGate, withAnnouncement, withRecord, withLocal, withSteps, scriptOf}
 use Rattle.construction.specs.Machine.{whose, holderOf, writtenVariable, accessIn, cellOf, stepGate, stepAnnouncement, stepHelp, stepNote, stepWrite, AccessedCard, Accessed, after, perform, advance, swapOf}
 use Rattle.construction.specs.Requests.{answerOf}
 use Rattle.construction.specs.OneAccess.{touchedCell, Same, SameIn, SameLocal, SameText, OneAccess}
@@ -88,7 +88,7 @@ module _ (c d : Card) (i : ℕ) (T : SameText c d) (S : SameLocal i c d) where
       (put (ap (λ (y : Accessed Gate). y .local) x), ap (λ (y : Accessed Gate). y .cell) x, ap (λ (y : Accessed Gate). y .swap) x)
   access-alike (Access.Announcement a) n =
       let m : whose a (c .processCount) i (localAt c i .gate) ≡ whose a (d .processCount) i (localAt d i .gate) =
-      λ k. whose a (T k .processCount) i (local-is k .gate) in
+      λ k. whose a (T k .contents .processCount) i (local-is k .gate) in
       let e = n .elements ∙ ap (announcementAt d) m in
       let x :
       stepAnnouncement a (whose a (c .processCount) i (localAt c i .gate)) (announcementAt c (whose a (c .processCount) i (localAt c i .gate))) (localAt c i)
@@ -99,16 +99,16 @@ module _ (c d : Card) (i : ℕ) (T : SameText c d) (S : SameLocal i c d) where
       let m : holderOf (localAt c i .gate .holder) ≡ holderOf (localAt d i .gate .holder) = ap (λ (l : Local). holderOf (l .gate .holder)) local-is in
       let e = n .elements ∙ ap (announcementAt d) m in
       let x :
-      stepHelp (contentsOf c) (announcementAt c (holderOf (localAt c i .gate .holder))) (localAt c i)
-      ≡ stepHelp (contentsOf d) (announcementAt d (holderOf (localAt d i .gate .holder))) (localAt d i) =
+      stepHelp (scriptOf c) (announcementAt c (holderOf (localAt c i .gate .holder))) (localAt c i)
+      ≡ stepHelp (scriptOf d) (announcementAt d (holderOf (localAt d i .gate .holder))) (localAt d i) =
       λ k. stepHelp (T k) (e k) (local-is k) in
       (put (ap (λ (y : Accessed Announcement). y .local) x), stored-at m (ap (λ (y : Accessed Announcement). y .cell) x) n, refl)
   access-alike Access.Note n =
       let m : localAt c i .task .target ≡ localAt d i .task .target = ap (λ (l : Local). l .task .target) local-is in
       let e = n .elements ∙ ap (recordAt d) m in
       let x :
-      stepNote (contentsOf c) (recordAt c (localAt c i .task .target)) (localAt c i)
-      ≡ stepNote (contentsOf d) (recordAt d (localAt d i .task .target)) (localAt d i) =
+      stepNote (scriptOf c) (recordAt c (localAt c i .task .target)) (localAt c i)
+      ≡ stepNote (scriptOf d) (recordAt d (localAt d i .task .target)) (localAt d i) =
       λ k. stepNote (T k) (e k) (local-is k) in
       (put (ap (λ (y : Accessed Record). y .local) x), stored-at m (ap (λ (y : Accessed Record). y .cell) x) n, refl)
   access-alike Access.Write n =
@@ -183,7 +183,7 @@ steps-alike (Cell.Record v) c d k n s = s
 pub one-access : (c : Card) (i : ℕ) → OneAccess c i
 unfolding advance swapOf
 one-access c i = record {
-  chosen = λ d T S. let l = local-is c d i T S in λ k. cellOf (accessIn (l k)) (T k) i (l k);
+  chosen = λ d T S. let l = local-is c d i T S in λ k. cellOf (accessIn (l k)) (T k .contents) i (l k);
   depends = λ d T S n.
       let s = alike d T S n in
       (s .0, steps-alike (touchedCell c i) _ _ _ _ (s .1), s .2, ap answerOf (local-is (advance c i) (advance d i) i (text d T) (s .0)));

@@ -9,12 +9,12 @@ use native.Mathlib.Decide.{ℕ-discrete}
 use lib.Dec.{eqb, ltb}
 use lib.ListN.{length}
 use borrow.Author.Tests.{le-ltb, ltb-true, ltb-false, leb-true, leb-false, not-true, not-false, eqb-true, eqb-false}
-use Rattle.construction.specs.Types.{Holder, Nobody, Process, Gate, Flag, Done, Active, Exit, Words, Announcement, Record, Program, Dictionary, Simulation, Pause, Ended, Faulted, Lacks, Place, Idle, P1, P3, P5, P7, P10, C2, C4, P13, P14, P16, H21, H36, P19, P20, P21, P22, F1, F3, GateAccess, Access, Swap, Task, Began, Helped, Card, Refusal, Answer, Answered, Label, Contents}
+use Rattle.construction.specs.Types.{Holder, Nobody, Process, Gate, Flag, Done, Active, Exit, Words, Announcement, Record, Program, Dictionary, Simulation, Pause, Ended, Faulted, Lacks, Place, Idle, P1, P3, P5, P7, P10, C2, C4, P13, P14, P16, H21, H36, P19, P20, P21, P22, F1, F3, GateAccess, Access, Swap, Task, Began, Helped, Card, Refusal, Answer, Answered, Label}
 use Rattle.construction.specs.Cells.{isDone, sameHolder, swapGate, swapAnnouncement, swapRecord, released}
 use Rattle.construction.specs.Instructions.{started}
 use Rattle.construction.specs.Dictionary.{empty, noted, insert, itemOf, nextWrite}
 use Rattle.construction.specs.Helping.{simulate}
-use Rattle.construction.specs.Parts.{idleTask, Local, localAt, contentsOf, announcementAt, recordAt, withLocal}
+use Rattle.construction.specs.Parts.{idleTask, Local, localAt, contentsOf, announcementAt, recordAt, withLocal, scriptOf}
 use Rattle.construction.specs.Machine.{accessOf, accessGate, accessAnnouncement, byHolder, byFlag, holderOf, firstChoice, outcome, helps, afterPause, writeFrom, beginHelp, note, writing, writtenVariable, whose, cellOf, after, stepGate, stepAnnouncement, stepHelp, stepNote, stepWrite, perform, advance, swapOf}
 use Rattle.construction.specs.Requests.{isIdle, isBusy, invoked, exiting, returned, answerOf}
 use Rattle.construction.specs.Answers.{isRefused}
@@ -24,7 +24,7 @@ use Rattle.construction.specs.History.{Event, eventOf, Entry, act, Steps
 use Rattle.construction.specs.Paths.{Found, foundIn, Made, made, Edge, End, Path, Whole, numberIn, unlessSwap, lastNumber, Follows, noticed, accessesFrom, accesses}
 use Rattle.construction.proofs.Basics.{on-test, cond-true, cond-false, true-or-false, and-true, and-false, clash, nobody-process, active-not-done, exit-not-done, active-not-exit, isDone-true, isDone-false, sameHolder-true, sameHolder-refl, true-false, getD-replicate-same}
 use Rattle.construction.proofs.Simulating.Simulations.{simulate-empty}
-use Rattle.construction.proofs.Invariant.World.{World}
+use Rattle.construction.proofs.Invariant.World.{World, Frame, frameOf}
 use Rattle.construction.proofs.Invariant.Locals.{Sizes, local-same, local-other}
 use Rattle.construction.proofs.Invariant.Assertions.{LocAt, known}
 use Rattle.construction.proofs.Invariant.Cards.{CardInvariant, inv-step}
@@ -155,8 +155,8 @@ module _ (c : Card) (i : ℕ) (Z : Sizes c) (lt : i < 8) where
   leaves (Access.Announcement a) =
       let m = whose a (c .processCount) i (own .gate) in
       stepAnnouncement a m (announcementAt c m) own .local
-  leaves Access.Help = stepHelp (contentsOf c) (announcementAt c (holderOf (own .gate .holder))) own .local
-  leaves Access.Note = stepNote (contentsOf c) (recordAt c (own .task .target)) own .local
+  leaves Access.Help = stepHelp (scriptOf c) (announcementAt c (holderOf (own .gate .holder))) own .local
+  leaves Access.Note = stepNote (scriptOf c) (recordAt c (own .task .target)) own .local
   leaves Access.Write = stepWrite (recordAt c (writtenVariable own)) own .local
 
   left-is : (a : Access) → localAt (perform a c i .card) i ≡ leaves a
@@ -358,7 +358,7 @@ module _ (c : Card) (i : ℕ) (Z : Sizes c) (lt : i < 8) (busy : isIdle (localAt
   )
 
 -- what a process knows at a place, of the announcement last read
-returning : (p : Place) (F : Contents) (w : World) (i : ℕ) (l : Local) → LocAt p F w i l → Returning p (l .announcement .flag)
+returning : (p : Place) (F : Frame) (w : World) (i : ℕ) (l : Local) → LocAt p F w i l → Returning p (l .announcement .flag)
 returning p F w i l q =
     ⊎-elim (λ (e : p ≡ F1). let k = at F1 e in ap (λ (a : Announcement). a .flag) (sym (k .same)) ∙ k .done)
     (λ (e : p ≡ F3). let k = at F3 e .0 in ap (λ (a : Announcement). a .flag) (sym (k .same)) ∙ k .done)
@@ -420,7 +420,7 @@ module _ {c : Card} {w : World} (I : CardInvariant c w) (i : ℕ) (ms : List Mad
           let q : i < c .processCount = subst (λ (n : ℕ). n < c .processCount) e p in
           let d : isBusy c i ≡ true = subst (λ (n : ℕ). isBusy c n ≡ true) e b in
           stands-on c i (I .sizes) (small i q) (not-true _ d)
-          (returning (localAt c i .task .place) (contentsOf c) w i (known (localAt c i)) (I .locs i q)) S
+          (returning (localAt c i .task .place) (frameOf c w) w i (known (localAt c i)) (I .locs i q)) S
 
       other : j ≢ i → Stands i (localAt (advance c j) i) ms
       other ne = subst (λ (x : Local). Stands i x ms) (sym (inv-step c w j I p b l .elsewhere i (λ e. ne (sym e)))) S
@@ -432,6 +432,7 @@ module _ {c : Card} {w : World} (I : CardInvariant c w) (i : ℕ) (ms : List Mad
   refused-kept (Entry.Step j) why = both j i false (made c i ∷ ms) ms (Stands i (localAt c i)) (λ _ z. absurd (true≢false (sym z))) (λ _. S)
   refused-kept (Entry.Trace j) why = both j i false (made c i ∷ ms) ms (Stands i (localAt c i)) (λ _ z. absurd (true≢false (sym z))) (λ _. S)
   refused-kept (Entry.Read v) why = S
+  refused-kept (Entry.Change k from t) why = S
 
   entry-stands : {e : Entry} {r : Answered} → Outcome c e r → Stands i (localAt (r .card) i) (noticed c i ms e (r .answer))
   unfolding noticed
@@ -441,6 +442,8 @@ module _ {c : Card} {w : World} (I : CardInvariant c w) (i : ℕ) (ms : List Mad
   entry-stands (Outcome.stepped j Steps.by-step p b l) = step-stands j p b l
   entry-stands (Outcome.stepped j Steps.by-trace p b l) = step-stands j p b l
   entry-stands (Outcome.shown v x) = S
+  entry-stands (Outcome.unaltered k from t why line) = S
+  entry-stands (Outcome.altered k from t p a l u) = S
 
 all-stand :
     (o : Card) (m : Observation) (i : ℕ) (ms : List Made) (es : List Entry) → Consistent o m → Stands i (localAt (m .card) i) ms →

@@ -6,13 +6,12 @@ use mathlib.Core.List.{List, [], _∷_, _++_}
 use lib.Dec.{eqb}
 use lib.ListN.{length, getD, set, take, drop}
 use Rattle.construction.specs.Types.{Words, Program, Effect, Simulation, Card, Answer}
-use Rattle.construction.specs.Cells.{zeros}
 use Rattle.construction.specs.Instructions.{isCell, nextEffect, started}
 use Rattle.construction.specs.Effects.{onExecuted}
 use Rattle.construction.specs.Sequential.{wordAt, withStores, nextExecuted, sequential}
 use Rattle.construction.specs.Parts.{contentsOf}
 use Rattle.construction.specs.Requests.{read}
-use Rattle.construction.specs.History.{Entry, Invocation, Replacement, Finish, textAt, run}
+use Rattle.construction.specs.History.{Entry, Invocation, Replacement, Finish, operationAt, startWords, textAt, run}
 
 -- a number in a list, the list without it, a list without repeats
 unfoldable pub among : ℕ → List ℕ → Bool
@@ -127,15 +126,7 @@ module _ (n : ℕ) (program : Program) (inputs : Words) (i : ℕ) where
   abbrev pub performedIn : List ℕ → List Performed
   performedIn words = cond (sequential n program inputs words .yields .fault) [] (performedFrom 32 started words)
 
--- the operation with a number
-unfoldable pub operationAt : List Invocation → ℕ → Invocation
-operationAt [] k = record { process = 0; program = 0; inputs = zeros }
-operationAt (x ∷ xs) k = cond (eqb (length xs) k) x (operationAt xs k)
-
 -- 'the bench's runs' in the order of finishing: what each does to the words that the earlier ones left
-abbrev pub startWords : Card → List ℕ
-startWords o = take (o .variableCount) (o .starts)
-
 abbrev pub performedAs : Card → List Replacement → ℕ → Invocation → List ℕ → List Performed
 performedAs o changes number x words =
     performedIn (o .variableCount) (textAt (contentsOf o) changes (x .program) number) (x .inputs) (x .process) words

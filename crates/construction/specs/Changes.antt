@@ -4,7 +4,7 @@ use mathlib.Core.Bool.{Bool, true, false, cond, not, _&&_, _||_}
 use mathlib.Core.List.{List}
 use lib.ListN.{length, getD}
 use lib.Dec.{eqb, ltb}
-use Rattle.construction.specs.Types.{Gate, Place, Idle, P1, P3, P5, P7, P10, C2, C4, P13, P14, P16, H21, H36, P19, P20, P21, P22, F1, F3, Task, Card, Refusal, TooLong, Malformed, NoProgram, NotAhead, Unsettled, Answer, Answered, Contents, Verdict, ProgramReading}
+use Rattle.construction.specs.Types.{Gate, Program, Place, Idle, P1, P3, P5, P7, P10, C2, C4, P13, P14, P16, H21, H36, P19, P20, P21, P22, F1, F3, Task, Card, Refusal, TooLong, Malformed, NoProgram, NotAhead, Unsettled, Answer, Answered, Contents, Verdict, ProgramReading}
 use Rattle.construction.specs.Weight.{cardWeight}
 use Rattle.construction.specs.Parts.{idleTask, noGate, contentsOf, withRevision}
 use Rattle.construction.specs.Requests.{isProgram}
@@ -68,6 +68,10 @@ isUnsettled c k =
 abbrev pub unchanged : Card → Refusal → ℕ → Answered
 unchanged c why line = record { card = c; answer = Answer.RefusedAt why line }
 
+-- a taken one changes its program and nothing else
+abbrev pub changed : Card → ℕ → ℕ → Program → Answered
+changed c k from y = record { card = withRevision c k from y; answer = Answer.Taken }
+
 abbrev pub ifRead : Verdict → Card → Answered → Answered
 ifRead Verdict.Accepted c r = r
 ifRead (Verdict.Refused why line) c r = unchanged c why line
@@ -80,4 +84,4 @@ change c k from t =
     (ifRead (x .verdict) c
     (cond (not (ltb (c .gate .seq) from)) (unchanged c NotAhead 0)
     (cond (isUnsettled c k) (unchanged c Unsettled 0)
-    (record { card = withRevision c k from (x .program); answer = Answer.Taken }))))
+    (changed c k from (x .program)))))

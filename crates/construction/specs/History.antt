@@ -101,6 +101,11 @@ unfoldable pub latestCall : List Invocation → ℕ → Invocation
 latestCall [] i = record { process = i; program = 0; inputs = zeros }
 latestCall (x ∷ xs) i = cond (eqb (x .process) i) x (latestCall xs i)
 
+-- the operation with a number
+unfoldable pub operationAt : List Invocation → ℕ → Invocation
+operationAt [] k = record { process = 0; program = 0; inputs = zeros }
+operationAt (x ∷ xs) k = cond (eqb (length xs) k) x (operationAt xs k)
+
 -- the processes, numbered from k, whose flags turn from not done to done
 unfoldable pub turned : ℕ → List Announcement → List Announcement → List ℕ
 turned k [] bs = []
@@ -180,11 +185,14 @@ pub record Observation : Type 0 where
   pub history : History
 
 -- 'At opening the bench has the starting values'
+abbrev pub startWords : Card → List ℕ
+startWords o = take (o .variableCount) (o .starts)
+
 abbrev pub opening : Card → Observation
 opening o =
     record {
       card = o;
-      history = record { operations = []; order = []; returns = []; changes = []; words = take (o .variableCount) (o .starts) };
+      history = record { operations = []; order = []; returns = []; changes = []; words = startWords o };
     }
 
 -- one entry: the card acts; the observer notes by the cells before and after which operations finish, and then by the answer what begins and ends

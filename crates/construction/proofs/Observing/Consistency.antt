@@ -27,7 +27,7 @@ use Rattle.construction.proofs.Invariant.ActiveFlags.{active-before}
 use Rattle.construction.proofs.Observing.Tracking.{requestOf, Own, Tracks, under-way, NothingFinishes, OneFinishes, kind-of, turned-ends, tracks-calm, tracks-finished, own-next, tracks-place, tracks-called, tracks-returned, tracks-changed}
 use Rattle.construction.specs.Linearizability.{FinishesOne, FinishesAtMostOne}
 use lib.Dec.{ltb}
-use Rattle.construction.specs.Changes.{changeRead, isUnsettled, unchanged}
+use Rattle.construction.specs.Changes.{changeRead, isUnsettled, unchanged, changed}
 use Rattle.construction.proofs.Text.Bounds.{change-bounded}
 use Rattle.construction.proofs.Invariant.WorldKept.{texts-move}
 use Rattle.construction.proofs.Invariant.Changing.{inv-change}
@@ -133,7 +133,7 @@ module _ (o : Card) (m : Observation) (O : Consistent o m) where
       (k from : ℕ) (t : List ℕ) → isProgram c k ≡ true → changeRead (contentsOf c) t .verdict ≡ Verdict.Accepted → c .gate .seq < from →
       isUnsettled c k ≡ false →
       Consistent o (after o m (Entry.Change k from t)
-      (record { card = withRevision c k from (changeRead (contentsOf c) t .program); answer = Answer.Taken }))
+      (changed c k from (changeRead (contentsOf c) t .program)))
   unfolding textAt
   altered-kept k from t p a ahead settled =
       let y = changeRead (contentsOf c) t .program in

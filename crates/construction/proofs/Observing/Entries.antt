@@ -10,7 +10,7 @@ use Rattle.construction.specs.Requests.{isProcess, isProgram, isVariable
 use Rattle.construction.proofs.Basics.{on-test, and-true}
 use Rattle.construction.specs.Parts.{withLocal, localAt, contentsOf, withRevision}
 use mathlib.Core.List.{List}
-use Rattle.construction.specs.Changes.{changeRead, isUnsettled, unchanged, ifRead, change}
+use Rattle.construction.specs.Changes.{changeRead, isUnsettled, unchanged, changed, ifRead, change}
 
 -- by cases on a test that is denied
 on-not {ℓ κ} : {A : Type ℓ} (P : A → Type κ) (b : Bool) {x y : A} → P x → (b ≡ true → P y) → P (cond (not b) x y)
@@ -59,7 +59,7 @@ module _ {κ} (P : Answered → Type κ) (c : Card) (turned-back : (r : Refusal)
   pub on-change :
       (k from : ℕ) (t : List ℕ) → ((why : Refusal) (line : ℕ) → P (unchanged c why line)) →
       (isProgram c k ≡ true → changeRead (contentsOf c) t .verdict ≡ Verdict.Accepted → c .gate .seq < from → isUnsettled c k ≡ false →
-      P (record { card = withRevision c k from (changeRead (contentsOf c) t .program); answer = Answer.Taken })) →
+      P (changed c k from (changeRead (contentsOf c) t .program))) →
       P (change c k from t)
   unfolding change
   on-change k from t back taken =

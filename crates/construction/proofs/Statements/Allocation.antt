@@ -3,8 +3,8 @@ use Prim.Native.Nat.{ℕ}
 use mathlib.Core.Path.{_≡_, sym, subst, _∙_}
 use mathlib.Core.List.{List, [], _∷_, _++_, append-assoc}
 use Rattle.construction.specs.Opening.{opened}
-use Rattle.construction.specs.History.{Entry, observeAll, run}
-use Rattle.construction.specs.Allocation.{Action, Performed, wordsAfter, startWords, performed, OnlyByCodes, OnlyFromHands, InHands, Disciplined, Allocating}
+use Rattle.construction.specs.History.{Entry, startWords, observeAll, run}
+use Rattle.construction.specs.Allocation.{Action, Performed, wordsAfter, performed, OnlyByCodes, OnlyFromHands, InHands, Disciplined, Allocating}
 use Rattle.construction.proofs.Statements.Linearizability.{linearizability, bench-words}
 use Rattle.construction.proofs.Allocating.Hands.{AllPossible, kept-actions, kept-hands}
 use Rattle.construction.proofs.Allocating.Runs.{possible-earlier, codes-earlier, hands-earlier}

@@ -1,9 +1,9 @@
 -- A program changed while the machine runs (document 02, order 11): its refusals in their sequence, and what a taken change comes to.
 use Prim.Native.Nat.{ℕ, zero, suc, _≤_, _<_}
-use mathlib.Core.Path.{_≡_, refl, sym, subst, _∙_}
+use mathlib.Core.Path.{_≡_, refl, sym, ap, subst, _∙_}
 use mathlib.Core.Bool.{Bool, true, false, _&&_, _||_}
 use mathlib.Core.Logic.{_⊎_, ⊎-elim, _≢_}
-use mathlib.Core.List.{List, _∷_}
+use mathlib.Core.List.{List, [], _∷_, _++_}
 use native.Mathlib.Omega.{arith}
 use native.Mathlib.Nat.{eq-or-lt-of-le}
 use lib.ListN.{length, getD}
@@ -14,13 +14,18 @@ use Rattle.construction.specs.Answers.{numberOf, isRefused, answerFields
 use Rattle.construction.specs.Parts.{localAt, contentsOf, textsOf, programOf, withRevision, idleTask, noGate}
 use Rattle.construction.specs.Requests.{isProgram, isProcess}
 use Rattle.construction.specs.Opening.{opened}
-use Rattle.construction.specs.Changes.{changeRead, hasRead, isBehind, someBehind, isUnsettled, unchanged, change}
-use Rattle.construction.specs.History.{Entry, Replacement, textAt}
-use Rattle.construction.specs.Texts.{Switches, RunsItsText}
+use Rattle.construction.specs.Changes.{changeRead, hasRead, isBehind, someBehind, isUnsettled, unchanged, changed, change}
+use Rattle.construction.specs.History.{Entry, Invocation, Finish, Replacement, textAt, Observation, opening, observe, observeAll, run}
+use Rattle.construction.specs.Linearizability.{Numbered}
+use Rattle.construction.specs.Texts.{RunsItsText, AllRun, RunsByNumber, Switches}
 use Rattle.construction.proofs.Basics.{clash, and-true}
 use Rattle.construction.proofs.Invariant.Changing.{settled-gate, settled-read, text-before, revised-same, revised-other, later-holds}
 use Rattle.construction.proofs.Observing.Entries.{on-change}
+use Rattle.construction.proofs.Observing.Consistency.{entry-kept}
+use Rattle.construction.proofs.Observing.Growth.{observe-append}
 use Rattle.construction.proofs.Observing.Runs.{opened-consistent}
+use Rattle.construction.proofs.Observing.Operations.{RunAs, ran}
+use Rattle.construction.proofs.Observing.Texts.{told, Taken, taken-noted, last-noted, since-taken, since-all, unbrought}
 
 -- refusals 6; those of the text, with its line; 15; 16; and else it is taken
 refuses-at : (c : Card) (r : Answered) (why : Refusal) (line : ℕ) → r ≡ unchanged c why line → RefusesAt c r (numberOf why) line
@@ -52,7 +57,7 @@ module _ (c : Card) (k from : ℕ) (t : List ℕ) where
   pub change-taken :
       isProgram c k ≡ true → changeRead (contentsOf c) t .verdict ≡ Verdict.Accepted → c .gate .seq < from → isUnsettled c k ≡ false →
       change c k from t
-      ≡ record { card = withRevision c k from (changeRead (contentsOf c) t .program); answer = Answer.Taken }
+      ≡ changed c k from (changeRead (contentsOf c) t .program)
   unfolding change
   change-taken p v l u = rw (p, v, lt-ltb _ _ l, u)
 
@@ -91,21 +96,6 @@ unsettled-read c k i p e h =
     or-second (ltb (c .gate .seq) (getD (c .from) k 0))
     (behind-some (c .tasks) (c .gates) (c .processCount) (getD (c .from) k 0) 8 i (ltb-true i 8 (z .1)) (rw (z .0, e, lt-ltb _ _ h)))
 
--- a taken change of a card that has the place of program k
-pub switches :
-    (c : Card) (k from : ℕ) (y : Program) → (length (c .from) ≡ 8) × (length (c .earlier) ≡ 8) × (length (c .later) ≡ 8) → k < 8 → isUnsettled c k ≡ false →
-    Switches c (withRevision c k from y) k from y
-switches c k from y many few u =
-    let old : (number : ℕ) → getD (c .from) k 0 ≤ number → number < from →
-    programOf (textsOf (withRevision c k from y)) k number ≡ programOf (textsOf c) k number =
-    λ number h l. rw (revised-same c k from y many few number, lt-ltb number from l) (sym (later-holds c k number h)) in
-    record {
-      later = λ number h. rw (revised-same c k from y many few number, le-ltb number from h);
-      earlier = λ number h l. old number (omega (arith, settled-gate c k u)) l;
-      helping = λ i p e l. old (localAt c i .gate .seq) (settled-read c k u i p e) l;
-      others = λ j number ne. revised-other c k from y j number ne;
-    }
-
 -- what the bench runs after it was told of a change: from its number on the new text, before it and of other programs what it ran
 module _ (x : Contents) (y : Replacement) (ys : List Replacement) where
   pub told-later : (number : ℕ) → y .from ≤ number → textAt x (y ∷ ys) (y .program) number ≡ y .text
@@ -125,7 +115,54 @@ pub runs-its-text : (t : List ℕ) (es : List Entry) → RunsItsText (opened t .
 runs-its-text t es =
     let O = opened-consistent t es in
     record {
+      last = last-noted t es;
       ahead = λ k number h. O .inv .texts .now k number h ∙ sym (O .changes k number);
       helping = λ i l e k.
           O .inv .texts .read i (subst (λ (x : Contents). i < x .processCount) (sym (O .text)) l) e k _ (omega arith) ∙ sym (O .changes k _);
     }
+
+-- every finished operation ran the text of its gate number, told from the notes alone, and what the bench has is what these runs left
+run-as : (o : Card) (ys : List Replacement) (xs : List Invocation) (fs : List Finish) → Numbered fs → RunAs o ys xs fs → AllRun o ys xs fs
+run-as o ys xs [] n r = tt
+run-as o ys xs (f ∷ fs) n r = (rw (n .0) (r .0), run-as o ys xs fs (n .1) (r .1))
+
+pub runs-by-number : (t : List ℕ) (es : List Entry) → RunsByNumber (opened t .card) es
+runs-by-number t es =
+    let R = ran t es in
+    let s = run (opened t .card) es .history in
+    record {
+      operations = run-as (opened t .card) (s .changes) (s .operations) (s .order) (opened-consistent t es .tracks .numbers) (R .yields);
+      words = R .words;
+    }
+
+-- a taken change switches its program
+pub switches :
+    (t : List ℕ) (es₁ es₂ : List Entry) (k from : ℕ) (text : List ℕ) →
+    change (run (opened t .card) es₁ .card) k from text .answer ≡ Answer.Taken → Switches (opened t .card) es₁ es₂ k from text
+unfolding observeAll
+switches t es₁ es₂ k from text taken =
+    record {
+      later = λ number h q. rw whole (unbrought o k number n es₂ q ∙ (ap (λ (ys : List Replacement). textAt (contentsOf o) ys k number) (T .noted) ∙ told-later (contentsOf o) (told o k from text) (m .history .changes) number h));
+      earlier = below;
+      helping = λ i l e h. runs-its-text t (es₁ ++ (Entry.Change k from text ∷ es₂)) .helping i l e k ∙ below _ h;
+    }
+  where
+    o : Card
+    o = opened t .card
+
+    m : Observation
+    m = run o es₁
+
+    n : Observation
+    n = observe o m (Entry.Change k from text)
+
+    T : Taken o m n k from text
+    T = taken-noted o m k from text taken
+
+    whole : run o (es₁ ++ (Entry.Change k from text ∷ es₂)) ≡ observeAll o n es₂
+    whole = observe-append o (opening o) es₁ (Entry.Change k from text ∷ es₂)
+
+    below : (number : ℕ) → number < from →
+        textAt (contentsOf o) (run o (es₁ ++ (Entry.Change k from text ∷ es₂)) .history .changes) k number ≡ textAt (contentsOf o) (m .history .changes) k number
+    below number h =
+        rw whole (since-all n es₂ (entry-kept o m (opened-consistent t es₁) (Entry.Change k from text)) (since-taken k from text (opened-consistent t es₁) T) .same number h)

@@ -3,6 +3,7 @@ pub mod OneAccess
 pub mod AnswerFields
 pub mod Refusals
 pub mod Tracing
+pub mod ChangeRefusals
 pub mod Changes
 pub mod ExitRequests
 pub mod TextKept

@@ -4,7 +4,7 @@ use mathlib.Core.Path.{_≡_}
 use mathlib.Core.Bool.{Bool, true, false, cond}
 use mathlib.Core.List.{List, [], _∷_, _++_}
 use lib.Dec.{eqb}
-use lib.ListN.{length, getD, set, take, drop}
+use lib.ListN.{length, getD, set, drop}
 use Rattle.construction.specs.Types.{Words, Program, Effect, Simulation, Card, Answer}
 use Rattle.construction.specs.Instructions.{isCell, nextEffect, started}
 use Rattle.construction.specs.Effects.{onExecuted}

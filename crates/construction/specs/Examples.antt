@@ -458,6 +458,10 @@ changed k from text = Entry.Change k from (bytes text) ∷ []
 abbrev pub corrected : ℕ → List Entry
 corrected from = changed 0 from "sheet,2\nins,2,0,5,0\nins,11,0,0,0\n"
 
+-- a further change of it, from 5 on, to a text that ends at once
+abbrev pub again : List Entry
+again = changed 0 5 "sheet,1\nins,12,0,0,0\n"
+
 abbrev pub refusalAt : Refusal → ℕ → List Answer
 refusalAt r line = Answer.RefusedAt r line ∷ []
 
@@ -484,21 +488,21 @@ sleptThrough =
       gate = freeGate 2;
       announcements = announcement Done 1 1 7 ∷ announcement Done 0 0 0 ∷ [];
       variable = 0;
-      cell = record { val0 = 7; val1 = 9; toggle = true; seq = 1 };
+      cell = nine;
     }
 
--- 16 by a late reader: 0 sleeps at H21 with number 1 while 1 finishes both operations, the second by the new text; a further change is turned back
--- until 0 has read on
+-- 16 by a late reader: 0 sleeps at H21 with number 1 while 1 finishes; the same change is taken once 0 has read on, at P10, and is under way. Number 2 then runs the
+-- text of the first change
 abbrev pub lateReader : Row
 lateReader =
     record {
       text = cardC;
-      entries = called 0 (one 9) ++ (steps 0 8 ++ (corrected 2 ++ (called 1 (one 4) ++ (steps 1 21 ++ (corrected 5 ++ (steps 0 6 ++ (corrected 5 ++ readFirst)))))));
-      answers = taken ++ (runs 8 ++ (taken ++ (taken ++ (runs 20 ++ (done 2 (one 5) 21 ++ (refusalAt Unsettled 0 ++ (runs 5 ++ (done 1 (one 7) 14 ++ (taken ++ shown 9)))))))));
+      entries = called 1 (one 9) ++ (steps 1 2 ++ (called 0 (one 4) ++ (steps 0 7 ++ (corrected 2 ++ (steps 1 9 ++ (again ++ (steps 0 5 ++ (again ++ (steps 0 1 ++ (again ++ steps 0 9))))))))));
+      answers = taken ++ (runs 2 ++ (taken ++ (runs 7 ++ (taken ++ (runs 8 ++ (done 1 (one 7) 11 ++ (refusalAt Unsettled 0 ++ (runs 5 ++ (refusalAt Unsettled 0 ++ (runs 1 ++ (taken ++ (runs 8 ++ done 2 (one 5) 22))))))))))));
       gate = freeGate 3;
-      announcements = announcement Done 1 1 7 ∷ announcement Done 1 2 5 ∷ [];
+      announcements = announcement Done 1 2 5 ∷ announcement Done 1 1 7 ∷ [];
       variable = 0;
-      cell = record { val0 = 7; val1 = 9; toggle = true; seq = 1 };
+      cell = nine;
     }
 
 -- 15 and 16 in sequence; and another program is changed while one change is pending
@@ -541,8 +545,21 @@ textsJudged =
       cell = openRecord 7;
     }
 
+-- a change is taken after the step limit is reached too
+abbrev pub pastLimit : Row
+pastLimit =
+    record {
+      text = bytes "card,1,1,1,1\n" ++ bodyK;
+      entries = called 0 (one 9) ++ (steps 0 2 ++ corrected 2);
+      answers = taken ++ (runs 1 ++ (refusal LimitReached ++ taken));
+      gate = freeGate 1;
+      announcements = announcement Done 0 0 0 ∷ [];
+      variable = 0;
+      cell = openRecord 7;
+    }
+
 abbrev pub changedRows : List Row
-changedRows = bothSides ∷ sleptThrough ∷ lateReader ∷ inSequence ∷ readNone ∷ textsJudged ∷ []
+changedRows = bothSides ∷ sleptThrough ∷ lateReader ∷ inSequence ∷ readNone ∷ textsJudged ∷ pastLimit ∷ []
 
 -- The pieces that speak of lines, by what `trace` tells (document 02, order 1): the reports of the traced steps of a list, in their order
 abbrev pub reportsTo : Card → List Entry → List Report

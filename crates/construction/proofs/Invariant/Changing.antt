@@ -172,7 +172,7 @@ none-behind tasks gates p number (suc n) e j h =
 pub settled-gate : (c : Card) (k : ℕ) → isUnsettled c k ≡ false → getD (c .from) k 0 ≤ c .gate .seq
 settled-gate c k u = ltb-false _ _ (or-none (ltb (c .gate .seq) (getD (c .from) k 0)) _ u .0)
 
-pub settled-read :
+settled-read :
     (c : Card) (k : ℕ) → isUnsettled c k ≡ false → (j : ℕ) → isProcess c j ≡ true → hasRead (localAt c j .task .place) ≡ true →
     getD (c .from) k 0 ≤ localAt c j .gate .seq
 settled-read c k u j p e =
@@ -188,20 +188,20 @@ text-before texts k from y j number h =
 
 -- what a card with program k changed runs of it, and of another program
 module _ (c : Card) (k from : ℕ) (y : Program) where
-  pub revised-same :
+  revised-same :
       (length (c .from) ≡ 8) × (length (c .earlier) ≡ 8) × (length (c .later) ≡ 8) → k < 8 → (number : ℕ) →
       programOf (textsOf (withRevision c k from y)) k number ≡ cond (ltb number from) (getD (c .later) k noProgram) y
   unfolding programOf
   revised-same many few number =
       rw (getD-set-same (c .from) k from 0 (omega arith), getD-set-same (c .earlier) k (getD (c .later) k noProgram) noProgram (omega arith), getD-set-same (c .later) k y noProgram (omega arith))
 
-  pub revised-other : (j number : ℕ) → j ≢ k → programOf (textsOf (withRevision c k from y)) j number ≡ programOf (textsOf c) j number
+  revised-other : (j number : ℕ) → j ≢ k → programOf (textsOf (withRevision c k from y)) j number ≡ programOf (textsOf c) j number
   unfolding programOf
   revised-other j number ne =
       rw (getD-set-other (c .from) k j from 0 ne, getD-set-other (c .earlier) k j (getD (c .later) k noProgram) noProgram ne, getD-set-other (c .later) k j y noProgram ne)
 
 -- from the number of its last change on a card runs the later text
-pub later-holds : (c : Card) (k number : ℕ) → getD (c .from) k 0 ≤ number → programOf (textsOf c) k number ≡ getD (c .later) k noProgram
+later-holds : (c : Card) (k number : ℕ) → getD (c .from) k 0 ≤ number → programOf (textsOf c) k number ≡ getD (c .later) k noProgram
 unfolding programOf
 later-holds c k number h = rw (le-ltb number (getD (c .from) k 0) h)
 

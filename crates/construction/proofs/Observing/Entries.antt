@@ -8,7 +8,7 @@ use Rattle.construction.specs.Types.{Words, Card, Refusal, NoProcess, No
 use Rattle.construction.specs.Machine.{advance}
 use Rattle.construction.specs.Requests.{isProcess, isProgram, isVariable, isBusy, refused, call, requestExit, answerOf, step, valueOf, read, invoked, exiting}
 use Rattle.construction.proofs.Basics.{on-test, and-true}
-use Rattle.construction.specs.Parts.{withLocal, localAt, contentsOf, withRevision}
+use Rattle.construction.specs.Parts.{withLocal, localAt, contentsOf}
 use mathlib.Core.List.{List}
 use Rattle.construction.specs.Changes.{changeRead, isUnsettled, unchanged, changed, ifRead, change}
 

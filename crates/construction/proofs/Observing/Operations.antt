@@ -11,7 +11,7 @@ use Rattle.construction.specs.Sequential.{sequential}
 use Rattle.construction.specs.Parts.{contentsOf}
 use Rattle.construction.specs.Opening.{opened}
 use Rattle.construction.specs.Changes.{changeRead}
-use Rattle.construction.specs.History.{Entry, act, Invocation, Finish, Event, History, Replacement, hasCalled, latest, latestCall, finishing, operationAt, startWords, textAt, benchRun, eventOf, withFinish, withFinishes, withEntry, Observation, observe, run}
+use Rattle.construction.specs.History.{Entry, act, Invocation, Finish, Event, History, Replacement, hasCalled, latest, latestCall, finishing, operationAt, textAt, benchRun, eventOf, withFinish, withFinishes, withEntry, Observation, observe, run}
 use Rattle.construction.specs.Linearizability.{FinishesAtMostOne}
 use Rattle.construction.specs.Texts.{benchWords}
 use Rattle.construction.proofs.Basics.{clash}

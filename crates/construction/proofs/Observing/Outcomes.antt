@@ -8,7 +8,7 @@ use Rattle.construction.specs.Requests.{isBusy, refused, answerOf, value
 use Rattle.construction.specs.Tracing.{trace}
 use Rattle.construction.specs.History.{Entry, act, Steps}
 use Rattle.construction.proofs.Observing.Entries.{on-call, on-exit, on-step, on-read, on-change}
-use Rattle.construction.specs.Parts.{withLocal, localAt, contentsOf, withRevision}
+use Rattle.construction.specs.Parts.{withLocal, localAt, contentsOf}
 use mathlib.Core.List.{List}
 use Rattle.construction.specs.Changes.{changeRead, isUnsettled, unchanged, changed}
 

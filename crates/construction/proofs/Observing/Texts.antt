@@ -2,14 +2,13 @@
 use Prim.Native.Nat.{ℕ, _≤_, _<_}
 use mathlib.Core.Path.{_≡_, refl, sym, ap, _∙_, subst}
 use mathlib.Core.Bool.{true, false, _&&_}
-use mathlib.Core.Logic.{_≢_}
 use mathlib.Core.List.{List, [], _∷_}
 use native.Mathlib.Omega.{arith}
 use native.Mathlib.Decide.{ℕ-discrete}
 use lib.ListN.{getD, set}
 use lib.Dec.{eqb, leb, ltb}
 use lib.Seq.{getD-set-same, getD-set-other}
-use borrow.Author.Tests.{ltb-true, eq-eqb, ne-eqb, le-leb}
+use borrow.Author.Tests.{ltb-true, eq-eqb, ne-eqb}
 use Rattle.construction.specs.Types.{Card, Answer, Answered, Program}
 use Rattle.construction.specs.Parts.{Texts, textsOf, contentsOf, withRevision}
 use Rattle.construction.specs.Changes.{changeRead, isUnsettled, changed, change}
@@ -24,7 +23,7 @@ use Rattle.construction.proofs.Observing.Entries.{on-change}
 use Rattle.construction.proofs.Observing.Outcomes.{Outcome, outcome}
 use Rattle.construction.proofs.Observing.Histories.{finished-changes, returned-changes}
 use Rattle.construction.proofs.Observing.Consistency.{Consistent, entry-kept}
-use Rattle.construction.proofs.Observing.Runs.{opened-consistent, opened-keeps}
+use Rattle.construction.proofs.Observing.Runs.{opened-keeps}
 
 -- a change that an observer of the opened card o notes
 abbrev pub told : Card → ℕ → ℕ → List ℕ → Replacement

@@ -1,26 +1,18 @@
 -- A program changed while the machine runs (document 02, order 11): what a taken change comes to, and which text every operation runs.
-use Prim.Native.Nat.{ℕ, zero, suc, _≤_, _<_}
+use Prim.Native.Nat.{ℕ, _≤_, _<_}
 use mathlib.Core.Path.{_≡_, refl, sym, ap, subst, _∙_}
-use mathlib.Core.Bool.{Bool, true, false, _&&_, _||_}
-use mathlib.Core.Logic.{_⊎_, ⊎-elim, _≢_}
+use mathlib.Core.Logic.{_≢_}
 use mathlib.Core.List.{List, [], _∷_, _++_}
 use native.Mathlib.Omega.{arith}
-use native.Mathlib.Nat.{eq-or-lt-of-le}
-use lib.ListN.{length, getD}
-use lib.Dec.{ltb}
-use borrow.Author.Tests.{ltb-true, lt-ltb, le-ltb, eq-eqb, ne-eqb, le-leb}
-use Rattle.construction.specs.Types.{Program, Card, Refusal, TooLong, NoProgram, NotAhead, Unsettled, Answer, Answered, Contents, Verdict, Gate, Task}
-use Rattle.construction.specs.Answers.{numberOf, isRefused, answerFields, RefusesAt}
-use Rattle.construction.specs.Parts.{localAt, contentsOf, textsOf, programOf, withRevision, idleTask, noGate}
-use Rattle.construction.specs.Requests.{isProgram, isProcess}
+use borrow.Author.Tests.{eq-eqb, ne-eqb, le-leb}
+use Rattle.construction.specs.Types.{Card, Answer, Contents}
+use Rattle.construction.specs.Parts.{contentsOf}
 use Rattle.construction.specs.Opening.{opened}
-use Rattle.construction.specs.Changes.{changeRead, hasRead, isBehind, someBehind, isUnsettled, unchanged, changed, change}
+use Rattle.construction.specs.Changes.{change}
 use Rattle.construction.specs.History.{Entry, Invocation, Finish, Replacement, textAt, Observation, opening, observe, observeAll, run}
 use Rattle.construction.specs.Linearizability.{Numbered}
 use Rattle.construction.specs.Texts.{RunsItsText, AllRun, RunsByNumber, Switches}
-use Rattle.construction.proofs.Basics.{clash, and-true}
-use Rattle.construction.proofs.Invariant.Changing.{settled-gate, settled-read, text-before, revised-same, revised-other, later-holds}
-use Rattle.construction.proofs.Observing.Entries.{on-change}
+use Rattle.construction.proofs.Invariant.Changing.{text-before}
 use Rattle.construction.proofs.Observing.Consistency.{entry-kept}
 use Rattle.construction.proofs.Observing.Growth.{observe-append}
 use Rattle.construction.proofs.Observing.Runs.{opened-consistent}

@@ -10,7 +10,7 @@ use Rattle.construction.specs.Parts.{idleTask, noGate, contentsOf, withR
 use Rattle.construction.specs.Requests.{isProgram}
 use Rattle.construction.specs.Opening.{programRefusedAt, readProgram}
 
--- 'Nothing follows': a line left over is refusal 2
+-- a refusal ends the reading; else 'nothing follows': a line left over is refusal 2
 abbrev pub ifProgramAccepted : Verdict → ProgramReading → ProgramReading → ProgramReading
 ifProgramAccepted Verdict.Accepted r x = x
 ifProgramAccepted (Verdict.Refused why line) r x = r
@@ -25,7 +25,7 @@ changeRead x t =
     cond (ltb 16384 (length t)) (programRefusedAt TooLong 0)
     (programThenEnd t (readProgram (x .variableCount) (min 32 (cardWeight x)) t 0 1))
 
--- an operation under way that has read a gate number: it is past P1
+-- an operation under way that has read a gate number: it is past P1, also where it has not announced itself yet (P3), or is done and has not returned
 abbrev pub hasRead : Place → Bool
 hasRead Idle = false
 hasRead P1 = false

@@ -32,10 +32,10 @@ pub record Overweight (x : Contents) (t : List ℕ) (line : ℕ) : Type 0 where
 
 -- 16: 'the last change of that sheet lies above the gate's number or some operation under way last read a gate number below it (one that has read none
 -- doesn't count)'
-pub data Unready (c : Card) (k : ℕ) : Type 0 where
-  pending : c .gate .seq < getD (c .from) k 0 → Unready c k
+pub data UnsettledBy (c : Card) (k : ℕ) : Type 0 where
+  pending : c .gate .seq < getD (c .from) k 0 → UnsettledBy c k
   behind :
-      (i : ℕ) → isProcess c i ≡ true → hasRead (localAt c i .task .place) ≡ true → localAt c i .gate .seq < getD (c .from) k 0 → Unready c k
+      (i : ℕ) → isProcess c i ≡ true → hasRead (localAt c i .task .place) ≡ true → localAt c i .gate .seq < getD (c .from) k 0 → UnsettledBy c k
 
 -- the number of the last change of program k that an observer noted, 0 if there was none
 unfoldable pub lastChange : List Replacement → ℕ → ℕ

@@ -26,7 +26,7 @@ pub record WellFormed (d : Dictionary) : Type 0 where
   pub short : d .length ≤ 32
   pub keyed : Keyed (noted d)
 
--- T1 (document 02, order 11): from the gate's number on, and from each number last read by an operation under way on, the card's choice of a text
+-- (document 02, order 11) from the gate's number on, and from each number last read by an operation under way on, the card's choice of a text
 -- is the world's; and no text weighs more than the card
 pub record KeepsTexts (c : Card) (w : World) : Type 0 where
   pub many : (length (c .from) ≡ 8) × (length (c .earlier) ≡ 8) × (length (c .later) ≡ 8)

@@ -178,7 +178,7 @@ settled-read :
 settled-read c k u j p e =
     let from = getD (c .from) k 0 in
     let h = and-true (ltb j (c .processCount)) _ p in
-    ltb-false _ _ (rw (h .0, e) at (none-behind (c .tasks) (c .gates) (c .processCount) from 8 (or-none (ltb (c .gate .seq) from) _ u .1) j (ltb-true j 8 (h .1))))
+    ltb-false _ _ (rw (h .0, e) at (none-behind (c .tasks) (c .gates) (c .processCount) from _ (or-none (ltb (c .gate .seq) from) _ u .1) j (ltb-true j 8 (h .1))))
 
 -- a text is another one from a number on: before it nothing changes
 pub text-before : (texts : ℕ → ℕ → Program) (k from : ℕ) (y : Program) (j number : ℕ) → number < from → withText texts k from y j number ≡ texts j number

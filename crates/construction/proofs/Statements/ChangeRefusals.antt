@@ -14,7 +14,7 @@ use Rattle.construction.specs.Answers.{numberOf, isRefused, answerFields
 use Rattle.construction.specs.Parts.{localAt, contentsOf, idleTask, noGate}
 use Rattle.construction.specs.Requests.{isProgram}
 use Rattle.construction.specs.Changes.{changeRead, hasRead, isBehind, someBehind, isUnsettled, unchanged, changed, change}
-use Rattle.construction.specs.Texts.{Overweight, Unready}
+use Rattle.construction.specs.Texts.{Overweight, UnsettledBy}
 use Rattle.construction.proofs.Basics.{clash, and-true, true-or-false}
 use Rattle.construction.proofs.Text.Changes.{Says, refused-says, overweight-judged}
 use Rattle.construction.proofs.Observing.Entries.{on-change, on-change-why}
@@ -63,24 +63,24 @@ module _ (c : Card) (k : ℕ) where
   abbrev from-of : ℕ
   from-of = getD (c .from) k 0
 
-  unready-unsettled : Unready c k → isUnsettled c k ≡ true
-  unready-unsettled (Unready.pending h) = rw (lt-ltb (c .gate .seq) from-of h)
-  unready-unsettled (Unready.behind i p e h) =
+  unsettled-given : UnsettledBy c k → isUnsettled c k ≡ true
+  unsettled-given (UnsettledBy.pending h) = rw (lt-ltb (c .gate .seq) from-of h)
+  unsettled-given (UnsettledBy.behind i p e h) =
       let z = and-true (ltb i (c .processCount)) _ p in
       or-second (ltb (c .gate .seq) from-of)
       (behind-some (c .tasks) (c .gates) (c .processCount) from-of 8 i (ltb-true i 8 (z .1)) (rw (z .0, e, lt-ltb _ _ h)))
 
-  unsettled-unready : isUnsettled c k ≡ true → Unready c k
-  unsettled-unready e =
-      ⊎-elim (λ h. Unready.pending (ltb-true _ _ h))
-      (λ h. some-behind (c .tasks) (c .gates) (c .processCount) from-of (Unready c k) 8 h (λ i l z.
+  unsettled-why : isUnsettled c k ≡ true → UnsettledBy c k
+  unsettled-why e =
+      ⊎-elim (λ h. UnsettledBy.pending (ltb-true _ _ h))
+      (λ h. some-behind (c .tasks) (c .gates) (c .processCount) from-of (UnsettledBy c k) 8 h (λ i l z.
       let y = and-true (ltb i (c .processCount)) _ z in
       let w = and-true (hasRead (localAt c i .task .place)) _ (y .1) in
-      Unready.behind i (rw (y .0) (lt-ltb i 8 l)) (w .0) (ltb-true _ _ (w .1))))
+      UnsettledBy.behind i (rw (y .0) (lt-ltb i 8 l)) (w .0) (ltb-true _ _ (w .1))))
       (or-either (ltb (c .gate .seq) from-of) _ e)
 
-  ready-settled : (Unready c k → ⊥) → isUnsettled c k ≡ false
-  ready-settled n = ⊎-elim (λ e. absurd (n (unsettled-unready e))) (λ e. e) (true-or-false (isUnsettled c k))
+  settled-else : (UnsettledBy c k → ⊥) → isUnsettled c k ≡ false
+  settled-else n = ⊎-elim (λ e. absurd (n (unsettled-why e))) (λ e. e) (true-or-false (isUnsettled c k))
 
 -- each refusal of a change, given and never else
 module _ (c : Card) (k from : ℕ) (t : List ℕ) where
@@ -136,27 +136,27 @@ module _ (c : Card) (k from : ℕ) (t : List ℕ) where
 
   -- 16
   pub change-unsettled :
-      isProgram c k ≡ true → changeRead x t .verdict ≡ Verdict.Accepted → c .gate .seq < from → Unready c k → RefusesAt c r 16 0
+      isProgram c k ≡ true → changeRead x t .verdict ≡ Verdict.Accepted → c .gate .seq < from → UnsettledBy c k → RefusesAt c r 16 0
   unfolding change
-  change-unsettled p v l u = refuses-at c r Unsettled 0 (rw (p, v, lt-ltb _ _ l, unready-unsettled c k u))
+  change-unsettled p v l u = refuses-at c r Unsettled 0 (rw (p, v, lt-ltb _ _ l, unsettled-given c k u))
 
   pub change-unsettled-only :
       (line : ℕ) → RefusesAt c r 16 line →
-      (isProgram c k ≡ true) × (changeRead x t .verdict ≡ Verdict.Accepted) × (c .gate .seq < from) × Unready c k × (line ≡ 0)
+      (isProgram c k ≡ true) × (changeRead x t .verdict ≡ Verdict.Accepted) × (c .gate .seq < from) × UnsettledBy c k × (line ≡ 0)
   change-unsettled-only line h =
       on-change-why
       (λ (q : Answered). q .answer ≡ Answer.RefusedAt Unsettled line →
-      (isProgram c k ≡ true) × (changeRead x t .verdict ≡ Verdict.Accepted) × (c .gate .seq < from) × Unready c k × (line ≡ 0)) c k from t
+      (isProgram c k ≡ true) × (changeRead x t .verdict ≡ Verdict.Accepted) × (c .gate .seq < from) × UnsettledBy c k × (line ≡ 0)) c k from t
       (λ p e. clash (cc)) (λ p why at v e. absurd (text-says x t Unsettled line v e)) (λ _ _ _ e. clash (cc))
-      (λ p v l u e. (p, v, l, unsettled-unready c k u, cc)) (λ _ _ _ _ e. clash (cc))
+      (λ p v l u e. (p, v, l, unsettled-why c k u, cc)) (λ _ _ _ _ e. clash (cc))
       (refused-at Unsettled line h)
 
   -- and else it is taken, after the step limit is reached too
   pub change-taken :
-      isProgram c k ≡ true → changeRead x t .verdict ≡ Verdict.Accepted → c .gate .seq < from → (Unready c k → ⊥) →
+      isProgram c k ≡ true → changeRead x t .verdict ≡ Verdict.Accepted → c .gate .seq < from → (UnsettledBy c k → ⊥) →
       r ≡ changed c k from (changeRead x t .program)
   unfolding change
-  change-taken p v l n = rw (p, v, lt-ltb _ _ l, ready-settled c k n)
+  change-taken p v l n = rw (p, v, lt-ltb _ _ l, settled-else c k n)
 
   -- after a refused change the card is the same card
   pub change-kept : isRefused (r .answer) ≡ true → r .card ≡ c

@@ -14,5 +14,7 @@ pub mod HelpSteps
 pub mod WriteSteps
 pub mod Steps
 pub mod Cards
+-- A text changed while the machine runs.
+pub mod Changing
 pub mod Answers
 pub mod ActiveFlags

@@ -6,3 +6,5 @@ pub mod Tracking
 pub mod Consistency
 pub mod Growth
 pub mod Runs
+pub mod Operations
+pub mod Texts

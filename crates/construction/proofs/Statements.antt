@@ -6,6 +6,8 @@ pub mod LineRefusals
 pub mod TextRefusals
 pub mod Tracing
 pub mod Swaps
+pub mod ChangeRefusals
+pub mod Changes
 pub mod ExitRequests
 pub mod TextKept
 pub mod Linearizability

@@ -4,15 +4,14 @@ use mathlib.Core.Path.{_≡_}
 use mathlib.Core.Bool.{Bool, true, false, cond}
 use mathlib.Core.List.{List, [], _∷_, _++_}
 use lib.Dec.{eqb}
-use lib.ListN.{length, getD, set, take, drop}
+use lib.ListN.{length, getD, set, drop}
 use Rattle.construction.specs.Types.{Words, Program, Effect, Simulation, Card, Answer}
-use Rattle.construction.specs.Cells.{zeros}
 use Rattle.construction.specs.Instructions.{isCell, nextEffect, started}
 use Rattle.construction.specs.Effects.{onExecuted}
 use Rattle.construction.specs.Sequential.{wordAt, withStores, nextExecuted, sequential}
-use Rattle.construction.specs.Parts.{contentsOf, programOf}
+use Rattle.construction.specs.Parts.{contentsOf}
 use Rattle.construction.specs.Requests.{read}
-use Rattle.construction.specs.History.{Entry, Invocation, Finish, run}
+use Rattle.construction.specs.History.{Entry, Invocation, Replacement, Finish, operationAt, startWords, textAt, run}
 
 -- a number in a list, the list without it, a list without repeats
 unfoldable pub among : ℕ → List ℕ → Bool
@@ -127,28 +126,20 @@ module _ (n : ℕ) (program : Program) (inputs : Words) (i : ℕ) where
   abbrev pub performedIn : List ℕ → List Performed
   performedIn words = cond (sequential n program inputs words .yields .fault) [] (performedFrom 32 started words)
 
--- the operation with a number
-unfoldable pub operationAt : List Invocation → ℕ → Invocation
-operationAt [] k = record { process = 0; program = 0; inputs = zeros }
-operationAt (x ∷ xs) k = cond (eqb (length xs) k) x (operationAt xs k)
-
 -- 'the bench's runs' in the order of finishing: what each does to the words that the earlier ones left
-abbrev pub startWords : Card → List ℕ
-startWords o = take (o .variableCount) (o .starts)
+abbrev pub performedAs : Card → List Replacement → ℕ → Invocation → List ℕ → List Performed
+performedAs o changes number x words =
+    performedIn (o .variableCount) (textAt (contentsOf o) changes (x .program) number) (x .inputs) (x .process) words
 
-abbrev pub performedAs : Card → ℕ → Invocation → List ℕ → List Performed
-performedAs o number x words =
-    performedIn (o .variableCount) (programOf (contentsOf o) (x .program) number) (x .inputs) (x .process) words
-
-unfoldable pub performedAll : Card → List Invocation → List Finish → List Performed
-performedAll o xs [] = []
-performedAll o xs (f ∷ fs) =
-    performedAs o (suc (length fs)) (operationAt xs (f .operation)) (wordsAfter (startWords o) (performedAll o xs fs))
-    ++ performedAll o xs fs
+unfoldable pub performedAll : Card → List Replacement → List Invocation → List Finish → List Performed
+performedAll o changes xs [] = []
+performedAll o changes xs (f ∷ fs) =
+    performedAs o changes (suc (length fs)) (operationAt xs (f .operation)) (wordsAfter (startWords o) (performedAll o changes xs fs))
+    ++ performedAll o changes xs fs
 
 -- over the run of demand 3
 abbrev pub performed : Card → List Entry → List Performed
-performed o es = performedAll o (run o es .history .operations) (run o es .history .order)
+performed o es = performedAll o (run o es .history .changes) (run o es .history .operations) (run o es .history .order)
 
 -- the premises, each of the actions that the bench's runs make, newest first, from the words at opening
 

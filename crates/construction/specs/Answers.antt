@@ -7,7 +7,7 @@ use mathlib.Core.Path.{_≡_}
 use mathlib.Core.Bool.{Bool, true, false}
 use mathlib.Core.List.{List, [], _∷_, _++_}
 use Rattle.grammar.specs.Writing.{decimal}
-use Rattle.construction.specs.Types.{Words, Decoded, Encoded, Card, Refusal, TooLong, Malformed, OutOfRange, UnknownCode, NoProcess, NoProgram, Busy, NotBusy, NoPlace, LimitReached, ShortBuffer, OperandOutOfRange, UnusedOperand, TooHeavy, Answer, Answered, RowSwap, CardLine, VarLine, SheetLine, InsLine, Verdict, Written}
+use Rattle.construction.specs.Types.{Words, Decoded, Encoded, Card, Refusal, TooLong, Malformed, OutOfRange, UnknownCode, NoProcess, NoProgram, Busy, NotBusy, NoPlace, LimitReached, ShortBuffer, OperandOutOfRange, UnusedOperand, TooHeavy, NotAhead, Unsettled, Answer, Answered, RowSwap, CardLine, VarLine, SheetLine, InsLine, Verdict, Written}
 use Rattle.construction.specs.Instructions.{encode}
 
 -- the bytes of a text
@@ -27,7 +27,7 @@ fields word numbers = record { word = bytes word; numbers = numbers }
 abbrev pub refusedWith : ℕ → Fields
 refusedWith number = fields "refused" (number ∷ [])
 
--- the number of a refusal in the table of 'Turned back', 12 and 13 in document 02, order 8, and 14 in its order 9
+-- the number of a refusal in the table of 'Turned back', 12 and 13 in document 02, order 8, 14 in its order 9, 15 and 16 in its order 11
 abbrev pub numberOf : Refusal → ℕ
 numberOf TooLong = 1
 numberOf Malformed = 2
@@ -43,6 +43,8 @@ numberOf ShortBuffer = 11
 numberOf OperandOutOfRange = 12
 numberOf UnusedOperand = 13
 numberOf TooHeavy = 14
+numberOf NotAhead = 15
+numberOf Unsettled = 16
 
 -- a call, an exit request, a step or a read: '`taken`, `run`, `done` with four outputs and the operation's own steps, `exited` with its own
 -- steps, the looked value, or `refused` and the number'; 'a done answer gives it', the gate number, 'before the outputs' (document 02, order 4);
@@ -61,6 +63,7 @@ answerFields (Answer.Done number y steps) = fields (doneWord (y .fault)) (number
 answerFields (Answer.Exited steps) = fields "exited" (steps ∷ [])
 answerFields (Answer.Value x) = fields "" (x ∷ [])
 answerFields (Answer.Refused r) = refusedWith (numberOf r)
+answerFields (Answer.RefusedAt r line) = fields "refused" (numberOf r ∷ line ∷ [])
 
 -- tests of an answer: an operation runs on, a request is refused (one that is not is taken)
 abbrev pub isRun : Answer → Bool
@@ -70,6 +73,7 @@ isRun (Answer.Done number y steps) = false
 isRun (Answer.Exited steps) = false
 isRun (Answer.Value x) = false
 isRun (Answer.Refused r) = false
+isRun (Answer.RefusedAt r line) = false
 
 abbrev pub isRefused : Answer → Bool
 isRefused Answer.Taken = false
@@ -78,6 +82,7 @@ isRefused (Answer.Done number y steps) = false
 isRefused (Answer.Exited steps) = false
 isRefused (Answer.Value x) = false
 isRefused (Answer.Refused r) = true
+isRefused (Answer.RefusedAt r line) = true
 
 -- a card text: accepted, or '`card,refused,number,line`'
 unfoldable pub verdictFields : Verdict → Fields
@@ -123,6 +128,11 @@ insLineFields (InsLine.Refused r) = decodedFields (Decoded.Refused r)
 -- a request on the card c is refused with a number: 'Elsewhere the card and all lent cells and bytes remain as they were'
 pub record Refuses (c : Card) (r : Answered) (number : ℕ) : Type 0 where
   pub refusal : answerFields (r .answer) ≡ refusedWith number
+  pub kept : r .card ≡ c
+
+-- a change is refused with a number and a line of its text (document 02, order 11)
+pub record RefusesAt (c : Card) (r : Answered) (number line : ℕ) : Type 0 where
+  pub refusal : answerFields (r .answer) ≡ fields "refused" (number ∷ line ∷ [])
   pub kept : r .card ≡ c
 
 -- Fields in a line of text, 'parted by commas': each follows a comma.

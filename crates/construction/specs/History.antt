@@ -2,23 +2,26 @@
 use Prim.Native.Nat.{ℕ, suc}
 use mathlib.Core.Bool.{Bool, true, false, cond, not, _&&_}
 use mathlib.Core.List.{List, [], _∷_}
-use lib.ListN.{length, take}
-use lib.Dec.{eqb}
-use Rattle.construction.specs.Types.{Words, Yield, Announcement, Card, Answer, Answered}
+use lib.ListN.{length, take, getD}
+use lib.Dec.{eqb, leb}
+use Rattle.construction.specs.Types.{Words, Yield, Announcement, Program, Card, Answer, Answered, Contents}
 use Rattle.construction.specs.Cells.{zeros, isDone}
 use Rattle.construction.specs.Sequential.{Ending, sequential}
-use Rattle.construction.specs.Parts.{contentsOf, programOf}
+use Rattle.construction.specs.Instructions.{noProgram}
+use Rattle.construction.specs.Parts.{contentsOf}
 use Rattle.construction.specs.Requests.{call, requestExit, step, read}
 use Rattle.construction.specs.Tracing.{trace, untold}
+use Rattle.construction.specs.Changes.{changeRead, change}
 
 -- 'Its entries are call, wish, step and look with any numbers, taken or refused, and every call altering the card that an order adds': a step
--- that is traced (document 02, order 1)
+-- that is traced (document 02, order 1), and a change of a program (order 11) with the bytes of its text
 pub data Entry : Type 0 where
   Call : (process program : ℕ) → Words → Entry
   Exit : (process : ℕ) → Entry
   Step : (process : ℕ) → Entry
   Trace : (process : ℕ) → Entry
   Read : (variable : ℕ) → Entry
+  Change : (program from : ℕ) (text : List ℕ) → Entry
 
 abbrev pub act : Card → Entry → Answered
 act c (Entry.Call i k inputs) = call c i k inputs
@@ -26,6 +29,7 @@ act c (Entry.Exit i) = requestExit c i
 act c (Entry.Step i) = step c i
 act c (Entry.Trace i) = untold (trace c i)
 act c (Entry.Read v) = read c v
+act c (Entry.Change k from t) = change c k from t
 
 -- an entry that steps process i
 pub data Steps : Entry → ℕ → Type 0 where
@@ -37,6 +41,12 @@ pub record Invocation : Type 0 where
   pub process : ℕ
   pub program : ℕ
   pub inputs : Words
+
+-- a change that was taken: operations numbered `from` or later run the text
+pub record Replacement : Type 0 where
+  pub program : ℕ
+  pub from : ℕ
+  pub text : Program
 
 -- an operation that finishes: its number, its gate number, and what the bench got for it
 pub record Finish : Type 0 where
@@ -67,12 +77,14 @@ eventOf (Answer.Done number y steps) = Event.returned (Return.done number y)
 eventOf (Answer.Exited steps) = Event.returned Return.exited
 eventOf (Answer.Value x) = Event.none
 eventOf (Answer.Refused r) = Event.none
+eventOf (Answer.RefusedAt r line) = Event.none
 
--- what an observer notes, newest first: the operations, those that finished, those that returned; and the bench's words
+-- what an observer notes, newest first: the operations, those that finished, those that returned, the changes taken; and the bench's words
 pub record History : Type 0 where
   pub operations : List Invocation
   pub order : List Finish
   pub returns : List Response
+  pub changes : List Replacement
   pub words : List ℕ
 
 -- a process has a taken call
@@ -89,6 +101,11 @@ unfoldable pub latestCall : List Invocation → ℕ → Invocation
 latestCall [] i = record { process = i; program = 0; inputs = zeros }
 latestCall (x ∷ xs) i = cond (eqb (x .process) i) x (latestCall xs i)
 
+-- the operation with a number
+unfoldable pub operationAt : List Invocation → ℕ → Invocation
+operationAt [] k = record { process = 0; program = 0; inputs = zeros }
+operationAt (x ∷ xs) k = cond (eqb (length xs) k) x (operationAt xs k)
+
 -- the processes, numbered from k, whose flags turn from not done to done
 unfoldable pub turned : ℕ → List Announcement → List Announcement → List ℕ
 turned k [] bs = []
@@ -100,18 +117,25 @@ turned k (a ∷ l) (b ∷ bs) =
 abbrev pub finishing : Card → Card → List ℕ
 finishing c d = turned 0 (c .announcements) (d .announcements)
 
--- the bench runs an operation as its number-th, by the text of the opened card o
-abbrev pub benchRun : Card → ℕ → Invocation → List ℕ → Ending
-benchRun o number x words = sequential (o .variableCount) (programOf (contentsOf o) (x .program) number) (x .inputs) words
+-- 'Operations numbered G or later run the new text, .. earlier ones the old': the text of program k for the bench's number-th operation is that of the
+-- newest change of k from that number or an earlier one on, and else the opening text
+unfoldable pub textAt : Contents → List Replacement → ℕ → ℕ → Program
+textAt x [] k number = getD (x .programs) k noProgram
+textAt x (y ∷ ys) k number = cond (eqb (y .program) k && leb (y .from) number) (y .text) (textAt x ys k number)
+
+-- the bench runs an operation as its number-th, by the text of the opened card o and the changes it was told of
+abbrev pub benchRun : Card → List Replacement → ℕ → Invocation → List ℕ → Ending
+benchRun o changes number x words = sequential (o .variableCount) (textAt (contentsOf o) changes (x .program) number) (x .inputs) words
 
 -- the operations of these processes finish, under the gate number `gate`
 abbrev pub withFinish : Card → ℕ → ℕ → History → History
 withFinish o gate i s =
-    let e = benchRun o (suc (length (s .order))) (latestCall (s .operations) i) (s .words) in
+    let e = benchRun o (s .changes) (suc (length (s .order))) (latestCall (s .operations) i) (s .words) in
     record {
       operations = s .operations;
       order = record { operation = latest (s .operations) i; gate = gate; yields = e .yields } ∷ s .order;
       returns = s .returns;
+      changes = s .changes;
       words = e .words;
     }
 
@@ -122,7 +146,7 @@ withFinishes o gate (i ∷ is) s = withFinishes o gate is (withFinish o gate i s
 -- an operation begins at a taken call
 abbrev pub withInvocation : History → Invocation → Event → History
 withInvocation s x Event.taken =
-    record { operations = x ∷ s .operations; order = s .order; returns = s .returns; words = s .words }
+    record { operations = x ∷ s .operations; order = s .order; returns = s .returns; changes = s .changes; words = s .words }
 withInvocation s x (Event.returned r) = s
 withInvocation s x Event.none = s
 
@@ -134,17 +158,26 @@ withResponse s i (Event.returned r) =
       operations = s .operations;
       order = s .order;
       returns = record { operation = latest (s .operations) i; return = r } ∷ s .returns;
+      changes = s .changes;
       words = s .words;
     }
 withResponse s i Event.none = s
 
--- what an entry and its answer say: calls begin operations, steps end them
-abbrev pub withEntry : History → Entry → Event → History
-withEntry s (Entry.Call i k inputs) e = withInvocation s (record { process = i; program = k; inputs = inputs }) e
-withEntry s (Entry.Exit i) e = s
-withEntry s (Entry.Step i) e = withResponse s i e
-withEntry s (Entry.Trace i) e = withResponse s i e
-withEntry s (Entry.Read v) e = s
+-- 'The single-user bench is also told of each taken change, of no refused one'
+abbrev pub withChange : History → Replacement → Event → History
+withChange s x Event.taken =
+    record { operations = s .operations; order = s .order; returns = s .returns; changes = x ∷ s .changes; words = s .words }
+withChange s x (Event.returned r) = s
+withChange s x Event.none = s
+
+-- what an entry and its answer say: calls begin operations, steps end them, changes are told with the program that their text says
+abbrev pub withEntry : Card → History → Entry → Event → History
+withEntry o s (Entry.Call i k inputs) e = withInvocation s (record { process = i; program = k; inputs = inputs }) e
+withEntry o s (Entry.Exit i) e = s
+withEntry o s (Entry.Step i) e = withResponse s i e
+withEntry o s (Entry.Trace i) e = withResponse s i e
+withEntry o s (Entry.Read v) e = s
+withEntry o s (Entry.Change k from t) e = withChange s (record { program = k; from = from; text = changeRead (contentsOf o) t .program }) e
 
 -- the card and the notes
 pub record Observation : Type 0 where
@@ -152,11 +185,14 @@ pub record Observation : Type 0 where
   pub history : History
 
 -- 'At opening the bench has the starting values'
+abbrev pub startWords : Card → List ℕ
+startWords o = take (o .variableCount) (o .starts)
+
 abbrev pub opening : Card → Observation
 opening o =
     record {
       card = o;
-      history = record { operations = []; order = []; returns = []; words = take (o .variableCount) (o .starts) };
+      history = record { operations = []; order = []; returns = []; changes = []; words = startWords o };
     }
 
 -- one entry: the card acts; the observer notes by the cells before and after which operations finish, and then by the answer what begins and ends
@@ -166,7 +202,7 @@ observe o m e =
     record {
       card = r .card;
       history =
-          withEntry (withFinishes o (m .card .gate .seq) (finishing (m .card) (r .card)) (m .history)) e (eventOf (r .answer));
+          withEntry o (withFinishes o (m .card .gate .seq) (finishing (m .card) (r .card)) (m .history)) e (eventOf (r .answer));
     }
 
 -- 'The first entry gets the card as its text opened it, each later one the card that the entry before returned'

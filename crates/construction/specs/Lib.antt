@@ -15,13 +15,15 @@ pub mod OneAccess
 pub mod Tracing
 pub mod Swaps
 pub mod Reports
+pub mod Weight
 pub mod Lines
 pub mod Opening
 pub mod Writing
-pub mod Weight
 pub mod TextJudging
+pub mod Changes
 pub mod Limits
 pub mod History
+pub mod Texts
 pub mod Paths
 pub mod Linearizability
 pub mod Allocation

@@ -50,6 +50,9 @@ fresh x =
       limit = x .limit;
       starts = x .starts;
       programs = x .programs;
+      from = replicate 8 0;
+      earlier = x .programs;
+      later = x .programs;
       gate = openGate;
       announcements = replicate 8 openAnnouncement;
       records = map openRecord (x .starts);
@@ -91,21 +94,22 @@ unfoldable pub insFrom : ℕ → List ℕ → ℕ → ℕ → ProgramReading →
 insFrom n t zero k r = r
 insFrom n t (suc m) k r = nextIns (insLine n t (r .at)) r k (λ x. insFrom n t m (suc k) x)
 
--- 'A sheet with more than 32 by that count is refused with 14, at its last line, after 13' (document 02, order 9): its lines are good by then
-abbrev pub judgeWeight : Verdict → ℕ → ProgramReading → ProgramReading
-judgeWeight Verdict.Accepted last r = cond (ltb 32 (weight (r .program))) (programRefusedAt TooHeavy last) r
-judgeWeight (Verdict.Refused why line) last r = r
+-- 'A sheet with more than 32 by that count is refused with 14, at its last line, after 13' (document 02, order 9): its lines are good by then.
+-- `most` is 32 in a card, and in a change the card's own weight, if that is less (order 11).
+abbrev pub judgeWeight : ℕ → Verdict → ℕ → ProgramReading → ProgramReading
+judgeWeight most Verdict.Accepted last r = cond (ltb most (weight (r .program))) (programRefusedAt TooHeavy last) r
+judgeWeight most (Verdict.Refused why line) last r = r
 
-abbrev pub weighed : ℕ → ProgramReading → ProgramReading
-weighed last r = judgeWeight (r .verdict) last r
+abbrev pub weighed : ℕ → ℕ → ProgramReading → ProgramReading
+weighed most last r = judgeWeight most (r .verdict) last r
 
 -- one program: `sheet,length` and its lines, m lines after that one
-abbrev pub programAfter : ℕ → List ℕ → SheetLine → ℕ → ProgramReading
-programAfter n t (SheetLine.Length m i) line = weighed (line + m) (insFrom n t m 0 (programSoFar m (replicate 32 noLine) i (suc line)))
-programAfter n t (SheetLine.Refused why) line = programRefusedAt why line
+abbrev pub programAfter : ℕ → ℕ → List ℕ → SheetLine → ℕ → ProgramReading
+programAfter n most t (SheetLine.Length m i) line = weighed most (line + m) (insFrom n t m 0 (programSoFar m (replicate 32 noLine) i (suc line)))
+programAfter n most t (SheetLine.Refused why) line = programRefusedAt why line
 
-unfoldable pub readProgram : ℕ → List ℕ → ℕ → ℕ → ProgramReading
-readProgram n t at line = programAfter n t (sheetLine t at) line
+unfoldable pub readProgram : ℕ → ℕ → List ℕ → ℕ → ℕ → ProgramReading
+readProgram n most t at line = programAfter n most t (sheetLine t at) line
 
 -- the next m programs, the first with number k
 abbrev pub withProgram : Reading → ℕ → ProgramReading → Reading
@@ -119,7 +123,7 @@ nextProgram (Verdict.Refused why line) x r k go = refusedAt why line
 unfoldable pub programsFrom : List ℕ → ℕ → ℕ → Reading → Reading
 programsFrom t zero k r = r
 programsFrom t (suc m) k r =
-    let x = readProgram (r .contents .variableCount) t (r .at) (r .line) in
+    let x = readProgram (r .contents .variableCount) 32 t (r .at) (r .line) in
     nextProgram (x .verdict) x r k (λ y. programsFrom t m (suc k) y)
 
 -- the next m `var` lines, the first for variable k

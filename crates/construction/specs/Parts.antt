@@ -1,8 +1,9 @@
 -- The parts of a card: the shared cells, the own state of each process, and the card with one part replaced.
 use Prim.Native.Nat.{ℕ}
-use mathlib.Core.Bool.{Bool, false}
+use mathlib.Core.Bool.{Bool, false, cond}
 use mathlib.Core.List.{List}
 use lib.ListN.{getD, set}
+use lib.Dec.{ltb}
 use Rattle.construction.specs.Types.{Nobody, Gate, Announcement, Record, Program, Dictionary, Simulation, Idle, Task, Operation, Card, Contents}
 use Rattle.construction.specs.Cells.{zeros, openAnnouncement, openRecord}
 use Rattle.construction.specs.Instructions.{started, noProgram}
@@ -63,9 +64,18 @@ localAt c i =
       mask = getD (c .masks) i 0;
     }
 
--- the program that an operation with this gate number runs: the same under every number, as no request changes a program (docs/DECISIONS, 12)
-abbrev pub programOf : Contents → ℕ → ℕ → Program
-programOf t k number = getD (t .programs) k noProgram
+-- the texts of a card's programs (document 02, order 11): of each program the gate number from which its later text holds, the earlier text and the later
+pub record Texts : Type 0 where
+  pub from : List ℕ
+  pub earlier : List Program
+  pub later : List Program
+
+abbrev pub textsOf : Card → Texts
+textsOf c = record { from = c .from; earlier = c .earlier; later = c .later }
+
+-- 'Operations numbered G or later run the new text, .. earlier ones the old': the program k that an operation with this gate number runs
+unfoldable pub programOf : Texts → ℕ → ℕ → Program
+programOf x k number = cond (ltb number (getD (x .from) k 0)) (getD (x .earlier) k noProgram) (getD (x .later) k noProgram)
 
 -- a card of the same text: its shared cells, its accepted steps, and what its processes keep
 abbrev pub withState :
@@ -79,6 +89,9 @@ withState c gate announcements records steps tasks operations exits counts gates
       limit = c .limit;
       starts = c .starts;
       programs = c .programs;
+      from = c .from;
+      earlier = c .earlier;
+      later = c .later;
       gate = gate;
       announcements = announcements;
       records = records;
@@ -126,3 +139,31 @@ abbrev pub withSteps : Card → ℕ → Card
 withSteps c k =
     withState c (c .gate) (c .announcements) (c .records) k
     (c .tasks) (c .operations) (c .exits) (c .counts) (c .gates) (c .copies) (c .simulations) (c .dictionaries) (c .masks)
+
+-- the card with program k changed to y from a gate number on: its later text becomes the earlier one
+abbrev pub withRevision : Card → ℕ → ℕ → Program → Card
+withRevision c k from y =
+    record {
+      processCount = c .processCount;
+      variableCount = c .variableCount;
+      programCount = c .programCount;
+      limit = c .limit;
+      starts = c .starts;
+      programs = c .programs;
+      from = set (c .from) k from;
+      earlier = set (c .earlier) k (getD (c .later) k noProgram);
+      later = set (c .later) k y;
+      gate = c .gate;
+      announcements = c .announcements;
+      records = c .records;
+      steps = c .steps;
+      tasks = c .tasks;
+      operations = c .operations;
+      exits = c .exits;
+      counts = c .counts;
+      gates = c .gates;
+      copies = c .copies;
+      simulations = c .simulations;
+      dictionaries = c .dictionaries;
+      masks = c .masks;
+    }

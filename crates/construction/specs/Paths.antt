@@ -12,7 +12,7 @@ use Rattle.construction.specs.Cells.{zeros, current}
 use Rattle.construction.specs.Instructions.{started, noProgram}
 use Rattle.construction.specs.Dictionary.{empty, noted, itemOf, insert}
 use Rattle.construction.specs.Helping.{simulate}
-use Rattle.construction.specs.Parts.{localAt, contentsOf, announcementAt, recordAt, programOf}
+use Rattle.construction.specs.Parts.{localAt, textsOf, announcementAt, recordAt, programOf}
 use Rattle.construction.specs.Machine.{advance}
 use Rattle.construction.specs.Requests.{answerOf}
 use Rattle.construction.specs.OneAccess.{touchedCell}
@@ -49,7 +49,7 @@ abbrev pub helpOf : Card → ℕ → Found → Help
 helpOf c number Found.nothing = noHelp
 helpOf c number (Found.gate g) = noHelp
 helpOf c number (Found.announcement a) =
-    record { variables = c .variableCount; program = programOf (contentsOf c) (a .program) number; inputs = a .words; reads = empty }
+    record { variables = c .variableCount; program = programOf (textsOf c) (a .program) number; inputs = a .words; reads = empty }
 helpOf c number (Found.cell r) = noHelp
 
 -- an access that was made: what `trace` tells of it, whether a wish of its operation had been taken, what it found and the helping that begins with
@@ -293,6 +293,7 @@ noticed c i n (Entry.Exit j) a = ifTaken i j a (record { wish = true; accesses =
 noticed c i n (Entry.Step j) a = ifTaken i j a (record { wish = n .wish; accesses = made c i (n .wish) ∷ n .accesses }) n
 noticed c i n (Entry.Trace j) a = ifTaken i j a (record { wish = n .wish; accesses = made c i (n .wish) ∷ n .accesses }) n
 noticed c i n (Entry.Read v) a = n
+noticed c i n (Entry.Change k from t) a = n
 
 unfoldable pub noticedFrom : Card → ℕ → Noticed → List Entry → Noticed
 noticedFrom c i n [] = n

@@ -34,6 +34,7 @@ TellsAtMost n (Answer.Done number o steps) = steps ≤ n
 TellsAtMost n (Answer.Exited steps) = steps ≤ n
 TellsAtMost n (Answer.Value x) = Unit
 TellsAtMost n (Answer.Refused why) = Unit
+TellsAtMost n (Answer.RefusedAt why line) = Unit
 
 -- The opened card o after the list of entries es, for each process i of it. As the list is arbitrary, this holds at opening and after each entry.
 pub record WaitFree (o : Card) (es : List Entry) : Type 0 where

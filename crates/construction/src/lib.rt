@@ -293,6 +293,11 @@ pub struct Card {
     // the starting values, and the sheets
     pub starts: [u32; 64],
     pub programs: [Program; 8],
+    // of each sheet (document 02, order 11): the gate number from which its later text holds, the text below it, and the later one.
+    // At opening the number is 0 and both are the opening text. Three arrays, so that a step copies one program out.
+    pub from: [u64; 8],
+    pub earlier: [Program; 8],
+    pub later: [Program; 8],
     // the shared cells: the gate, the announcement of each process, the record of each variable
     pub gate: Gate,
     pub announcements: [Announcement; 8],
@@ -315,7 +320,7 @@ pub struct Card {
     pub masks: [u64; 8],
 }
 
-// Why something is refused: rows 1 to 11 of document 01's table, 12 and 13 of document 02, order 8, and 14 of its order 9.
+// Why something is refused: rows 1 to 11 of document 01's table, 12 and 13 of document 02, order 8, 14 of its order 9, 15 and 16 of its order 11.
 pub enum Refusal {
     TooLong,
     Malformed,
@@ -331,9 +336,12 @@ pub enum Refusal {
     OperandOutOfRange,
     UnusedOperand,
     TooHeavy,
+    NotAhead,
+    Unsettled,
 }
 
-// The answer to a call, an exit request, a step or a read. Done covers document 02's `fault` (order 6): what it yields tells which.
+// The answer to a call, an exit request, a step, a read or a change. Done covers document 02's `fault` (order 6): what it yields tells which. A change is
+// refused with a line of its text (order 11).
 pub enum Answer {
     Taken,
     Run,
@@ -347,6 +355,10 @@ pub enum Answer {
     },
     Value(u32),
     Refused(Refusal),
+    RefusedAt {
+        refusal: Refusal,
+        line: u64,
+    },
 }
 
 // The card after an entry, with the answer.

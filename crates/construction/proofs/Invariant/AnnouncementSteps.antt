@@ -8,12 +8,12 @@ use native.Mathlib.Nat.{mod-lt}
 use lib.ListN.{getD, set}
 use lib.Seq.{getD-set-same, set-getD}
 use borrow.Author.Tests.{lt-ltb}
-use Rattle.construction.specs.Types.{Process, Gate, Flag, Done, Active, Exit, Yield, Announcement, Place, Idle, P3, P5, P7, P10, C2, C4, P13, P19, P20, P21, P22, F1, AnnouncementAccess, Access, Operation, Card, Contents}
+use Rattle.construction.specs.Types.{Process, Gate, Flag, Done, Active, Exit, Yield, Announcement, Place, Idle, P3, P5, P7, P10, C2, C4, P13, P19, P20, P21, P22, F1, AnnouncementAccess, Access, Operation, Card}
 use Rattle.construction.specs.Cells.{openAnnouncement, sameAnnouncement, swapAnnouncement}
-use Rattle.construction.specs.Parts.{announcementAt, recordAt, withAnnouncement, localAt, Local, contentsOf, withLocal}
+use Rattle.construction.specs.Parts.{announcementAt, recordAt, withAnnouncement, localAt, Local, withLocal}
 use Rattle.construction.specs.Machine.{goTo, byFlag, holderOf, firstChoice, whose, announced, flagged, withdrawn, finished, accessAnnouncement, perform}
 use Rattle.construction.proofs.Basics.{on-test, true-or-false, announcement-path, sameAnnouncement-true, sameAnnouncement-false, active-not-done, active-not-exit, exit-not-done, else-done}
-use Rattle.construction.proofs.Invariant.World.{endingIn, World, announcementIn, leftIn, callIn, roundIn, wordAt, operationOf, AnnouncementInvariant, ending, Move}
+use Rattle.construction.proofs.Invariant.World.{endingIn, World, announcementIn, leftIn, callIn, roundIn, wordAt, operationOf, AnnouncementInvariant, ending, Move, Frame, frameOf}
 use Rattle.construction.proofs.Invariant.World.Move.{announce, leave, end}
 use Rattle.construction.proofs.Invariant.Claims.{viewOf, Change, Mine, Eligible, end-change}
 use Rattle.construction.proofs.Invariant.Assertions.{Helper, Plan, Ready, LocAt, Loc, helper-stays, plan-stays, ready-stays}
@@ -28,8 +28,8 @@ module _ {c : Card} {w : World} {i : ℕ} (B : Before c w i) where
   abbrev W : World
   W = worldOf c w
 
-  abbrev F : Contents
-  F = contentsOf c
+  abbrev F : Frame
+  F = frameOf c w
 
   -- the announcement of m after it was set
   set-is : (m : ℕ) (a : Announcement) → m < c .processCount → getD (set (c .announcements) m a) m openAnnouncement ≡ a

@@ -6,13 +6,13 @@ use mathlib.Core.Logic.{_≢_, _⊎_, inl, inr, ⊎-elim}
 use native.Mathlib.Omega.{arith}
 use lib.Dec.{eqb}
 use borrow.Author.Tests.{eqb-true, eqb-false, not-false}
-use Rattle.construction.specs.Types.{Holder, Nobody, Process, Flag, Done, Active, Exit, Announcement, Place, Idle, Card, Answer, Contents}
+use Rattle.construction.specs.Types.{Holder, Nobody, Process, Flag, Done, Active, Exit, Announcement, Place, Idle, Card, Answer}
 use Rattle.construction.specs.Cells.{isDone, current, previous}
-use Rattle.construction.specs.Parts.{announcementAt, recordAt, localAt, Local, contentsOf}
+use Rattle.construction.specs.Parts.{announcementAt, recordAt, localAt, Local}
 use Rattle.construction.specs.Machine.{holderOf}
 use Rattle.construction.specs.Requests.{isBusy, pending, valueOf, returned, answerOf, isIdle}
 use Rattle.construction.proofs.Basics.{on-test, true-false, true-or-false, active-not-done, exit-not-done}
-use Rattle.construction.proofs.Invariant.World.{Round, World, announcementIn, Result, resultOf, resultIn, roundIn, wordAt, Phase, WorldInvariant, Quiet}
+use Rattle.construction.proofs.Invariant.World.{Round, World, announcementIn, Result, resultOf, resultIn, roundIn, wordAt, Phase, WorldInvariant, Quiet, frameOf, Frame}
 use Rattle.construction.proofs.Invariant.Assertions.{LocAt, known}
 use Rattle.construction.proofs.Invariant.Stages.{isAnnounced, Stage, stage}
 use Rattle.construction.proofs.Invariant.Acting.{worldOf}
@@ -23,7 +23,7 @@ module _ (c : Card) (w : World) (I : CardInvariant c w) (v : ℕ) (vl : v < c .v
   abbrev W : World
   W = worldOf c w
 
-  good : WorldInvariant (contentsOf c) W
+  good : WorldInvariant (frameOf c w) W
   good = good-is I
 
   -- what is read where the test of the gate's holder says b
@@ -67,7 +67,7 @@ module _ {c : Card} {w : World} (I : CardInvariant c w) (i : ℕ) (lt : i < c .p
   pub answer-is : Returned (answerOf (localAt c i))
   answer-is = go (localAt c i .announcement .flag) (ap (λ (a : Announcement). a .flag) (q .1 .same))
     where
-      q : LocAt Idle (contentsOf c) w i (localAt c i)
+      q : LocAt Idle (frameOf c w) w i (localAt c i)
       q = at-rest I i lt b
 
       idle : isIdle (localAt c i .task .place) ≡ true
@@ -83,7 +83,7 @@ module _ {c : Card} {w : World} (I : CardInvariant c w) (i : ℕ) (lt : i < c .p
       go Active e = absurd (q .0 .not-active e)
       go Exit e = inr (e, rw idle)
 
-module _ (F : Contents) (w : World) (i : ℕ) (t : Local) where
+module _ (F : Frame) (w : World) (i : ℕ) (t : Local) where
   quiet-at : {l : Place} → Stage l → isAnnounced l ≡ false → LocAt l F w i t → Quiet w i
   quiet-at Stage.idle e q = q .0
   quiet-at Stage.called e q = q .0
@@ -93,7 +93,7 @@ module _ (F : Contents) (w : World) (i : ℕ) (t : Local) where
 module _ {c : Card} {w : World} (I : CardInvariant c w) (i : ℕ) (lt : i < c .processCount) where
   -- an operation that is not announced is not active and does not hold the gate
   quiet-is : isAnnounced (localAt c i .task .place) ≡ false → Quiet w i
-  quiet-is e = quiet-at (contentsOf c) w i (known (localAt c i)) (stage (localAt c i .task .place)) e (I .locs i lt)
+  quiet-is e = quiet-at (frameOf c w) w i (known (localAt c i)) (stage (localAt c i .task .place)) e (I .locs i lt)
 
   -- the holder of the gate is announced
   pub holder-announced : w .gate .holder ≡ Process i → isAnnounced (localAt c i .task .place) ≡ true

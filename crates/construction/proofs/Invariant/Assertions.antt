@@ -7,19 +7,18 @@ use mathlib.Core.List.{List}
 use native.Mathlib.Omega.{arith}
 use lib.ListN.{length, getD}
 use lib.Seq.{getD-set-other}
-use Rattle.construction.specs.Types.{Nobody, Process, Gate, Active, Yield, Announcement, Program, Item, Dictionary, Simulation, Place, Idle, P1, P3, P5, P7, P10, C2, C4, P13, P14, P16, H21, H36, P19, P20, P21, P22, F1, F3, Operation, Contents}
+use Rattle.construction.specs.Types.{Nobody, Process, Gate, Active, Yield, Announcement, Program, Item, Dictionary, Simulation, Place, Idle, P1, P3, P5, P7, P10, C2, C4, P13, P14, P16, H21, H36, P19, P20, P21, P22, F1, F3, Operation}
 use Rattle.construction.specs.Dictionary.{noItem, noted, valueUnder, altered}
 use Rattle.construction.specs.Machine.{holderOf}
 use Rattle.construction.proofs.Simulating.Dictionaries.{all-map}
 use Rattle.construction.proofs.Simulating.Simulations.{Core, Finished, Needing}
-use Rattle.construction.proofs.Invariant.World.{endingIn, World, announcementIn, recordIn, leftIn, callIn, resultIn, roundIn, wordAt, WorldInvariant, Quiet, Move}
+use Rattle.construction.proofs.Invariant.World.{endingIn, World, announcementIn, recordIn, leftIn, callIn, resultIn, roundIn, wordAt, WorldInvariant, Quiet, Move, Frame}
 use Rattle.construction.proofs.Invariant.World.Move.{stay, ask, announce, leave, take, write, end, free}
-use Rattle.construction.proofs.Invariant.Claims.{viewOf, Change, Mine, Limit, Past, Gone, Returning, Rested, Last, Seen, Nominated, Working, Halfway, Over}
-use Rattle.construction.proofs.Invariant.Claims.{change, call-change, mine-change, silent-change, limit-change, past-change, gone-change, returning-change, rested-change, last-change, seen-stays, nominated-stays, working-stays, halfway-stays, over-stays, below-stays, record-stays, round-stays}
-use Rattle.construction.specs.Parts.{programOf, Local}
+use Rattle.construction.proofs.Invariant.Claims.{viewOf, Change, Mine, Limit, Past, Gone, Returning, Rested, Last, Seen, Nominated, Working, Halfway, Over, change, call-change, mine-change, silent-change, limit-change, past-change, gone-change, returning-change, rested-change, last-change, seen-stays, nominated-stays, working-stays, halfway-stays, over-stays, below-stays, record-stays, round-stays}
+use Rattle.construction.specs.Parts.{Local}
 
 -- process j, with its operation o, has read the gate g, held
-pub record Helper (F : Contents) (w : World) (j : ℕ) (o : Operation) (g : Gate) : Type 0 where
+pub record Helper (F : Frame) (w : World) (j : ℕ) (o : Operation) (g : Gate) : Type 0 where
   pub mine : Mine (viewOf w j) o
   pub named : g .holder ≡ Process (holderOf (g .holder))
   pub inside : holderOf (g .holder) < F .processCount
@@ -27,7 +26,7 @@ pub record Helper (F : Contents) (w : World) (j : ℕ) (o : Operation) (g : Gate
   pub limit : Limit (viewOf w j) j (g .seq)
 
 -- a helper that has read g works on the announcement a of the holder
-pub record Plan (F : Contents) (w : World) (g : Gate) (a : Announcement) : Type 0 where
+pub record Plan (F : Frame) (w : World) (g : Gate) (a : Announcement) : Type 0 where
   pub below : g .seq ≤ w .gate .seq
   pub number : g .seq < length (w .rounds)
   pub early : a .seq ≤ g .seq
@@ -35,7 +34,7 @@ pub record Plan (F : Contents) (w : World) (g : Gate) (a : Announcement) : Type 
   pub working : Working w (holderOf (g .holder)) (g .seq) a
 
 -- an item of the dictionary of a helper of number s
-pub record ItemNoted (F : Contents) (w : World) (s : ℕ) (e : Item) : Type 0 where
+pub record ItemNoted (F : Frame) (w : World) (s : ℕ) (e : Item) : Type 0 where
   pub inside : e .variable < F .variableCount
   pub base : valueUnder s (e .cell) ≡ wordAt (roundIn w s .words) (e .variable)
   pub kept : (recordIn w (e .variable) ≡ e .cell) ⊎ (s ≤ recordIn w (e .variable) .seq)
@@ -45,18 +44,18 @@ pub record NoWriteDue (w : World) (s : ℕ) (e : Item) : Type 0 where
   pub fine : (s ≤ recordIn w (e .variable) .seq) ⊎ (e .value ≡ wordAt (roundIn w s .words) (e .variable))
 
 -- a helper of number s whose simulation yields o has nothing more to write, or comes too late
-pub record Ready (F : Contents) (w : World) (s : ℕ) (o : Yield) : Type 0 where
+pub record Ready (F : Frame) (w : World) (s : ℕ) (o : Yield) : Type 0 where
   pub yields : (s < w .gate .seq) ⊎ (o ≡ endingIn F w s .yields)
   pub all :
       (s < w .gate .seq)
       ⊎ ((v : ℕ) → v < F .variableCount → recordIn w v .seq < s → wordAt (endingIn F w s .words) v ≡ wordAt (roundIn w s .words) v)
 
 -- the program that a helper of number s runs for the announcement a
-abbrev pub programFor : Contents → ℕ → Announcement → Program
-programFor F s a = programOf F (a .program) s
+abbrev pub programFor : Frame → ℕ → Announcement → Program
+programFor F s a = F .programAt (a .program) s
 
 -- its simulation, from the words before number s to the ending of number s
-module _ (F : Contents) (w : World) (s : ℕ) (a : Announcement) where
+module _ (F : Frame) (w : World) (s : ℕ) (a : Announcement) where
   abbrev pub CoreAt : Simulation → Dictionary → Type 0
   CoreAt l d =
       Core (F .variableCount) (programFor F s a) (a .words) (roundIn w s .words) (endingIn F w s) (ItemNoted F w s) l d
@@ -70,13 +69,13 @@ module _ (F : Contents) (w : World) (s : ℕ) (a : Announcement) where
       Finished (F .variableCount) (programFor F s a) (a .words) (roundIn w s .words) (endingIn F w s) (ItemNoted F w s) l d
 
 -- item k is to be written, and those before it need no write
-pub record Writing (F : Contents) (w : World) (s : ℕ) (b : List Item) (k : ℕ) : Type 0 where
+pub record Writing (F : Frame) (w : World) (s : ℕ) (b : List Item) (k : ℕ) : Type 0 where
   pub inside : k < length b
   pub due : altered s (getD b k noItem) ≡ true
   pub before : (q : ℕ) → q < k → NoWriteDue w s (getD b q noItem)
 
 -- what process j with local state t knows at each place
-abbrev pub LocAt : Place → Contents → World → ℕ → Local → Type 0
+abbrev pub LocAt : Place → Frame → World → ℕ → Local → Type 0
 LocAt Idle F w j t = Quiet w j × Rested (announcementIn w j) (resultIn w j) (t .announcement)
 LocAt P1 F w j t = Quiet w j × (t .operation ≡ callIn w j)
 LocAt P3 F w j t =
@@ -131,10 +130,10 @@ known t =
       mask = 0;
     }
 
-abbrev pub Loc : Contents → World → ℕ → Local → Type 0
+abbrev pub Loc : Frame → World → ℕ → Local → Type 0
 Loc F w j t = LocAt (t .task .place) F w j (known t)
 
-module _ {F : Contents} {i : ℕ} {w v : World} (G : WorldInvariant F w) (M : Move F i w v) where
+module _ {F : Frame} {i : ℕ} {w v : World} (G : WorldInvariant F w) (M : Move F i w v) where
   left-stays : {u : World} (j n : ℕ) → Move F i w u → Quiet w j → leftIn w j < n → leftIn u j < n
   left-stays j n stay q h = h
   left-stays j n (ask c lt Q) q h = h
@@ -271,5 +270,5 @@ module _ {F : Contents} {i : ℕ} {w v : World} (G : WorldInvariant F w) (M : Mo
     loc-at-stays F3 t q = (returning-change C (q .0), q .1, last-change (q .0 .done) C (q .2))
 
 pub loc-stays :
-    {F : Contents} {i : ℕ} {w v : World} → WorldInvariant F w → Move F i w v → (j : ℕ) → j ≢ i → (t : Local) → Loc F w j t → Loc F v j t
+    {F : Frame} {i : ℕ} {w v : World} → WorldInvariant F w → Move F i w v → (j : ℕ) → j ≢ i → (t : Local) → Loc F w j t → Loc F v j t
 loc-stays G M j ne t q = loc-at-stays G M j ne (t .task .place) (known t) q

@@ -2,38 +2,43 @@
 use Prim.Native.Nat.{ℕ, suc, _+_, _≤_, _<_, _%_}
 use mathlib.Core.Path.{_≡_, refl, sym, subst, ap, _∙_}
 use mathlib.Core.Bool.{true, false, false≢true}
-use mathlib.Core.Logic.{_≢_}
+use mathlib.Core.Logic.{_≢_, _⊎_, inl, inr, ⊎-elim}
 use mathlib.Core.List.{[], _∷_, map, List}
 use native.Mathlib.Omega.{arith}
 use native.Mathlib.Decide.{ℕ-discrete}
 use lib.ListN.{length, getD, take, replicate, length-map, List·getD-map}
 use lib.Seq.{getD-set-same, getD-take, length-take-le}
 use borrow.Author.Tests.{not-true, not-false}
-use Rattle.construction.specs.Types.{Gate, Done, Words, Announcement, Record, Place, Idle, Task, Operation, Card, Contents}
+use Rattle.construction.specs.Types.{Gate, Done, Words, Announcement, Record, Place, Idle, Task, Operation, Card, Contents, Program}
 use Rattle.construction.specs.Cells.{openAnnouncement, openRecord, current}
 use Rattle.construction.specs.Instructions.{noProgram}
 use Rattle.construction.specs.Dictionary.{empty}
-use Rattle.construction.specs.Parts.{idleTask, noOperation, localAt, withLocal, Local, contentsOf, withCells, withSteps}
+use Rattle.construction.specs.Parts.{idleTask, noOperation, localAt, withLocal, Local, contentsOf, withCells, withSteps, textsOf, programOf}
 use Rattle.construction.specs.Machine.{perform, advance, accessIn}
 use Rattle.construction.specs.Requests.{isBusy, invoked, exiting}
 use Rattle.construction.specs.Opening.{fresh}
-use Rattle.construction.proofs.Basics.{getD-replicate-same, active-not-done, exit-not-done, nobody-process}
+use Rattle.construction.proofs.Basics.{getD-replicate-same, active-not-done, exit-not-done, nobody-process, on-test}
 use Rattle.construction.proofs.Simulating.Sequential.{Short}
-use Rattle.construction.proofs.Invariant.World.{World, noResult, resultOf, WorldInvariant, asking, Move}
+use Rattle.construction.proofs.Invariant.World.{World, noResult, resultOf, WorldInvariant, asking, Move, frameOf, frameWith}
 use Rattle.construction.proofs.Invariant.World.Move.{ask, stay}
-use Rattle.construction.proofs.Invariant.WorldKept.{good-move, seq-move}
+use Rattle.construction.proofs.Invariant.WorldKept.{good-move, seq-move, texts-move}
 use Rattle.construction.proofs.Invariant.Locals.{Sizes, local-same, local-other, sizes-put}
 use Rattle.construction.proofs.Invariant.Assertions.{LocAt, Loc, loc-stays, known}
-use Rattle.construction.proofs.Invariant.Stages.{stage, is-idle}
-use Rattle.construction.proofs.Invariant.Acting.{worldOf, WellFormed, Acted, Before}
+use Rattle.construction.proofs.Invariant.Stages.{stage, is-idle, gate-read}
+use Rattle.construction.proofs.Invariant.Acting.{worldOf, WellFormed, Acted, Before, KeepsTexts}
 use Rattle.construction.proofs.Invariant.Steps.{at-place}
+use lib.Dec.{ltb}
+use Rattle.construction.specs.Weight.{weight, cardWeight}
+use Rattle.construction.specs.Changes.{hasRead}
+use Rattle.construction.proofs.Simulating.Weights.{weight-card, heaviest-some}
 
 -- the cells of the card are those of a good world, every process knows what its place asks for, and the numbers keep their bounds
 pub record CardInvariant (c : Card) (w : World) : Type 0 where
   pub cells : worldOf c w ≡ w
-  pub good : WorldInvariant (contentsOf c) w
+  pub good : WorldInvariant (frameOf c w) w
+  pub texts : KeepsTexts c w
   pub sizes : Sizes c
-  pub locs : (j : ℕ) → j < c .processCount → Loc (contentsOf c) w j (localAt c j)
+  pub locs : (j : ℕ) → j < c .processCount → Loc (frameOf c w) w j (localAt c j)
   pub tidy : (j : ℕ) → WellFormed (localAt c j .dictionary)
   pub numbered : c .gate .seq ≤ suc (c .steps)
   pub limited : c .steps ≤ c .limit
@@ -45,8 +50,8 @@ module _ {c : Card} {w : World} (I : CardInvariant c w) where
   pub gate-is : c .gate ≡ w .gate
   gate-is = ap (λ (u : World). u .gate) (I .cells)
 
-  pub good-is : WorldInvariant (contentsOf c) (worldOf c w)
-  good-is = subst (WorldInvariant (contentsOf c)) (sym (I .cells)) (I .good)
+  pub good-is : WorldInvariant (frameOf c w) (worldOf c w)
+  good-is = subst (WorldInvariant (frameOf c w)) (sym (I .cells)) (I .good)
 
   pub announcements-is : c .announcements ≡ w .announcements
   announcements-is = ap (λ (u : World). u .announcements) (I .cells)
@@ -55,7 +60,7 @@ module _ {c : Card} {w : World} (I : CardInvariant c w) where
   numbered-is = rw gate-is at (I .numbered)
 
 -- a card after a move to the world u: other shared cells, process i with the own state t, and k accepted steps
-module _ {c : Card} {w : World} {i : ℕ} (I : CardInvariant c w) (lt : i < c .processCount) {u : World} (M : Move (contentsOf c) i w u) (g : Gate) (l : List Announcement)
+module _ {c : Card} {w : World} {i : ℕ} (I : CardInvariant c w) (lt : i < c .processCount) {u : World} (M : Move (frameOf c w) i w u) (g : Gate) (l : List Announcement)
     (r : List Record) (t : Local) (k : ℕ) where
   abbrev v : Card
   v = withSteps (withLocal (withCells c g l r) i t) k
@@ -67,21 +72,46 @@ module _ {c : Card} {w : World} {i : ℕ} (I : CardInvariant c w) (lt : i < c .p
       go (yes e) = subst (λ (n : ℕ). P n (localAt v n)) (sym e) (subst (P i) (sym (local-same c i t (I .sizes) (omega (arith, I .good .fits .few)))) a)
       go (no ne) = subst (P j) (sym (local-other c i j t ne)) (b j ne)
 
+  abbrev Reads : Type 0
+  Reads = hasRead (t .task .place) ≡ true → (t .gate ≡ c .gate) ⊎ ((hasRead (localAt c i .task .place) ≡ true) × (t .gate ≡ localAt c i .gate))
+
   moved :
-      worldOf v u ≡ u → Loc (contentsOf c) u i t → WellFormed (t .dictionary) → u .gate .seq ≤ suc k → c .steps ≤ k → k ≤ c .limit →
+      worldOf v u ≡ u → Reads → Loc (frameOf c w) u i t → WellFormed (t .dictionary) → u .gate .seq ≤ suc k → c .steps ≤ k → k ≤ c .limit →
       t .steps ≤ k → CardInvariant v u
-  moved cells loc tidy numbered more limited own = record {
+  moved cells reads loc tidy numbered more limited own = record {
     cells = cells;
-    good = good-move (I .good) M;
+    good = subst (λ (x : ℕ → ℕ → Program). WorldInvariant (frameWith c x) u) (sym (texts-move M)) (good-move (I .good) M);
+    texts = record {
+      many = I .texts .many;
+      now = λ k n h. I .texts .now k n (omega (arith, seq-move M .0, ap (λ (x : World). x .gate .seq) cells, ap (λ (x : Gate). x .seq) (gate-is I))) ∙ same k n;
+      read = λ j h. at-process (λ n x. n < c .processCount → Right x) (λ _. here) (λ n ne m e k q l. I .texts .read n m e k q l ∙ same k q) j h;
+      light = λ k n. subst (λ (x : Program). weight x ≤ cardWeight (contentsOf c)) (same k n) (I .texts .light k n);
+      held = I .texts .held;
+      some = I .texts .some;
+    };
     sizes = sizes-put c i t (I .sizes);
-    locs = λ j h. at-process (λ n x. n < c .processCount → Loc (contentsOf c) u n x) (λ _. loc)
-        (λ n ne m. loc-stays (I .good) M n ne (localAt c n) (I .locs n m)) j h;
+    locs = λ j h. subst (λ (x : ℕ → ℕ → Program). Loc (frameWith c x) u j (localAt v j)) (sym (texts-move M))
+        (at-process (λ n x. n < c .processCount → Loc (frameOf c w) u n x) (λ _. loc)
+        (λ n ne m. loc-stays (I .good) M n ne (localAt c n) (I .locs n m)) j h);
     tidy = at-process (λ n x. WellFormed (x .dictionary)) tidy (λ n ne. I .tidy n);
     numbered = subst (λ (x : Gate). x .seq ≤ suc k) (sym (ap (λ (x : World). x .gate) cells)) numbered;
     limited = limited;
     capped = I .capped;
     counts = at-process (λ n x. x .steps ≤ k) own (λ n ne. omega (arith, I .counts n));
   }
+    where
+      same : (k n : ℕ) → w .texts k n ≡ u .texts k n
+      same k n = ap (λ (x : ℕ → ℕ → Program). x k n) (sym (texts-move M))
+
+      -- a process with the own state x runs the texts of the world
+      Right : Local → Type 0
+      Right x =
+          hasRead (x .task .place) ≡ true → (k number : ℕ) → x .gate .seq ≤ number → programOf (textsOf c) k number ≡ u .texts k number
+
+      here : Right t
+      here e k n h =
+          ⊎-elim (λ z. I .texts .now k n (omega (arith, ap (λ (x : Gate). x .seq) z)) ∙ same k n)
+          (λ z. I .texts .read i lt (z .0) k n (omega (arith, ap (λ (x : Gate). x .seq) (z .1))) ∙ same k n) (reads e)
 
 -- what is known before an accepted step of process i
 pub before-step :
@@ -92,12 +122,13 @@ before-step {i = i} I lt h = record {
   inside = lt;
   small = omega (arith, I .numbered, I .capped);
   tidy = I .tidy i;
+  light = I .texts .light;
 }
 
 -- what an accepted step of process i comes to
 pub record Stepped (c : Card) (w : World) (i : ℕ) : Type 0 where
   pub after : World
-  pub move : Move (contentsOf c) i w after
+  pub move : Move (frameOf c w) i w after
   pub inv : CardInvariant (advance c i) after
   pub calls-is : after .calls ≡ w .calls
   pub elsewhere : (j : ℕ) → j ≢ i → localAt (advance c i) j ≡ localAt c j
@@ -112,7 +143,7 @@ inv-step c w i I lt b h = record {
   move = M;
   inv = subst (λ (x : Card). CardInvariant (withSteps x k) (A .after)) (sym (A .put))
       (moved I lt M (v .gate) (v .announcements) (v .records) (A .local) k
-      (A .cells) (A .loc) (A .tidy) (omega (arith, seq-move M .1, numbered-is I, steps)) (omega (arith, steps))
+      (A .cells) reads (A .loc) (A .tidy) (omega (arith, seq-move M .1, numbered-is I, steps)) (omega (arith, steps))
       (omega (arith, steps)) (omega (arith, A .counted, I .counts i, I .capped, steps)));
   calls-is = A .calls-is;
   elsewhere = λ j ne. ap (λ (x : Card). localAt x j) (A .put) ∙ local-other c i j (A .local) ne;
@@ -127,20 +158,34 @@ inv-step c w i I lt b h = record {
     A : Acted c (worldOf c w) i v
     A =
         at-place (before-step I lt h) (localAt c i .task .place) (localAt c i .exit) (not-true _ b)
-        (subst (λ (x : World). Loc (contentsOf c) x i (localAt c i)) (sym (I .cells)) (I .locs i lt))
+        (λ e k. I .texts .read i lt e k (localAt c i .gate .seq) (omega arith))
+        (subst (λ (x : World). Loc (frameOf c w) x i (localAt c i)) (sym (I .cells)) (I .locs i lt))
 
-    M : Move (contentsOf c) i w (A .after)
-    M = subst (λ (x : World). Move (contentsOf c) i x (A .after)) (I .cells) (A .move)
+    M : Move (frameOf c w) i w (A .after)
+    M = subst (λ (x : World). Move (frameOf c w) i x (A .after)) (I .cells) (A .move)
 
     steps : k ≡ suc (c .steps)
     steps = omega (arith, I .capped)
 
+    own : localAt v i .gate ≡ A .local .gate
+    own =
+        ap (λ (x : Card). localAt x i .gate) (A .put)
+        ∙ ap (λ (x : Local). x .gate)
+        (local-same (withCells c (v .gate) (v .announcements) (v .records)) i (A .local) (I .sizes) (omega (arith, I .good .fits .few)))
+
+    reads :
+        hasRead (A .local .task .place) ≡ true →
+        (A .local .gate ≡ c .gate) ⊎ ((hasRead (localAt c i .task .place) ≡ true) × (A .local .gate ≡ localAt c i .gate))
+    reads _ =
+        ⊎-elim (λ z. inl (sym own ∙ z)) (λ z. inr (z .0, sym own ∙ z .1))
+        (gate-read c i (omega (arith, I .sizes .gates, I .good .fits .few)) (localAt c i .task .place) (localAt c i .exit) (not-true _ b))
+
 -- what is known of a process that has no operation under way
 pub at-rest :
     {c : Card} {w : World} (I : CardInvariant c w) (i : ℕ) →
-    i < c .processCount → isBusy c i ≡ false → LocAt Idle (contentsOf c) w i (localAt c i)
+    i < c .processCount → isBusy c i ≡ false → LocAt Idle (frameOf c w) w i (localAt c i)
 at-rest {c} {w} I i lt b =
-    subst (λ (l : Place). LocAt l (contentsOf c) w i (known (localAt c i))) (is-idle (stage (localAt c i .task .place)) (not-false _ b)) (I .locs i lt)
+    subst (λ (l : Place). LocAt l (frameOf c w) w i (known (localAt c i))) (is-idle (stage (localAt c i .task .place)) (not-false _ b)) (I .locs i lt)
 
 -- a call that is taken
 abbrev pub called : ℕ → Words → Operation
@@ -151,7 +196,7 @@ pub inv-call :
     CardInvariant (withLocal c i (invoked (localAt c i) k inputs)) (asking w i (called k inputs))
 inv-call c w i k inputs I lt b =
     moved I lt (ask (called k inputs) lt (at-rest I i lt b .0)) (c .gate) (c .announcements) (c .records) (invoked (localAt c i) k inputs) (c .steps)
-    (ap (λ (x : World). asking x i (called k inputs)) (I .cells)) (
+    (ap (λ (x : World). asking x i (called k inputs)) (I .cells)) (λ e. absurd (false≢true e)) (
       at-rest I i lt b .0,
       sym (getD-set-same (w .calls) i (called k inputs) noOperation (omega (arith, I .good .fits .few, I .good .lengths .calls))),
     )
@@ -160,13 +205,14 @@ inv-call c w i k inputs I lt b =
 -- an exit request that is taken: no assertion speaks of it
 pub inv-exit : (c : Card) (w : World) (i : ℕ) → CardInvariant c w → i < c .processCount → CardInvariant (withLocal c i (exiting (localAt c i))) w
 inv-exit c w i I lt =
-    moved I lt stay (c .gate) (c .announcements) (c .records) (exiting (localAt c i)) (c .steps) (I .cells)
+    moved I lt stay (c .gate) (c .announcements) (c .records) (exiting (localAt c i)) (c .steps) (I .cells) (λ e. inr (e, refl))
     (I .locs i lt) (I .tidy i) (numbered-is I) (omega arith) (I .limited) (I .counts i)
 
 -- a card as opened
 abbrev pub firstWorld : Contents → World
 firstWorld x =
     record {
+      texts = λ k number. getD (x .programs) k noProgram;
       gate = fresh x .gate;
       announcements = fresh x .announcements;
       records = fresh x .records;
@@ -180,7 +226,7 @@ firstWorld x =
     }
 
 module _ (x : Contents) (few : x .processCount ≤ 8) (narrow : x .variableCount ≤ 64) (capped : x .limit ≤ 1000000000000000000)
-    (many : length (x .starts) ≡ 64) (short : (k : ℕ) → Short (x .variableCount) (getD (x .programs) k noProgram)) where
+    (many : length (x .starts) ≡ 64) (eight : length (x .programs) ≡ 8) (short : (k : ℕ) → Short (x .variableCount) (getD (x .programs) k noProgram)) where
   open-flag : (m : ℕ) → getD (replicate 8 openAnnouncement) m openAnnouncement .flag ≡ Done
   open-flag m = ap (λ (a : Announcement). a .flag) (getD-replicate-same 8 m openAnnouncement)
 
@@ -190,7 +236,12 @@ module _ (x : Contents) (few : x .processCount ≤ 8) (narrow : x .variableCount
   open-words : length (take (x .variableCount) (x .starts)) ≡ x .variableCount
   open-words = length-take-le (x .variableCount) (x .starts) (omega arith)
 
-  good-fresh : WorldInvariant (contentsOf (fresh x)) (firstWorld x)
+  -- an unchanged program is the same under every number
+  open-text : (k number : ℕ) → programOf (textsOf (fresh x)) k number ≡ getD (x .programs) k noProgram
+  unfolding programOf fresh
+  open-text k number = on-test (λ y. y ≡ getD (x .programs) k noProgram) (ltb number (getD (replicate 8 0) k 0)) (λ _. refl) (λ _. refl)
+
+  good-fresh : WorldInvariant (frameOf (fresh x) (firstWorld x)) (firstWorld x)
   unfolding fresh current
   good-fresh = record {
     fits = record { few = few; narrow = narrow; short = λ k number. short k };
@@ -230,6 +281,14 @@ module _ (x : Contents) (few : x .processCount ≤ 8) (narrow : x .variableCount
   inv-fresh = record {
     cells = refl;
     good = good-fresh;
+    texts = record {
+      many = (refl, eight, eight);
+      now = λ k n _. open-text k n;
+      read = λ j _ _ k n _. open-text k n;
+      light = λ k n. weight-card x k;
+      held = λ k n. rw (open-text k n) (weight-card x k);
+      some = heaviest-some (x .programs) (λ k. short k .some);
+    };
     sizes = record {
       tasks = refl;
       operations = refl;
@@ -241,7 +300,7 @@ module _ (x : Contents) (few : x .processCount ≤ 8) (narrow : x .variableCount
       dictionaries = refl;
       masks = refl;
     };
-    locs = λ j h. subst (λ (l : Place). LocAt l (contentsOf (fresh x)) (firstWorld x) j (known (localAt (fresh x) j)))
+    locs = λ j h. subst (λ (l : Place). LocAt l (frameOf (fresh x) (firstWorld x)) (firstWorld x) j (known (localAt (fresh x) j)))
         (sym (ap (λ (t : Task). t .place) (getD-replicate-same 8 j idleTask))) (
           record {
             not-active = λ a. active-not-done a (open-flag j);

@@ -6,12 +6,12 @@ use native.Mathlib.Omega.{arith}
 use native.Mathlib.Decide.{ℕ-discrete}
 use lib.ListN.{length, length-append, List·getD-append}
 use lib.Seq.{getD-set-same, getD-set-other}
-use Rattle.construction.specs.Types.{Holder, Nobody, Process, Gate, Done, Active, Exit, Yield, Announcement, Operation, Contents}
+use Rattle.construction.specs.Types.{Holder, Nobody, Process, Gate, Done, Active, Exit, Yield, Announcement, Operation}
 use Rattle.construction.specs.Cells.{openAnnouncement, openRecord, rewritten}
 use Rattle.construction.specs.Parts.{noOperation}
 use Rattle.construction.specs.Machine.{flagged, finished}
 use Rattle.construction.proofs.Basics.{on-set, active-not-done, active-not-exit, exit-not-done, nobody-process, process-same, else-exit}
-use Rattle.construction.proofs.Invariant.World.{noRound, endingIn, World, announcementIn, recordIn, leftIn, boundIn, callIn, Result, noResult, resultIn, resultOf, roundIn, operationOf, WorldInvariant, asking, announcing, leaving, ending, Silent, Quiet, Move}
+use Rattle.construction.proofs.Invariant.World.{noRound, endingIn, World, announcementIn, recordIn, leftIn, boundIn, callIn, Result, noResult, resultIn, resultOf, roundIn, operationOf, WorldInvariant, asking, announcing, leaving, ending, Silent, Quiet, Move, Frame}
 use Rattle.construction.proofs.Invariant.World.Move.{stay, ask, announce, leave, take, write, end, free}
 use Rattle.construction.proofs.Invariant.WorldKept.{announcements-set, seq-move}
 
@@ -163,7 +163,7 @@ last-change d (took m hn f) q = record { only = λ h. absurd (f (process-same h)
 last-change d (ended o h n) q = absurd (n d)
 last-change d (freed b) q = record { only = λ h. absurd (nobody-process refl h) }
 
-module _ {F : Contents} {w : World} (G : WorldInvariant F w) where
+module _ {F : Frame} {w : World} (G : WorldInvariant F w) where
   -- an operation that is finished, seen by any process
   pub end-change :
       (m j : ℕ) → m < F .processCount → w .gate .holder ≡ Process m → announcementIn w m .flag ≢ Done →
@@ -227,7 +227,7 @@ pub record Halfway (w : World) (m s : ℕ) : Type 0 where
 pub record Over (w : World) (m s : ℕ) : Type 0 where
   pub over : w .gate .holder ≡ Process m → w .gate .seq ≡ s → announcementIn w m .flag ≡ Done
 
-module _ {F : Contents} {i : ℕ} {w : World} (G : WorldInvariant F w) where
+module _ {F : Frame} {i : ℕ} {w : World} (G : WorldInvariant F w) where
   pub seen-stays : {v : World} {m s : ℕ} → Move F i w v → Seen w m s → Seen v m s
   seen-stays stay o = o
   seen-stays (ask c lt Q) o = record { still = o .still }

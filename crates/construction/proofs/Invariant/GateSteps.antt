@@ -5,12 +5,12 @@ use mathlib.Core.Bool.{false}
 use mathlib.Core.Logic.{_≢_, inl, inr, ⊎-elim}
 use native.Mathlib.Omega.{arith}
 use native.Mathlib.Decide.{decLt}
-use Rattle.construction.specs.Types.{Holder, Nobody, Process, Gate, Done, Announcement, Place, Idle, P1, P3, P10, C2, P13, P14, P16, P21, P22, F1, F3, GateAccess, Access, Card, Contents}
+use Rattle.construction.specs.Types.{Holder, Nobody, Process, Gate, Done, Announcement, Place, Idle, P1, P3, P10, C2, P13, P14, P16, P21, P22, F1, F3, GateAccess, Access, Card}
 use Rattle.construction.specs.Cells.{sameHolder, sameGate, swapGate, released}
-use Rattle.construction.specs.Parts.{announcementAt, withGate, localAt, Local, contentsOf, withLocal}
+use Rattle.construction.specs.Parts.{announcementAt, withGate, localAt, Local, withLocal}
 use Rattle.construction.specs.Machine.{goTo, byHolder, holderOf, accessGate, perform}
 use Rattle.construction.proofs.Basics.{on-test, true-false, gate-path, sameGate-true, sameGate-false, sameHolder-true, sameHolder-refl, nobody-process, active-not-done, exit-not-done}
-use Rattle.construction.proofs.Invariant.World.{World, announcementIn, resultOf, resultIn, leftIn, freeing, Quiet}
+use Rattle.construction.proofs.Invariant.World.{World, announcementIn, resultOf, resultIn, leftIn, freeing, Quiet, Frame, frameOf}
 use Rattle.construction.proofs.Invariant.World.Move.{take, free}
 use Rattle.construction.proofs.Invariant.Claims.{viewOf, Mine, Limit, Returning, Rested, Eligible}
 use Rattle.construction.proofs.Invariant.Assertions.{Helper, Loc}
@@ -33,8 +33,8 @@ module _ {c : Card} {w : World} {i : ℕ} (B : Before c w i) where
   abbrev W : World
   W = worldOf c w
 
-  abbrev F : Contents
-  F = contentsOf c
+  abbrev F : Frame
+  F = frameOf c w
 
   -- process i with the gate that it has read
   abbrev read : Place → Local

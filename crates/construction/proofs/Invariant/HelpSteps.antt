@@ -7,33 +7,33 @@ use native.Mathlib.Omega.{arith}
 use lib.ListN.{length, set}
 use lib.Dec.{ltb, leb}
 use borrow.Author.Tests.{ltb-true, ltb-false, leb-true, leb-false, not-true, not-false}
-use Rattle.construction.specs.Types.{Process, Done, Announcement, Dictionary, Simulation, Pause, Ended, Faulted, Lacks, Simulated, P16, H21, Access, Began, Helped, Operation, Card, Contents}
+use Rattle.construction.specs.Types.{Process, Done, Announcement, Dictionary, Simulation, Pause, Ended, Faulted, Lacks, Simulated, P16, H21, Access, Began, Helped, Operation, Card, Program}
 use Rattle.construction.specs.Cells.{openAnnouncement, isDone, previous, openRecord}
 use Rattle.construction.specs.Instructions.{started}
 use Rattle.construction.specs.Dictionary.{empty, valueUnder, itemOf, insert}
 use Rattle.construction.specs.Sequential.{sequential}
 use Rattle.construction.specs.Helping.{simulate}
-use Rattle.construction.specs.Parts.{announcementAt, recordAt, localAt, contentsOf, withLocal, Local, withAnnouncement, withRecord}
+use Rattle.construction.specs.Parts.{announcementAt, recordAt, localAt, withLocal, Local, withAnnouncement, withRecord}
 use Rattle.construction.specs.Machine.{holderOf, helps, afterPause, perform, helped, beginHelp, note, after}
 use Rattle.construction.proofs.Basics.{on-test, and-true, and-false, isDone-true, isDone-false}
 use Rattle.construction.proofs.Simulating.Simulations.{PausedAt, starts, noting, simulates, simulate-empty}
-use Rattle.construction.proofs.Invariant.World.{Round, endingOf, endingIn, World, callIn, roundIn, wordAt, operationOf, Phase}
+use Rattle.construction.proofs.Invariant.World.{Round, endingOf, endingIn, World, callIn, roundIn, wordAt, operationOf, Phase, Frame, frameOf}
 use Rattle.construction.proofs.Invariant.WorldKept.{phase-at, rounds-few}
 use Rattle.construction.proofs.Invariant.Assertions.{Helper, Plan, ItemNoted, programFor, CoreAt, LocAt, Loc}
 use Rattle.construction.proofs.Invariant.NextWrites.{pause-loc}
-use Rattle.construction.proofs.Invariant.Acting.{worldOf, Step, WellFormed, Before, Acted, keeps, goes-on, atSimulation}
+use Rattle.construction.proofs.Invariant.Acting.{worldOf, Step, WellFormed, Before, Acted, keeps, goes-on, atSimulation, Chosen}
 use lib.Seq.{set-getD}
 
 -- the ending of a round is the run of its call
 run-is :
-    (F : Contents) (s : ℕ) (r : Round) (a : Announcement) → r .call ≡ operationOf a →
+    (F : Frame) (s : ℕ) (r : Round) (a : Announcement) → r .call ≡ operationOf a →
     sequential (F .variableCount) (programFor F s a) (a .words) (r .words) ≡ endingOf F s r
 unfolding endingOf
 run-is F s r a e = ap (λ (o : Operation). endingOf F s (record { words = r .words; call = o })) (sym e)
 
 -- a dictionary after a simulation is tidy
 paused-tidy :
-    (F : Contents) (w : World) (s : ℕ) (a : Announcement) (p : Pause) (l : Simulation) (d : Dictionary) →
+    (F : Frame) (w : World) (s : ℕ) (a : Announcement) (p : Pause) (l : Simulation) (d : Dictionary) →
     PausedAt (F .variableCount) (programFor F s a) (a .words) (roundIn w s .words) (endingIn F w s) (ItemNoted F w s) p l d →
     WellFormed d
 paused-tidy F w s a Ended l d q = record { short = q .room .small; keyed = q .keyed }
@@ -45,8 +45,8 @@ module _ {c : Card} {w : World} {i : ℕ} (B : Before c w i) where
   abbrev W : World
   W = worldOf c w
 
-  abbrev F : Contents
-  F = contentsOf c
+  abbrev F : Frame
+  F = frameOf c w
 
   abbrev s : ℕ
   s = localAt c i .gate .seq
@@ -123,14 +123,17 @@ module _ {c : Card} {w : World} {i : ℕ} (B : Before c w i) where
         keeps B refl (set-getD (c .announcements) m openAnnouncement) refl _ refl (subst WellFormed z (r .0))
         (subst (λ (d : Dictionary). Loc F W i (atSimulation (localAt c i) theirs (begun .task) (begun .simulation) d 0)) z (r .1))
 
-  pub at-P16 : Step c w i P16 Access.Help
+  pub at-P16 : Chosen c w i → Step c w i P16 Access.Help
   unfolding perform beginHelp
-  at-P16 q =
-      on-test (λ (x : Began). Acted c W i (helping x)) (helps theirs s)
+  at-P16 chosen q =
+      subst
+      (λ (p : Program). Acted c W i (helping (beginHelp (c .variableCount) p theirs s (localAt c i .task) (localAt c i .simulation))))
+      (sym (chosen (theirs .program)))
+      (on-test (λ (x : Began). Acted c W i (helping x)) (helps theirs s)
       (λ e.
       let h = and-true (not (isDone (theirs .flag))) _ e in
       begins (isDone-false _ (not-true _ (h .0))) (leb-true _ _ (h .1)) q)
-      (λ e. keeps B refl (set-getD (c .announcements) m openAnnouncement) refl _ refl (B .tidy) (q, record { over = λ _. over e }))
+      (λ e. keeps B refl (set-getD (c .announcements) m openAnnouncement) refl _ refl (B .tidy) (q, record { over = λ _. over e })))
     where
       over : helps theirs s ≡ false → c .gate .seq ≡ s → theirs .flag ≡ Done
       over e z =
@@ -147,10 +150,14 @@ module _ {c : Card} {w : World} {i : ℕ} (B : Before c w i) where
       withLocal (withRecord c v (recordAt c v)) i
       (atSimulation (localAt c i) (localAt c i .announcement) (x .task) (x .simulation) (x .dictionary) (x .mask))
 
-  pub at-H21 : Step c w i H21 Access.Note
+  pub at-H21 : Chosen c w i → Step c w i H21 Access.Note
   unfolding perform note valueUnder
-  at-H21 q =
-      on-test (λ (x : Helped). Acted c W i (noting-on x)) (ltb s (recordAt c v .seq))
+  at-H21 chosen q =
+      subst
+      (λ (p : Program). Acted c W i (noting-on (note (c .variableCount) p (localAt c i .announcement .words) (recordAt c v) s (localAt c i .task)
+      (localAt c i .simulation) (localAt c i .dictionary) (localAt c i .mask))))
+      (sym (chosen (localAt c i .announcement .program)))
+      (on-test (λ (x : Helped). Acted c W i (noting-on x)) (ltb s (recordAt c v .seq))
       (λ e.
       let few = rounds-few (c .gate .holder) W (B .good .phase) in
       let z : s < c .gate .seq = omega (arith, ltb-true s (recordAt c v .seq) e, B .good .recorded .below v) in
@@ -163,7 +170,7 @@ module _ {c : Card} {w : World} {i : ℕ} (B : Before c w i) where
       (noting (c .variableCount) (programFor F s (localAt c i .announcement)) (localAt c i .announcement .words) (roundIn W s .words) (endingIn F W s)
       (ItemNoted F W s) v (localAt c i .simulation) (localAt c i .dictionary) (itemOf s v (recordAt c v)) refl word
       (record { inside = q .2 .inside; base = word; kept = inl refl }) (q .2)) in
-      keeps B refl refl kept _ refl (r .0) (r .1))
+      keeps B refl refl kept _ refl (r .0) (r .1)))
     where
       kept : set (c .records) v (recordAt c v) ≡ c .records
       kept = set-getD (c .records) v (openRecord 0)

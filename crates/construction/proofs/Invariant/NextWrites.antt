@@ -8,7 +8,7 @@ use native.Mathlib.Decide.{decLt}
 use lib.ListN.{length, getD}
 use lib.Dec.{ltb, eqb}
 use borrow.Author.Tests.{ltb-true, ltb-false, eqb-true, not-false}
-use Rattle.construction.specs.Types.{Announcement, Item, Dictionary, Simulation, Pause, Ended, Faulted, Lacks, Task, Contents}
+use Rattle.construction.specs.Types.{Announcement, Item, Dictionary, Simulation, Pause, Ended, Faulted, Lacks, Task}
 use Rattle.construction.specs.Cells.{current}
 use Rattle.construction.specs.Dictionary.{noItem, noted, position, valueUnder, altered, nextWrite}
 use Rattle.construction.specs.Sequential.{Ending}
@@ -16,13 +16,13 @@ use Rattle.construction.specs.Machine.{writeFrom, afterPause}
 use Rattle.construction.proofs.Basics.{on-test, true-or-false, and-false}
 use Rattle.construction.proofs.Simulating.Dictionaries.{hasIn, valueIn, all-at, value-none, has-position, at-position, next-before, next-at}
 use Rattle.construction.proofs.Simulating.Simulations.{PausedAt}
-use Rattle.construction.proofs.Invariant.World.{endingIn, World, recordIn, roundIn, wordAt}
+use Rattle.construction.proofs.Invariant.World.{endingIn, World, recordIn, roundIn, wordAt, Frame}
 use Rattle.construction.proofs.Invariant.Acting.{atSimulation}
 use Rattle.construction.proofs.Invariant.Assertions.{Helper, Plan, ItemNoted, NoWriteDue, Ready, programFor, FinishedAt, Loc}
 use Rattle.construction.specs.Parts.{Local}
 
 -- an item that is not altered needs no write
-unaltered-fine : (F : Contents) (w : World) (s : ℕ) (e : Item) → ItemNoted F w s e → altered s e ≡ false → NoWriteDue w s e
+unaltered-fine : (F : Frame) (w : World) (s : ℕ) (e : Item) → ItemNoted F w s e → altered s e ≡ false → NoWriteDue w s e
 unfolding altered valueUnder
 unaltered-fine F w s e q h = ⊎-elim late same (and-false (ltb (e .cell .seq) s) _ h)
   where
@@ -34,7 +34,7 @@ unaltered-fine F w s e q h = ⊎-elim late same (and-false (ltb (e .cell .seq) s
         let z : current (e .cell) ≡ wordAt (roundIn w s .words) (e .variable) = rw t at (q .base) in
         record { fine = inr (sym (eqb-true _ _ (not-false _ f)) ∙ z) }
 
-module _ (F : Contents) (w : World) (i : ℕ) (t : Local) (a : Announcement) (helper : Helper F w i (t .operation) (t .gate))
+module _ (F : Frame) (w : World) (i : ℕ) (t : Local) (a : Announcement) (helper : Helper F w i (t .operation) (t .gate))
     (plan : Plan F w (t .gate) a) where
   abbrev s : ℕ
   s = t .gate .seq

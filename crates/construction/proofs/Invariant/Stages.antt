@@ -4,12 +4,14 @@ use mathlib.Core.Path.{_≡_, refl, ap}
 use mathlib.Core.Bool.{Bool, true, false, not, false≢true}
 use mathlib.Core.Logic.{_⊎_, inl, inr}
 use Rattle.construction.specs.Types.{Gate, Announcement, Place, Idle, P1, P3, P5, P7, P10, C2, C4, P13, P14, P16, H21, H36, P19, P20, P21, P22, F1, F3, AnnouncementAccess, Access, Card}
-use lib.ListN.{length}
-use Rattle.construction.specs.Parts.{localAt}
-use Rattle.construction.specs.Machine.{accessOf, advance}
+use lib.ListN.{length, getD, set}
+use Rattle.construction.specs.Parts.{localAt, noGate}
+use Rattle.construction.specs.Machine.{accessOf, advance, perform, accessGate}
 use Rattle.construction.specs.Requests.{isIdle}
 use Rattle.construction.proofs.Basics.{true-false}
 use Rattle.construction.proofs.Invariant.NextPlaces.{Leads, leads}
+use lib.Seq.{getD-set-same}
+use Rattle.construction.specs.Changes.{hasRead}
 
 -- the places of an announced operation: after P3 until it returns
 abbrev pub isAnnounced : Place → Bool
@@ -118,3 +120,38 @@ busy-stage Stage.idle t = absurd (false≢true t)
 busy-stage Stage.called t = inl refl
 busy-stage Stage.numbered t = inr (inl refl)
 busy-stage (Stage.announced l a b f) t = inr (inr a)
+
+-- a step reads the gate, or its process is past P1 and keeps the gate that it last read
+pub gate-read :
+    (c : Card) (i : ℕ) → i < length (c .gates) → (l : Place) (exit : Bool) → isIdle l ≡ false →
+    (localAt (perform (accessOf l exit) c i .card) i .gate ≡ c .gate)
+    ⊎ ((hasRead l ≡ true) × (localAt (perform (accessOf l exit) c i .card) i .gate ≡ localAt c i .gate))
+unfolding accessOf perform accessGate
+gate-read c i lt = go
+  where
+    put : (x : Gate) → getD (set (c .gates) i x) i noGate ≡ x
+    put x = getD-set-same (c .gates) i x noGate lt
+
+    go : (l : Place) (exit : Bool) → isIdle l ≡ false →
+        (localAt (perform (accessOf l exit) c i .card) i .gate ≡ c .gate)
+        ⊎ ((hasRead l ≡ true) × (localAt (perform (accessOf l exit) c i .card) i .gate ≡ localAt c i .gate))
+    go Idle exit n = absurd (true-false _ refl n)
+    go P1 exit n = inl (put _)
+    go P3 exit n = inr (refl, put _)
+    go P5 true n = inr (refl, put _)
+    go P5 false n = inl (put _)
+    go P7 exit n = inr (refl, put _)
+    go P10 exit n = inl (put _)
+    go C2 exit n = inr (refl, put _)
+    go C4 exit n = inr (refl, put _)
+    go P13 exit n = inr (refl, put _)
+    go P14 exit n = inl (put _)
+    go P16 exit n = inr (refl, put _)
+    go H21 exit n = inr (refl, put _)
+    go H36 exit n = inr (refl, put _)
+    go P19 exit n = inr (refl, put _)
+    go P20 exit n = inr (refl, put _)
+    go P21 exit n = inr (refl, put _)
+    go P22 exit n = inr (refl, put _)
+    go F1 exit n = inl (put _)
+    go F3 exit n = inr (refl, put _)

@@ -1,14 +1,15 @@
 -- The shared cells with the ghost state of the proof, what holds of them after every list of entries, and the moves that an entry makes.
 use Prim.Native.Nat.{ℕ, suc, _+_, _≤_, _<_}
 use mathlib.Core.Path.{_≡_}
-use mathlib.Core.Bool.{true}
+use mathlib.Core.Bool.{true, cond, _&&_}
+use lib.Dec.{eqb, leb}
 use mathlib.Core.Logic.{_≢_, _⊎_}
 use mathlib.Core.List.{List, [], _∷_, _++_}
 use lib.ListN.{length, getD, set}
-use Rattle.construction.specs.Types.{Holder, Nobody, Process, Gate, Done, Active, Exit, Yield, Announcement, Record, Operation, Contents}
+use Rattle.construction.specs.Types.{Holder, Nobody, Process, Gate, Done, Active, Exit, Yield, Announcement, Record, Program, Operation, Card}
 use Rattle.construction.specs.Cells.{zeros, noYield, yieldOf, openAnnouncement, openRecord, current, previous, rewritten}
 use Rattle.construction.specs.Sequential.{Ending, sequential}
-use Rattle.construction.specs.Parts.{noOperation, programOf}
+use Rattle.construction.specs.Parts.{noOperation}
 use Rattle.construction.specs.Machine.{flagged, finished}
 use Rattle.construction.proofs.Simulating.Sequential.{Short}
 
@@ -20,10 +21,16 @@ pub record Round : Type 0 where
 abbrev pub noRound : Round
 noRound = record { words = []; call = noOperation }
 
+-- what the rounds are measured by: the processes, the variables, and the text of each program that operations with a gate number run
+pub record Frame : Type 0 where
+  pub processCount : ℕ
+  pub variableCount : ℕ
+  pub programAt : ℕ → ℕ → Program
+
 -- how the operation of a number ends in the sequential run
-unfoldable pub endingOf : Contents → ℕ → Round → Ending
+unfoldable pub endingOf : Frame → ℕ → Round → Ending
 endingOf F number r =
-    sequential (F .variableCount) (programOf F (r .call .program) number) (r .call .inputs) (r .words)
+    sequential (F .variableCount) (F .programAt (r .call .program) number) (r .call .inputs) (r .words)
 
 -- what an operation came to that is done: its gate number and what it yields
 pub record Result : Type 0 where
@@ -35,8 +42,10 @@ noResult = record { number = 0; yields = noYield }
 
 -- The shared cells; the words of the sequential run; of each process its latest taken call and the result of its latest finished
 -- operation. `left` is the last number under which a process gave back the gate, `bound` the gate's number at its exit request,
--- `rounds` one for each number of the gate so far (number 0 stands for the opening), `count` 1 more than the finished operations.
+-- `rounds` one for each number of the gate so far (number 0 stands for the opening), `count` 1 more than the finished operations;
+-- `texts` the text of each program under each number, by the changes taken (document 02, order 11).
 pub record World : Type 0 where
+  pub texts : ℕ → ℕ → Program
   pub gate : Gate
   pub announcements : List Announcement
   pub records : List Record
@@ -47,6 +56,13 @@ pub record World : Type 0 where
   pub bound : List ℕ
   pub rounds : List Round
   pub count : ℕ
+
+-- the frame of a card with these texts, and in a world
+abbrev pub frameWith : Card → (ℕ → ℕ → Program) → Frame
+frameWith c texts = record { processCount = c .processCount; variableCount = c .variableCount; programAt = texts }
+
+abbrev pub frameOf : Card → World → Frame
+frameOf c w = frameWith c (w .texts)
 
 abbrev pub announcementIn : World → ℕ → Announcement
 announcementIn w j = getD (w .announcements) j openAnnouncement
@@ -75,7 +91,7 @@ roundOf rounds s = getD rounds s noRound
 abbrev pub roundIn : World → ℕ → Round
 roundIn w s = roundOf (w .rounds) s
 
-abbrev pub endingIn : Contents → World → ℕ → Ending
+abbrev pub endingIn : Frame → World → ℕ → Ending
 endingIn F w s = endingOf F s (roundIn w s)
 
 abbrev pub wordAt : List ℕ → ℕ → ℕ
@@ -109,7 +125,7 @@ Phase (Process m) w = Held w (callIn w m) (announcementIn w m)
 -- the rounds and the records: a round has a word for each variable; a record below number s has the value from before s, one of number s
 -- has the values before and after s; what a finished operation altered is written; and where no operation is pending the records have the
 -- words of the sequential run
-pub record Recorded (F : Contents) (records : List Record) (rounds : List Round) (count : ℕ) (words : List ℕ) : Type 0 where
+pub record Recorded (F : Frame) (records : List Record) (rounds : List Round) (count : ℕ) (words : List ℕ) : Type 0 where
   pub sized : (s : ℕ) → s < length rounds → length (roundOf rounds s .words) ≡ F .variableCount
   pub below : (v : ℕ) → recordOf records v .seq < length rounds
   pub old :
@@ -126,10 +142,10 @@ pub record Recorded (F : Contents) (records : List Record) (rounds : List Round)
   pub words-are : (v : ℕ) → v < F .variableCount → count ≡ length rounds → current (recordOf records v) ≡ wordAt words v
 
 -- there is room for the processes, the variables and the lines of each program
-pub record Fits (F : Contents) : Type 0 where
+pub record Fits (F : Frame) : Type 0 where
   pub few : F .processCount ≤ 8
   pub narrow : F .variableCount ≤ 64
-  pub short : (k number : ℕ) → Short (F .variableCount) (programOf F k number)
+  pub short : (k number : ℕ) → Short (F .variableCount) (F .programAt k number)
 
 -- the lengths of what there is for each process and for each variable
 pub record Lengths (a r c o l b : ℕ) : Type 0 where
@@ -150,7 +166,7 @@ pub record AnnouncementInvariant (seq left : ℕ) (o : Operation) (a : Announcem
   pub active-operation : a .flag ≡ Active → operationOf a ≡ o
 
 -- what holds of the world after every list of entries
-pub record WorldInvariant (F : Contents) (w : World) : Type 0 where
+pub record WorldInvariant (F : Frame) (w : World) : Type 0 where
   pub fits : Fits F
   pub lengths :
       Lengths (length (w .announcements)) (length (w .records)) (length (w .calls)) (length (w .results)) (length (w .left))
@@ -165,9 +181,10 @@ pub record WorldInvariant (F : Contents) (w : World) : Type 0 where
 
 -- a world of its parts
 abbrev worldFrom :
-    Gate → List Announcement → List Record → List ℕ → List Operation → List Result → List ℕ → List ℕ → List Round → ℕ → World
-worldFrom gate announcements records words calls results left bound rounds count =
+    (ℕ → ℕ → Program) → Gate → List Announcement → List Record → List ℕ → List Operation → List Result → List ℕ → List ℕ → List Round → ℕ → World
+worldFrom texts gate announcements records words calls results left bound rounds count =
     record {
+      texts = texts;
       gate = gate;
       announcements = announcements;
       records = records;
@@ -183,10 +200,19 @@ worldFrom gate announcements records words calls results left bound rounds count
 -- the world with other shared cells, and with another ghost state
 abbrev pub withShared : World → Gate → List Announcement → List Record → World
 withShared w gate announcements records =
-    worldFrom gate announcements records (w .words) (w .calls) (w .results) (w .left) (w .bound) (w .rounds) (w .count)
+    worldFrom (w .texts) gate announcements records (w .words) (w .calls) (w .results) (w .left) (w .bound) (w .rounds) (w .count)
 
 abbrev withGhosts : World → List ℕ → List Operation → List Result → List ℕ → List ℕ → List Round → ℕ → World
-withGhosts w = worldFrom (w .gate) (w .announcements) (w .records)
+withGhosts w = worldFrom (w .texts) (w .gate) (w .announcements) (w .records)
+
+-- a text is changed
+abbrev pub changing : World → (ℕ → ℕ → Program) → World
+changing w texts =
+    worldFrom texts (w .gate) (w .announcements) (w .records) (w .words) (w .calls) (w .results) (w .left) (w .bound) (w .rounds) (w .count)
+
+-- the texts with another one of program k from a number on
+abbrev pub withText : (ℕ → ℕ → Program) → ℕ → ℕ → Program → ℕ → ℕ → Program
+withText texts k from text j number = cond (eqb k j && leb from number) text (texts j number)
 
 -- process i is called
 abbrev pub asking : World → ℕ → Operation → World
@@ -213,7 +239,7 @@ abbrev pub storing : World → ℕ → ℕ → World
 storing w v x = withShared w (w .gate) (w .announcements) (set (w .records) v (rewritten (recordIn w v) x (w .gate .seq)))
 
 -- the operation of m is finished (P19, P20)
-abbrev pub ending : Contents → World → ℕ → World
+abbrev pub ending : Frame → World → ℕ → World
 ending F w m =
     withGhosts (announcing w m (finished (announcementIn w m) (w .gate) (endingIn F w (w .gate .seq) .yields)))
     (endingIn F w (w .gate .seq) .words) (w .calls)
@@ -236,7 +262,7 @@ abbrev pub Quiet : World → ℕ → Type 0
 Quiet w j = Silent (w .gate) (announcementIn w j) (boundIn w j) j
 
 -- what an entry of process i may do to the world
-pub data Move (F : Contents) (i : ℕ) (w : World) : World → Type 0 where
+pub data Move (F : Frame) (i : ℕ) (w : World) : World → Type 0 where
   stay : Move F i w w
   ask : (q : Operation) → i < F .processCount → Quiet w i → Move F i w (asking w i q)
   announce :

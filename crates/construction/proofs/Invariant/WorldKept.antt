@@ -8,22 +8,22 @@ use native.Mathlib.Omega.{arith}
 use native.Mathlib.Nat.{eq-or-lt-of-le}
 use lib.ListN.{length, getD, set, length-set, length-append, List·getD-append}
 use lib.Seq.{getD-set-other, getD-at}
-use Rattle.construction.specs.Types.{Holder, Nobody, Process, Done, Active, Exit, Announcement, Record, Operation, Contents}
+use Rattle.construction.specs.Types.{Holder, Nobody, Process, Done, Active, Exit, Announcement, Record, Operation}
 use Rattle.construction.specs.Machine.{flagged}
 use Rattle.construction.specs.Cells.{zeros, openAnnouncement, openRecord, current, previous, rewritten}
 use Rattle.construction.specs.Sequential.{Ending, sequential}
-use Rattle.construction.specs.Parts.{noOperation, programOf}
+use Rattle.construction.specs.Parts.{noOperation}
 use Rattle.construction.proofs.Basics.{on-set, active-not-done, active-not-exit, exit-not-done, nobody-process, process-same, done-or-not}
 use Rattle.construction.proofs.Simulating.Sequential.{sequential-length, sequential-fault}
-use Rattle.construction.proofs.Invariant.World.{Round, noRound, endingOf, endingIn, World, announcementIn, recordIn, leftIn, callIn, roundIn, wordAt, operationOf, Held, Phase, Recorded, AnnouncementInvariant, WorldInvariant, asking, announcing, leaving, taking, storing, ending, freeing, Quiet, Move}
+use Rattle.construction.proofs.Invariant.World.{Round, noRound, endingOf, endingIn, World, announcementIn, recordIn, leftIn, callIn, roundIn, wordAt, operationOf, Held, Phase, Recorded, AnnouncementInvariant, WorldInvariant, asking, announcing, leaving, taking, storing, ending, freeing, Quiet, Move, Frame}
 use Rattle.construction.proofs.Invariant.World.Move.{stay, ask, announce, leave, take, write, end, free}
 
-ending-length : (F : Contents) (s : ℕ) (r : Round) → length (endingOf F s r .words) ≡ length (r .words)
+ending-length : (F : Frame) (s : ℕ) (r : Round) → length (endingOf F s r .words) ≡ length (r .words)
 unfolding endingOf
 ending-length F s r = sequential-length (F .variableCount) _ (r .call .inputs) (r .words)
 
 -- an operation that ends as a fault outputs zeros
-ending-fault : (F : Contents) (s : ℕ) (r : Round) → endingOf F s r .yields .fault ≡ true → endingOf F s r .yields .outputs ≡ zeros
+ending-fault : (F : Frame) (s : ℕ) (r : Round) → endingOf F s r .yields .fault ≡ true → endingOf F s r .yields .outputs ≡ zeros
 unfolding endingOf
 ending-fault F s r h = ap (λ (e : Ending). e .yields .outputs) (sequential-fault (F .variableCount) _ (r .call .inputs) (r .words) h)
 
@@ -56,7 +56,7 @@ previous-rewritten r x s = go (r .toggle)
     go true = refl
     go false = refl
 
-module _ {F : Contents} {w : World} (G : WorldInvariant F w) where
+module _ {F : Frame} {w : World} (G : WorldInvariant F w) where
   -- after announcement i was set to a: by cases on whose is meant
   pub announcements-set :
       (P : Announcement → Type 0) (i j : ℕ) (a : Announcement) →
@@ -332,7 +332,7 @@ module _ {F : Contents} {w : World} (G : WorldInvariant F w) where
         recorded = G .recorded;
       }
 
-pub good-move : {F : Contents} {i : ℕ} {w v : World} → WorldInvariant F w → Move F i w v → WorldInvariant F v
+pub good-move : {F : Frame} {i : ℕ} {w v : World} → WorldInvariant F w → Move F i w v → WorldInvariant F v
 good-move G stay = G
 good-move G (ask q lt Q) = good-ask G _ q lt Q
 good-move G (announce a lt Q fa A) = good-announce G _ a lt Q A
@@ -343,7 +343,7 @@ good-move G (end m lt hm fl all) = good-end G m hm fl lt all
 good-move G (free m lt hm d) = good-free G m lt hm d
 
 -- a move does not take the gate's number down, and up by one at most
-pub seq-move : {F : Contents} {i : ℕ} {w v : World} → Move F i w v → (w .gate .seq ≤ v .gate .seq) × (v .gate .seq ≤ suc (w .gate .seq))
+pub seq-move : {F : Frame} {i : ℕ} {w v : World} → Move F i w v → (w .gate .seq ≤ v .gate .seq) × (v .gate .seq ≤ suc (w .gate .seq))
 seq-move stay = (omega arith, omega arith)
 seq-move (ask c lt Q) = (omega arith, omega arith)
 seq-move (announce a lt Q fa A) = (omega arith, omega arith)
@@ -353,12 +353,23 @@ seq-move (write m v x vl hm fl below ex) = (omega arith, omega arith)
 seq-move (end m lt hm fl all) = (omega arith, omega arith)
 seq-move (free m lt hm d) = (omega arith, omega arith)
 
+-- no move alters a text
+pub texts-move : {F : Frame} {i : ℕ} {w v : World} → Move F i w v → v .texts ≡ w .texts
+texts-move stay = refl
+texts-move (ask c lt Q) = refl
+texts-move (announce a lt Q fa A) = refl
+texts-move (leave lt fa) = refl
+texts-move (take m lt hn fl op z) = refl
+texts-move (write m v x vl hm fl below ex) = refl
+texts-move (end m lt hm fl all) = refl
+texts-move (free m lt hm d) = refl
+
 -- the operation that a gate is held for runs on the words so far, and its number is the next
 pub ends-now :
-    {F : Contents} {w : World} → WorldInvariant F w → (m : ℕ) → w .gate .holder ≡ Process m → announcementIn w m .flag ≢ Done →
+    {F : Frame} {w : World} → WorldInvariant F w → (m : ℕ) → w .gate .holder ≡ Process m → announcementIn w m .flag ≢ Done →
     (w .count ≡ w .gate .seq)
     × (endingIn F w (w .gate .seq)
-    ≡ sequential (F .variableCount) (programOf F (callIn w m .program) (w .gate .seq)) (callIn w m .inputs) (w .words))
+    ≡ sequential (F .variableCount) (F .programAt (callIn w m .program) (w .gate .seq)) (callIn w m .inputs) (w .words))
 unfolding endingOf
 ends-now {F} {w} G m hm fl = (counted G m hm fl, ap (endingOf F (w .gate .seq)) (phase-at G hm .2 fl .now))
 
@@ -366,6 +377,11 @@ ends-now {F} {w} G m hm fl = (counted G m hm fl, ap (endingOf F (w .gate .seq)) 
 pub rounds-few : (h : Holder) (w : World) → Phase h w → length (w .rounds) ≤ suc (w .gate .seq)
 rounds-few Nobody w ph = omega arith
 rounds-few (Process m) w ph = omega arith
+
+pub count-few : (h : Holder) (w : World) → Phase h w → w .count ≤ suc (w .gate .seq)
+count-few Nobody w ph = omega arith
+count-few (Process m) w ph =
+    ⊎-elim (λ d. omega (arith, ph .1 d)) (λ d. omega (arith, ph .2 d .counted)) (done-or-not (announcementIn w m .flag))
 
 pub count-many : (h : Holder) (w : World) → Phase h w → w .gate .seq ≤ w .count
 count-many Nobody w ph = omega arith

@@ -11,14 +11,14 @@ use lib.ListN.{length, getD, set, length-take}
 use lib.Seq.{getD-set-same, set-getD, getD-take}
 use lib.Dec.{ltb, eqb}
 use borrow.Author.Tests.{ltb-true, eq-eqb}
-use Rattle.construction.specs.Types.{Process, Done, Record, Item, Dictionary, H36, Access, Card, Contents}
+use Rattle.construction.specs.Types.{Process, Done, Record, Item, Dictionary, H36, Access, Card}
 use Rattle.construction.specs.Cells.{openRecord, sameRecord, swapRecord, current, rewritten}
 use Rattle.construction.specs.Dictionary.{noItem, noted, valueUnder, altered}
-use Rattle.construction.specs.Parts.{announcementAt, recordAt, withRecord, localAt, contentsOf, withLocal}
+use Rattle.construction.specs.Parts.{announcementAt, recordAt, withRecord, localAt, withLocal}
 use Rattle.construction.specs.Machine.{holderOf, writeFrom, perform, writing}
 use Rattle.construction.proofs.Basics.{on-test, true-false, and-true, sameRecord-true, sameRecord-false}
 use Rattle.construction.proofs.Simulating.Dictionaries.{valueIn, all-at, value-at}
-use Rattle.construction.proofs.Invariant.World.{endingIn, World, leftIn, roundIn, wordAt, storing, Move}
+use Rattle.construction.proofs.Invariant.World.{endingIn, World, leftIn, roundIn, wordAt, storing, Move, Frame, frameOf}
 use Rattle.construction.proofs.Invariant.World.Move.{write}
 use Rattle.construction.proofs.Invariant.WorldKept.{phase-at, count-many}
 use Rattle.construction.proofs.Invariant.Assertions.{ItemNoted, NoWriteDue, LocAt, helper-stays, plan-stays, fine-stays, finished-stays}
@@ -27,12 +27,12 @@ use Rattle.construction.proofs.Invariant.NextWrites.{write-loc}
 use Rattle.construction.proofs.Invariant.Acting.{worldOf, Before, Acted, acts, atTask, goes-on}
 
 -- the item that is due
-module _ {c : Card} {w : World} {i : ℕ} (B : Before c w i) (q : LocAt H36 (contentsOf c) (worldOf c w) i (localAt c i)) where
+module _ {c : Card} {w : World} {i : ℕ} (B : Before c w i) (q : LocAt H36 (frameOf c w) (worldOf c w) i (localAt c i)) where
   abbrev W : World
   W = worldOf c w
 
-  abbrev F : Contents
-  F = contentsOf c
+  abbrev F : Frame
+  F = frameOf c w
 
   abbrev s : ℕ
   s = localAt c i .gate .seq

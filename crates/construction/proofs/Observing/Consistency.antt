@@ -7,25 +7,30 @@ use mathlib.Core.List.{List, [], _∷_}
 use native.Mathlib.Omega.{arith}
 use lib.ListN.{length, getD}
 use lib.Seq.{getD-set-same, getD-set-other, set-getD}
-use borrow.Author.Tests.{lt-ltb, not-true}
-use Rattle.construction.specs.Types.{Gate, Flag, Done, Active, Exit, Words, Announcement, Place, P1, P3, P5, Task, Card, Refusal, Answer, Answered, Contents}
+use borrow.Author.Tests.{lt-ltb, not-true, ltb-true}
+use Rattle.construction.specs.Types.{Gate, Flag, Done, Active, Exit, Words, Announcement, Place, P1, P3, P5, Task, Card, Refusal, Answer, Answered, Contents, Program, Verdict}
 use Rattle.construction.specs.Cells.{isDone, openAnnouncement}
-use Rattle.construction.specs.Parts.{idleTask, contentsOf, localAt, withLocal, Local}
+use Rattle.construction.specs.Parts.{idleTask, contentsOf, localAt, withLocal, Local, withRevision}
 use Rattle.construction.specs.Machine.{advance, accessOf}
-use Rattle.construction.specs.Requests.{isVariable, isIdle, isBusy, refused, answerOf, read, invoked, exiting}
-use Rattle.construction.specs.History.{Entry, act, Steps, Invocation, History, turned, finishing, withFinish, withFinishes, Return, Event, eventOf, withResponse, withEntry, Observation, observe}
-use Rattle.construction.proofs.Basics.{true-or-false, true-false, cond-false}
-use Rattle.construction.proofs.Observing.Histories.{turned-same}
+use Rattle.construction.specs.Requests.{isVariable, isIdle, isBusy, refused, answerOf, read, invoked, exiting, isProgram}
+use Rattle.construction.specs.History.{Entry, act, Steps, Invocation, History, turned, finishing, withFinish, withFinishes, Return, Event, eventOf, withResponse, withEntry, Observation, observe, Replacement, textAt}
+use Rattle.construction.proofs.Basics.{true-or-false, true-false, cond-false, and-true}
+use Rattle.construction.proofs.Observing.Histories.{turned-same, finished-changes, returned-changes}
 use Rattle.construction.proofs.Statements.OneAccess.{one-access}
 use Rattle.construction.proofs.Observing.Outcomes.{Outcome, outcome}
-use Rattle.construction.proofs.Invariant.World.{World, announcementIn, resultIn, WorldInvariant, ending, asking}
+use Rattle.construction.proofs.Invariant.World.{World, announcementIn, resultIn, WorldInvariant, ending, asking, frameOf, changing, withText}
 use Rattle.construction.proofs.Invariant.Stages.{isAnnounced, stage, announced-busy, busy-stage, announced-next}
 use Rattle.construction.proofs.Invariant.Cards.{CardInvariant, Stepped, gate-is, announcements-is, inv-call, inv-exit, inv-step}
 use Rattle.construction.proofs.Invariant.Answers.{read-is, answer-is, holder-announced}
 use Rattle.construction.proofs.Invariant.NextPlaces.{P1-next, P3-next, P3-active}
 use Rattle.construction.proofs.Invariant.ActiveFlags.{active-before}
-use Rattle.construction.proofs.Observing.Tracking.{requestOf, Own, Tracks, under-way, NothingFinishes, OneFinishes, kind-of, turned-ends, tracks-calm, tracks-finished, own-next, tracks-place, tracks-called, tracks-returned}
+use Rattle.construction.proofs.Observing.Tracking.{requestOf, Own, Tracks, under-way, NothingFinishes, OneFinishes, kind-of, turned-ends, tracks-calm, tracks-finished, own-next, tracks-place, tracks-called, tracks-returned, tracks-changed}
 use Rattle.construction.specs.Linearizability.{FinishesOne, FinishesAtMostOne}
+use lib.Dec.{ltb}
+use Rattle.construction.specs.Changes.{changeRead, isUnsettled, unchanged, changed}
+use Rattle.construction.proofs.Text.Bounds.{change-bounded}
+use Rattle.construction.proofs.Invariant.WorldKept.{texts-move}
+use Rattle.construction.proofs.Invariant.Changing.{inv-change}
 
 -- the processes of a card that have announced their operation
 abbrev announcedIn : Card → ℕ → Bool
@@ -40,13 +45,14 @@ pub record Consistent (o : Card) (m : Observation) : Type 0 where
   pub inv : CardInvariant (m .card) world
   pub tracks : Follows o (m .card) world (m .history)
   pub text : contentsOf (m .card) ≡ contentsOf o
+  pub changes : (k number : ℕ) → textAt (contentsOf o) (m .history .changes) k number ≡ world .texts k number
 
 -- the moment after an entry with a given answer
 abbrev after : Card → Observation → Entry → Answered → Observation
 after o m e r =
     record {
       card = r .card;
-      history = withEntry (withFinishes o (m .card .gate .seq) (finishing (m .card) (r .card)) (m .history)) e (eventOf (r .answer));
+      history = withEntry o (withFinishes o (m .card .gate .seq) (finishing (m .card) (r .card)) (m .history)) e (eventOf (r .answer));
     }
 
 module _ (o : Card) (m : Observation) (O : Consistent o m) where
@@ -62,14 +68,14 @@ module _ (o : Card) (m : Observation) (O : Consistent o m) where
   -- an entry that turns no flag
   unturned :
       (d : Card) (e : Entry) (a : Answer) → c .announcements ≡ d .announcements →
-      Consistent o (record { card = d; history = withEntry s e (eventOf a) }) → Consistent o (after o m e (record { card = d; answer = a }))
+      Consistent o (record { card = d; history = withEntry o s e (eventOf a) }) → Consistent o (after o m e (record { card = d; answer = a }))
   unfolding withFinishes
-  unturned d e a z O′ = subst (λ (n : History). Consistent o (record { card = d; history = withEntry n e (eventOf a) })) (sym none) O′
+  unturned d e a z O′ = subst (λ (n : History). Consistent o (record { card = d; history = withEntry o n e (eventOf a) })) (sym none) O′
     where
       none : withFinishes o (c .gate .seq) (finishing c d) s ≡ s
       none = rw (← z, turned-same 0 (c .announcements))
 
-  good : WorldInvariant (contentsOf c) w
+  good : WorldInvariant (frameOf c w) w
   good = O .inv .good
 
   has-task : {i : ℕ} → i < c .processCount → i < length (c .tasks)
@@ -82,12 +88,13 @@ module _ (o : Card) (m : Observation) (O : Consistent o m) where
   refused-kept : (e : Entry) (why : Refusal) → Consistent o (after o m e (refused c why))
   refused-kept e why = unturned c e (Answer.Refused why) refl (rw (noted-refused e) O)
     where
-      noted-refused : (e : Entry) → withEntry s e Event.none ≡ s
+      noted-refused : (e : Entry) → withEntry o s e Event.none ≡ s
       noted-refused (Entry.Call i k inputs) = refl
       noted-refused (Entry.Exit i) = refl
       noted-refused (Entry.Step i) = refl
       noted-refused (Entry.Trace i) = refl
       noted-refused (Entry.Read v) = refl
+      noted-refused (Entry.Change k from t) = refl
 
   -- a read and an exit request
   read-kept : (v x : ℕ) → Consistent o (after o m (Entry.Read v) (record { card = c; answer = Answer.Value x }))
@@ -96,7 +103,7 @@ module _ (o : Card) (m : Observation) (O : Consistent o m) where
   exit-kept : (i : ℕ) → i < c .processCount → Consistent o (after o m (Entry.Exit i) (record { card = withLocal c i (exiting (localAt c i)); answer = Answer.Taken }))
   exit-kept i lt =
       unturned (withLocal c i (exiting (localAt c i))) (Entry.Exit i) Answer.Taken refl
-      (record { world = w; inv = inv-exit c w i (O .inv) lt; tracks = simp set-getD (O .tracks); text = O .text })
+      (record { world = w; inv = inv-exit c w i (O .inv) lt; tracks = simp set-getD (O .tracks); text = O .text; changes = O .changes })
 
   -- a call
   call-kept :
@@ -115,6 +122,32 @@ module _ (o : Card) (m : Observation) (O : Consistent o m) where
         inv = inv-call c w i k inputs (O .inv) lt f;
         tracks = tracks-called i others (O .tracks) x good lt refl (ap (λ (t : Task). isAnnounced (t .place)) here);
         text = O .text;
+        changes = O .changes;
+      })
+
+  -- a change that is refused, and one that is taken
+  unaltered-kept : (k from : ℕ) (t : List ℕ) (why : Refusal) (line : ℕ) → Consistent o (after o m (Entry.Change k from t) (unchanged c why line))
+  unaltered-kept k from t why line = unturned c (Entry.Change k from t) (Answer.RefusedAt why line) refl O
+
+  altered-kept :
+      (k from : ℕ) (t : List ℕ) → isProgram c k ≡ true → changeRead (contentsOf c) t .verdict ≡ Verdict.Accepted → c .gate .seq < from →
+      isUnsettled c k ≡ false →
+      Consistent o (after o m (Entry.Change k from t)
+      (changed c k from (changeRead (contentsOf c) t .program)))
+  unfolding textAt
+  altered-kept k from t p a ahead settled =
+      let y = changeRead (contentsOf c) t .program in
+      let bounds = change-bounded (contentsOf c) t a in
+      unturned (withRevision c k from y) (Entry.Change k from t) Answer.Taken refl
+      (record {
+        world = changing w (withText (w .texts) k from y);
+        inv =
+            inv-change c w k from y (O .inv) (ltb-true k 8 (and-true (ltb k (c .programCount)) _ p .1)) ahead settled
+            (record { ends = bounds .ends; light = bounds .light; some = λ h. O .inv .texts .some (omega (arith, bounds .lighter)) }) (bounds .lighter);
+        tracks = tracks-changed (O .tracks);
+        text = O .text;
+        changes = λ j number.
+            rw (ap (λ (x : Contents). changeRead x t .program) (sym (O .text)), O .changes j number);
       })
 
   -- an accepted step of process i
@@ -138,11 +171,11 @@ module _ (o : Card) (m : Observation) (O : Consistent o m) where
         let flag : List Announcement → Flag = λ x. getD x i openAnnouncement .flag in
         ap flag (sym (announcements-is (O .inv))) ∙ active-before c i t (ap flag (announcements-is (S .inv)) ∙ h)
 
-    kind : NothingFinishes (announcedIn c) w (S .after) ⊎ OneFinishes (contentsOf c) w (S .after)
+    kind : NothingFinishes (announcedIn c) w (S .after) ⊎ OneFinishes (frameOf c w) w (S .after)
     kind = kind-of (announcedIn c) good (S .move) only
 
     -- the operation that an ending move finishes
-    module _ (E : OneFinishes (contentsOf c) w (S .after)) where
+    module _ (E : OneFinishes (frameOf c w) w (S .after)) where
       ends-announced : announcedIn c (E .process) ≡ true
       ends-announced = holder-announced (O .inv) (E .process) (E .inside) (E .held)
 
@@ -166,13 +199,13 @@ module _ (o : Card) (m : Observation) (O : Consistent o m) where
         calm : NothingFinishes (announcedIn c) w (S .after) → Moved (S .after) noticed
         calm C = rw (finishing-is ∙ C .none) (tracks-calm C (S .calls-is) (O .tracks))
 
-        ends : OneFinishes (contentsOf c) w (S .after) → Moved (S .after) noticed
+        ends : OneFinishes (frameOf c w) w (S .after) → Moved (S .after) noticed
         ends E =
             rw (ends-one E, E .becomes)
-            (subst (λ (g : Gate). Moved (ending (contentsOf c) w (E .process)) (withFinish o (g .seq) (E .process) s)) (sym (gate-is (O .inv)))
+            (subst (λ (g : Gate). Moved (ending (frameOf c w) w (E .process)) (withFinish o (g .seq) (E .process) s)) (sym (gate-is (O .inv)))
             (tracks-finished o good (O .tracks) (E .process) (E .inside) (E .held) (E .undone) (ends-own E)
             (ap (λ (x : Contents). x .variableCount) (sym (O .text)))
-            (ap (λ (x : Contents). x .programs) (sym (O .text))) (ends-announced E)))
+            (O .changes) (ends-announced E)))
 
     others : (j : ℕ) → j ≢ i → (isBusy d j ≡ isBusy c j) × (announcedIn d j ≡ announcedIn c j)
     others j ne =
@@ -229,7 +262,12 @@ module _ (o : Card) (m : Observation) (O : Consistent o m) where
         (⊎-elim (λ z. absurd (true-false _ (ap (λ (l : Place). not (isIdle l)) (at-P3 z)) idle)) (λ z. z)) own-stage
 
     text-moved : contentsOf d ≡ contentsOf o
-    text-moved = sym (one-access c i .text) ∙ O .text
+    text-moved = sym (one-access c i .text .0) ∙ O .text
+
+    changes-moved : (v : Event) (k number : ℕ) → textAt (contentsOf o) (withResponse noticed i v .changes) k number ≡ S .after .texts k number
+    changes-moved v k number =
+        ap (λ (l : List Replacement). textAt (contentsOf o) l k number) (returned-changes noticed i v ∙ finished-changes o (c .gate .seq) (finishing c d) s)
+        ∙ (O .changes k number ∙ ap (λ (x : ℕ → ℕ → Program). x k number) (sym (texts-move (S .move))))
 
     running : isBusy d i ≡ true → Follows o d (S .after) noticed
     running busy = tracks-place i others moved (λ _. own-next (S .after) (unannounced busy) newly own-moved)
@@ -249,15 +287,15 @@ module _ (o : Card) (m : Observation) (O : Consistent o m) where
     answered =
         ⊎-elim (λ busy. by-answer (cond-false (isIdle next-place) _ _ (not-true _ busy)) (running busy))
         (λ idle. ⊎-elim (λ z. by-answer (z .1) (ended-done idle (z .0))) (λ z. by-answer (z .1) (ended-exited idle (z .0)))
-        (answer-is (S .inv) i (subst (λ (x : Contents). i < x .processCount) (one-access c i .text) lt) idle))
+        (answer-is (S .inv) i (subst (λ (x : Contents). i < x .processCount) (one-access c i .text .0) lt) idle))
         (true-or-false (isBusy d i))
       where
         by-answer : {a : Answer} → answerOf (localAt d i) ≡ a → Ended (eventOf a) → Ended (eventOf (answerOf (localAt d i)))
         by-answer z f = subst (λ (x : Answer). Ended (eventOf x)) (sym z) f
 
     step-kept : {e : Entry} → Steps e i → Consistent o (after o m e (record { card = d; answer = answerOf (localAt d i) }))
-    step-kept Steps.by-step = record { world = S .after; inv = S .inv; tracks = answered; text = text-moved }
-    step-kept Steps.by-trace = record { world = S .after; inv = S .inv; tracks = answered; text = text-moved }
+    step-kept Steps.by-step = record { world = S .after; inv = S .inv; tracks = answered; text = text-moved; changes = changes-moved (eventOf (answerOf (localAt d i))) }
+    step-kept Steps.by-trace = record { world = S .after; inv = S .inv; tracks = answered; text = text-moved; changes = changes-moved (eventOf (answerOf (localAt d i))) }
 
   -- every entry
   outcome-kept : {e : Entry} {r : Answered} → Outcome c e r → Consistent o (after o m e r)
@@ -266,6 +304,8 @@ module _ (o : Card) (m : Observation) (O : Consistent o m) where
   outcome-kept (Outcome.asked i p) = exit-kept i p
   outcome-kept (Outcome.stepped i x p b l) = step-kept i p b l x
   outcome-kept (Outcome.shown v x) = read-kept v x
+  outcome-kept (Outcome.unaltered k from t why line) = unaltered-kept k from t why line
+  outcome-kept (Outcome.altered k from t p a l u) = altered-kept k from t p a l u
 
   pub entry-kept : (e : Entry) → Consistent o (observe o m e)
   unfolding observe
@@ -293,6 +333,8 @@ module _ (o : Card) (m : Observation) (O : Consistent o m) where
   outcome-finishes (Outcome.asked i p) = inl (turned-same 0 (c .announcements))
   outcome-finishes (Outcome.stepped i x p b l) = step-finishes i x p b l
   outcome-finishes (Outcome.shown v x) = inl (turned-same 0 (c .announcements))
+  outcome-finishes (Outcome.unaltered k from t why line) = inl (turned-same 0 (c .announcements))
+  outcome-finishes (Outcome.altered k from t p a l u) = inl (turned-same 0 (c .announcements))
 
   pub finishes-one : (e : Entry) → FinishesAtMostOne m e
   finishes-one e = ⊎-elim inl (λ f. inr (f refl)) (outcome-finishes (outcome c e))

@@ -22,14 +22,17 @@ response-grows s i Event.taken = (refl, Extends.same)
 response-grows s i (Event.returned r) = (refl, Extends.more Extends.same)
 response-grows s i Event.none = (refl, Extends.same)
 
-noted-grows : (s : History) (e : Entry) (v : Event) → (withEntry s e v .order ≡ s .order) × Extends (s .returns) (withEntry s e v .returns)
-noted-grows s (Entry.Call i k inputs) Event.taken = (refl, Extends.same)
-noted-grows s (Entry.Call i k inputs) (Event.returned r) = (refl, Extends.same)
-noted-grows s (Entry.Call i k inputs) Event.none = (refl, Extends.same)
-noted-grows s (Entry.Exit i) v = (refl, Extends.same)
-noted-grows s (Entry.Step i) v = response-grows s i v
-noted-grows s (Entry.Trace i) v = response-grows s i v
-noted-grows s (Entry.Read x) v = (refl, Extends.same)
+noted-grows : (o : Card) (s : History) (e : Entry) (v : Event) → (withEntry o s e v .order ≡ s .order) × Extends (s .returns) (withEntry o s e v .returns)
+noted-grows o s (Entry.Call i k inputs) Event.taken = (refl, Extends.same)
+noted-grows o s (Entry.Call i k inputs) (Event.returned r) = (refl, Extends.same)
+noted-grows o s (Entry.Call i k inputs) Event.none = (refl, Extends.same)
+noted-grows o s (Entry.Exit i) v = (refl, Extends.same)
+noted-grows o s (Entry.Step i) v = response-grows s i v
+noted-grows o s (Entry.Trace i) v = response-grows s i v
+noted-grows o s (Entry.Read x) v = (refl, Extends.same)
+noted-grows o s (Entry.Change k from t) Event.taken = (refl, Extends.same)
+noted-grows o s (Entry.Change k from t) (Event.returned r) = (refl, Extends.same)
+noted-grows o s (Entry.Change k from t) Event.none = (refl, Extends.same)
 
 pub record Grown (s t : History) : Type 0 where
   pub order : Extends (s .order) (t .order)
@@ -40,11 +43,11 @@ unfolding observe
 observe-grows o m e =
     let r = act (m .card) e in
     let n = withFinishes o (m .card .gate .seq) (finishing (m .card) (r .card)) (m .history) in
-    let g = noted-grows n e (eventOf (r .answer)) in
+    let g = noted-grows o n e (eventOf (r .answer)) in
     record {
       order = subst (Extends (m .history .order)) (sym (g .0)) (finished-order o (m .card .gate .seq) (finishing (m .card) (r .card)) (m .history));
       returns =
-          subst (λ (l : List Response). Extends l (withEntry n e (eventOf (r .answer)) .returns))
+          subst (λ (l : List Response). Extends l (withEntry o n e (eventOf (r .answer)) .returns))
           (finished-returns o (m .card .gate .seq) (finishing (m .card) (r .card)) (m .history)) (g .1);
     }
 

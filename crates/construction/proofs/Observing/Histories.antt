@@ -9,9 +9,9 @@ use native.Mathlib.Nat.{add-zero, suc-add, add-suc}
 use lib.ListN.{length, getD, set}
 use lib.Dec.{eqb}
 use borrow.Author.Tests.{eqb-true, eqb-false, eq-eqb, ne-eqb}
-use Rattle.construction.specs.Types.{Flag, Done, Active, Exit, Announcement}
+use Rattle.construction.specs.Types.{Flag, Done, Active, Exit, Announcement, Card}
 use Rattle.construction.specs.Cells.{isDone, openAnnouncement}
-use Rattle.construction.specs.History.{Invocation, Finish, Return, Response, hasCalled, latest, turned}
+use Rattle.construction.specs.History.{Invocation, Finish, Return, Response, hasCalled, latest, turned, Event, History, withFinish, withFinishes, withResponse}
 use Rattle.construction.specs.Numbers.{callerOf, latestFinish}
 use Rattle.construction.proofs.Basics.{on-test}
 use Rattle.construction.specs.Linearizability.{times, rank, finishOf, hasReturned, Numbered, Agrees, isFault, returnedFault, AllAgree}
@@ -224,3 +224,14 @@ turned-one k [] m b lt h = absurd (omega arith)
 turned-one k (a ∷ l) zero b lt h = rw (h, turned-same (suc k) l, add-zero)
 turned-one k (a ∷ l) (suc m) b lt h =
     rw (turns-same (a .flag)) (turned-one (suc k) l m b (omega arith) h ∙ rw (suc-add, add-suc))
+
+-- what finishes and what returns changes no text
+pub finished-changes : (o : Card) (gate : ℕ) (is : List ℕ) (s : History) → withFinishes o gate is s .changes ≡ s .changes
+unfolding withFinishes
+finished-changes o gate [] s = refl
+finished-changes o gate (i ∷ is) s = finished-changes o gate is (withFinish o gate i s)
+
+pub returned-changes : (s : History) (i : ℕ) (v : Event) → withResponse s i v .changes ≡ s .changes
+returned-changes s i Event.taken = refl
+returned-changes s i (Event.returned r) = refl
+returned-changes s i Event.none = refl

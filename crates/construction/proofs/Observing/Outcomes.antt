@@ -2,13 +2,15 @@
 use Prim.Native.Nat.{ℕ, _<_}
 use mathlib.Core.Path.{_≡_}
 use mathlib.Core.Bool.{true, false}
-use Rattle.construction.specs.Types.{Words, Card, Refusal, Answer, Answered}
+use Rattle.construction.specs.Types.{Words, Card, Refusal, Answer, Answered, Verdict}
 use Rattle.construction.specs.Machine.{advance}
-use Rattle.construction.specs.Requests.{isBusy, refused, answerOf, valueOf, invoked, exiting}
+use Rattle.construction.specs.Requests.{isBusy, refused, answerOf, valueOf, invoked, exiting, isProgram}
 use Rattle.construction.specs.Tracing.{trace}
 use Rattle.construction.specs.History.{Entry, act, Steps}
-use Rattle.construction.proofs.Observing.Entries.{on-call, on-exit, on-step, on-read}
-use Rattle.construction.specs.Parts.{withLocal, localAt}
+use Rattle.construction.proofs.Observing.Entries.{on-call, on-exit, on-step, on-read, on-change}
+use Rattle.construction.specs.Parts.{withLocal, localAt, contentsOf}
+use mathlib.Core.List.{List}
+use Rattle.construction.specs.Changes.{changeRead, isUnsettled, unchanged, changed}
 
 pub data Outcome (c : Card) : Entry → Answered → Type 0 where
   turned-back : (e : Entry) (why : Refusal) → Outcome c e (refused c why)
@@ -19,6 +21,12 @@ pub data Outcome (c : Card) : Entry → Answered → Type 0 where
   stepped :
       {e : Entry} (i : ℕ) → Steps e i → i < c .processCount → isBusy c i ≡ true → c .steps < c .limit →
       Outcome c e (record { card = advance c i; answer = answerOf (localAt (advance c i) i) })
+  unaltered : (k from : ℕ) (t : List ℕ) (why : Refusal) (line : ℕ) → Outcome c (Entry.Change k from t) (unchanged c why line)
+  altered :
+      (k from : ℕ) (t : List ℕ) → isProgram c k ≡ true → changeRead (contentsOf c) t .verdict ≡ Verdict.Accepted → c .gate .seq < from →
+      isUnsettled c k ≡ false →
+      Outcome c (Entry.Change k from t)
+      (changed c k from (changeRead (contentsOf c) t .program))
   shown : (v x : ℕ) → Outcome c (Entry.Read v) (record { card = c; answer = Answer.Value x })
 
 pub outcome : (c : Card) (e : Entry) → Outcome c e (act c e)
@@ -38,3 +46,6 @@ outcome c (Entry.Trace i) =
 outcome c (Entry.Read v) =
     let e = Entry.Read v in
     on-read (Outcome c e) c (Outcome.turned-back e) v (λ _. Outcome.shown v (valueOf c v))
+outcome c (Entry.Change k from t) =
+    let e = Entry.Change k from t in
+    on-change (Outcome c e) c (Outcome.turned-back e) k from t (Outcome.unaltered k from t) (Outcome.altered k from t)

@@ -12,7 +12,7 @@ use Rattle.construction.specs.Instructions.{noProgram}
 use Rattle.construction.specs.Parts.{idleTask}
 use Rattle.construction.specs.Requests.{isIdle}
 use Rattle.construction.specs.Opening.{fresh, readCard, opened}
-use Rattle.construction.specs.History.{Entry, Observation, opening, observe, observeAll, run}
+use Rattle.construction.specs.History.{Entry, Observation, opening, observe, observeAll, run, textAt}
 use Rattle.construction.proofs.Basics.{true-false, getD-replicate-same}
 use Rattle.construction.proofs.Text.Bounds.{Bounded, opened-bounded}
 use Rattle.construction.proofs.Simulating.Sequential.{Short}
@@ -32,11 +32,11 @@ short-code : (x : Contents) → Bounded x → (k : ℕ) → Short (x .variableCo
 short-code x B k = record { ends = omega (arith, B .lines k); light = B .weights k; some = B .some k }
 
 fresh-consistent : (x : Contents) → Bounded x → Consistent (fresh x) (opening (fresh x))
-unfolding fresh times hasReturned accessOf latestFinish
+unfolding fresh times hasReturned accessOf latestFinish textAt
 fresh-consistent x B =
     record {
       world = firstWorld x;
-      inv = inv-fresh x (B .processCount) (B .variableCount) (B .limit) (B .starts) (short-code x B);
+      inv = inv-fresh x (B .processCount) (B .variableCount) (B .limit) (B .starts) (B .programs) (short-code x B);
       tracks =
           record {
             words = refl;
@@ -51,6 +51,7 @@ fresh-consistent x B =
             own = λ j l b. absurd (true-false _ b (ap (λ (t : Task). not (isIdle (t .place))) (getD-replicate-same 8 j idleTask)));
           };
       text = refl;
+      changes = λ k number. refl;
     }
 
 pub opened-consistent : (t : List ℕ) (es : List Entry) → Consistent (opened t .card) (run (opened t .card) es)

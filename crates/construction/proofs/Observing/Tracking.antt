@@ -9,15 +9,14 @@ use native.Mathlib.Nat.{zero-add}
 use native.Mathlib.Decide.{ℕ-discrete}
 use lib.ListN.{length, getD, set}
 use lib.Seq.{getD-set-same, getD-set-other}
-use Rattle.construction.specs.Types.{Process, Flag, Done, Active, Exit, Announcement, Operation, Card, Contents}
+use Rattle.construction.specs.Types.{Process, Flag, Done, Active, Exit, Announcement, Operation, Card, Program}
 use Rattle.construction.specs.Cells.{isDone, openAnnouncement}
 use Rattle.construction.specs.Sequential.{Ending, sequential}
-use Rattle.construction.specs.Instructions.{noProgram}
-use Rattle.construction.specs.Parts.{noOperation}
-use Rattle.construction.specs.History.{Invocation, Finish, History, hasCalled, latest, latestCall, turned, benchRun, withFinish, Return, Event, withResponse}
+use Rattle.construction.specs.Parts.{noOperation, contentsOf}
+use Rattle.construction.specs.History.{Invocation, Finish, History, hasCalled, latest, latestCall, turned, benchRun, withFinish, Return, Event, withResponse, textAt, Replacement}
 use Rattle.construction.proofs.Basics.{on-set, true-false, ne-isDone}
 use Rattle.construction.proofs.Observing.Histories.{on-equal, chosen, passed, latest-below, latest-apart, agree-longer, caller-latest, latest-asked, turns, turned-same, turned-not, turned-one}
-use Rattle.construction.proofs.Invariant.World.{World, announcementIn, callIn, Result, noResult, resultIn, resultOf, endingIn, WorldInvariant, asking, ending, Move}
+use Rattle.construction.proofs.Invariant.World.{World, announcementIn, callIn, Result, noResult, resultIn, resultOf, endingIn, WorldInvariant, asking, ending, Move, Frame, changing}
 use Rattle.construction.proofs.Invariant.World.Move.{stay, ask, announce, leave, take, write, end, free}
 use Rattle.construction.proofs.Invariant.WorldKept.{announcements-set, ends-now}
 use Rattle.construction.specs.Linearizability.{times, finishOf, hasReturned, Numbered, Agrees, AllAgree, ReturnedOnce, UnderWay}
@@ -79,7 +78,7 @@ pub record NothingFinishes (announced : ℕ → Bool) (w v : World) : Type 0 whe
   pub done : (j : ℕ) → announced j ≡ true → doneIn v j ≡ doneIn w j
   pub kept : (j : ℕ) → doneIn v j ≡ true → announcementIn v j ≡ announcementIn w j
 
-pub record OneFinishes (F : Contents) (w v : World) : Type 0 where
+pub record OneFinishes (F : Frame) (w v : World) : Type 0 where
   pub process : ℕ
   pub inside : process < F .processCount
   pub held : w .gate .holder ≡ Process process
@@ -91,7 +90,7 @@ turns-undone Done g h = refl
 turns-undone Active g h = h
 turns-undone Exit g h = h
 
-module _ {F : Contents} {w : World} (announced : ℕ → Bool) (G : WorldInvariant F w) where
+module _ {F : Frame} {w : World} (announced : ℕ → Bool) (G : WorldInvariant F w) where
   -- a move that changes none of what the observer sees
   calm-same : {v : World} → v .announcements ≡ w .announcements → v .words ≡ w .words → v .count ≡ w .count → v .results ≡ w .results → NothingFinishes announced w v
   calm-same a b c d =
@@ -137,7 +136,7 @@ module _ {F : Contents} {w : World} (announced : ℕ → Bool) (G : WorldInvaria
   kind-of (end m lt hm fl all) only = inr (record { process = m; inside = lt; held = hm; undone = fl; becomes = refl })
   kind-of (free m lt hm d) only = inl (calm-same refl refl refl refl)
 
-pub turned-ends : {F : Contents} {w v : World} → WorldInvariant F w → (E : OneFinishes F w v) → turned 0 (w .announcements) (v .announcements) ≡ E .process ∷ []
+pub turned-ends : {F : Frame} {w v : World} → WorldInvariant F w → (E : OneFinishes F w v) → turned 0 (w .announcements) (v .announcements) ≡ E .process ∷ []
 turned-ends {F} {w} G E =
     rw (E .becomes)
     (turned-one 0 (w .announcements) (E .process) _ (omega (arith, G .lengths .announcements, G .fits .few, E .inside))
@@ -174,16 +173,19 @@ tracks-calm {announced = announced} {w = w} {v} {s} C f T =
 
 -- a move that finishes the operation of m, whose number the sequential run gives it too
 module _
-    (o : Card) {F : Contents} {p : ℕ} {busy announced : ℕ → Bool} {w : World} {s : History} (G : WorldInvariant F w) (T : Tracks p busy announced w s)
+    (o : Card) {F : Frame} {p : ℕ} {busy announced : ℕ → Bool} {w : World} {s : History} (G : WorldInvariant F w) (T : Tracks p busy announced w s)
     (m : ℕ) (lt : m < F .processCount) (held : w .gate .holder ≡ Process m) (undone : announcementIn w m .flag ≢ Done)
-    (O : Own true w s m) (vs : o .variableCount ≡ F .variableCount) (co : o .programs ≡ F .programs) where
-  same-run : benchRun o (suc (length (s .order))) (latestCall (s .operations) m) (s .words) ≡ endingIn F w (w .gate .seq)
-  same-run =
-      ap (λ (q : Operation). sequential (o .variableCount) (getD (o .programs) (q .program) noProgram) (q .inputs) (s .words)) (O .request)
-      ∙ (rw (vs, co, T .words) refl ∙ sym (ends-now G m held undone .1))
-
+    (O : Own true w s m) (vs : o .variableCount ≡ F .variableCount)
+    (co : (k number : ℕ) → textAt (contentsOf o) (s .changes) k number ≡ F .programAt k number) where
   number-is : w .gate .seq ≡ suc (length (s .order))
   number-is = sym (T .count ∙ ends-now G m held undone .0)
+
+  same-run : benchRun o (s .changes) (suc (length (s .order))) (latestCall (s .operations) m) (s .words) ≡ endingIn F w (w .gate .seq)
+  same-run =
+      ap
+      (λ (q : Operation). sequential (o .variableCount) (textAt (contentsOf o) (s .changes) (q .program) (suc (length (s .order)))) (q .inputs) (s .words))
+      (O .request)
+      ∙ (rw (co, vs, T .words, ← number-is) refl ∙ sym (ends-now G m held undone .1))
 
   size : m < 8
   size = omega (arith, G .fits .few)
@@ -298,9 +300,9 @@ module _
 
   -- a call of process i is taken
   pub tracks-called :
-      {F : Contents} (x : Invocation) → WorldInvariant F w → i < F .processCount → x .process ≡ i → announced′ i ≡ false →
+      {F : Frame} (x : Invocation) → WorldInvariant F w → i < F .processCount → x .process ≡ i → announced′ i ≡ false →
       Tracks p busy′ announced′ (asking w i (requestOf x))
-      (record { operations = x ∷ s .operations; order = s .order; returns = s .returns; words = s .words })
+      (record { operations = x ∷ s .operations; order = s .order; returns = s .returns; changes = s .changes; words = s .words })
   unfolding hasCalled latest latestCall
   tracks-called x G lt e quiet =
       record {
@@ -317,7 +319,7 @@ module _
       }
     where
       after : History
-      after = record { operations = x ∷ s .operations; order = s .order; returns = s .returns; words = s .words }
+      after = record { operations = x ∷ s .operations; order = s .order; returns = s .returns; changes = s .changes; words = s .words }
 
       new : Own (announced′ i) (asking w i (requestOf x)) after i
       new =
@@ -371,3 +373,23 @@ module _
         single = (O .unreturned, T .single);
         last = T .last;
       }
+
+-- a change is noted: the world and the notes are as they were but for the texts
+pub tracks-changed :
+    {p : ℕ} {busy announced : ℕ → Bool} {w : World} {s : History} {texts : ℕ → ℕ → Program} {x : Replacement} → Tracks p busy announced w s →
+    Tracks p busy announced (changing w texts)
+    (record { operations = s .operations; order = s .order; returns = s .returns; changes = x ∷ s .changes; words = s .words })
+tracks-changed T =
+    record {
+      words = T .words;
+      count = T .count;
+      numbers = T .numbers;
+      agree = T .agree;
+      single = T .single;
+      once = T .once;
+      known = T .known;
+      unborn = T .unborn;
+      own = λ j l b. let O = T .own j l b in
+          record { asked = O .asked; request = O .request; unreturned = O .unreturned; pending = O .pending; over = O .over };
+      last = T .last;
+    }

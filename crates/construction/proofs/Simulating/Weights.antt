@@ -1,14 +1,13 @@
 -- The weight of a program's instructions before a place, and the weight of a card.
-use Prim.Native.Nat.{ℕ, zero, suc, _+_, _≤_}
+use Prim.Native.Nat.{ℕ, zero, suc, _+_, _≤_, _<_}
 use mathlib.Core.Path.{_≡_, refl}
 use mathlib.Core.List.{List, [], _∷_}
 use native.Mathlib.Omega.{arith}
-use native.Mathlib.Nat.{eq-or-lt-of-le, le-of-eq, le-trans, le-max-left, le-max-right}
-use mathlib.Core.Logic.{⊎-elim}
+use native.Mathlib.Nat.{eq-or-lt-of-le, le-of-eq, le-trans, le-max-left, le-max-right, max-le}
+use mathlib.Core.Logic.{⊎-elim, _⊎_, inl, inr}
 use lib.ListN.{getD}
 use Rattle.construction.specs.Types.{Instruction, Program, Contents}
 use Rattle.construction.specs.Instructions.{fetch, shortened, noProgram}
-use Rattle.construction.specs.Parts.{programOf}
 use Rattle.construction.specs.Weight.{weightOf, weightBefore, weight, heaviest, cardWeight}
 
 -- an instruction touches at most two variables
@@ -73,5 +72,18 @@ heaviest-at [] k = le-of-eq weight-none
 heaviest-at (x ∷ l) zero = le-max-left (weight x) (heaviest l)
 heaviest-at (x ∷ l) (suc k) = le-trans (heaviest-at l k) (le-max-right (weight x) (heaviest l))
 
-pub weight-card : (t : Contents) (k number : ℕ) → weight (programOf t k number) ≤ cardWeight t
-weight-card t k number = heaviest-at (t .programs) k
+-- and where the heaviest weighs something, one of them does
+pub heaviest-some :
+    {Q : Type 0} (l : List Program) → ((k : ℕ) → 0 < weight (getD l k noProgram) → Q) → 0 < heaviest l → Q
+unfolding heaviest
+heaviest-some [] f h = absurd (omega arith)
+heaviest-some (x ∷ l) f h =
+    ⊎-elim (λ (e : weight x ≡ 0). heaviest-some l (λ k. f (suc k)) (omega (arith, max-le {a = weight x} {b = heaviest l} {k = heaviest l} (omega arith) (omega arith))))
+    (λ z. f 0 z) (zero-or-more (weight x))
+  where
+    zero-or-more : (n : ℕ) → (n ≡ 0) ⊎ (0 < n)
+    zero-or-more zero = inl refl
+    zero-or-more (suc n) = inr (omega arith)
+
+pub weight-card : (t : Contents) (k : ℕ) → weight (getD (t .programs) k noProgram) ≤ cardWeight t
+weight-card t k = heaviest-at (t .programs) k

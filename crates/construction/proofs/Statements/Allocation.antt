@@ -3,8 +3,8 @@ use Prim.Native.Nat.{ℕ}
 use mathlib.Core.Path.{_≡_, sym, subst, _∙_}
 use mathlib.Core.List.{List, [], _∷_, _++_, append-assoc}
 use Rattle.construction.specs.Opening.{opened}
-use Rattle.construction.specs.History.{Entry, observeAll, run}
-use Rattle.construction.specs.Allocation.{Action, Performed, wordsAfter, startWords, performed, OnlyByCodes, OnlyFromHands, InHands, Disciplined, Allocating}
+use Rattle.construction.specs.History.{Entry, startWords, observeAll, run}
+use Rattle.construction.specs.Allocation.{Action, Performed, wordsAfter, performed, OnlyByCodes, OnlyFromHands, InHands, Disciplined, Allocating}
 use Rattle.construction.proofs.Statements.Linearizability.{linearizability, bench-words}
 use Rattle.construction.proofs.Allocating.Hands.{AllPossible, kept-actions, kept-hands}
 use Rattle.construction.proofs.Allocating.Runs.{possible-earlier, codes-earlier, hands-earlier}
@@ -19,7 +19,7 @@ module _ (t : List ℕ) (es : List Entry) (D : Disciplined (opened t .card) es) 
   possible later earlier e =
       possible-earlier start later earlier
       (subst (AllPossible start) e
-      (all-possible (opened t .card) (run (opened t .card) es .history .operations) (run (opened t .card) es .history .order) (sym (bench-words t []))))
+      (all-possible (opened t .card) (run (opened t .card) es .history .changes) (run (opened t .card) es .history .operations) (run (opened t .card) es .history .order) (sym (bench-words t []))))
 
   in-hands : (later earlier : List Performed) → performed (opened t .card) es ≡ later ++ earlier → InHands start earlier
   in-hands later earlier e =

@@ -10,9 +10,8 @@ use Rattle.construction.specs.Types.{Card}
 use Rattle.construction.specs.Opening.{opened}
 use Rattle.construction.specs.Answers.{bytes}
 use Rattle.construction.specs.Examples.{one, steps}
-use Rattle.construction.specs.History.{Entry}
-use Rattle.construction.specs.Allocation.{among, without, Action, Performed, wordsAfter, chainFrom, chain, hand, givenBack, performedFrom, operationAt, performedAll, startWords, performed}
-use Rattle.construction.specs.Allocation.{ChainWithoutRepeats, OnlyByCodes, OnlyFromHands, Disciplined, Allocating}
+use Rattle.construction.specs.History.{Entry, operationAt, startWords}
+use Rattle.construction.specs.Allocation.{among, without, Action, Performed, wordsAfter, chainFrom, chain, hand, givenBack, performedFrom, performedAll, performed, ChainWithoutRepeats, OnlyByCodes, OnlyFromHands, Disciplined, Allocating}
 use Rattle.construction.proofs.Statements.Allocation.{allocation}
 use Rattle.construction.proofs.Statements.Computing.{reading, observing}
 

@@ -5,12 +5,13 @@ use Prim.Native.String.{String}
 use mathlib.Core.Path.{_≡_, refl, sym, ap, _∙_}
 use mathlib.Core.Bool.{Bool, true, false, cond}
 use mathlib.Core.List.{[], _∷_, _++_}
-use lib.ListN.{getD}
+use lib.ListN.{getD, length}
 use Rattle.grammar.specs.Reading.{hasWord}
-use Rattle.construction.specs.Types.{Yield, Instruction, Decoded, Refusal, TooLong, Malformed, OutOfRange, UnknownCode, NoProcess, NoProgram, Busy, NotBusy, NoPlace, LimitReached, ShortBuffer, OperandOutOfRange, UnusedOperand, TooHeavy, Answer, RowSwap, CardLine, VarLine, SheetLine, InsLine, Verdict, Written}
+use Rattle.construction.specs.Types.{Yield, Instruction, Decoded, Refusal, TooLong, Malformed, OutOfRange, UnknownCode, NoProcess, NoProgram, Busy, NotBusy, NoPlace, LimitReached, ShortBuffer, OperandOutOfRange, UnusedOperand, TooHeavy, Answer, RowSwap, CardLine, VarLine, SheetLine, InsLine, Verdict, Written, NotAhead, Unsettled}
 use Rattle.construction.specs.Answers.{bytes, Fields, fields, numberOf, outputNumbers, doneWord, answerFields, verdictFields, writtenFields, rowFields, decodedFields, cardLineFields, varLineFields, sheetLineFields, insLineFields}
 use Rattle.construction.specs.KnownAnswers.{cardLineEnd, varLineEnd, sheetLineEnd, insLineEnd, KnownBy, KnownByFields}
 use Rattle.construction.specs.Instructions.{instructionOf, encode, encoded}
+use lib.Dec.{eqb}
 
 -- what can be read back is known
 known : {A B : Type 0} (tell : A → B) (from : B → A) → ((a : A) → from (tell a) ≡ a) → (a b : A) → tell a ≡ tell b → a ≡ b
@@ -19,7 +20,7 @@ known tell from back a b e = sym (back a) ∙ (ap from e ∙ back b)
 -- a refusal from its number
 abbrev refusalFrom : ℕ → Refusal
 refusalFrom n =
-    getD (TooLong ∷ TooLong ∷ Malformed ∷ OutOfRange ∷ UnknownCode ∷ NoProcess ∷ NoProgram ∷ Busy ∷ NotBusy ∷ NoPlace ∷ LimitReached ∷ ShortBuffer ∷ OperandOutOfRange ∷ UnusedOperand ∷ TooHeavy ∷ []) n TooLong
+    getD (TooLong ∷ TooLong ∷ Malformed ∷ OutOfRange ∷ UnknownCode ∷ NoProcess ∷ NoProgram ∷ Busy ∷ NotBusy ∷ NoPlace ∷ LimitReached ∷ ShortBuffer ∷ OperandOutOfRange ∷ UnusedOperand ∷ TooHeavy ∷ NotAhead ∷ Unsettled ∷ []) n TooLong
 
 refusal-back : (r : Refusal) → refusalFrom (numberOf r) ≡ r
 refusal-back TooLong = refl
@@ -36,6 +37,8 @@ refusal-back ShortBuffer = refl
 refusal-back OperandOutOfRange = refl
 refusal-back UnusedOperand = refl
 refusal-back TooHeavy = refl
+refusal-back NotAhead = refl
+refusal-back Unsettled = refl
 
 pub number-known : (r s : Refusal) → numberOf r ≡ numberOf s → r ≡ s
 number-known = known numberOf refusalFrom refusal-back
@@ -66,7 +69,7 @@ module _ (f : Fields) where
       (cond (says "done") (doneFrom false)
       (cond (says "fault") (doneFrom true)
       (cond (says "exited") (Answer.Exited (number 0))
-      (cond isRefusal (Answer.Refused why) (Answer.Value (number 0)))))))
+      (cond isRefusal (cond (eqb (length (f .numbers)) 2) (Answer.RefusedAt why (number 1)) (Answer.Refused why)) (Answer.Value (number 0)))))))
 
   abbrev verdictFrom : Verdict
   verdictFrom = cond isRefusal (Verdict.Refused why (number 1)) Verdict.Accepted
@@ -111,6 +114,7 @@ answer-back (Answer.Done n y k) = done-back n y k (y .fault) refl
 answer-back (Answer.Exited k) = refl
 answer-back (Answer.Value x) = refl
 answer-back (Answer.Refused r) = ap Answer.Refused (refusal-back r)
+answer-back (Answer.RefusedAt r line) = ap (λ (x : Refusal). Answer.RefusedAt x line) (refusal-back r)
 
 verdict-back : (v : Verdict) → verdictFrom (verdictFields v) ≡ v
 unfolding verdictFields hasWord

@@ -12,10 +12,12 @@ use Rattle.construction.specs.Marks.{withBit}
 use Rattle.construction.specs.Tracing.{trace, reportOf}
 use Rattle.construction.specs.Helping.{simulate, simulateFrom}
 use Rattle.construction.specs.Effects.{allocated}
-use Rattle.construction.specs.Weight.{weightBefore}
+use Rattle.construction.specs.Weight.{weightBefore, heaviest}
 use Rattle.construction.specs.Dictionary.{position, assign, valueUnder, insert, altered, unaltered, nextWrite}
 use Rattle.construction.specs.Cells.{sameWords, sameGate, sameAnnouncement, sameRecord, swapGate, swapAnnouncement, swapRecord, released, current, previous, rewritten}
-use Rattle.construction.specs.History.{observe, observeAll, withFinishes, latest, latestCall, turned}
+use Rattle.construction.specs.History.{observe, observeAll, withFinishes, latest, latestCall, turned, textAt}
+use Rattle.construction.specs.Parts.{programOf}
+use Rattle.construction.specs.Changes.{change, changeRead, someBehind}
 
 -- a text is read
 unfoldable pub reading : Unit {0}
@@ -24,10 +26,10 @@ reading = tt
 
 -- and requests are answered
 unfoldable pub answering : Unit {0}
-unfolding reading call requestExit step read valueOf advance perform accessOf accessGate accessAnnouncement firstChoice beginHelp note writing simulate simulateFrom allocated effectOf word withWord sum difference load store free forward withRegister withOutput skipped faulted position assign valueUnder insert altered unaltered nextWrite sameWords sameGate sameAnnouncement sameRecord swapGate swapAnnouncement swapRecord released current previous rewritten withBit ones onesIn swapOf trace reportOf
+unfolding reading programOf change changeRead heaviest someBehind call requestExit step read valueOf advance perform accessOf accessGate accessAnnouncement firstChoice beginHelp note writing simulate simulateFrom allocated effectOf word withWord sum difference load store free forward withRegister withOutput skipped faulted position assign valueUnder insert altered unaltered nextWrite sameWords sameGate sameAnnouncement sameRecord swapGate swapAnnouncement swapRecord released current previous rewritten withBit ones onesIn swapOf trace reportOf
 answering = tt
 
 -- and a history is kept
 unfoldable pub observing : Unit {0}
-unfolding answering observe observeAll withFinishes latest latestCall turned sequential runFrom
+unfolding answering textAt observe observeAll withFinishes latest latestCall turned sequential runFrom
 observing = tt

@@ -186,6 +186,8 @@ entry-within c (Outcome.called j k inputs p b) h = λ i. put-within c i j _ h (h
 entry-within c (Outcome.asked j p) h = λ i. put-within c i j _ h (h j)
 entry-within c (Outcome.stepped j x p b l) h = step-within (accessIn (localAt c j)) c j h
 entry-within c (Outcome.shown v x) h = h
+entry-within c (Outcome.unaltered k from t why line) h = h
+entry-within c (Outcome.altered k from t p a l u) h = h
 
 -- over every text and every list of entries
 pub counters : (t : List ℕ) (es : List Entry) (i : ℕ) → localAt (run (opened t .card) es .card) i .simulation .counter ≤ 32

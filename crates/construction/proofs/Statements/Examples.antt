@@ -11,7 +11,7 @@ use Rattle.construction.specs.Instructions.{encode}
 use Rattle.construction.specs.Tracing.{trace}
 use Rattle.construction.specs.Answers.{verdictFields, writtenFields, cardLineFields, varLineFields, sheetLineFields, decodedFields, insLineFields}
 use Rattle.construction.specs.Writing.{written, textOf, varsText, programsText, linesText}
-use Rattle.construction.specs.Examples.{Row, cardAfter, answersTo, AllHold, rows, AllTold, tracedRows, AllTextsRefused, refusedTexts, FullOpens, AllYielded, yieldedLines, AllEntriesRefused, refusedEntries, BufferRefused}
+use Rattle.construction.specs.Examples.{Row, cardAfter, answersTo, AllHold, rows, AllTold, tracedRows, AllTextsRefused, refusedTexts, FullOpens, AllYielded, yieldedLines, AllEntriesRefused, refusedEntries, BufferRefused, changedRows}
 use Rattle.construction.proofs.Statements.Refusals.{call-no-program, call-busy, step-no-process, step-not-busy, step-limit, read-no-place}
 use Rattle.construction.proofs.Statements.Computing.{reading, answering}
 
@@ -38,6 +38,11 @@ all-hold (r ∷ rs) e =
 pub rows-hold : AllHold rows
 unfolding answering shown
 rows-hold = all-hold rows refl
+
+-- the pieces of order 11
+pub changed-rows-hold : AllHold changedRows
+unfolding answering shown
+changed-rows-hold = all-hold changedRows refl
 
 -- the pieces that speak of lines
 pub rows-told : AllTold tracedRows

@@ -86,6 +86,8 @@ exit-lasts c i e b h = by-outcome (outcome c e)
     by-outcome (Outcome.stepped j x p f l) =
         ap (λ (l : List Bool). getD l i false) (step-exits (accessIn (localAt c j)) c j) ∙ h
     by-outcome (Outcome.shown v x) = h
+    by-outcome (Outcome.unaltered k from t why line) = h
+    by-outcome (Outcome.altered k from t p a l u) = h
 
 -- after the return it has no effect: the next call, which alone is taken then, comes to the same card with it and without it
 abbrev pub withExit : Card → ℕ → Bool → Card

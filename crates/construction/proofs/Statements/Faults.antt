@@ -6,10 +6,10 @@ use mathlib.Core.Logic.{_⊎_, inl, inr, ⊎-elim}
 use mathlib.Core.List.{List}
 use lib.ListN.{getD}
 use borrow.Author.Tests.{le-ltb}
-use Rattle.construction.specs.Types.{Done, Active, Announcement, Words, Program, Place, P3, Card, Answered, Contents}
+use Rattle.construction.specs.Types.{Done, Active, Announcement, Words, Program, Place, P3, Card, Answered}
 use Rattle.construction.specs.Cells.{openAnnouncement}
 use Rattle.construction.specs.Instructions.{word, load, store, effectOf}
-use Rattle.construction.specs.Parts.{announcementAt, localAt, contentsOf}
+use Rattle.construction.specs.Parts.{announcementAt, localAt}
 use Rattle.construction.specs.Machine.{accessOf, advance}
 use Rattle.construction.specs.Requests.{isBusy, answerOf}
 use Rattle.construction.specs.Opening.{opened}
@@ -17,7 +17,7 @@ use Rattle.construction.specs.History.{Entry, Steps, Observation, run}
 use Rattle.construction.specs.Faults.{PastFaults, FaultLeavesAll, MarkedDone, UnmarkedReading, Announces, YieldsKept}
 use Rattle.construction.proofs.Basics.{active-not-done}
 use Rattle.construction.proofs.Simulating.Sequential.{sequential-fault}
-use Rattle.construction.proofs.Invariant.World.{World, announcementIn, Result, WorldInvariant, Move}
+use Rattle.construction.proofs.Invariant.World.{World, announcementIn, Result, WorldInvariant, Move, Frame, frameOf}
 use Rattle.construction.proofs.Invariant.World.Move.{stay, ask, announce, leave, take, write, end, free}
 use Rattle.construction.proofs.Invariant.WorldKept.{announcements-set}
 use Rattle.construction.proofs.Invariant.Assertions.{LocAt, known}
@@ -47,10 +47,10 @@ pub unmarked-reading : (t : List ℕ) (es : List Entry) → UnmarkedReading (run
 unmarked-reading t es i l e =
     let O = opened-consistent t es in
     let c = run (opened t .card) es .card in
-    (subst (λ (p : Place). LocAt p (contentsOf c) (O .world) i (known (localAt c i))) e (O .inv .locs i l)) .2 .core .unmarked
+    (subst (λ (p : Place). LocAt p (frameOf c (O .world)) (O .world) i (known (localAt c i))) e (O .inv .locs i l)) .2 .core .unmarked
 
 -- what a move of process i leaves of an announcement of j that is done
-module _ {F : Contents} {w : World} (G : WorldInvariant F w) (i j : ℕ) (d : announcementIn w j .flag ≡ Done) where
+module _ {F : Frame} {w : World} (G : WorldInvariant F w) (i j : ℕ) (d : announcementIn w j .flag ≡ Done) where
   abbrev Left : Announcement → Type 0
   Left x = (x ≡ announcementIn w j) ⊎ ((j ≡ i) × (x .flag ≡ Active))
 
@@ -102,6 +102,8 @@ module _ (o : Card) (m : Observation) (O : Consistent o m) (j : ℕ) (d : announ
   outcome-stays (Outcome.called i k inputs p b) = inl refl
   outcome-stays (Outcome.asked i p) = inl refl
   outcome-stays (Outcome.stepped i x p b l) = step-stays i x p b l
+  outcome-stays (Outcome.unaltered k from t why line) = inl refl
+  outcome-stays (Outcome.altered k from t p a l u) = inl refl
   outcome-stays (Outcome.shown v x) = inl refl
 
 pub yields-kept : (t : List ℕ) (es : List Entry) → YieldsKept (run (opened t .card) es)

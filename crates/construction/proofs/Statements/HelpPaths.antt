@@ -1,6 +1,6 @@
 -- What is due in a helping by its own reads (specs/Paths) is what the machine does next.
 use Prim.Native.Nat.{ℕ, suc, _+_, _≤_, _<_}
-use mathlib.Core.Path.{_≡_, refl, sym, subst, ap, _∙_}
+use mathlib.Core.Path.{_≡_, refl, subst, ap, _∙_}
 use mathlib.Core.Bool.{Bool, true, false, cond}
 use mathlib.Core.Logic.{⊎-elim}
 use mathlib.Core.List.{List, [], _∷_}
@@ -9,14 +9,13 @@ use lib.Dec.{ltb}
 use lib.ListN.{length, getD, drop, length-take, length-drop, length-replicate}
 use lib.Seq.{getD-take, getD-drop, drop-drop}
 use borrow.Author.Tests.{ltb-true, ltb-false}
-use Rattle.construction.specs.Types.{Announcement, Record, Item, Dictionary, Simulation, Pause, Ended, Faulted, Lacks, Simulated, Place, Idle, P1, P3, P5, P7, P10, C2, C4, P13, P14, P16, H21, H36, P19, P20, P21, P22, F1, F3, Cell, Task, Began, Helped, Label, Contents}
+use Rattle.construction.specs.Types.{Announcement, Record, Program, Item, Dictionary, Simulation, Pause, Ended, Faulted, Lacks, Simulated, Place, Idle, P1, P3, P5, P7, P10, C2, C4, P13, P14, P16, H21, H36, P19, P20, P21, P22, F1, F3, Cell, Task, Began, Helped}
 use Rattle.construction.specs.Instructions.{started}
 use Rattle.construction.specs.Dictionary.{noItem, empty, noted, insert, itemOf, altered, unaltered, nextWrite}
 use Rattle.construction.specs.Helping.{simulate}
-use Rattle.construction.specs.Parts.{programOf}
 use Rattle.construction.specs.Marks.{withBit}
 use Rattle.construction.specs.Machine.{goTo, helps, afterPause, writeFrom, helped, beginHelp, note}
-use Rattle.construction.specs.Paths.{Found, Help, Due, alteredIn, dueBy, dueOf, afterWrite, withRead}
+use Rattle.construction.specs.Paths.{Help, Due, alteredIn, dueBy, dueOf, withRead}
 use Rattle.construction.proofs.Basics.{on-test, true-or-false}
 use Rattle.construction.proofs.Simulating.Sequential.{Short}
 use Rattle.construction.proofs.Simulating.Dictionaries.{insert-items}
@@ -62,49 +61,72 @@ module _ (number : ℕ) (d : Dictionary) (k : ℕ) where
   unfolding nextWrite
   none-due h = altered-none number (drop k (noted d)) (rw length-drop (omega arith))
 
--- a helping of the announcement a under a number, on a card with this text
-abbrev pub helpWith : Contents → ℕ → Announcement → Dictionary → Help
-helpWith t number a reads =
-    record { variables = t .variableCount; program = programOf t (a .program) number; inputs = a .words; reads = reads }
+-- a helping of the announcement a with a program, on a card of n variables
+abbrev pub helpWith : ℕ → Program → Announcement → Dictionary → Help
+helpWith n program a reads =
+    record { variables = n; program = program; inputs = a .words; reads = reads }
 
-abbrev simulated : Contents → ℕ → Announcement → Simulation → Dictionary → Simulated
-simulated t number a s d = simulate (t .variableCount) (programOf t (a .program) number) (a .words) s d
+abbrev simulated : ℕ → Program → Announcement → Simulation → Dictionary → Simulated
+simulated n program a s d = simulate n program (a .words) s d
 
 -- at H21: from its start, on what was read, the simulation comes to where it stands
-pub record Reading (t : Contents) (v number : ℕ) (a : Announcement) (s : Simulation) (d : Dictionary) (h : Help) (due : Due) : Type 0 where
+pub record Reading (n : ℕ) (program : Program) (v number : ℕ) (a : Announcement) (s : Simulation) (d : Dictionary) (h : Help) (due : Due) : Type 0 where
   pub reads : Dictionary
-  pub helps : h ≡ helpWith t number a reads
+  pub helps : h ≡ helpWith n program a reads
   pub array : length (reads .items) ≡ 32
-  pub stands : simulated t number a started reads ≡ record { pause = Lacks v; simulation = s; dictionary = d }
+  pub stands : simulated n program a started reads ≡ record { pause = Lacks v; simulation = s; dictionary = d }
   pub lacks : due ≡ Due.read v
 
 -- what is known of a helping and of what is due there, by the place and the target of a process, the number, the announcement, the simulation and
--- the dictionary that it keeps
-abbrev pub HelpAt : Contents → Place → ℕ → ℕ → Announcement → Simulation → Dictionary → Help → Due → Type 0
-HelpAt t Idle v number a s d h due = Unit
-HelpAt t P1 v number a s d h due = Unit
-HelpAt t P3 v number a s d h due = Unit
-HelpAt t P5 v number a s d h due = Unit
-HelpAt t P7 v number a s d h due = Unit
-HelpAt t P10 v number a s d h due = Unit
-HelpAt t C2 v number a s d h due = Unit
-HelpAt t C4 v number a s d h due = Unit
-HelpAt t P13 v number a s d h due = Unit
-HelpAt t P14 v number a s d h due = Unit
-HelpAt t P16 v number a s d h due = Unit
-HelpAt t H21 v number a s d h due = Reading t v number a s d h due
-HelpAt t H36 v number a s d h due =
+-- the dictionary that it keeps, and the program that it runs
+abbrev pub HelpAt : ℕ → Program → Place → ℕ → ℕ → Announcement → Simulation → Dictionary → Help → Due → Type 0
+HelpAt n program Idle v number a s d h due = Unit
+HelpAt n program P1 v number a s d h due = Unit
+HelpAt n program P3 v number a s d h due = Unit
+HelpAt n program P5 v number a s d h due = Unit
+HelpAt n program P7 v number a s d h due = Unit
+HelpAt n program P10 v number a s d h due = Unit
+HelpAt n program C2 v number a s d h due = Unit
+HelpAt n program C4 v number a s d h due = Unit
+HelpAt n program P13 v number a s d h due = Unit
+HelpAt n program P14 v number a s d h due = Unit
+HelpAt n program P16 v number a s d h due = Unit
+HelpAt n program H21 v number a s d h due = Reading n program v number a s d h due
+HelpAt n program H36 v number a s d h due =
     due ≡ Due.write (getD (d .items) v noItem .variable ∷ alteredIn number (drop (suc v) (noted d)))
-HelpAt t P19 v number a s d h due = due ≡ Due.write []
-HelpAt t P20 v number a s d h due = Unit
-HelpAt t P21 v number a s d h due = Unit
-HelpAt t P22 v number a s d h due = Unit
-HelpAt t F1 v number a s d h due = Unit
-HelpAt t F3 v number a s d h due = Unit
+HelpAt n program P19 v number a s d h due = due ≡ Due.write []
+HelpAt n program P20 v number a s d h due = Unit
+HelpAt n program P21 v number a s d h due = Unit
+HelpAt n program P22 v number a s d h due = Unit
+HelpAt n program F1 v number a s d h due = Unit
+HelpAt n program F3 v number a s d h due = Unit
 
-module _ (t : Contents) (number : ℕ) (a : Announcement) where
+-- only at H21 the program is looked at
+module _ (n : ℕ) {x y : Program} (v number : ℕ) (a : Announcement) (s : Simulation) (d : Dictionary) (h : Help) (due : Due) where
+  pub help-same : (p : Place) → (p ≡ H21 → x ≡ y) → HelpAt n x p v number a s d h due → HelpAt n y p v number a s d h due
+  help-same Idle e q = q
+  help-same P1 e q = q
+  help-same P3 e q = q
+  help-same P5 e q = q
+  help-same P7 e q = q
+  help-same P10 e q = q
+  help-same C2 e q = q
+  help-same C4 e q = q
+  help-same P13 e q = q
+  help-same P14 e q = q
+  help-same P16 e q = q
+  help-same H21 e q = subst (λ (z : Program). Reading n z v number a s d h due) (e refl) q
+  help-same H36 e q = q
+  help-same P19 e q = q
+  help-same P20 e q = q
+  help-same P21 e q = q
+  help-same P22 e q = q
+  help-same F1 e q = q
+  help-same F3 e q = q
+
+module _ (n : ℕ) (program : Program) (number : ℕ) (a : Announcement) where
   abbrev OnTask : Task → Simulation → Dictionary → Help → Due → Type 0
-  OnTask x s d h due = HelpAt t (x .place) (x .target) number a s d h due
+  OnTask x s d h due = HelpAt n program (x .place) (x .target) number a s d h due
 
   -- lines H31 and H32: from place k on
   pub write-due :
@@ -117,39 +139,39 @@ module _ (t : Contents) (number : ℕ) (a : Announcement) where
 
   -- as the simulation stands
   pause-due :
-      (p : Pause) (s : Simulation) (d reads : Dictionary) (h : Help) (due : Due) → h ≡ helpWith t number a reads → length (reads .items) ≡ 32 →
-      simulated t number a started reads ≡ record { pause = p; simulation = s; dictionary = d } → due ≡ dueBy number p d →
+      (p : Pause) (s : Simulation) (d reads : Dictionary) (h : Help) (due : Due) → h ≡ helpWith n program a reads → length (reads .items) ≡ 32 →
+      simulated n program a started reads ≡ record { pause = p; simulation = s; dictionary = d } → due ≡ dueBy number p d →
       OnTask (afterPause number d p) s d h due
   pause-due Ended s d reads h due q array e z = write-due 0 s d h due z
   pause-due Faulted s d reads h due q array e z = z
   pause-due (Lacks v) s d reads h due q array e z = record { reads = reads; helps = q; array = array; stands = e; lacks = z }
 
   stand-due :
-      (x : Simulated) (reads : Dictionary) (h : Help) → h ≡ helpWith t number a reads → length (reads .items) ≡ 32 →
-      simulated t number a started reads ≡ x → OnTask (afterPause number (x .dictionary) (x .pause)) (x .simulation) (x .dictionary) h (dueOf number h)
+      (x : Simulated) (reads : Dictionary) (h : Help) → h ≡ helpWith n program a reads → length (reads .items) ≡ 32 →
+      simulated n program a started reads ≡ x → OnTask (afterPause number (x .dictionary) (x .pause)) (x .simulation) (x .dictionary) h (dueOf number h)
   stand-due x reads h q array e =
       pause-due (x .pause) (x .simulation) (x .dictionary) reads h (dueOf number h) q array e
       (ap (dueOf number) q ∙ ap (λ (y : Simulated). dueBy number (y .pause) (y .dictionary)) e)
 
   -- lines P17, P18 and H1
   pub begin-due :
-      (task : Task) (s : Simulation) (d : Dictionary) (h : Help) → h ≡ helpWith t number a empty →
-      let x = beginHelp (t .variableCount) (programOf t (a .program) number) a number task s in
+      (task : Task) (s : Simulation) (d : Dictionary) (h : Help) → h ≡ helpWith n program a empty →
+      let x = beginHelp n program a number task s in
       OnTask (x .task) (x .simulation) (cond (x .helps) empty d) h (dueOf number h)
   unfolding beginHelp
   begin-due task s d h q =
       on-test (λ (x : Began). OnTask (x .task) (x .simulation) (cond (x .helps) empty d) h (dueOf number h)) (helps a number)
-      (λ _. let x = simulated t number a started empty in
+      (λ _. let x = simulated n program a started empty in
       subst (λ (y : Dictionary). OnTask (afterPause number (x .dictionary) (x .pause)) (x .simulation) y h (dueOf number h))
-      (simulate-empty (t .variableCount) (programOf t (a .program) number) (a .words))
+      (simulate-empty n program (a .words))
       (stand-due x empty h q (length-replicate 32 noItem) refl))
       (λ _. tt)
 
   -- lines H21 to H25
   pub note-due :
       (task : Task) (s : Simulation) (d : Dictionary) (mask : ℕ) (h : Help) (due : Due) (r : Record) →
-      Short (t .variableCount) (programOf t (a .program) number) → d .length < 32 → Reading t (task .target) number a s d h due →
-      let x = note (t .variableCount) (programOf t (a .program) number) (a .words) r number task s d mask in
+      Short n program → d .length < 32 → Reading n program (task .target) number a s d h due →
+      let x = note n program (a .words) r number task s d mask in
       let g = withRead number (Cell.Record (task .target)) r h in
       OnTask (x .task) (x .simulation) (x .dictionary) g (cond (ltb number (r .seq)) (Due.write []) (dueOf number g))
   unfolding note
@@ -159,12 +181,12 @@ module _ (t : Contents) (number : ℕ) (a : Announcement) where
       e = itemOf number (task .target) r
 
       went : Simulated
-      went = simulated t number a s (insert d e)
+      went = simulated n program a s (insert d e)
 
       more : Help
       more = record { variables = h .variables; program = h .program; inputs = h .inputs; reads = insert (h .reads) e }
 
-      more-is : more ≡ helpWith t number a (insert (q .reads) e)
+      more-is : more ≡ helpWith n program a (insert (q .reads) e)
       more-is =
           ap (λ (g : Help). record { variables = g .variables; program = g .program; inputs = g .inputs; reads = insert (g .reads) e }) (q .helps)
 
@@ -173,15 +195,15 @@ module _ (t : Contents) (number : ℕ) (a : Announcement) where
       room =
           omega (
             arith,
-            simulate-length (t .variableCount) (programOf t (a .program) number) (a .words) started (q .reads),
+            simulate-length n program (a .words) started (q .reads),
             ap (λ (x : Simulated). x .dictionary .length) (q .stands),
           )
 
-      goes-on : simulated t number a started (insert (q .reads) e) ≡ went
+      goes-on : simulated n program a started (insert (q .reads) e) ≡ went
       goes-on =
-          resumes (t .variableCount) (programOf t (a .program) number) (a .words) short e (task .target) started (q .reads) room (q .array)
+          resumes n program (a .words) short e (task .target) started (q .reads) room (q .array)
           (ap (λ (x : Simulated). x .pause) (q .stands))
-          ∙ ap (λ (x : Simulated). simulated t number a (x .simulation) (insert (x .dictionary) e)) (q .stands)
+          ∙ ap (λ (x : Simulated). simulated n program a (x .simulation) (insert (x .dictionary) e)) (q .stands)
 
       by-test : (b : Bool) →
           let x : Helped = cond b (record { task = goTo task P19; simulation = s; dictionary = d; mask = mask })

@@ -1,13 +1,13 @@
 -- After any list of entries numbers stay within their 64 bits and dictionaries within their items, no variable twice (specs/Limits).
-use Prim.Native.Nat.{ℕ, zero, suc, _<_}
+use Prim.Native.Nat.{ℕ, zero, suc, _<_, _≤_}
 use mathlib.Core.Path.{_≡_, refl, sym, ap, subst}
 use mathlib.Core.Bool.{false}
 use mathlib.Core.List.{List, [], _∷_}
 use native.Mathlib.Omega.{arith}
 use lib.ListN.{length, getD}
-use Rattle.construction.specs.Types.{Item, Place}
+use Rattle.construction.specs.Types.{Item, Place, Program}
 use Rattle.construction.specs.Dictionary.{noItem, noted}
-use Rattle.construction.specs.Parts.{localAt, contentsOf}
+use Rattle.construction.specs.Parts.{localAt}
 use Rattle.construction.specs.Opening.{opened}
 use Rattle.construction.specs.Limits.{Distinct, Limited}
 use Rattle.construction.specs.History.{Entry, run}
@@ -18,6 +18,9 @@ use Rattle.construction.proofs.Invariant.Assertions.{LocAt, known}
 use Rattle.construction.proofs.Invariant.Acting.{worldOf}
 use Rattle.construction.proofs.Invariant.Cards.{good-is}
 use Rattle.construction.proofs.Observing.Runs.{opened-consistent}
+use Rattle.construction.proofs.Invariant.World.{frameOf}
+use Rattle.construction.specs.Weight.{weight}
+use Rattle.construction.specs.Changes.{hasRead}
 
 -- a variable that a list lacks stands at none of its places
 lacks-at :
@@ -45,6 +48,9 @@ limits t es =
       recorded = λ v. omega (arith, G .recorded .below v, rounds-few (c .gate .holder) (worldOf c (O .world)) (G .phase));
       items = λ i. I .tidy i .short;
       distinct = λ i. distinct (noted (localAt c i .dictionary)) (I .tidy i .keyed);
-      noting = λ i l e. (subst (λ (p : Place). LocAt p (contentsOf c) (O .world) i (known (localAt c i))) e (I .locs i l)) .2 .fewer;
-      writing = λ i l e. (subst (λ (p : Place). LocAt p (contentsOf c) (O .world) i (known (localAt c i))) e (I .locs i l)) .2 .room .few;
+      texts = I .texts .held;
+      noting = λ i l e. subst (λ (p : Program). localAt c i .dictionary .length < weight p) (sym (I .texts .read i l (ap (λ (p : Place). hasRead p) e) _ _ (omega arith)))
+          ((subst (λ (p : Place). LocAt p (frameOf c (O .world)) (O .world) i (known (localAt c i))) e (I .locs i l)) .2 .fewer);
+      writing = λ i l e. subst (λ (p : Program). localAt c i .dictionary .length ≤ weight p) (sym (I .texts .read i l (ap (λ (p : Place). hasRead p) e) _ _ (omega arith)))
+          ((subst (λ (p : Place). LocAt p (frameOf c (O .world)) (O .world) i (known (localAt c i))) e (I .locs i l)) .2 .room .few);
     }

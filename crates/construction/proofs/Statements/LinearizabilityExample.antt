@@ -48,6 +48,7 @@ pub record Computed : Type 0 where
         order = record { operation = 1; gate = 1; yields = plain (one 7) } ∷ [];
         returns =
             record { operation = 1; return = Return.done 1 (plain (one 7)) } ∷ record { operation = 0; return = Return.exited } ∷ [];
+        changes = [];
         words = 9 ∷ [];
       }
   pub notes-fault :
@@ -56,6 +57,7 @@ pub record Computed : Type 0 where
         operations = record { process = 0; program = 0; inputs = one 9 } ∷ [];
         order = record { operation = 0; gate = 1; yields = faultYield } ∷ [];
         returns = record { operation = 0; return = Return.done 1 faultYield } ∷ [];
+        changes = [];
         words = 7 ∷ [];
       }
   pub returned-first : hasReturned 0 (run single first .history .returns) ≡ true

@@ -13,7 +13,7 @@ use borrow.Author.Tests.{le-ltb}
 use Rattle.construction.specs.Types.{Gate, Words, Announcement, Record, Program, Dictionary, Simulation, Place, P5, H21, Access, Task, Helped, Card, Answered, Label}
 use Rattle.construction.specs.Dictionary.{empty, noted, find, has, itemOf}
 use Rattle.construction.specs.Marks.{Marks}
-use Rattle.construction.specs.Parts.{Local, localAt, contentsOf, announcementAt, programOf}
+use Rattle.construction.specs.Parts.{Local, localAt, announcementAt, textsOf, programOf}
 use Rattle.construction.specs.Machine.{accessOf, accessIn, holderOf, beginHelp, note, perform, advance}
 use Rattle.construction.specs.Tracing.{labelOf, notedAt, reportOf, FromH21ToP20, TellsNoted}
 use Rattle.construction.specs.Opening.{fresh, opened}
@@ -22,7 +22,7 @@ use Rattle.construction.proofs.Basics.{on-test, clash, getD-replicate-s
 use Rattle.construction.proofs.Simulating.Dictionaries.{hasIn}
 use Rattle.construction.proofs.Simulating.Simulations.{needing-absent}
 use Rattle.construction.proofs.Simulating.Marks.{no-bits, marks-insert, marks-simulated}
-use Rattle.construction.proofs.Invariant.World.{World}
+use Rattle.construction.proofs.Invariant.World.{World, frameOf}
 use Rattle.construction.proofs.Invariant.Locals.{Sizes}
 use Rattle.construction.proofs.Invariant.Assertions.{LocAt, known}
 use Rattle.construction.proofs.Invariant.Cards.{CardInvariant}
@@ -76,7 +76,7 @@ exit-notes-none false = elim [ ]
 
 module _ {c : Card} {w : World} (I : CardInvariant c w) (j : ℕ) where
   noting-at :
-      (l : Place) (exit : Bool) → LocAt l (contentsOf c) w j (known (localAt c j)) → Notes (accessOf l exit) →
+      (l : Place) (exit : Bool) → LocAt l (frameOf c w) w j (known (localAt c j)) → Notes (accessOf l exit) →
       Fits (localAt c j .task .target) (localAt c j .dictionary)
   unfolding accessOf
   noting-at P5 exit q n = absurd (exit-notes-none exit n)
@@ -108,7 +108,7 @@ module _ (c : Card) (Z : Sizes c) (j : ℕ) (lt : j < 8) (H : AllMarked c) where
   access-marked Access.Help q i =
       let l = localAt c j in
       let cell = announcementAt c (holderOf (l .gate .holder)) in
-      let program = programOf (contentsOf c) (cell .program) (l .gate .seq) in
+      let program = programOf (textsOf c) (cell .program) (l .gate .seq) in
       put-marked i _ _ (begun (beginHelp (c .variableCount) program cell (l .gate .seq) (l .task) (l .simulation) .helps))
     where
       begun : (b : Bool) → Marks (cond b 0 (localAt c j .mask)) (cond b empty (localAt c j .dictionary))
@@ -131,6 +131,8 @@ entry-marked {c} I (Outcome.called j k inputs p b) H = λ i. put-marked c (I .si
 entry-marked {c} I (Outcome.asked j p) H = λ i. put-marked c (I .sizes) j (omega (arith, I .good .fits .few)) H i _ _ (H j)
 entry-marked {c} I (Outcome.stepped j x p b l) H = step-marked I j p H
 entry-marked {c} I (Outcome.shown v x) H = H
+entry-marked {c} I (Outcome.unaltered k from t why line) H = H
+entry-marked {c} I (Outcome.altered k from t p a l u) H = H
 
 -- over every text and every list of entries the word of each process is the set of the variables that its dictionary notes
 pub noted-sets :

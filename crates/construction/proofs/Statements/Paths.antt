@@ -13,26 +13,28 @@ use Rattle.construction.specs.Cells.{isDone, sameHolder, swapGate, swapA
 use Rattle.construction.specs.Instructions.{started}
 use Rattle.construction.specs.Dictionary.{empty, noted, insert, itemOf, nextWrite}
 use Rattle.construction.specs.Helping.{simulate}
-use Rattle.construction.specs.Parts.{idleTask, Local, localAt, contentsOf, announcementAt, recordAt, programOf, withLocal}
+use Rattle.construction.specs.Parts.{idleTask, Local, localAt, contentsOf, announcementAt, recordAt, programOf, withLocal, Texts, textsOf, withRevision}
 use Rattle.construction.specs.Machine.{accessOf, accessGate, accessAnnouncement, byHolder, byFlag, holderOf, firstChoice, outcome, helps, afterPause, writeFrom, beginHelp, note, writing, writtenVariable, whose, cellOf, after, stepGate, stepAnnouncement, stepHelp, stepNote, stepWrite, perform, advance, swapOf}
-use Rattle.construction.specs.Requests.{isIdle, isBusy, invoked, exiting, returned, answerOf}
-use Rattle.construction.specs.Answers.{isRefused}
+use Rattle.construction.specs.Requests.{isIdle, isBusy, isProgram, invoked, exiting, returned, answerOf}
+use Rattle.construction.specs.OneAccess.{SameText}
+use Rattle.construction.specs.Changes.{hasRead, isUnsettled}
 use Rattle.construction.specs.Tracing.{labelOf, reportOf}
 use Rattle.construction.specs.Opening.{fresh, opened}
 use Rattle.construction.specs.History.{Event, eventOf, Entry, act, Steps, Observation, observe, observeAll, opening, run}
 use Rattle.construction.specs.Paths.{Found, foundIn, Help, helpOf, Made, made, Edge, End, Leads, Path, Whole, numberIn, unlessSwap, lastNumber, helpAfter, helpIn, Due, afterWrite, dueOf, dueAfter, dueIn, Comes, FromH21ToP19, Follows, Noticed, unnoticed, ifTaken, noticed, noticedFrom, accesses}
 use Rattle.construction.proofs.Basics.{on-test, cond-true, cond-false, true-or-false, and-true, and-false, clash, nobody-process, active-not-done, exit-not-done, active-not-exit, isDone-true, isDone-false, sameHolder-true, sameHolder-refl, true-false, getD-replicate-same}
 use Rattle.construction.proofs.Simulating.Simulations.{simulate-empty}
-use Rattle.construction.proofs.Invariant.World.{World}
+use Rattle.construction.proofs.Invariant.World.{World, Frame, frameOf}
 use Rattle.construction.proofs.Invariant.Locals.{Sizes, local-same, local-other}
 use Rattle.construction.proofs.Invariant.Assertions.{LocAt, known}
-use Rattle.construction.proofs.Invariant.Cards.{CardInvariant, inv-step}
+use Rattle.construction.proofs.Invariant.Cards.{CardInvariant, gate-is, inv-step}
+use Rattle.construction.proofs.Invariant.Changing.{chosen-kept}
 use Rattle.construction.proofs.Observing.Outcomes.{Outcome, outcome as outcome-of}
 use Rattle.construction.proofs.Observing.Consistency.{Consistent, entry-kept}
 use Rattle.construction.proofs.Observing.Runs.{opened-consistent}
 use Rattle.construction.proofs.Statements.Tracing.{answers}
 use Rattle.construction.proofs.Statements.OneAccess.{one-access}
-use Rattle.construction.proofs.Statements.HelpPaths.{HelpAt, write-due, begin-due, note-due}
+use Rattle.construction.proofs.Statements.HelpPaths.{HelpAt, help-same, write-due, begin-due, note-due}
 use Rattle.construction.proofs.Simulating.Sequential.{Short}
 
 -- how an operation returns whose process last read this announcement
@@ -134,12 +136,16 @@ as-before Swap.None n = refl
 as-before Swap.Lost n = refl
 as-before Swap.Won n = refl
 
--- what a process knows of the announcement last read where it is about to return, and of its dictionary where it reads one record more
+-- what a process knows of the announcement last read where it is about to return, and of its dictionary and the program that it runs where it reads one
+-- record more
 abbrev Returning : Place → Flag → Type 0
 Returning p f = (p ≡ F1) ⊎ (p ≡ F3) → f ≡ Done
 
-abbrev Roomy : Place → Dictionary → Type 0
-Roomy p d = p ≡ H21 → d .length < 32
+abbrev runs : Texts → Local → Program
+runs x l = programOf x (l .announcement .program) (l .gate .seq)
+
+abbrev Roomy : ℕ → Texts → Place → Local → Type 0
+Roomy n x p l = p ≡ H21 → (l .dictionary .length < 32) × Short n (runs x l)
 
 -- the top of the loop is no part of a helping
 top-not-due : (exit : Bool) → FromH21ToP19 (labelOf P5 exit) → ⊥
@@ -147,12 +153,12 @@ top-not-due true = elim [ ]
 top-not-due false = elim [ ]
 
 -- what it knows of its helping and of what is due there; nothing, where it has no operation
-abbrev HelpOf : Contents → Local → Help → Due → Type 0
-HelpOf t l h due = HelpAt t (l .task .place) (l .task .target) (l .gate .seq) (l .announcement) (l .simulation) (l .dictionary) h due
+abbrev HelpOf : ℕ → Texts → Local → Help → Due → Type 0
+HelpOf n x l h due = HelpAt n (runs x l) (l .task .place) (l .task .target) (l .gate .seq) (l .announcement) (l .simulation) (l .dictionary) h due
 
-nothing-due : (t : Contents) (l : Local) (h : Help) (due : Due) → l .task ≡ idleTask → HelpOf t l h due
-nothing-due t l h due e =
-    subst (λ (x : Task). HelpAt t (x .place) (x .target) (l .gate .seq) (l .announcement) (l .simulation) (l .dictionary) h due) (sym e) tt
+nothing-due : (n : ℕ) (y : Texts) (l : Local) (h : Help) (due : Due) → l .task ≡ idleTask → HelpOf n y l h due
+nothing-due n y l h due e =
+    subst (λ (x : Task). HelpAt n (runs y l) (x .place) (x .target) (l .gate .seq) (l .announcement) (l .simulation) (l .dictionary) h due) (sym e) tt
 
 -- the access of process i at a place
 module _ (c : Card) (i : ℕ) (Z : Sizes c) (lt : i < 8) where
@@ -173,8 +179,8 @@ module _ (c : Card) (i : ℕ) (Z : Sizes c) (lt : i < 8) where
   leaves (Access.Announcement a) =
       let m = whose a (c .processCount) i (own .gate) in
       stepAnnouncement a m (announcementAt c m) own .local
-  leaves Access.Help = stepHelp (contentsOf c) (announcementAt c (holderOf (own .gate .holder))) own .local
-  leaves Access.Note = stepNote (contentsOf c) (recordAt c (own .task .target)) own .local
+  leaves Access.Help = stepHelp (c .variableCount) (textsOf c) (announcementAt c (holderOf (own .gate .holder))) own .local
+  leaves Access.Note = stepNote (c .variableCount) (textsOf c) (recordAt c (own .task .target)) own .local
   leaves Access.Write = stepWrite (recordAt c (writtenVariable own)) own .local
 
   left-is : (a : Access) → localAt (perform a c i .card) i ≡ leaves a
@@ -297,14 +303,14 @@ module _ (c : Card) (i : ℕ) (Z : Sizes c) (lt : i < 8) where
   abbrev HelpNext : Place → Bool → Help → Due → Place → Type 0
   HelpNext p exit h due next =
       let l = leaves (accessOf p exit) in
-      HelpAt (contentsOf c) next (l .task .target) (l .gate .seq) (l .announcement) (l .simulation) (l .dictionary)
+      HelpAt (c .variableCount) (runs (textsOf c) l) next (l .task .target) (l .gate .seq) (l .announcement) (l .simulation) (l .dictionary)
       (help-after p exit h (l .gate .seq)) (due-after p exit h due (l .gate .seq))
 
-  module _ (short : (k number : ℕ) → Short (c .variableCount) (programOf (contentsOf c) k number)) (h : Help) (due : Due) where
+  module _ (h : Help) (due : Due) where
     -- the access that is made was due
     was-due :
         (p : Place) (exit : Bool) →
-        HelpAt (contentsOf c) p (own .task .target) (own .gate .seq) (own .announcement) (own .simulation) (own .dictionary) h due →
+        HelpAt (c .variableCount) (runs (textsOf c) own) p (own .task .target) (own .gate .seq) (own .announcement) (own .simulation) (own .dictionary) h due →
         FromH21ToP19 (labelOf p exit) → Comes due (labelOf p exit) (cellOf (accessOf p exit) (contentsOf c) i own)
     unfolding accessOf writing
     was-due P5 exit q z = absurd (top-not-due exit z)
@@ -314,8 +320,8 @@ module _ (c : Card) (i : ℕ) (Z : Sizes c) (lt : i < 8) where
 
     -- what is due next is what the place it leads to does
     stays-due :
-        (p : Place) (exit : Bool) → isIdle p ≡ false → Roomy p (own .dictionary) →
-        HelpAt (contentsOf c) p (own .task .target) (own .gate .seq) (own .announcement) (own .simulation) (own .dictionary) h due →
+        (p : Place) (exit : Bool) → isIdle p ≡ false → Roomy (c .variableCount) (textsOf c) p own →
+        HelpAt (c .variableCount) (runs (textsOf c) own) p (own .task .target) (own .gate .seq) (own .announcement) (own .simulation) (own .dictionary) h due →
         HelpNext p exit h due (leaves (accessOf p exit) .task .place)
     unfolding accessOf perform accessGate accessAnnouncement writing
     stays-due Idle exit n room q = absurd (true≢false n)
@@ -331,12 +337,13 @@ module _ (c : Card) (i : ℕ) (Z : Sizes c) (lt : i < 8) where
     stays-due P13 exit n room q = tt
     stays-due P14 exit n room q = on-holder (HelpNext P14 exit h due) (c .gate .holder) P16 P22 (λ _. tt) (λ _. tt)
     stays-due P16 exit n room q =
-        begin-due (contentsOf c) (own .gate .seq) (announcementAt c (holderOf (own .gate .holder))) (own .task) (own .simulation) (own .dictionary) _ refl
+        let a = announcementAt c (holderOf (own .gate .holder)) in
+        begin-due (c .variableCount) (programOf (textsOf c) (a .program) (own .gate .seq)) (own .gate .seq) a (own .task) (own .simulation) (own .dictionary) _ refl
     stays-due H21 exit n room q =
-        note-due (contentsOf c) (own .gate .seq) (own .announcement) (own .task) (own .simulation) (own .dictionary) (own .mask) h due
-        (recordAt c (own .task .target)) (short (own .announcement .program) (own .gate .seq)) (room refl) q
+        note-due (c .variableCount) (runs (textsOf c) own) (own .gate .seq) (own .announcement) (own .task) (own .simulation) (own .dictionary) (own .mask) h due
+        (recordAt c (own .task .target)) (room refl .1) (room refl .0) q
     stays-due H36 exit n room q =
-        write-due (contentsOf c) (own .gate .seq) (own .announcement) (suc (own .task .target)) (own .simulation) (own .dictionary) _ _
+        write-due (c .variableCount) (runs (textsOf c) own) (own .gate .seq) (own .announcement) (suc (own .task .target)) (own .simulation) (own .dictionary) _ _
         (unread (swapRecord (recordAt c (writtenVariable own)) _ _ .won) _ _ ∙ ap afterWrite q)
     stays-due P19 exit n room q = tt
     stays-due P20 exit n room q = tt
@@ -370,16 +377,15 @@ data Ready (i : ℕ) (l : Local) : List Made → Type 0 where
 
 -- what was noticed of the operation of process i follows the lines, it stands there, its helping is the one noticed, and the wish taken is the one
 -- that its process keeps
-record Stands (t : Contents) (i : ℕ) (l : Local) (n : Noticed) : Type 0 where
+record Stands (t : Contents) (x : Texts) (i : ℕ) (l : Local) (n : Noticed) : Type 0 where
   follows : Follows i (n .accesses)
   ready : Ready i l (n .accesses)
-  helps : HelpOf t l (helpIn (n .accesses)) (dueIn (n .accesses))
+  helps : i < t .processCount → HelpOf (t .variableCount) x l (helpIn (n .accesses)) (dueIn (n .accesses))
   wished : n .wish ≡ l .exit
 
 -- one access more, at which a wish had been taken or not
 module _ (c : Card) (i : ℕ) (Z : Sizes c) (lt : i < 8) (busy : isIdle (localAt c i .task .place) ≡ false) (known : Returning (localAt c i .task .place) (localAt c i .announcement .flag))
-    (room : Roomy (localAt c i .task .place) (localAt c i .dictionary)) (short : (k number : ℕ) → Short (c .variableCount) (programOf (contentsOf c) k number))
-    (taken : Bool) (ms : List Made) where
+    (room : Roomy (c .variableCount) (textsOf c) (localAt c i .task .place) (localAt c i)) (taken : Bool) (ms : List Made) where
   abbrev place : Place
   place = localAt c i .task .place
 
@@ -427,17 +433,17 @@ module _ (c : Card) (i : ℕ) (Z : Sizes c) (lt : i < 8) (busy : isIdle (localAt
       (true-or-false (isIdle (next .task .place)))
 
   -- its helping, and what is due there
-  due : HelpOf (contentsOf c) (localAt c i) (helpIn ms) (dueIn ms) →
+  due : HelpOf (c .variableCount) (textsOf c) (localAt c i) (helpIn ms) (dueIn ms) →
       FromH21ToP19 (made c i taken .report .label) → Comes (dueIn ms) (made c i taken .report .label) (made c i taken .report .cell)
   unfolding made reportOf
-  due q = was-due c i Z lt short (helpIn ms) (dueIn ms) place wish q
+  due q = was-due c i Z lt (helpIn ms) (dueIn ms) place wish q
 
-  helping : HelpOf (contentsOf c) (localAt c i) (helpIn ms) (dueIn ms) →
-      HelpOf (contentsOf c) next (helpIn (made c i taken ∷ ms)) (dueIn (made c i taken ∷ ms))
+  helping : HelpOf (c .variableCount) (textsOf c) (localAt c i) (helpIn ms) (dueIn ms) →
+      HelpOf (c .variableCount) (textsOf c) next (helpIn (made c i taken ∷ ms)) (dueIn (made c i taken ∷ ms))
   unfolding made reportOf swapOf helpIn dueIn
   helping q =
-      subst (λ (l : Local). HelpOf (contentsOf c) l (help-after c i Z lt place wish (helpIn ms) (l .gate .seq)) (due-after c i Z lt place wish (helpIn ms) (dueIn ms) (l .gate .seq)))
-      (sym next-is) (stays-due c i Z lt short (helpIn ms) (dueIn ms) place wish busy room q)
+      subst (λ (l : Local). HelpOf (c .variableCount) (textsOf c) l (help-after c i Z lt place wish (helpIn ms) (l .gate .seq)) (due-after c i Z lt place wish (helpIn ms) (dueIn ms) (l .gate .seq)))
+      (sym next-is) (stays-due c i Z lt (helpIn ms) (dueIn ms) place wish busy room q)
 
   wish-stays : next .exit ≡ wish
   wish-stays = ap (λ (l : Local). l .exit) next-is ∙ left-exit c i Z lt (accessOf place wish)
@@ -447,20 +453,20 @@ first-label exit e = ap (λ (p : Place). labelOf p exit) e
 
 -- the path with it
 module _ (c : Card) (i : ℕ) (Z : Sizes c) (lt : i < 8) (busy : isIdle (localAt c i .task .place) ≡ false) (known : Returning (localAt c i .task .place) (localAt c i .announcement .flag))
-    (room : Roomy (localAt c i .task .place) (localAt c i .dictionary)) (short : (k number : ℕ) → Short (c .variableCount) (programOf (contentsOf c) k number)) where
+    (room : Roomy (c .variableCount) (textsOf c) (localAt c i .task .place) (localAt c i)) where
   follows-on :
-      {ms : List Made} (taken : Bool) → taken ≡ localAt c i .exit → HelpOf (contentsOf c) (localAt c i) (helpIn ms) (dueIn ms) →
+      {ms : List Made} (taken : Bool) → taken ≡ localAt c i .exit → HelpOf (c .variableCount) (textsOf c) (localAt c i) (helpIn ms) (dueIn ms) →
       Follows i ms → Ready i (localAt c i) ms → Follows i (made c i taken ∷ ms) × Ready i (localAt (advance c i) i) (made c i taken ∷ ms)
   unfolding made reportOf
   follows-on {ms} taken w q F (Ready.idle e) = absurd (true-false _ e busy)
   follows-on {ms} taken w q F (Ready.called e) = (
     record {
       path = Path.first (first-label (localAt c i .exit) e);
-      whole = whole c i Z lt busy known room short taken [];
-      numbers = (numbered c i Z lt busy known room short taken [] (inl e), tt);
-      helping = (due c i Z lt busy known room short taken [] q, tt);
+      whole = whole c i Z lt busy known room taken [];
+      numbers = (numbered c i Z lt busy known room taken [] (inl e), tt);
+      helping = (due c i Z lt busy known room taken [] q, tt);
     },
-    ready c i Z lt busy known room short taken [] (inl e),
+    ready c i Z lt busy known room taken [] (inl e),
   )
   follows-on {ms} taken w q F (Ready.going {m} r o n) = (
     record {
@@ -468,27 +474,27 @@ module _ (c : Card) (i : ℕ) (Z : Sizes c) (lt : i < 8) (busy : isIdle (localAt
           (subst (λ (b : Bool). Leads i m b (labelOf (localAt c i .task .place) (localAt c i .exit))) (sym w)
           (toward i _ _ _ _ (localAt c i .announcement) (localAt c i .task .place) busy o (localAt c i .exit)))
           (F .path);
-      whole = whole c i Z lt busy known room short taken ms;
-      numbers = (numbered c i Z lt busy known room short taken ms (inr n), F .numbers);
-      helping = (due c i Z lt busy known room short taken ms q, F .helping);
+      whole = whole c i Z lt busy known room taken ms;
+      numbers = (numbered c i Z lt busy known room taken ms (inr n), F .numbers);
+      helping = (due c i Z lt busy known room taken ms q, F .helping);
     },
-    ready c i Z lt busy known room short taken ms (inr n),
+    ready c i Z lt busy known room taken ms (inr n),
   )
 
   stands-on :
-      (n : Noticed) → Stands (contentsOf c) i (localAt c i) n →
-      Stands (contentsOf c) i (localAt (advance c i) i) (record { wish = n .wish; accesses = made c i (n .wish) ∷ n .accesses })
-  stands-on n S =
-      let x = follows-on (n .wish) (S .wished) (S .helps) (S .follows) (S .ready) in
+      i < c .processCount → (n : Noticed) → Stands (contentsOf c) (textsOf c) i (localAt c i) n →
+      Stands (contentsOf c) (textsOf c) i (localAt (advance c i) i) (record { wish = n .wish; accesses = made c i (n .wish) ∷ n .accesses })
+  stands-on p n S =
+      let x = follows-on (n .wish) (S .wished) (S .helps p) (S .follows) (S .ready) in
       record {
         follows = x .0;
         ready = x .1;
-        helps = helping c i Z lt busy known room short (n .wish) (n .accesses) (S .helps);
-        wished = S .wished ∙ sym (wish-stays c i Z lt busy known room short (n .wish) (n .accesses));
+        helps = λ _. helping c i Z lt busy known room (n .wish) (n .accesses) (S .helps p);
+        wished = S .wished ∙ sym (wish-stays c i Z lt busy known room (n .wish) (n .accesses));
       }
 
 -- what a process knows at a place, of the announcement last read
-returning : (p : Place) (F : Contents) (w : World) (i : ℕ) (l : Local) → LocAt p F w i l → Returning p (l .announcement .flag)
+returning : (p : Place) (F : Frame) (w : World) (i : ℕ) (l : Local) → LocAt p F w i l → Returning p (l .announcement .flag)
 returning p F w i l q =
     ⊎-elim (λ (e : p ≡ F1). let k = at F1 e in ap (λ (a : Announcement). a .flag) (sym (k .same)) ∙ k .done)
     (λ (e : p ≡ F3). let k = at F3 e .0 in ap (λ (a : Announcement). a .flag) (sym (k .same)) ∙ k .done)
@@ -496,9 +502,20 @@ returning p F w i l q =
     at : (x : Place) → p ≡ x → LocAt x F w i l
     at x e = subst (λ (y : Place). LocAt y F w i l) e q
 
--- .. and of its dictionary
-roomy : (p : Place) (F : Contents) (w : World) (i : ℕ) (l : Local) → LocAt p F w i l → Roomy p (l .dictionary)
-roomy p F w i l q e = subst (λ (x : Place). LocAt x F w i l) e q .2 .spare
+-- what a helper knows that reads one record more, ..
+module _ {c : Card} {w : World} (I : CardInvariant c w) (i : ℕ) (lt : i < c .processCount) (e : localAt c i .task .place ≡ H21) where
+  reading : LocAt H21 (frameOf c w) w i (known (localAt c i))
+  reading = subst (λ (x : Place). LocAt x (frameOf c w) w i (known (localAt c i))) e (I .locs i lt)
+
+  has-read : hasRead (localAt c i .task .place) ≡ true
+  has-read = ap hasRead e
+
+-- .. of its dictionary and of its program
+roomy : {c : Card} {w : World} (I : CardInvariant c w) (i : ℕ) → i < c .processCount → Roomy (c .variableCount) (textsOf c) (localAt c i .task .place) (localAt c i)
+roomy {c} {w} I i lt e = (
+  reading I i lt e .2 .spare,
+  subst (Short (c .variableCount)) (sym (I .texts .read i lt (has-read I i lt e) _ _ (omega arith))) (I .good .fits .short _ _),
+)
 
 -- an exit request leaves where an operation stands
 exit-ready : (i : ℕ) (l : Local) (ms : List Made) → Ready i l ms → Ready i (exiting l) ms
@@ -514,13 +531,13 @@ both j i b x y P f g =
     (λ e. ⊎-elim (λ z. g (inl (eqb-false j i z))) (λ z. g (inr (z .1))) (and-false (eqb j i) b e))
 
 -- every entry
-module _ {c : Card} {w : World} (I : CardInvariant c w) (i : ℕ) (n : Noticed) (S : Stands (contentsOf c) i (localAt c i) n) where
+module _ {c : Card} {w : World} (I : CardInvariant c w) (i : ℕ) (n : Noticed) (S : Stands (contentsOf c) (textsOf c) i (localAt c i) n) where
   small : (j : ℕ) → j < c .processCount → j < 8
   small j p = omega (arith, I .good .fits .few)
 
   -- the own state of another process put back
-  elsewhere : (j : ℕ) (l : Local) → j ≢ i → Stands (contentsOf c) i (localAt (withLocal c j l) i) n
-  elsewhere j l ne = subst (λ (x : Local). Stands (contentsOf c) i x n) (sym (local-other c j i l (λ e. ne (sym e)))) S
+  elsewhere : (j : ℕ) (l : Local) → j ≢ i → Stands (contentsOf c) (textsOf c) i (localAt (withLocal c j l) i) n
+  elsewhere j l ne = subst (λ (x : Local). Stands (contentsOf c) (textsOf c) i x n) (sym (local-other c j i l (λ e. ne (sym e)))) S
 
   -- that of process j put back, which is i
   here : (j : ℕ) (f : Local → Local) → j < c .processCount → j ≡ i → localAt (withLocal c j (f (localAt c j))) i ≡ f (localAt c i)
@@ -528,65 +545,85 @@ module _ {c : Card} {w : World} (I : CardInvariant c w) (i : ℕ) (n : Noticed) 
       subst (λ (n : ℕ). localAt (withLocal c j (f (localAt c j))) n ≡ f (localAt c n)) e (local-same c j _ (I .sizes) (small j p))
 
   call-stands : (j k : ℕ) (inputs : Words) → j < c .processCount →
-      Stands (contentsOf c) i (localAt (withLocal c j (invoked (localAt c j) k inputs)) i) (ifTaken i j Answer.Taken unnoticed n)
+      Stands (contentsOf c) (textsOf c) i (localAt (withLocal c j (invoked (localAt c j) k inputs)) i) (ifTaken i j Answer.Taken unnoticed n)
   call-stands j k inputs p =
-      both j i true unnoticed n (Stands (contentsOf c) i (localAt (withLocal c j (invoked (localAt c j) k inputs)) i))
-      (λ e _. subst (λ (l : Local). Stands (contentsOf c) i l unnoticed) (sym (here j (λ l. invoked l k inputs) p e)) anew)
+      both j i true unnoticed n (Stands (contentsOf c) (textsOf c) i (localAt (withLocal c j (invoked (localAt c j) k inputs)) i))
+      (λ e _. subst (λ (l : Local). Stands (contentsOf c) (textsOf c) i l unnoticed) (sym (here j (λ l. invoked l k inputs) p e)) anew)
       (⊎-elim (elsewhere j _) (λ e. absurd (true≢false e)))
     where
-      anew : Stands (contentsOf c) i (invoked (localAt c i) k inputs) unnoticed
+      anew : Stands (contentsOf c) (textsOf c) i (invoked (localAt c i) k inputs) unnoticed
       anew = record {
         follows = record { path = Path.none; whole = tt; numbers = tt; helping = tt };
         ready = Ready.called refl;
-        helps = tt;
+        helps = λ _. tt;
         wished = refl;
       }
 
   exit-stands : (j : ℕ) → j < c .processCount →
-      Stands (contentsOf c) i (localAt (withLocal c j (exiting (localAt c j))) i) (ifTaken i j Answer.Taken (record { wish = true; accesses = n .accesses }) n)
+      Stands (contentsOf c) (textsOf c) i (localAt (withLocal c j (exiting (localAt c j))) i) (ifTaken i j Answer.Taken (record { wish = true; accesses = n .accesses }) n)
   exit-stands j p =
-      both j i true _ n (Stands (contentsOf c) i (localAt (withLocal c j (exiting (localAt c j))) i))
-      (λ e _. subst (λ (l : Local). Stands (contentsOf c) i l (record { wish = true; accesses = n .accesses })) (sym (here j exiting p e)) asked)
+      both j i true _ n (Stands (contentsOf c) (textsOf c) i (localAt (withLocal c j (exiting (localAt c j))) i))
+      (λ e _. subst (λ (l : Local). Stands (contentsOf c) (textsOf c) i l (record { wish = true; accesses = n .accesses })) (sym (here j exiting p e)) asked)
       (⊎-elim (elsewhere j _) (λ e. absurd (true≢false e)))
     where
-      asked : Stands (contentsOf c) i (exiting (localAt c i)) (record { wish = true; accesses = n .accesses })
+      asked : Stands (contentsOf c) (textsOf c) i (exiting (localAt c i)) (record { wish = true; accesses = n .accesses })
       asked = record { follows = S .follows; ready = exit-ready i (localAt c i) (n .accesses) (S .ready); helps = S .helps; wished = refl }
 
   abbrev more : Noticed
   more = record { wish = n .wish; accesses = made c i (n .wish) ∷ n .accesses }
 
   step-stands : (j : ℕ) → j < c .processCount → isBusy c j ≡ true → c .steps < c .limit →
-      Stands (contentsOf (advance c j)) i (localAt (advance c j) i) (ifTaken i j (answerOf (localAt (advance c j) j)) more n)
+      Stands (contentsOf (advance c j)) (textsOf (advance c j)) i (localAt (advance c j) i) (ifTaken i j (answerOf (localAt (advance c j) j)) more n)
   step-stands j p b l =
-      subst (λ (t : Contents). Stands t i (localAt (advance c j) i) (ifTaken i j (answerOf (localAt (advance c j) j)) more n)) (one-access c j .text)
-      (both j i _ more n (Stands (contentsOf c) i (localAt (advance c j) i))
-      (λ e _. subst (λ (k : ℕ). Stands (contentsOf c) i (localAt (advance c k) i) more) (sym e) (mine e))
+      carry (one-access c j .text)
+      (both j i _ more n (Stands (contentsOf c) (textsOf c) i (localAt (advance c j) i))
+      (λ e _. subst (λ (k : ℕ). Stands (contentsOf c) (textsOf c) i (localAt (advance c k) i) more) (sym e) (mine e))
       (λ h. ⊎-elim other (λ z. absurd (true-false _ (ap not (answers (localAt (advance c j) j))) z)) h))
     where
-      mine : j ≡ i → Stands (contentsOf c) i (localAt (advance c i) i) more
+      carry :
+          SameText c (advance c j) → {l : Local} {x : Noticed} → Stands (contentsOf c) (textsOf c) i l x →
+          Stands (contentsOf (advance c j)) (textsOf (advance c j)) i l x
+      carry T {l} {x} q =
+          subst (λ (t : Texts). Stands (contentsOf (advance c j)) t i l x) (T .1) (subst (λ (t : Contents). Stands t (textsOf c) i l x) (T .0) q)
+
+      mine : j ≡ i → Stands (contentsOf c) (textsOf c) i (localAt (advance c i) i) more
       mine e =
           let q : i < c .processCount = subst (λ (n : ℕ). n < c .processCount) e p in
           let d : isBusy c i ≡ true = subst (λ (n : ℕ). isBusy c n ≡ true) e b in
           stands-on c i (I .sizes) (small i q) (not-true _ d)
-          (returning (localAt c i .task .place) (contentsOf c) w i (known (localAt c i)) (I .locs i q))
-          (roomy (localAt c i .task .place) (contentsOf c) w i (known (localAt c i)) (I .locs i q)) (I .good .fits .short) n S
+          (returning (localAt c i .task .place) (frameOf c w) w i (known (localAt c i)) (I .locs i q)) (roomy I i q) q n S
 
-      other : j ≢ i → Stands (contentsOf c) i (localAt (advance c j) i) n
-      other ne = subst (λ (x : Local). Stands (contentsOf c) i x n) (sym (inv-step c w j I p b l .elsewhere i (λ e. ne (sym e)))) S
+      other : j ≢ i → Stands (contentsOf c) (textsOf c) i (localAt (advance c j) i) n
+      other ne = subst (λ (x : Local). Stands (contentsOf c) (textsOf c) i x n) (sym (inv-step c w j I p b l .elsewhere i (λ e. ne (sym e)))) S
 
   -- a refused entry is not noticed
-  unheard : (j : ℕ) (x : Noticed) → Stands (contentsOf c) i (localAt c i) (cond (eqb j i && false) x n)
-  unheard j x = both j i false x n (Stands (contentsOf c) i (localAt c i)) (λ _ z. absurd (true≢false (sym z))) (λ _. S)
+  unheard : (j : ℕ) (x : Noticed) → Stands (contentsOf c) (textsOf c) i (localAt c i) (cond (eqb j i && false) x n)
+  unheard j x = both j i false x n (Stands (contentsOf c) (textsOf c) i (localAt c i)) (λ _ z. absurd (true≢false (sym z))) (λ _. S)
 
-  refused-kept : (e : Entry) (why : Refusal) → Stands (contentsOf c) i (localAt c i) (noticed c i n e (Answer.Refused why))
+  refused-kept : (e : Entry) (why : Refusal) → Stands (contentsOf c) (textsOf c) i (localAt c i) (noticed c i n e (Answer.Refused why))
   unfolding noticed
   refused-kept (Entry.Call j k inputs) why = unheard j unnoticed
   refused-kept (Entry.Exit j) why = unheard j _
   refused-kept (Entry.Step j) why = unheard j _
   refused-kept (Entry.Trace j) why = unheard j _
   refused-kept (Entry.Read v) why = S
+  refused-kept (Entry.Change k from t) why = S
 
-  entry-stands : {e : Entry} {r : Answered} → Outcome c e r → Stands (contentsOf (r .card)) i (localAt (r .card) i) (noticed c i n e (r .answer))
+  -- a change that is taken leaves a helper its program
+  change-stands :
+      (k from : ℕ) (y : Program) → isProgram c k ≡ true → c .gate .seq < from → isUnsettled c k ≡ false →
+      Stands (contentsOf c) (textsOf (withRevision c k from y)) i (localAt c i) n
+  change-stands k from y p l u = record {
+    follows = S .follows;
+    ready = S .ready;
+    helps = λ lt. help-same (c .variableCount) _ _ _ _ _ _ _ (localAt c i .task .place)
+        (λ e. sym (chosen-kept c w k from y I (ltb-true k 8 (and-true (ltb k (c .programCount)) _ p .1)) l u i lt (has-read I i lt e)
+        (omega (arith, reading I i lt e .1 .below, ap (λ (g : Gate). g .seq) (gate-is I))) _))
+        (S .helps lt);
+    wished = S .wished;
+  }
+
+  entry-stands : {e : Entry} {r : Answered} → Outcome c e r → Stands (contentsOf (r .card)) (textsOf (r .card)) i (localAt (r .card) i) (noticed c i n e (r .answer))
   unfolding noticed
   entry-stands (Outcome.turned-back e why) = refused-kept e why
   entry-stands (Outcome.called j k inputs p b) = call-stands j k inputs p
@@ -594,11 +631,13 @@ module _ {c : Card} {w : World} (I : CardInvariant c w) (i : ℕ) (n : Noticed) 
   entry-stands (Outcome.stepped j Steps.by-step p b l) = step-stands j p b l
   entry-stands (Outcome.stepped j Steps.by-trace p b l) = step-stands j p b l
   entry-stands (Outcome.shown v x) = S
+  entry-stands (Outcome.unaltered k from t why line) = S
+  entry-stands (Outcome.altered k from t p a l u) = change-stands k from _ p l u
 
 all-stand :
-    (o : Card) (m : Observation) (i : ℕ) (n : Noticed) (es : List Entry) → Consistent o m → Stands (contentsOf (m .card)) i (localAt (m .card) i) n →
+    (o : Card) (m : Observation) (i : ℕ) (n : Noticed) (es : List Entry) → Consistent o m → Stands (contentsOf (m .card)) (textsOf (m .card)) i (localAt (m .card) i) n →
     let d = observeAll o m es .card in
-    Stands (contentsOf d) i (localAt d i) (noticedFrom (m .card) i n es)
+    Stands (contentsOf d) (textsOf d) i (localAt d i) (noticedFrom (m .card) i n es)
 unfolding noticedFrom observe observeAll
 all-stand o m i n [] O S = S
 all-stand o m i n (e ∷ es) O S =
@@ -608,14 +647,14 @@ all-stand o m i n (e ∷ es) O S =
 -- over every text and every list of entries
 opened-stands :
     (t : List ℕ) (es : List Entry) (i : ℕ) → let d = run (opened t .card) es .card in
-    Stands (contentsOf d) i (localAt d i) (noticedFrom (opened t .card) i unnoticed es)
+    Stands (contentsOf d) (textsOf d) i (localAt d i) (noticedFrom (opened t .card) i unnoticed es)
 unfolding opened fresh observeAll accessOf
 opened-stands t es i =
     all-stand (opened t .card) (opening (opened t .card)) i unnoticed es (opened-consistent t [])
     (record {
       follows = record { path = Path.none; whole = tt; numbers = tt; helping = tt };
       ready = Ready.idle (ap (λ (x : Task). isIdle (x .place)) (getD-replicate-same 8 i idleTask));
-      helps = nothing-due _ (localAt (opened t .card) i) _ _ (getD-replicate-same 8 i idleTask);
+      helps = λ _. nothing-due _ _ (localAt (opened t .card) i) _ _ (getD-replicate-same 8 i idleTask);
       wished = sym (getD-replicate-same {A = Bool} 8 i false);
     })
 

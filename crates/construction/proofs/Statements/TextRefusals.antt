@@ -30,7 +30,7 @@ module _ (t : List ℕ) where
   fromLine (NextLine.var m k r) = thenEnd t (thenPrograms t (r .contents .programCount) (varsFrom t m k r))
   fromLine (NextLine.sheet s k r) = thenEnd t (programsFrom t s k r)
   fromLine (NextLine.ins s k r m j x) =
-      fromProgram s k r (weighed (r .line + x .program .length) (insFrom (r .contents .variableCount) t m j x))
+      fromProgram s k r (weighed 32 (r .line + x .program .length) (insFrom (r .contents .variableCount) t m j x))
 
   -- nothing is refused yet
   abbrev Open : NextLine → Type 0
@@ -40,8 +40,8 @@ module _ (t : List ℕ) where
   Open (NextLine.ins s k r m j x) = x .verdict ≡ Verdict.Accepted
 
   -- a program whose lines are good
-  light : (last : ℕ) (x : ProgramReading) → x .verdict ≡ Verdict.Accepted → weight (x .program) ≤ 32 → weighed last x ≡ x
-  light last x a w = ap (λ (v : Verdict). judgeWeight v last x) a ∙ rw (le-ltb 32 (weight (x .program)) w)
+  light : (last : ℕ) (x : ProgramReading) → x .verdict ≡ Verdict.Accepted → weight (x .program) ≤ 32 → weighed 32 last x ≡ x
+  light last x a w = ap (λ (v : Verdict). judgeWeight 32 v last x) a ∙ rw (le-ltb 32 (weight (x .program)) w)
 
   -- the reading comes to a line before which all are good
   good-read : {d : NextLine} → GoodUntil t d → (readCard t ≡ fromLine d) × Open d
@@ -57,14 +57,14 @@ module _ (t : List ℕ) where
       let h = good-read d in
       (h .0 ∙ ap (λ (v : Verdict). thenEnd t (ifAccepted v r (λ x. programsFrom t (r .contents .programCount) 0 x))) (h .1), h .1)
   good-read (GoodUntil.firstIns {s} {k} {r = r} d e) = (
-    good-read d .0 ∙ ap (λ (z : SheetLine). fromProgram s k r (programAfter (r .contents .variableCount) t z (r .line))) e,
+    good-read d .0 ∙ ap (λ (z : SheetLine). fromProgram s k r (programAfter (r .contents .variableCount) 32 t z (r .line))) e,
     refl,
   )
   good-read (GoodUntil.nextIns {s} {k} {m} {j} {r = r} {x = x} d e) = (
     good-read d .0
         ∙ ap
         (λ (z : InsLine). fromProgram s k r
-        (weighed (r .line + x .program .length) (nextIns z x j (λ y. insFrom (r .contents .variableCount) t m (suc j) y)))) e,
+        (weighed 32 (r .line + x .program .length) (nextIns z x j (λ y. insFrom (r .contents .variableCount) t m (suc j) y)))) e,
     refl,
   )
   good-read (GoodUntil.nextSheet {s} {k} {r = r} {x = x} d w) =
@@ -103,14 +103,14 @@ module _ (t : List ℕ) where
 
   sheet-ends :
       {number : ℕ} (s k : ℕ) (r : Reading) (n : ℕ) (z : SheetLine) → sheetLineFields z ≡ refusedWith number →
-      verdictOf (fromProgram t s k r (programAfter n t z (r .line))) ≡ refusedIn (r .line) number
+      verdictOf (fromProgram t s k r (programAfter n 32 t z (r .line))) ≡ refusedIn (r .line) number
   unfolding sheetLineFields hasWord
   sheet-ends s k r n (SheetLine.Length m i) e = absurd (unlike refl e)
   sheet-ends s k r n (SheetLine.Refused why) e = told why (r .line) e
 
   ins-ends :
       {number : ℕ} (s k : ℕ) (r : Reading) (last j : ℕ) (x : ProgramReading) (go : ProgramReading → ProgramReading) (z : InsLine) →
-      insLineFields z ≡ refusedWith number → verdictOf (fromProgram t s k r (weighed last (nextIns z x j go))) ≡ refusedIn (x .line) number
+      insLineFields z ≡ refusedWith number → verdictOf (fromProgram t s k r (weighed 32 last (nextIns z x j go))) ≡ refusedIn (x .line) number
   unfolding insLineFields decodedFields hasWord
   ins-ends s k r last j x go (InsLine.Ins y i) e = absurd (unlike refl e)
   ins-ends s k r last j x go (InsLine.Refused why) e = told why (x .line) e
@@ -132,7 +132,7 @@ module _ (t : List ℕ) where
       let h = good-read t d in
       let last = r .line + x .program .length in
       ap verdictOf (h .0)
-      ∙ ap (λ (v : Verdict). verdictOf (fromProgram t s k r (judgeWeight v last x))) (h .1)
+      ∙ ap (λ (v : Verdict). verdictOf (fromProgram t s k r (judgeWeight 32 v last x))) (h .1)
       ∙ rw (lt-ltb 32 (weight (x .program)) w)
   judged-only (Judged.leftOver {r = r} d ne) =
       let h = good-read t d in
@@ -152,7 +152,7 @@ module _ (t : List ℕ) where
         Judged t (verdictOf (fromLine t (NextLine.ins s k r m j x)))
     unfolding insFrom insLineFields decodedFields verdictFields
     by-ins zero j x d a =
-        subst (λ (v : Verdict). Judged t (verdictOf (fromProgram t s k r (judgeWeight v (r .line + x .program .length) x)))) (sym a)
+        subst (λ (v : Verdict). Judged t (verdictOf (fromProgram t s k r (judgeWeight 32 v (r .line + x .program .length) x)))) (sym a)
         (on-test (λ (y : ProgramReading). Judged t (verdictOf (fromProgram t s k r y))) (ltb 32 (weight (x .program)))
         (λ w. Judged.tooHeavy d (ltb-true 32 (weight (x .program)) w))
         (λ w. subst (λ (v : Verdict). Judged t (verdictOf (thenEnd t (nextProgram v x r k (λ z. programsFrom t s (suc k) z))))) (sym a)
@@ -166,7 +166,7 @@ module _ (t : List ℕ) where
             Judged t
             (verdictOf
             (fromProgram t s k r
-            (weighed (r .line + x .program .length) (nextIns z x j (λ y. insFrom (r .contents .variableCount) t m (suc j) y)))))
+            (weighed 32 (r .line + x .program .length) (nextIns z x j (λ y. insFrom (r .contents .variableCount) t m (suc j) y)))))
         line f (InsLine.Ins y i) e = f y i e
         line f (InsLine.Refused why) e = Judged.ins d (ap insLineFields e)
 
@@ -183,7 +183,7 @@ module _ (t : List ℕ) where
       line :
           ((m j : ℕ) (x : ProgramReading) → GoodUntil t (NextLine.ins s k r m j x) → x .verdict ≡ Verdict.Accepted →
           Judged t (verdictOf (fromLine t (NextLine.ins s k r m j x)))) →
-          (z : SheetLine) → sheetLine t (r .at) ≡ z → Judged t (verdictOf (fromProgram t s k r (programAfter (r .contents .variableCount) t z (r .line))))
+          (z : SheetLine) → sheetLine t (r .at) ≡ z → Judged t (verdictOf (fromProgram t s k r (programAfter (r .contents .variableCount) 32 t z (r .line))))
       line f (SheetLine.Length m i) e = f m 0 (afterLength m i (suc (r .line))) (GoodUntil.firstIns d e) refl
       line f (SheetLine.Refused why) e = Judged.sheet d (ap sheetLineFields e)
 

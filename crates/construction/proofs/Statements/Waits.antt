@@ -29,6 +29,7 @@ use Rattle.construction.proofs.Waiting.Entries.{here, opened-waits}
 use Rattle.construction.proofs.Statements.ExitRequests.{step-exits}
 use Rattle.construction.proofs.Statements.Tracing.{answers}
 use Rattle.construction.proofs.Observing.Runs.{opened-consistent}
+use Rattle.construction.proofs.Invariant.World.{frameOf}
 
 -- a step counts as one own step of its process
 step-counts : (a : Access) (c : Card) (i : ℕ) → perform a c i .card .counts ≡ set (c .counts) i ((localAt c i .steps + 1) % 18446744073709551616)
@@ -58,7 +59,7 @@ module _ (o : Card) (m : Observation) (O : Consistent o m) (W : AllWait (content
   under-way : isBusy c i ≡ true → localAt c i .steps < allowed (contentsOf o) (localAt c i)
   under-way b =
       subst (λ (x : Contents). localAt c i .steps < allowed x (localAt c i)) (O .text)
-      (left (contentsOf c) (O .world) i (c .gate) (announcementAt c i) (X .tally) (localAt c i) (localAt c i .task .place) (not-true _ b)
+      (left (frameOf c (O .world)) (cardWeight (contentsOf c)) (O .inv .texts .light) (O .world) i (c .gate) (announcementAt c i) (X .tally) (localAt c i) (localAt c i .task .place) (not-true _ b)
       (O .inv .locs i lt) (X .course))
     where
       X : Waits (contentsOf c) c i
@@ -141,6 +142,8 @@ module _ (o : Card) (m : Observation) (O : Consistent o m) (W : AllWait (content
           (λ z. subst (λ (n : ℕ). localAt c i .steps ≤ (localAt c n .steps + 1) % 18446744073709551616) z
           (omega (arith, O .inv .counts i, O .inv .limited, O .inv .capped))))
       go (Outcome.shown v x) = omega arith
+      go (Outcome.unaltered k from t why line) = omega arith
+      go (Outcome.altered k from t p a l u) = omega arith
 
 -- order 3
 pub wait-free : (t : List ℕ) (es : List Entry) → WaitFree (opened t .card) es

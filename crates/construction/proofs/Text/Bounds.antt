@@ -1,5 +1,5 @@
 -- What every text opens to lies within the bounds of document 01, 'The card and its edges', also where the text is refused.
-use Prim.Native.Nat.{ℕ, zero, suc, _+_, _≤_, _<_}
+use Prim.Native.Nat.{ℕ, zero, suc, _+_, _≤_, _<_, min}
 use mathlib.Core.Path.{_≡_, refl, _∙_}
 use mathlib.Core.List.{List}
 use native.Mathlib.Omega.{arith}
@@ -7,13 +7,16 @@ use lib.ListN.{length, getD, length-set}
 use lib.Dec.{ltb, eqb}
 use Rattle.construction.specs.Types.{Program, Refusal, TooLong, Malformed, CardLine, Contents, Verdict, ProgramReading, Reading}
 use Rattle.construction.specs.Instructions.{noProgram}
-use Rattle.construction.specs.Weight.{weight}
+use Rattle.construction.specs.Weight.{weight, cardWeight}
 use Rattle.construction.specs.Lines.{cardLine, varLine, sheetLine, insLine}
-use Rattle.construction.specs.Opening.{noContents, refusedAt, withLine, insFrom, readProgram, withProgram, programsFrom, withStart, varsFrom, atEnd, thenPrograms, afterCard, readCard}
+use Rattle.construction.specs.Opening.{noContents, refusedAt, withLine, insFrom, readProgram, withProgram, programsFrom, withStart, varsFrom, atEnd, thenPrograms, afterCard, readCard, programRefusedAt}
 use Rattle.construction.proofs.Basics.{on-test, clash, set-keeps, getD-replicate-same}
 use Rattle.construction.proofs.Simulating.Weights.{weight-none}
 use Rattle.construction.proofs.Text.Lines.{card-read}
 use Rattle.construction.proofs.Text.Reading.{afterFields, afterLength, on-ins, on-sheet, on-weighed, on-program, on-var, on-accepted, on-card}
+use mathlib.Core.Bool.{cond}
+use native.Mathlib.Nat.{min-le-left, min-le-right}
+use Rattle.construction.specs.Changes.{ifProgramAccepted, changeRead}
 
 -- the bounds of a card's contents
 pub record Bounded (x : Contents) : Type 0 where
@@ -28,7 +31,7 @@ pub record Bounded (x : Contents) : Type 0 where
   pub some : (k : ℕ) → 0 < weight (getD (x .programs) k noProgram) → 0 < x .variableCount
 
 -- a program has 32 places, whatever was read
-abbrev Lines : ProgramReading → Type 0
+abbrev pub Lines : ProgramReading → Type 0
 Lines r = length (r .program .lines) ≡ 32
 
 ins-lines : (n : ℕ) (t : List ℕ) (m k : ℕ) (r : ProgramReading) → Lines r → Lines (insFrom n t m k r)
@@ -38,23 +41,23 @@ ins-lines n t (suc m) k r h =
     on-ins Lines (insLine n t (r .at)) r k (λ x. insFrom n t m (suc k) x)
     (λ y i _. ins-lines n t m (suc k) (withLine r k y i) (rw length-set h)) (λ why. refl)
 
-program-lines : (n : ℕ) (t : List ℕ) (at line : ℕ) → Lines (readProgram n t at line)
+pub program-lines : (n most : ℕ) (t : List ℕ) (at line : ℕ) → Lines (readProgram n most t at line)
 unfolding readProgram
-program-lines n t at line =
-    on-sheet Lines n t (sheetLine t at) line
-    (λ m i _. on-weighed Lines (line + m) (insFrom n t m 0 (afterLength m i (suc line)))
+program-lines n most t at line =
+    on-sheet Lines n most t (sheetLine t at) line
+    (λ m i _. on-weighed Lines most (line + m) (insFrom n t m 0 (afterLength m i (suc line)))
     (λ _. ins-lines n t m 0 (afterLength m i (suc line)) refl) refl)
     (λ why. refl)
 
--- and weighs at most 32 where it is accepted
-abbrev Light : ProgramReading → Type 0
-Light r = r .verdict ≡ Verdict.Accepted → weight (r .program) ≤ 32
+-- and weighs at most `most` where it is accepted
+abbrev pub Light : ℕ → ProgramReading → Type 0
+Light most r = r .verdict ≡ Verdict.Accepted → weight (r .program) ≤ most
 
-program-light : (n : ℕ) (t : List ℕ) (at line : ℕ) → Light (readProgram n t at line)
+pub program-light : (n most : ℕ) (t : List ℕ) (at line : ℕ) → Light most (readProgram n most t at line)
 unfolding readProgram
-program-light n t at line =
-    on-sheet Light n t (sheetLine t at) line
-    (λ m i _. on-weighed Light (line + m) (insFrom n t m 0 (afterLength m i (suc line))) (λ h. h) (λ e. clash (cc)))
+program-light n most t at line =
+    on-sheet (Light most) n most t (sheetLine t at) line
+    (λ m i _. on-weighed (Light most) most (line + m) (insFrom n t m 0 (afterLength m i (suc line))) (λ h. h) (λ e. clash (cc)))
     (λ why e. clash (cc))
 
 -- the bounds hold at the first line and after each later one
@@ -128,10 +131,10 @@ programs-bounded : (t : List ℕ) (m k : ℕ) (r : Reading) → r .verdict ≡ V
 unfolding programsFrom
 programs-bounded t zero k r e h = h
 programs-bounded t (suc m) k r e h =
-    let x = readProgram (r .contents .variableCount) t (r .at) (r .line) in
+    let x = readProgram (r .contents .variableCount) 32 t (r .at) (r .line) in
     on-program Within (x .verdict) x r k (λ y. programsFrom t m (suc k) y)
     (λ a. programs-bounded t m (suc k) (withProgram r k x) refl
-    (with-program r k x (program-lines (r .contents .variableCount) t (r .at) (r .line)) (program-light (r .contents .variableCount) t (r .at) (r .line) a) e h))
+    (with-program r k x (program-lines (r .contents .variableCount) 32 t (r .at) (r .line)) (program-light (r .contents .variableCount) 32 t (r .at) (r .line) a) e h))
     empty-within
 
 end-bounded : (t : List ℕ) (r : Reading) → Within r → Within (atEnd t r)
@@ -167,3 +170,37 @@ pub opened-bounded : (t : List ℕ) → Bounded (readCard t .contents)
 unfolding readCard
 opened-bounded t =
     (on-test Within (ltb 16384 (length t)) (λ _. empty-within TooLong 0) (λ _. card-bounded t (cardLine t 0) refl)) .bounds
+
+-- the text of a change that is accepted (document 02, order 11)
+pub record ChangeBounded (x : Contents) (y : Program) : Type 0 where
+  pub ends : min (y .length) (length (y .lines)) ≤ 32
+  pub light : weight y ≤ 32
+  pub lighter : weight y ≤ cardWeight x
+
+pub change-bounded : (x : Contents) (t : List ℕ) → changeRead x t .verdict ≡ Verdict.Accepted → ChangeBounded x (changeRead x t .program)
+unfolding changeRead
+change-bounded x t =
+    on-test (λ (q : ProgramReading). q .verdict ≡ Verdict.Accepted → ChangeBounded x (q .program)) (ltb 16384 (length t)) (λ _ e. clash (cc))
+    (λ _. by (r .verdict) refl)
+  where
+    most : ℕ
+    most = min 32 (cardWeight x)
+
+    r : ProgramReading
+    r = readProgram (x .variableCount) most t 0 1
+
+    good : r .verdict ≡ Verdict.Accepted → ChangeBounded x (r .program)
+    good e =
+        let l = program-light (x .variableCount) most t 0 1 e in
+        record {
+          ends = omega (arith, program-lines (x .variableCount) most t 0 1, min-le-right (r .program .length) (length (r .program .lines)));
+          light = omega (arith, min-le-left 32 (cardWeight x));
+          lighter = omega (arith, min-le-right 32 (cardWeight x));
+        }
+
+    by : (v : Verdict) → r .verdict ≡ v →
+        ifProgramAccepted v r (cond (eqb (r .at) (length t)) r (programRefusedAt Malformed (r .line))) .verdict ≡ Verdict.Accepted →
+        ChangeBounded x (ifProgramAccepted v r (cond (eqb (r .at) (length t)) r (programRefusedAt Malformed (r .line))) .program)
+    by Verdict.Accepted z =
+        on-test (λ (q : ProgramReading). q .verdict ≡ Verdict.Accepted → ChangeBounded x (q .program)) (eqb (r .at) (length t)) (λ _. good) (λ _ e. clash (cc))
+    by (Verdict.Refused why line) z = λ e. good e

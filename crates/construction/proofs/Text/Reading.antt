@@ -27,20 +27,20 @@ on-ins P (InsLine.Ins y i) r k go f g = f y i refl
 on-ins P (InsLine.Refused why) r k go f g = g why
 
 pub on-sheet :
-    (P : ProgramReading → Type 0) (n : ℕ) (t : List ℕ) (x : SheetLine) (line : ℕ) →
-    ((m i : ℕ) → x ≡ SheetLine.Length m i → P (weighed (line + m) (insFrom n t m 0 (afterLength m i (suc line))))) → ((why : Refusal) → P (programRefusedAt why line)) →
-    P (programAfter n t x line)
-on-sheet P n t (SheetLine.Length m i) line f g = f m i refl
-on-sheet P n t (SheetLine.Refused why) line f g = g why
+    (P : ProgramReading → Type 0) (n most : ℕ) (t : List ℕ) (x : SheetLine) (line : ℕ) →
+    ((m i : ℕ) → x ≡ SheetLine.Length m i → P (weighed most (line + m) (insFrom n t m 0 (afterLength m i (suc line))))) → ((why : Refusal) → P (programRefusedAt why line)) →
+    P (programAfter n most t x line)
+on-sheet P n most t (SheetLine.Length m i) line f g = f m i refl
+on-sheet P n most t (SheetLine.Refused why) line f g = g why
 
--- a program that was read is refused for its weight, or stays; one that stays and is accepted weighs at most 32
+-- a program that was read is refused for its weight, or stays; one that stays and is accepted weighs at most `most`
 pub on-weighed :
-    (P : ProgramReading → Type 0) (last : ℕ) (r : ProgramReading) →
-    ((r .verdict ≡ Verdict.Accepted → weight (r .program) ≤ 32) → P r) → P (programRefusedAt TooHeavy last) → P (weighed last r)
-on-weighed P last r f g = by (r .verdict) refl
+    (P : ProgramReading → Type 0) (most last : ℕ) (r : ProgramReading) →
+    ((r .verdict ≡ Verdict.Accepted → weight (r .program) ≤ most) → P r) → P (programRefusedAt TooHeavy last) → P (weighed most last r)
+on-weighed P most last r f g = by (r .verdict) refl
   where
-    by : (v : Verdict) → r .verdict ≡ v → P (judgeWeight v last r)
-    by Verdict.Accepted e = on-test P (ltb 32 (weight (r .program))) (λ _. g) (λ l. f (λ _. ltb-false 32 _ l))
+    by : (v : Verdict) → r .verdict ≡ v → P (judgeWeight most v last r)
+    by Verdict.Accepted e = on-test P (ltb most (weight (r .program))) (λ _. g) (λ l. f (λ _. ltb-false most _ l))
     by (Verdict.Refused why line) e = f (λ a. clash (cc))
 
 pub on-program :

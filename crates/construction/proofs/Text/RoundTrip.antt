@@ -131,13 +131,13 @@ lines-read n s t (suc m) k r h =
     (λ why e. clash (cc))
 
 program-text :
-    (n : ℕ) → n ≤ 256 → (t : List ℕ) (at line : ℕ) → Accepted (readProgram n t at line .verdict) →
-    drop at t ≡ programText (readProgram n t at line .program) ++ drop (readProgram n t at line .at) t
+    (n most : ℕ) → n ≤ 256 → (t : List ℕ) (at line : ℕ) → Accepted (readProgram n most t at line .verdict) →
+    drop at t ≡ programText (readProgram n most t at line .program) ++ drop (readProgram n most t at line .at) t
 unfolding readProgram
-program-text n s t at line =
-    on-sheet (λ x. Accepted (x .verdict) → drop at t ≡ programText (x .program) ++ drop (x .at) t) n t (sheetLine t at) line
+program-text n most s t at line =
+    on-sheet (λ x. Accepted (x .verdict) → drop at t ≡ programText (x .program) ++ drop (x .at) t) n most t (sheetLine t at) line
     (λ m i f.
-    on-weighed (λ x. Accepted (x .verdict) → drop at t ≡ programText (x .program) ++ drop (x .at) t) (line + m)
+    on-weighed (λ x. Accepted (x .verdict) → drop at t ≡ programText (x .program) ++ drop (x .at) t) most (line + m)
     (insFrom n t m 0 (afterLength m i (suc line)))
     (λ _ e.
     let q = lines-read n s t m 0 (afterLength m i (suc line)) (omega (arith, sheet-read t at m i f .fits, length-replicate 32 noLine)) e in
@@ -158,7 +158,7 @@ programs-read :
 unfolding programsFrom programsText
 programs-read t zero k r s h = λ e. record { text = refl; fields = same; starts = refl; below = λ j p. refl }
 programs-read t (suc m) k r s h =
-    let x = readProgram (r .contents .variableCount) t (r .at) (r .line) in
+    let x = readProgram (r .contents .variableCount) 32 t (r .at) (r .line) in
     on-program (λ z. Accepted (z .verdict) → ProgramsRead t (suc m) k r z) (x .verdict) x r k (λ y. programsFrom t m (suc k) y)
     (λ a e.
     let q = programs-read t m (suc k) (withProgram r k x) s (omega (arith, length-set (r .contents .programs) k (x .program))) e in
@@ -167,7 +167,7 @@ programs-read t (suc m) k r s h =
     record {
       text =
           rw (g, append-assoc (programText (x .program)))
-          (program-text (r .contents .variableCount) s t (r .at) (r .line) a ∙ ap (λ (l : List ℕ). programText (x .program) ++ l) (q .text));
+          (program-text (r .contents .variableCount) 32 s t (r .at) (r .line) a ∙ ap (λ (l : List ℕ). programText (x .program) ++ l) (q .text));
       fields = q .fields;
       starts = q .starts;
       below = λ j p. q .below j (omega arith) ∙ getD-set-other (r .contents .programs) k j (x .program) noProgram (λ (z : j ≡ k). omega arith);
@@ -265,7 +265,7 @@ programs-empty : (t : List ℕ) (m k : ℕ) (r : Reading) → Accepted (r .verdi
 unfolding programsFrom
 programs-empty t zero k r e = λ n. absurd (n e)
 programs-empty t (suc m) k r e =
-    let x = readProgram (r .contents .variableCount) t (r .at) (r .line) in
+    let x = readProgram (r .contents .variableCount) 32 t (r .at) (r .line) in
     on-program Empty (x .verdict) x r k (λ y. programsFrom t m (suc k) y)
     (λ _. programs-empty t m (suc k) (withProgram r k x) refl) (λ why line n. refl)
 

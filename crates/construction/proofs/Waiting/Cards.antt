@@ -8,14 +8,14 @@ use native.Mathlib.Omega.{arith}
 use native.Mathlib.Decide.{ℕ-discrete}
 use lib.ListN.{getD}
 use borrow.Author.Tests.{not-true}
-use Rattle.construction.specs.Types.{Gate, Active, Words, Announcement, Place, Task, Card, Contents}
+use Rattle.construction.specs.Types.{Gate, Active, Words, Announcement, Place, Task, Card, Contents, Program}
 use Rattle.construction.specs.Cells.{openAnnouncement}
-use Rattle.construction.specs.Parts.{idleTask, Local, localAt, contentsOf, announcementAt, withLocal}
+use Rattle.construction.specs.Parts.{idleTask, Local, localAt, contentsOf, announcementAt, withLocal, withRevision}
 use Rattle.construction.specs.Machine.{accessIn, advance}
 use Rattle.construction.specs.Requests.{isBusy, invoked, exiting}
 use Rattle.construction.specs.Opening.{fresh}
 use Rattle.construction.specs.Weight.{cardWeight}
-use Rattle.construction.proofs.Invariant.World.{World, announcementIn}
+use Rattle.construction.proofs.Invariant.World.{World, announcementIn, frameOf}
 use Rattle.construction.proofs.Invariant.Claims.{View, viewOf, Change, change}
 use Rattle.construction.proofs.Invariant.Claims.Change.{kept, took, ended, freed}
 use Rattle.construction.proofs.Invariant.Locals.{local-same, local-other}
@@ -66,7 +66,7 @@ module _ {c : Card} {w : World} {i : ℕ} (I : CardInvariant c w) (W : AllWait (
   unfolding advance
   acting = go (at-place (before-step I lt h) (omega (arith, I .counts i, I .capped)) (X .tally) (λ e. (X .frugal e, X .due e .high))
       (localAt c i .task .place) (localAt c i .exit) refl (not-true _ busy)
-      (subst (λ (v : World). Loc F v i (localAt c i)) (sym (I .cells)) (I .locs i lt)) (X .course))
+      (subst (λ (v : World). Loc (frameOf c w) v i (localAt c i)) (sym (I .cells)) (I .locs i lt)) (X .course))
     where
       X : Waits F c i
       X = W i lt
@@ -223,3 +223,14 @@ wait-fresh x j lj = record {
       (sym (ap (λ (t : Task). t .place) (getD-replicate-same 8 j idleTask)))
       (rw (getD-replicate-same {A = ℕ} 8 j 0) (omega arith));
 }
+
+-- a change of a program: no course speaks of it
+pub wait-change : {F : Contents} {c : Card} (k from : ℕ) (y : Program) → AllWait F c → AllWait F (withRevision c k from y)
+wait-change k from y W j l =
+    let X = W j l in
+    record {
+      tally = X .tally;
+      frugal = X .frugal;
+      due = λ e. let D = X .due e in record { own = D .own; high = D .high; held = D .held; chosen = D .chosen };
+      course = X .course;
+    }

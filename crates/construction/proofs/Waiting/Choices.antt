@@ -4,12 +4,12 @@ use mathlib.Core.Path.{_≡_, refl, sym, subst, ap, _∙_}
 use mathlib.Core.Bool.{Bool, true, false, true≢false}
 use mathlib.Core.Logic.{_≢_, _⊎_}
 use native.Mathlib.Omega.{arith}
-use Rattle.construction.specs.Types.{Nobody, Process, Gate, Flag, Done, Active, Exit, Place, Idle, P1, P3, P5, P7, P10, C2, C4, P13, P14, P16, H21, H36, P19, P20, P21, P22, F1, F3, AnnouncementAccess, Access, Card, Contents}
+use Rattle.construction.specs.Types.{Nobody, Process, Gate, Flag, Done, Active, Exit, Place, Idle, P1, P3, P5, P7, P10, C2, C4, P13, P14, P16, H21, H36, P19, P20, P21, P22, F1, F3, AnnouncementAccess, Access, Card}
 use Rattle.construction.specs.Parts.{Local, localAt, announcementAt, withAnnouncement, withLocal}
 use Rattle.construction.specs.Machine.{byFlag, firstChoice, whose, accessOf, accessAnnouncement, perform}
 use Rattle.construction.specs.Requests.{isIdle}
 use Rattle.construction.proofs.Basics.{active-not-done, active-not-exit}
-use Rattle.construction.proofs.Invariant.World.{World}
+use Rattle.construction.proofs.Invariant.World.{World, Frame}
 use Rattle.construction.proofs.Invariant.Locals.{Sizes, local-same}
 use Rattle.construction.proofs.Invariant.Acting.{atAnnouncement}
 use Rattle.construction.proofs.Invariant.Assertions.{LocAt, known}
@@ -40,7 +40,7 @@ pub record Due (p : ℕ) (g : Gate) (T : ℕ → Local) (j turn : ℕ) : Type 0 
   pub chosen : g .seq ≡ turn → (q : ℕ) → q < p → ChoosesIn j g (T q)
 
 -- a chooser read a free gate, with a number not above that of now
-module _ (F : Contents) (w : World) (q j : ℕ) (g : Gate) (t : Local)
+module _ (F : Frame) (w : World) (q j : ℕ) (g : Gate) (t : Local)
     (other : t .gate .holder ≡ Nobody → t .gate .seq ≤ w .gate .seq → t .gate ≢ g) where
   pub apart : (l : Place) → LocAt l F w q (known t) → Chooses l j g (t .gate) (t .task .target)
   apart C4 k Chooser.unsure = other (k .1) (k .2)

@@ -11,11 +11,11 @@ use native.Mathlib.Nat.{eq-or-lt-of-le}
 use borrow.Author.Tests.{not-true}
 use Rattle.construction.specs.Types.{Nobody, Process, Gate, Done, Active, Announcement, Place, Card}
 use Rattle.construction.specs.Cells.{openAnnouncement}
-use Rattle.construction.specs.Parts.{localAt, contentsOf, announcementAt}
+use Rattle.construction.specs.Parts.{localAt, announcementAt}
 use Rattle.construction.specs.Machine.{advance}
 use Rattle.construction.specs.Requests.{isBusy}
 use Rattle.construction.proofs.Basics.{nobody-process, process-same, active-not-done}
-use Rattle.construction.proofs.Invariant.World.{World, announcementIn, Move}
+use Rattle.construction.proofs.Invariant.World.{World, announcementIn, Move, frameOf}
 use Rattle.construction.proofs.Invariant.World.Move.{stay, ask, announce, leave, take, write, end, free}
 use Rattle.construction.proofs.Invariant.Cards.{CardInvariant, Stepped, gate-is, announcements-is}
 use Rattle.construction.proofs.Waiting.Choices.{Chooser, Chooses, ChoosesIn, Due, apart, chooses}
@@ -72,7 +72,7 @@ module _ {c : Card} {w : World} {i : ℕ} (I : CardInvariant c w) (lt : i < c .p
     own = D .own;
     high = omega (arith, zs, same-seq, D .high);
     held = λ e. inr (zh ∙ ap Process (mine (same-seq ∙ (sym zs ∙ e))));
-    chosen = choose (λ e q lq. apart (contentsOf c) w q j (next .gate) (localAt c q)
+    chosen = choose (λ e q lq. apart (frameOf c w) w q j (next .gate) (localAt c q)
         (λ h _ y. nobody-process h (ap (λ (g : Gate). g .holder) y ∙ zh)) (localAt c q .task .place) (I .locs q lq));
   }
     where
@@ -99,7 +99,7 @@ module _ {c : Card} {w : World} {i : ℕ} (I : CardInvariant c w) (lt : i < c .p
     high = ⊎-elim (λ e. absurd (⊎-elim (λ h. nobody-process h (same-holder ∙ hm)) mine (D .held e)))
         (λ l. omega (arith, zs, same-seq)) (eq-or-lt-of-le (D .high));
     held = λ _. inl (ap (λ (g : Gate). g .holder) z);
-    chosen = choose (λ e q lq. apart (contentsOf c) w q j (next .gate) (localAt c q)
+    chosen = choose (λ e q lq. apart (frameOf c w) w q j (next .gate) (localAt c q)
         (λ _ le y. let s : localAt c q .gate .seq ≡ next .gate .seq = ap (λ (g : Gate). g .seq) y in omega (arith, zs))
         (localAt c q .task .place) (I .locs q lq));
   }
@@ -114,7 +114,7 @@ module _ {c : Card} {w : World} {i : ℕ} (I : CardInvariant c w) (lt : i < c .p
           (subst (λ (k : ℕ). announcementAt c k .flag ≡ Done) e
           (subst (λ (l : List Announcement). getD l m openAnnouncement .flag ≡ Done) (sym (announcements-is I)) done))
 
-  by-move : {v : World} → Move (contentsOf c) i w v → next .gate ≡ v .gate → Due (c .processCount) (next .gate) (localAt next) j turn
+  by-move : {v : World} → Move (frameOf c w) i w v → next .gate ≡ v .gate → Due (c .processCount) (next .gate) (localAt next) j turn
   by-move stay z = due-kept z
   by-move (ask q l Q) z = due-kept z
   by-move (announce a l Q fa A) z = due-kept z

@@ -8,7 +8,7 @@ use Rattle.construction.specs.Opening.{fresh, readCard, opened}
 use Rattle.construction.specs.History.{Entry, act, Observation, observe, run}
 use Rattle.construction.proofs.Observing.Outcomes.{Outcome, outcome}
 use Rattle.construction.proofs.Observing.Consistency.{Consistent}
-use Rattle.construction.proofs.Waiting.Cards.{AllWait, wait-step, wait-call, wait-exit, wait-fresh}
+use Rattle.construction.proofs.Waiting.Cards.{AllWait, wait-step, wait-call, wait-exit, wait-fresh, wait-change}
 use Rattle.construction.proofs.Observing.Runs.{opened-keeps}
 
 -- one entry, at a moment that has the invariant of safety
@@ -28,6 +28,8 @@ module _ (o : Card) (m : Observation) (O : Consistent o m) (W : AllWait (content
   by-outcome (Outcome.asked i lt) = wait-exit (O .inv) here lt
   by-outcome (Outcome.stepped i x lt b h) = wait-step (O .inv) here lt b h
   by-outcome (Outcome.shown v x) = here
+  by-outcome (Outcome.unaltered k from t why line) = here
+  by-outcome (Outcome.altered k from t p a l u) = wait-change k from _ here
 
   entry-waits : (e : Entry) → AllWait (contentsOf o) (act c e .card)
   entry-waits e = subst (λ (x : Contents). AllWait x (act c e .card)) (O .text) (by-outcome (outcome c e))

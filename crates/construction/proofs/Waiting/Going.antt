@@ -11,7 +11,7 @@ use Rattle.construction.specs.Cells.{openAnnouncement}
 use Rattle.construction.specs.Parts.{Local, localAt, contentsOf, announcementAt, withCells, withLocal}
 use Rattle.construction.specs.Machine.{after, firstChoice, perform}
 use Rattle.construction.specs.Weight.{cardWeight}
-use Rattle.construction.proofs.Invariant.World.{World}
+use Rattle.construction.proofs.Invariant.World.{World, frameOf}
 use Rattle.construction.proofs.Invariant.Locals.{local-same}
 use Rattle.construction.proofs.Invariant.Acting.{worldOf, Before, place-fits}
 use Rattle.construction.proofs.Invariant.Assertions.{LocAt}
@@ -25,7 +25,7 @@ CourseIn c i y d =
 
 -- what process i knows at a place, and its course there, on the card as it is
 abbrev pub Knows : Card → World → ℕ → Place → Type 0
-Knows c w i l = LocAt l (contentsOf c) (worldOf c w) i (localAt c i)
+Knows c w i l = LocAt l (frameOf c w) (worldOf c w) i (localAt c i)
 
 abbrev pub Now : Card → ℕ → Tally → Place → Type 0
 Now c i x l = CourseAt l (c .processCount) (cardWeight (contentsOf c)) (c .gate) (announcementAt c i) x (localAt c i)

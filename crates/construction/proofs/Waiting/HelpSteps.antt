@@ -13,12 +13,11 @@ use Rattle.construction.specs.Instructions.{started}
 use Rattle.construction.specs.Dictionary.{empty, noted, nextWrite, itemOf, insert}
 use Rattle.construction.specs.Marks.{withBit}
 use Rattle.construction.specs.Helping.{simulate}
-use Rattle.construction.specs.Parts.{Local, localAt, contentsOf, announcementAt, recordAt, programOf, withAnnouncement, withRecord, withLocal}
+use Rattle.construction.specs.Parts.{Local, localAt, contentsOf, announcementAt, recordAt, textsOf, programOf, withAnnouncement, withRecord, withLocal}
 use Rattle.construction.specs.Machine.{goTo, holderOf, writeFrom, afterPause, helps, beginHelp, note, writing, after, perform}
 use Rattle.construction.specs.Weight.{cardWeight}
 use Rattle.construction.proofs.Basics.{on-test}
 use Rattle.construction.proofs.Simulating.Dictionaries.{insert-length}
-use Rattle.construction.proofs.Simulating.Weights.{weight-card}
 use Rattle.construction.proofs.Simulating.Simulations.{simulate-length}
 use Rattle.construction.proofs.Invariant.World.{World}
 use Rattle.construction.proofs.Invariant.Acting.{Before}
@@ -62,7 +61,7 @@ module _ {c : Card} {w : World} {i : ℕ} (B : Before c w i) (small : localAt c 
   at-P16 q =
       let a : Announcement = announcementAt c m in
       let l : List Announcement = set (c .announcements) m a in
-      let z : Simulated = simulate (c .variableCount) (programOf (contentsOf c) (a .program) s) (a .words) started empty in
+      let z : Simulated = simulate (c .variableCount) (programOf (textsOf c) (a .program) s) (a .words) started empty in
       Went.went x refl refl refl
       (on-test (λ (b : Began). CourseIn c i x (helping b)) (helps (announcementAt c m) s)
       (λ _. put-course B (c .gate) l (c .records) (on (afterPause s (z .dictionary) (z .pause)) a (z .simulation) empty 0) x
@@ -82,14 +81,14 @@ module _ {c : Card} {w : World} {i : ℕ} (B : Before c w i) (small : localAt c 
   unfolding perform note
   at-H21 k q =
       let a : Announcement = localAt c i .announcement in
-      let program : Program = programOf (contentsOf c) (a .program) s in
+      let program : Program = programOf (textsOf c) (a .program) s in
       let r : List Record = set (c .records) v (recordAt c v) in
       let d : Dictionary = insert (localAt c i .dictionary) (itemOf s v (recordAt c v)) in
       let z : Simulated = simulate (c .variableCount) program (a .words) (localAt c i .simulation) d in
       let longer : z .dictionary .length ≡ suc (localAt c i .dictionary .length) =
       simulate-length (c .variableCount) program (a .words) (localAt c i .simulation) d
       ∙ insert-length (localAt c i .dictionary) (itemOf s v (recordAt c v)) (k .2 .spare) in
-      let room : localAt c i .dictionary .length < heavy = le-trans (k .2 .fewer) (weight-card (contentsOf c) (a .program) s) in
+      let room : localAt c i .dictionary .length < heavy = le-trans (k .2 .fewer) (B .light (a .program) s) in
       Went.went x refl refl refl
       (on-test (λ (b : Helped). CourseIn c i x (noting b)) (ltb s (recordAt c v .seq))
       (λ _. put-course B (c .gate) (c .announcements) r (on (goTo (localAt c i .task) P19) a (localAt c i .simulation) (localAt c i .dictionary) (localAt c i .mask)) x
@@ -110,7 +109,7 @@ module _ {c : Card} {w : World} {i : ℕ} (B : Before c w i) (small : localAt c 
       let a : Announcement = localAt c i .announcement in
       let d : Dictionary = localAt c i .dictionary in
       let r : List Record = perform Access.Write c i .card .records in
-      let few : d .length ≤ heavy = le-trans (k .2 .room .few) (weight-card (contentsOf c) (a .program) s) in
+      let few : d .length ≤ heavy = le-trans (k .2 .room .few) (B .light (a .program) s) in
       let inside : localAt c i .task .target < d .length = omega (arith, k .3 .inside, length-take (d .length) (d .items)) in
       Went.went x refl refl refl
       (put-course B (c .gate) (c .announcements) r (on (writeFrom s d (suc (localAt c i .task .target))) a (localAt c i .simulation) d (localAt c i .mask)) x

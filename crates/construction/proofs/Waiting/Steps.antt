@@ -5,14 +5,13 @@ use mathlib.Core.Bool.{Bool, true, false, true≢false}
 use native.Mathlib.Omega.{arith}
 use native.Mathlib.Nat.{le-trans}
 use lib.ListN.{length-take}
-use Rattle.construction.specs.Types.{Gate, Active, Announcement, Place, Idle, P1, P3, P5, P7, P10, C2, C4, P13, P14, P16, H21, H36, P19, P20, P21, P22, F1, F3, Card, Contents}
-use Rattle.construction.specs.Parts.{Local, localAt, contentsOf, announcementAt}
+use Rattle.construction.specs.Types.{Gate, Active, Announcement, Place, Idle, P1, P3, P5, P7, P10, C2, C4, P13, P14, P16, H21, H36, P19, P20, P21, P22, F1, F3, Card}
+use Rattle.construction.specs.Parts.{Local, localAt, announcementAt}
 use Rattle.construction.specs.Machine.{accessOf}
 use Rattle.construction.specs.Requests.{isIdle}
-use Rattle.construction.specs.Weight.{cardWeight}
+use Rattle.construction.specs.Weight.{weight}
 use Rattle.construction.specs.Waits.{longestWait, extra}
-use Rattle.construction.proofs.Simulating.Weights.{weight-card}
-use Rattle.construction.proofs.Invariant.World.{World}
+use Rattle.construction.proofs.Invariant.World.{World, Frame, frameOf}
 use Rattle.construction.proofs.Invariant.Assertions.{LocAt, known}
 use Rattle.construction.proofs.Invariant.Acting.{worldOf, Before}
 use Rattle.construction.proofs.Waiting.Courses.{Tally, Loop, CourseAt, last-lap}
@@ -24,7 +23,7 @@ use Rattle.construction.proofs.Waiting.HelpSteps.{at-P16, at-H21, at-H3
 module _ {c : Card} {w : World} {i : ℕ} (B : Before c w i) (small : localAt c i .steps ≤ 1000000000000000000) (x : Tally)
     (due : announcementAt c i .flag ≡ Active → (x .spent ≡ 0) × (c .gate .seq ≤ x .turn)) where
   pub at-place :
-      (l : Place) (exit : Bool) → localAt c i .exit ≡ exit → isIdle l ≡ false → LocAt l (contentsOf c) (worldOf c w) i (known (localAt c i)) →
+      (l : Place) (exit : Bool) → localAt c i .exit ≡ exit → isIdle l ≡ false → LocAt l (frameOf c w) (worldOf c w) i (known (localAt c i)) →
       Now c i x l → Went c i x (accessOf l exit)
   unfolding accessOf
   at-place Idle exit e n k q = absurd (true≢false n)
@@ -49,14 +48,14 @@ module _ {c : Card} {w : World} {i : ℕ} (B : Before c w i) (small : localAt c 
   at-place F3 exit e n k q = at-F3 B small x q
 
 -- an operation under way has made fewer steps than it may take
-module _ (F : Contents) (w : World) (j : ℕ) (g : Gate) (a : Announcement) (x : Tally) (t : Local) where
+module _ (F : Frame) (heavy : ℕ) (light : (k number : ℕ) → weight (F .programAt k number) ≤ heavy) (w : World) (j : ℕ) (g : Gate) (a : Announcement) (x : Tally) (t : Local) where
   abbrev Left : Type 0
-  Left = t .steps < longestWait (F .processCount) (cardWeight F) + extra (t .exit)
+  Left = t .steps < longestWait (F .processCount) heavy + extra (t .exit)
 
-  in-loop : {n k : ℕ} → Loop (F .processCount) (cardWeight F) n k x t → k ≤ 10 + 2 * cardWeight F → Left
+  in-loop : {n k : ℕ} → Loop (F .processCount) heavy n k x t → k ≤ 10 + 2 * heavy → Left
   in-loop q h = omega (arith, last-lap q h)
 
-  pub left : (l : Place) → isIdle l ≡ false → LocAt l F w j (known t) → CourseAt l (F .processCount) (cardWeight F) g a x t → Left
+  pub left : (l : Place) → isIdle l ≡ false → LocAt l F w j (known t) → CourseAt l (F .processCount) heavy g a x t → Left
   unfolding accessOf
   left Idle n k q = absurd (true≢false n)
   left P1 n k q = omega (arith, q)
@@ -70,10 +69,10 @@ module _ (F : Contents) (w : World) (j : ℕ) (g : Gate) (a : Announcement) (x :
   left P14 n k q = in-loop (q .0) (omega arith)
   left P16 n k q = in-loop q (omega arith)
   left H21 n k q =
-      let few : t .dictionary .length < cardWeight F = le-trans (k .2 .fewer) (weight-card F (t .announcement .program) (t .gate .seq)) in
+      let few : t .dictionary .length < heavy = le-trans (k .2 .fewer) (light (t .announcement .program) (t .gate .seq)) in
       in-loop q (omega arith)
   left H36 n k q =
-      let few : t .dictionary .length ≤ cardWeight F = le-trans (k .2 .room .few) (weight-card F (t .announcement .program) (t .gate .seq)) in
+      let few : t .dictionary .length ≤ heavy = le-trans (k .2 .room .few) (light (t .announcement .program) (t .gate .seq)) in
       let inside : t .task .target < t .dictionary .length = omega (arith, k .3 .inside, length-take (t .dictionary .length) (t .dictionary .items)) in
       in-loop q (omega arith)
   left P19 n k q = in-loop q (omega arith)

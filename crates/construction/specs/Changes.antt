@@ -1,0 +1,87 @@
+-- A program changed while the machine runs (document 02, order 11): 'A change names a sheet and a gate number G and brings that sheet's lines as a card has them.'
+use Prim.Native.Nat.{ℕ, zero, suc, min}
+use mathlib.Core.Bool.{Bool, true, false, cond, not, _&&_, _||_}
+use mathlib.Core.List.{List}
+use lib.ListN.{length, getD}
+use lib.Dec.{eqb, ltb}
+use Rattle.construction.specs.Types.{Gate, Program, Place, Idle, P1, P3, P5, P7, P10, C2, C4, P13, P14, P16, H21, H36, P19, P20, P21, P22, F1, F3, Task, Card, Refusal, TooLong, Malformed, NoProgram, NotAhead, Unsettled, Answer, Answered, Contents, Verdict, ProgramReading}
+use Rattle.construction.specs.Weight.{cardWeight}
+use Rattle.construction.specs.Parts.{idleTask, noGate, contentsOf, withRevision}
+use Rattle.construction.specs.Requests.{isProgram}
+use Rattle.construction.specs.Opening.{programRefusedAt, readProgram}
+
+-- a refusal ends the reading; else 'nothing follows': a line left over is refusal 2
+abbrev pub ifProgramAccepted : Verdict → ProgramReading → ProgramReading → ProgramReading
+ifProgramAccepted Verdict.Accepted r x = x
+ifProgramAccepted (Verdict.Refused why line) r x = r
+
+abbrev pub programThenEnd : List ℕ → ProgramReading → ProgramReading
+programThenEnd t r =
+    ifProgramAccepted (r .verdict) r (cond (eqb (r .at) (length t)) r (programRefusedAt Malformed (r .line)))
+
+-- 'the text is judged as in a card, and 14 is also a text that counts more than the card's w, which stays that of the opening text whatever is changed'
+unfoldable pub changeRead : Contents → List ℕ → ProgramReading
+changeRead x t =
+    cond (ltb 16384 (length t)) (programRefusedAt TooLong 0)
+    (programThenEnd t (readProgram (x .variableCount) (min 32 (cardWeight x)) t 0 1))
+
+-- an operation under way that has read a gate number: it is past P1, also where it has not announced itself yet (P3), or is done and has not returned
+abbrev pub hasRead : Place → Bool
+hasRead Idle = false
+hasRead P1 = false
+hasRead P3 = true
+hasRead P5 = true
+hasRead P7 = true
+hasRead P10 = true
+hasRead C2 = true
+hasRead C4 = true
+hasRead P13 = true
+hasRead P14 = true
+hasRead P16 = true
+hasRead H21 = true
+hasRead H36 = true
+hasRead P19 = true
+hasRead P20 = true
+hasRead P21 = true
+hasRead P22 = true
+hasRead F1 = true
+hasRead F3 = true
+
+-- an operation under way last read a gate number below this one ('one that has read none doesn't count'), by the place of its process and the gate
+-- that it last read
+abbrev pub isBehind : Place → Gate → ℕ → Bool
+isBehind place gate number = hasRead place && ltb (gate .seq) number
+
+-- so it is with some of the p processes, among the first n places
+unfoldable pub someBehind : List Task → List Gate → ℕ → ℕ → ℕ → Bool
+someBehind tasks gates p number zero = false
+someBehind tasks gates p number (suc i) =
+    (ltb i p && isBehind (getD tasks i idleTask .place) (getD gates i noGate) number) || someBehind tasks gates p number i
+
+-- refusal 16: 'the last change of that sheet lies above the gate's number or some operation under way last read a gate number below it'
+abbrev pub isUnsettled : Card → ℕ → Bool
+isUnsettled c k =
+    let from = getD (c .from) k 0 in
+    ltb (c .gate .seq) from || someBehind (c .tasks) (c .gates) (c .processCount) from 8
+
+-- 'A refused change gives the text's line, or 0 with 1, 6, 15 and 16', and leaves the card as it was
+abbrev pub unchanged : Card → Refusal → ℕ → Answered
+unchanged c why line = record { card = c; answer = Answer.RefusedAt why line }
+
+-- a taken one changes its program and nothing else
+abbrev pub changed : Card → ℕ → ℕ → Program → Answered
+changed c k from y = record { card = withRevision c k from y; answer = Answer.Taken }
+
+abbrev pub ifRead : Verdict → Card → Answered → Answered
+ifRead Verdict.Accepted c r = r
+ifRead (Verdict.Refused why line) c r = unchanged c why line
+
+-- change: refusals 6; 1, 2, 3, 4, 12, 13, 14 of the text; 15, 16
+unfoldable pub change : Card → ℕ → ℕ → List ℕ → Answered
+change c k from t =
+    let x = changeRead (contentsOf c) t in
+    cond (not (isProgram c k)) (unchanged c NoProgram 0)
+    (ifRead (x .verdict) c
+    (cond (not (ltb (c .gate .seq) from)) (unchanged c NotAhead 0)
+    (cond (isUnsettled c k) (unchanged c Unsettled 0)
+    (changed c k from (x .program)))))

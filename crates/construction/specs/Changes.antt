@@ -4,9 +4,9 @@ use mathlib.Core.Bool.{Bool, true, false, cond, not, _&&_, _||_}
 use mathlib.Core.List.{List}
 use lib.ListN.{length, getD}
 use lib.Dec.{eqb, ltb}
-use Rattle.construction.specs.Types.{Gate, Program, Revision, Place, Idle, P1, P3, P5, P7, P10, C2, C4, P13, P14, P16, H21, H36, P19, P20, P21, P22, F1, F3, Task, Card, Refusal, TooLong, Malformed, NoProgram, NotAhead, Unsettled, Answer, Answered, Contents, Verdict, ProgramReading}
+use Rattle.construction.specs.Types.{Gate, Place, Idle, P1, P3, P5, P7, P10, C2, C4, P13, P14, P16, H21, H36, P19, P20, P21, P22, F1, F3, Task, Card, Refusal, TooLong, Malformed, NoProgram, NotAhead, Unsettled, Answer, Answered, Contents, Verdict, ProgramReading}
 use Rattle.construction.specs.Weight.{cardWeight}
-use Rattle.construction.specs.Parts.{idleTask, noGate, contentsOf, revisionOf, withRevision}
+use Rattle.construction.specs.Parts.{idleTask, noGate, contentsOf, withRevision}
 use Rattle.construction.specs.Requests.{isProgram}
 use Rattle.construction.specs.Opening.{programRefusedAt, readProgram}
 
@@ -64,12 +64,8 @@ someBehind tasks gates p number (suc i) =
 -- refusal 16: 'the last change of that sheet lies above the gate's number or some operation under way last read a gate number below it'
 abbrev pub isUnsettled : Card → ℕ → Bool
 isUnsettled c k =
-    let from = revisionOf (c .revisions) k .from in
+    let from = getD (c .from) k 0 in
     ltb (c .gate .seq) from || someBehind (c .tasks) (c .gates) (c .processCount) from 8
-
--- a taken change makes the later text the earlier one
-abbrev pub revised : Revision → ℕ → Program → Revision
-revised r from text = record { from = from; earlier = r .later; later = text }
 
 -- 'A refused change gives the text's line, or 0 with 1, 6, 15 and 16', and leaves the card as it was
 abbrev pub unchanged : Card → Refusal → ℕ → Answered
@@ -87,4 +83,4 @@ change c k from t =
     (ifRead (x .verdict) c
     (cond (not (ltb (c .gate .seq) from)) (unchanged c NotAhead 0)
     (cond (isUnsettled c k) (unchanged c Unsettled 0)
-    (record { card = withRevision c k (revised (revisionOf (c .revisions) k) from (x .program)); answer = Answer.Taken }))))
+    (record { card = withRevision c k from (x .program); answer = Answer.Taken }))))

@@ -6,7 +6,7 @@ use lib.ListN.{length, getD}
 use Rattle.construction.specs.Types.{Item, H21, H36, Card}
 use Rattle.construction.specs.Weight.{weight, cardWeight}
 use Rattle.construction.specs.Dictionary.{noItem, noted}
-use Rattle.construction.specs.Parts.{contentsOf, announcementAt, recordAt, programOf, localAt}
+use Rattle.construction.specs.Parts.{contentsOf, announcementAt, recordAt, textsOf, programOf, localAt}
 
 -- no variable stands at two places
 abbrev pub Distinct : List Item → Type 0
@@ -24,11 +24,11 @@ pub record Limited (c : Card) : Type 0 where
   pub items : (i : ℕ) → localAt c i .dictionary .length ≤ 32
   pub distinct : (i : ℕ) → Distinct (noted (localAt c i .dictionary))
   -- no text on the card weighs more than the card, whatever is changed (document 02, order 11)
-  pub texts : (k number : ℕ) → weight (programOf (c .revisions) k number) ≤ cardWeight (contentsOf c)
+  pub texts : (k number : ℕ) → weight (programOf (textsOf c) k number) ≤ cardWeight (contentsOf c)
   -- while helping, it holds at most the weight of the program helped, and has room for what H21 reads
   pub noting :
       (i : ℕ) → i < c .processCount → localAt c i .task .place ≡ H21 →
-      localAt c i .dictionary .length < weight (programOf (c .revisions) (localAt c i .announcement .program) (localAt c i .gate .seq))
+      localAt c i .dictionary .length < weight (programOf (textsOf c) (localAt c i .announcement .program) (localAt c i .gate .seq))
   pub writing :
       (i : ℕ) → i < c .processCount → localAt c i .task .place ≡ H36 →
-      localAt c i .dictionary .length ≤ weight (programOf (c .revisions) (localAt c i .announcement .program) (localAt c i .gate .seq))
+      localAt c i .dictionary .length ≤ weight (programOf (textsOf c) (localAt c i .announcement .program) (localAt c i .gate .seq))

@@ -9,7 +9,7 @@ use Rattle.construction.specs.Instructions.{started}
 use Rattle.construction.specs.Dictionary.{noItem, empty, noted, itemOf, insert, nextWrite}
 use Rattle.construction.specs.Marks.{withBit}
 use Rattle.construction.specs.Helping.{simulate}
-use Rattle.construction.specs.Parts.{Local, localAt, Script, scriptOf, announcementAt, recordAt, programOf, withGate, withAnnouncement, withRecord, withSteps, withLocal}
+use Rattle.construction.specs.Parts.{Local, localAt, Texts, textsOf, announcementAt, recordAt, programOf, withGate, withAnnouncement, withRecord, withSteps, withLocal}
 
 -- 'The accesses are P1, P3, P6, P7, P10, C2, C4, P13, P14, P16, H21, H36, P19, P20, P21, P22, F1, F3': the access of each place.
 -- Line P5 is looked at here: with an exit request the access is P6, without one P10. 'After P7 the next is F1 if the flag is done, else P10.'
@@ -253,19 +253,19 @@ stepAnnouncement a m cell l =
     let x = accessAnnouncement a m cell (l .operation) (l .gate) (l .announcement) (l .simulation .yields) (l .task) in
     record { cell = x .cell; local = after l (x .task) (l .gate) (x .read) (l .simulation) (l .dictionary) (l .mask); swap = x .swap }
 
-abbrev pub stepHelp : Script → Announcement → Local → Accessed Announcement
-stepHelp t cell l =
-    let x = beginHelp (t .contents .variableCount) (programOf (t .revisions) (cell .program) (l .gate .seq)) cell (l .gate .seq) (l .task) (l .simulation) in
+abbrev pub stepHelp : ℕ → Texts → Announcement → Local → Accessed Announcement
+stepHelp n t cell l =
+    let x = beginHelp n (programOf t (cell .program) (l .gate .seq)) cell (l .gate .seq) (l .task) (l .simulation) in
     record {
       cell = cell;
       local = after l (x .task) (l .gate) cell (x .simulation) (cond (x .helps) empty (l .dictionary)) (cond (x .helps) 0 (l .mask));
       swap = Swap.None;
     }
 
-abbrev pub stepNote : Script → Record → Local → Accessed Record
-stepNote t cell l =
+abbrev pub stepNote : ℕ → Texts → Record → Local → Accessed Record
+stepNote n t cell l =
     let a = l .announcement in
-    let x = note (t .contents .variableCount) (programOf (t .revisions) (a .program) (l .gate .seq)) (a .words) cell (l .gate .seq) (l .task) (l .simulation) (l .dictionary) (l .mask) in
+    let x = note n (programOf t (a .program) (l .gate .seq)) (a .words) cell (l .gate .seq) (l .task) (l .simulation) (l .dictionary) (l .mask) in
     record { cell = cell; local = after l (x .task) (l .gate) a (x .simulation) (x .dictionary) (x .mask); swap = Swap.None }
 
 abbrev pub stepWrite : Record → Local → Accessed Record
@@ -302,10 +302,10 @@ perform (Access.Announcement a) c i =
     putAnnouncement c i m (stepAnnouncement a m (announcementAt c m) (localAt c i))
 perform Access.Help c i =
     let m = holderOf (localAt c i .gate .holder) in
-    putAnnouncement c i m (stepHelp (scriptOf c) (announcementAt c m) (localAt c i))
+    putAnnouncement c i m (stepHelp (c .variableCount) (textsOf c) (announcementAt c m) (localAt c i))
 perform Access.Note c i =
     let v = localAt c i .task .target in
-    putRecord c i v (stepNote (scriptOf c) (recordAt c v) (localAt c i))
+    putRecord c i v (stepNote (c .variableCount) (textsOf c) (recordAt c v) (localAt c i))
 perform Access.Write c i =
     let v = writtenVariable (localAt c i) in
     putRecord c i v (stepWrite (recordAt c v) (localAt c i))

@@ -9,7 +9,7 @@ use Rattle.construction.specs.Types.{Cell, Card}
 use Rattle.construction.specs.Cells.{openAnnouncement, openRecord}
 use Rattle.construction.specs.Instructions.{started}
 use Rattle.construction.specs.Dictionary.{empty}
-use Rattle.construction.specs.Parts.{idleTask, noOperation, noGate, contentsOf, scriptOf, localAt}
+use Rattle.construction.specs.Parts.{idleTask, noOperation, noGate, contentsOf, textsOf, localAt}
 use Rattle.construction.specs.Machine.{accessIn, cellOf, advance, swapOf}
 use Rattle.construction.specs.Requests.{answerOf}
 
@@ -42,9 +42,9 @@ SameLocal i c d =
     × Same (c .dictionaries) (d .dictionaries) i empty
     × Same (c .masks) (d .masks) i 0
 
--- .. were opened with the same text, and changed alike
+-- .. were opened with the same text, and hold the same texts of their programs
 abbrev pub SameText : Card → Card → Type 0
-SameText c d = scriptOf c ≡ scriptOf d
+SameText c d = (contentsOf c ≡ contentsOf d) × (textsOf c ≡ textsOf d)
 
 -- an accepted step of process i makes one shared access
 pub record OneAccess (c : Card) (i : ℕ) : Type 0 where

@@ -9,7 +9,7 @@ use Rattle.construction.specs.Cells.{openGate, openAnnouncement, openRec
 use Rattle.construction.specs.Instructions.{noLine, noProgram, started}
 use Rattle.construction.specs.Weight.{weight}
 use Rattle.construction.specs.Dictionary.{empty}
-use Rattle.construction.specs.Parts.{idleTask, noOperation, noGate, unrevised}
+use Rattle.construction.specs.Parts.{idleTask, noOperation, noGate}
 use Rattle.construction.specs.Lines.{cardLine, varLine, sheetLine, insLine}
 
 -- the contents that the line `card,p,n,s,limit` alone gives ..
@@ -50,7 +50,9 @@ fresh x =
       limit = x .limit;
       starts = x .starts;
       programs = x .programs;
-      revisions = map unrevised (x .programs);
+      from = replicate 8 0;
+      earlier = x .programs;
+      later = x .programs;
       gate = openGate;
       announcements = replicate 8 openAnnouncement;
       records = map openRecord (x .starts);

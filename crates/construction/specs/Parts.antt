@@ -4,7 +4,7 @@ use mathlib.Core.Bool.{Bool, false, cond}
 use mathlib.Core.List.{List}
 use lib.ListN.{getD, set}
 use lib.Dec.{ltb}
-use Rattle.construction.specs.Types.{Nobody, Gate, Announcement, Record, Program, Revision, Dictionary, Simulation, Idle, Task, Operation, Card, Contents}
+use Rattle.construction.specs.Types.{Nobody, Gate, Announcement, Record, Program, Dictionary, Simulation, Idle, Task, Operation, Card, Contents}
 use Rattle.construction.specs.Cells.{zeros, openAnnouncement, openRecord}
 use Rattle.construction.specs.Instructions.{started, noProgram}
 use Rattle.construction.specs.Dictionary.{empty}
@@ -64,24 +64,18 @@ localAt c i =
       mask = getD (c .masks) i 0;
     }
 
--- a program that was never changed
-abbrev pub unrevised : Program → Revision
-unrevised x = record { from = 0; earlier = x; later = x }
+-- the texts of a card's programs (document 02, order 11): of each program the gate number from which its later text holds, the earlier text and the later
+pub record Texts : Type 0 where
+  pub from : List ℕ
+  pub earlier : List Program
+  pub later : List Program
 
-abbrev pub revisionOf : List Revision → ℕ → Revision
-revisionOf l k = getD l k (unrevised noProgram)
+abbrev pub textsOf : Card → Texts
+textsOf c = record { from = c .from; earlier = c .earlier; later = c .later }
 
--- the program that an operation with this gate number runs (document 02, order 11): the later text from its number on
-unfoldable pub programOf : List Revision → ℕ → ℕ → Program
-programOf l k number = cond (ltb number (revisionOf l k .from)) (revisionOf l k .earlier) (revisionOf l k .later)
-
--- what a card's programs are: what it was opened with, and what became of that
-pub record Script : Type 0 where
-  pub contents : Contents
-  pub revisions : List Revision
-
-abbrev pub scriptOf : Card → Script
-scriptOf c = record { contents = contentsOf c; revisions = c .revisions }
+-- 'Operations numbered G or later run the new text, .. earlier ones the old': the program k that an operation with this gate number runs
+unfoldable pub programOf : Texts → ℕ → ℕ → Program
+programOf x k number = cond (ltb number (getD (x .from) k 0)) (getD (x .earlier) k noProgram) (getD (x .later) k noProgram)
 
 -- a card of the same text: its shared cells, its accepted steps, and what its processes keep
 abbrev pub withState :
@@ -95,7 +89,9 @@ withState c gate announcements records steps tasks operations exits counts gates
       limit = c .limit;
       starts = c .starts;
       programs = c .programs;
-      revisions = c .revisions;
+      from = c .from;
+      earlier = c .earlier;
+      later = c .later;
       gate = gate;
       announcements = announcements;
       records = records;
@@ -144,9 +140,9 @@ withSteps c k =
     withState c (c .gate) (c .announcements) (c .records) k
     (c .tasks) (c .operations) (c .exits) (c .counts) (c .gates) (c .copies) (c .simulations) (c .dictionaries) (c .masks)
 
--- the card with another text of program k
-abbrev pub withRevision : Card → ℕ → Revision → Card
-withRevision c k r =
+-- the card with program k changed to y from a gate number on: its later text becomes the earlier one
+abbrev pub withRevision : Card → ℕ → ℕ → Program → Card
+withRevision c k from y =
     record {
       processCount = c .processCount;
       variableCount = c .variableCount;
@@ -154,7 +150,9 @@ withRevision c k r =
       limit = c .limit;
       starts = c .starts;
       programs = c .programs;
-      revisions = set (c .revisions) k r;
+      from = set (c .from) k from;
+      earlier = set (c .earlier) k (getD (c .later) k noProgram);
+      later = set (c .later) k y;
       gate = c .gate;
       announcements = c .announcements;
       records = c .records;

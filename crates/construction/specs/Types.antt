@@ -17,7 +17,6 @@ pub use Rattle.construction.specs.declared.Decoded.{Decoded}
 pub use Rattle.construction.specs.declared.Encoded.{Encoded}
 pub use Rattle.construction.specs.declared.Line.{Line}
 pub use Rattle.construction.specs.declared.Program.{Program}
-pub use Rattle.construction.specs.declared.Revision.{Revision}
 pub use Rattle.construction.specs.declared.Effect.{Effect}
 pub use Rattle.construction.specs.declared.Item.{Item}
 pub use Rattle.construction.specs.declared.Dictionary.{Dictionary}

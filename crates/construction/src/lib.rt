@@ -111,14 +111,6 @@ pub struct Program {
     pub lines: [Line; 32],
 }
 
-// A program as the card keeps it (document 02, order 11): the text that operations with a gate number below `from` run, and the one from there on.
-// At opening both are the opening text, and `from` is 0.
-pub struct Revision {
-    pub from: u64,
-    pub earlier: Program,
-    pub later: Program,
-}
-
 // What one instruction does: a register set, a variable loaded or stored, an output set, instructions skipped, the first free cell taken, a cell
 // given back, the end, or the end as a fault.
 pub enum Effect {
@@ -301,8 +293,11 @@ pub struct Card {
     // the starting values, and the sheets
     pub starts: [u32; 64],
     pub programs: [Program; 8],
-    // the sheets as they were changed since (document 02, order 11)
-    pub revisions: [Revision; 8],
+    // of each sheet (document 02, order 11): the gate number from which its later text holds, the text below it, and the later one.
+    // At opening the number is 0 and both are the opening text. Three arrays, so that a step copies one program out.
+    pub from: [u64; 8],
+    pub earlier: [Program; 8],
+    pub later: [Program; 8],
     // the shared cells: the gate, the announcement of each process, the record of each variable
     pub gate: Gate,
     pub announcements: [Announcement; 8],

@@ -5,7 +5,7 @@ use mathlib.Core.List.{List}
 use native.Mathlib.Omega.{arith}
 use Rattle.construction.specs.Types.{Gate, Announcement, Record, Dictionary, Simulation, Place, Access, Task, Card}
 use Rattle.construction.specs.Dictionary.{noted}
-use Rattle.construction.specs.Parts.{Local, localAt, withCells, withLocal, contentsOf, programOf}
+use Rattle.construction.specs.Parts.{Local, localAt, withCells, withLocal, contentsOf, textsOf, programOf}
 use Rattle.construction.specs.Machine.{perform, after}
 use Rattle.construction.proofs.Simulating.Dictionaries.{Keyed}
 use Rattle.construction.proofs.Invariant.World.{World, WorldInvariant, withShared, Move, frameOf}
@@ -29,18 +29,18 @@ pub record WellFormed (d : Dictionary) : Type 0 where
 -- T1 (document 02, order 11): from the gate's number on, and from each number last read by an operation under way on, the card's choice of a text
 -- is the world's; and no text weighs more than the card
 pub record KeepsTexts (c : Card) (w : World) : Type 0 where
-  pub many : length (c .revisions) ≡ 8
-  pub now : (k number : ℕ) → c .gate .seq ≤ number → programOf (c .revisions) k number ≡ w .texts k number
+  pub many : (length (c .from) ≡ 8) × (length (c .earlier) ≡ 8) × (length (c .later) ≡ 8)
+  pub now : (k number : ℕ) → c .gate .seq ≤ number → programOf (textsOf c) k number ≡ w .texts k number
   pub read :
       (j : ℕ) → j < c .processCount → hasRead (localAt c j .task .place) ≡ true → (k number : ℕ) → localAt c j .gate .seq ≤ number →
-      programOf (c .revisions) k number ≡ w .texts k number
+      programOf (textsOf c) k number ≡ w .texts k number
   pub light : (k number : ℕ) → weight (w .texts k number) ≤ cardWeight (contentsOf c)
-  pub held : (k number : ℕ) → weight (programOf (c .revisions) k number) ≤ cardWeight (contentsOf c)
+  pub held : (k number : ℕ) → weight (programOf (textsOf c) k number) ≤ cardWeight (contentsOf c)
   pub some : 0 < cardWeight (contentsOf c) → 0 < c .variableCount
 
 -- process i runs the texts of the world under the number that it last read
 abbrev pub Chosen : Card → World → ℕ → Type 0
-Chosen c w i = (k : ℕ) → programOf (c .revisions) k (localAt c i .gate .seq) ≡ w .texts k (localAt c i .gate .seq)
+Chosen c w i = (k : ℕ) → programOf (textsOf c) k (localAt c i .gate .seq) ≡ w .texts k (localAt c i .gate .seq)
 
 pub record Before (c : Card) (w : World) (i : ℕ) : Type 0 where
   pub good : WorldInvariant (frameOf c w) (worldOf c w)

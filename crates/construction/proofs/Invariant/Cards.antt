@@ -9,11 +9,11 @@ use native.Mathlib.Decide.{ℕ-discrete}
 use lib.ListN.{length, getD, take, replicate, length-map, List·getD-map}
 use lib.Seq.{getD-set-same, getD-take, length-take-le}
 use borrow.Author.Tests.{not-true, not-false}
-use Rattle.construction.specs.Types.{Gate, Done, Words, Announcement, Record, Place, Idle, Task, Operation, Card, Contents, Program, Revision}
+use Rattle.construction.specs.Types.{Gate, Done, Words, Announcement, Record, Place, Idle, Task, Operation, Card, Contents, Program}
 use Rattle.construction.specs.Cells.{openAnnouncement, openRecord, current}
 use Rattle.construction.specs.Instructions.{noProgram}
 use Rattle.construction.specs.Dictionary.{empty}
-use Rattle.construction.specs.Parts.{idleTask, noOperation, localAt, withLocal, Local, contentsOf, withCells, withSteps, programOf, revisionOf, unrevised}
+use Rattle.construction.specs.Parts.{idleTask, noOperation, localAt, withLocal, Local, contentsOf, withCells, withSteps, textsOf, programOf}
 use Rattle.construction.specs.Machine.{perform, advance, accessIn}
 use Rattle.construction.specs.Requests.{isBusy, invoked, exiting}
 use Rattle.construction.specs.Opening.{fresh}
@@ -106,7 +106,7 @@ module _ {c : Card} {w : World} {i : ℕ} (I : CardInvariant c w) (lt : i < c .p
       -- a process with the own state x runs the texts of the world
       Right : Local → Type 0
       Right x =
-          hasRead (x .task .place) ≡ true → (k number : ℕ) → x .gate .seq ≤ number → programOf (c .revisions) k number ≡ u .texts k number
+          hasRead (x .task .place) ≡ true → (k number : ℕ) → x .gate .seq ≤ number → programOf (textsOf c) k number ≡ u .texts k number
 
       here : Right t
       here e k n h =
@@ -237,12 +237,9 @@ module _ (x : Contents) (few : x .processCount ≤ 8) (narrow : x .variableCount
   open-words = length-take-le (x .variableCount) (x .starts) (omega arith)
 
   -- an unchanged program is the same under every number
-  open-text : (k number : ℕ) → programOf (map unrevised (x .programs)) k number ≡ getD (x .programs) k noProgram
-  unfolding programOf
-  open-text k number =
-      on-test (λ y. y ≡ getD (x .programs) k noProgram) (ltb number (revisionOf (map unrevised (x .programs)) k .from))
-      (λ _. ap (λ (r : Revision). r .earlier) (List·getD-map unrevised (x .programs) k noProgram))
-      (λ _. ap (λ (r : Revision). r .later) (List·getD-map unrevised (x .programs) k noProgram))
+  open-text : (k number : ℕ) → programOf (textsOf (fresh x)) k number ≡ getD (x .programs) k noProgram
+  unfolding programOf fresh
+  open-text k number = on-test (λ y. y ≡ getD (x .programs) k noProgram) (ltb number (getD (replicate 8 0) k 0)) (λ _. refl) (λ _. refl)
 
   good-fresh : WorldInvariant (frameOf (fresh x) (firstWorld x)) (firstWorld x)
   unfolding fresh current
@@ -285,7 +282,7 @@ module _ (x : Contents) (few : x .processCount ≤ 8) (narrow : x .variableCount
     cells = refl;
     good = good-fresh;
     texts = record {
-      many = length-map (x .programs) unrevised ∙ eight;
+      many = (refl, eight, eight);
       now = λ k n _. open-text k n;
       read = λ j _ _ k n _. open-text k n;
       light = λ k n. weight-card x k;

@@ -8,18 +8,18 @@ use mathlib.Core.List.{List}
 use native.Mathlib.Omega.{arith}
 use native.Mathlib.Nat.{eq-or-lt-of-le}
 use native.Mathlib.Decide.{ℕ-discrete}
-use lib.ListN.{getD, set, length-set}
+use lib.ListN.{length, getD, length-set}
 use lib.Seq.{getD-set-same, getD-set-other}
 use lib.Dec.{eqb, leb, ltb}
-use borrow.Author.Tests.{ltb-true, ltb-false, leb-true, leb-false, eq-eqb, ne-eqb, lt-ltb}
-use Rattle.construction.specs.Types.{Holder, Nobody, Process, Gate, Yield, Announcement, Program, Revision, Item, Dictionary, Simulation, Place, Idle, P1, P3, P5, P7, P10, C2, C4, P13, P14, P16, H21, H36, P19, P20, P21, P22, F1, F3, Operation, Card, Task}
+use borrow.Author.Tests.{ltb-true, ltb-false, leb-true, eq-eqb, ne-eqb, lt-ltb, le-ltb, le-leb}
+use Rattle.construction.specs.Types.{Holder, Nobody, Process, Gate, Yield, Announcement, Program, Item, Dictionary, Simulation, Place, Idle, P1, P3, P5, P7, P10, C2, C4, P13, P14, P16, H21, H36, P19, P20, P21, P22, F1, F3, Operation, Card, Task}
 use Rattle.construction.specs.Sequential.{Ending}
 use Rattle.construction.specs.Weight.{weight, cardWeight}
 use Rattle.construction.specs.Dictionary.{noted}
-use Rattle.construction.specs.Parts.{idleTask, noGate, Local, localAt, contentsOf, programOf, revisionOf, unrevised, withRevision}
+use Rattle.construction.specs.Parts.{idleTask, noGate, Local, localAt, contentsOf, textsOf, programOf, withRevision}
 use Rattle.construction.specs.Instructions.{noProgram}
-use Rattle.construction.specs.Changes.{hasRead, isBehind, someBehind, isUnsettled, revised}
-use Rattle.construction.proofs.Basics.{on-test, and-true, set-keeps}
+use Rattle.construction.specs.Changes.{hasRead, isBehind, someBehind, isUnsettled}
+use Rattle.construction.proofs.Basics.{on-test, and-true}
 use Rattle.construction.proofs.Simulating.Sequential.{Short}
 use Rattle.construction.proofs.Simulating.Dictionaries.{all-map}
 use Rattle.construction.proofs.Invariant.World.{Round, Frame, endingOf, World, roundIn, wordAt, Phase, WorldInvariant, changing, withText}
@@ -169,14 +169,14 @@ none-behind tasks gates p number (suc n) e j h =
     ⊎-elim (λ (q : j ≡ n). rw q (z .0)) (λ l. none-behind tasks gates p number n (z .1) j l) (eq-or-lt-of-le (omega arith))
 
 -- the last change of a settled program is past: of the gate, and of every process under way
-pub settled-gate : (c : Card) (k : ℕ) → isUnsettled c k ≡ false → revisionOf (c .revisions) k .from ≤ c .gate .seq
-settled-gate c k u = ltb-false _ _ (or-none (ltb (c .gate .seq) (revisionOf (c .revisions) k .from)) _ u .0)
+pub settled-gate : (c : Card) (k : ℕ) → isUnsettled c k ≡ false → getD (c .from) k 0 ≤ c .gate .seq
+settled-gate c k u = ltb-false _ _ (or-none (ltb (c .gate .seq) (getD (c .from) k 0)) _ u .0)
 
 pub settled-read :
     (c : Card) (k : ℕ) → isUnsettled c k ≡ false → (j : ℕ) → isProcess c j ≡ true → hasRead (localAt c j .task .place) ≡ true →
-    revisionOf (c .revisions) k .from ≤ localAt c j .gate .seq
+    getD (c .from) k 0 ≤ localAt c j .gate .seq
 settled-read c k u j p e =
-    let from = revisionOf (c .revisions) k .from in
+    let from = getD (c .from) k 0 in
     let h = and-true (ltb j (c .processCount)) _ p in
     ltb-false _ _ (rw (h .0, e) at (none-behind (c .tasks) (c .gates) (c .processCount) from 8 (or-none (ltb (c .gate .seq) from) _ u .1) j (ltb-true j 8 (h .1))))
 
@@ -186,66 +186,82 @@ text-before texts k from y j number h =
     on-test (λ z. z ≡ texts j number) (eqb k j && leb from number)
     (λ e. absurd (omega (arith, leb-true from number (and-true (eqb k j) _ e .1)))) (λ _. refl)
 
+-- what a card with program k changed runs of it, and of another program
+module _ (c : Card) (k from : ℕ) (y : Program) where
+  pub revised-same :
+      (length (c .from) ≡ 8) × (length (c .earlier) ≡ 8) × (length (c .later) ≡ 8) → k < 8 → (number : ℕ) →
+      programOf (textsOf (withRevision c k from y)) k number ≡ cond (ltb number from) (getD (c .later) k noProgram) y
+  unfolding programOf
+  revised-same many few number =
+      rw (getD-set-same (c .from) k from 0 (omega arith), getD-set-same (c .earlier) k (getD (c .later) k noProgram) noProgram (omega arith), getD-set-same (c .later) k y noProgram (omega arith))
+
+  pub revised-other : (j number : ℕ) → j ≢ k → programOf (textsOf (withRevision c k from y)) j number ≡ programOf (textsOf c) j number
+  unfolding programOf
+  revised-other j number ne =
+      rw (getD-set-other (c .from) k j from 0 ne, getD-set-other (c .earlier) k j (getD (c .later) k noProgram) noProgram ne, getD-set-other (c .later) k j y noProgram ne)
+
+-- from the number of its last change on a card runs the later text
+pub later-holds : (c : Card) (k number : ℕ) → getD (c .from) k 0 ≤ number → programOf (textsOf c) k number ≡ getD (c .later) k noProgram
+unfolding programOf
+later-holds c k number h = rw (le-ltb number (getD (c .from) k 0) h)
+
 -- a taken change of program k
 module _ (c : Card) (w : World) (k from : ℕ) (y : Program) (I : CardInvariant c w) (few : k < 8) (ahead : c .gate .seq < from)
     (settled : isUnsettled c k ≡ false) where
-  abbrev r : Revision
-  r = revisionOf (c .revisions) k
+  abbrev d : Card
+  d = withRevision c k from y
 
   abbrev texts : ℕ → ℕ → Program
   texts = withText (w .texts) k from y
 
-  past-gate : r .from ≤ c .gate .seq
+  past-gate : getD (c .from) k 0 ≤ c .gate .seq
   past-gate = settled-gate c k settled
 
-  past-read : (j : ℕ) → j < c .processCount → hasRead (localAt c j .task .place) ≡ true → r .from ≤ localAt c j .gate .seq
+  past-read : (j : ℕ) → j < c .processCount → hasRead (localAt c j .task .place) ≡ true → getD (c .from) k 0 ≤ localAt c j .gate .seq
   past-read j lt = settled-read c k settled j (rw (lt-ltb j (c .processCount) lt) (lt-ltb j 8 (omega (arith, I .good .fits .few))))
 
-  -- so that its later text holds from there on, and becomes the earlier one
-  later-holds : (number : ℕ) → r .from ≤ number → programOf (c .revisions) k number ≡ r .later
-  unfolding programOf
-  later-holds number h =
-      on-test (λ z. z ≡ r .later) (ltb number (r .from)) (λ e. absurd (omega (arith, ltb-true number (r .from) e))) (λ _. refl)
-
+  -- the later text becomes the earlier one
   chosen-same :
-      (j number : ℕ) → r .from ≤ number → ((m : ℕ) → programOf (c .revisions) m number ≡ w .texts m number) →
-      programOf (set (c .revisions) k (revised r from y)) j number ≡ texts j number
-  unfolding programOf
+      (j number : ℕ) → getD (c .from) k 0 ≤ number → ((m : ℕ) → programOf (textsOf c) m number ≡ w .texts m number) →
+      programOf (textsOf d) j number ≡ texts j number
   chosen-same j number h before = go (ℕ-discrete j k)
     where
-      here : programOf (set (c .revisions) k (revised r from y)) k number ≡ texts k number
+      here : programOf (textsOf d) k number ≡ texts k number
       here =
-          rw (getD-set-same (c .revisions) k (revised r from y) (unrevised noProgram) (omega (arith, I .texts .many)))
+          rw (revised-same c k from y (I .texts .many) few number)
           (on-test (λ z. z ≡ texts k number) (ltb number from)
-          (λ e. sym (later-holds number h) ∙ (before k ∙ sym (text-before (w .texts) k from y k number (ltb-true number from e))))
-          (λ e. rw (eq-eqb k k refl) (on-test (λ z. y ≡ z) (leb from number) (λ _. refl) (λ q. absurd (omega (arith, ltb-false number from e, leb-false from number q))))))
+          (λ e. sym (later-holds c k number h) ∙ (before k ∙ sym (text-before (w .texts) k from y k number (ltb-true number from e))))
+          (λ e. rw (eq-eqb k k refl, le-leb from number (ltb-false number from e))))
 
-      go : Dec (j ≡ k) → programOf (set (c .revisions) k (revised r from y)) j number ≡ texts j number
+      go : Dec (j ≡ k) → programOf (textsOf d) j number ≡ texts j number
       go (yes e) = rw e here
-      go (no ne) =
-          rw (getD-set-other (c .revisions) k j (revised r from y) (unrevised noProgram) ne, ne-eqb k j (λ q. ne (sym q))) (before j)
+      go (no ne) = revised-other c k from y j number ne ∙ rw (ne-eqb k j (λ q. ne (sym q))) (before j)
 
   -- every text that the card keeps weighs no more than the card
-  held :
-      weight y ≤ cardWeight (contentsOf c) → (j number : ℕ) →
-      weight (programOf (set (c .revisions) k (revised r from y)) j number) ≤ cardWeight (contentsOf c)
-  unfolding programOf
-  held light j number =
-      set-keeps (λ (q : Revision). Fine (cond (ltb number (q .from)) (q .earlier) (q .later))) (c .revisions) k j (revised r from y) (unrevised noProgram)
-      (λ _. on-test Fine (ltb number from) (λ _. subst Fine (later-holds (c .gate .seq) past-gate) (I .texts .held k (c .gate .seq))) (λ _. light))
-      (I .texts .held j number)
+  held : weight y ≤ cardWeight (contentsOf c) → (j number : ℕ) → weight (programOf (textsOf d) j number) ≤ cardWeight (contentsOf c)
+  held light j number = go (ℕ-discrete j k)
     where
       Fine : Program → Type 0
       Fine z = weight z ≤ cardWeight (contentsOf c)
 
+      go : Dec (j ≡ k) → Fine (programOf (textsOf d) j number)
+      go (yes e) =
+          rw (e, revised-same c k from y (I .texts .many) few number)
+          (on-test Fine (ltb number from) (λ _. subst Fine (later-holds c k (c .gate .seq) past-gate) (I .texts .held k (c .gate .seq))) (λ _. light))
+      go (no ne) = subst Fine (sym (revised-other c k from y j number ne)) (I .texts .held j number)
+
   pub inv-change :
-      Short (c .variableCount) y → weight y ≤ cardWeight (contentsOf c) → CardInvariant (withRevision c k (revised r from y)) (changing w texts)
+      Short (c .variableCount) y → weight y ≤ cardWeight (contentsOf c) → CardInvariant d (changing w texts)
   inv-change short light = record {
     cells = ap (λ (u : World). changing u texts) (I .cells);
     good = good-change texts (I .good) old (λ j number.
         on-test (Short (c .variableCount)) (eqb k j && leb from number) (λ _. short) (λ _. I .good .fits .short j number));
     texts = record {
-      many = length-set (c .revisions) k (revised r from y) ∙ I .texts .many;
+      many = (
+        length-set (c .from) k from ∙ I .texts .many .0,
+        length-set (c .earlier) k (getD (c .later) k noProgram) ∙ I .texts .many .1,
+        length-set (c .later) k y ∙ I .texts .many .2,
+      );
       now = λ j number h. chosen-same j number (omega (arith, past-gate)) (λ m. I .texts .now m number h);
       read = λ j lt e m number h. chosen-same m number (omega (arith, past-read j lt e)) (λ q. I .texts .read j lt e q number h);
       light = λ j number.

@@ -10,7 +10,7 @@ use lib.Seq.{getD-set-same, getD-set-other, set-getD}
 use borrow.Author.Tests.{lt-ltb, not-true, ltb-true}
 use Rattle.construction.specs.Types.{Gate, Flag, Done, Active, Exit, Words, Announcement, Place, P1, P3, P5, Task, Card, Refusal, Answer, Answered, Contents, Program, Verdict}
 use Rattle.construction.specs.Cells.{isDone, openAnnouncement}
-use Rattle.construction.specs.Parts.{idleTask, contentsOf, localAt, withLocal, Local, Script, revisionOf, withRevision}
+use Rattle.construction.specs.Parts.{idleTask, contentsOf, localAt, withLocal, Local, withRevision}
 use Rattle.construction.specs.Machine.{advance, accessOf}
 use Rattle.construction.specs.Requests.{isVariable, isIdle, isBusy, refused, answerOf, read, invoked, exiting, isProgram}
 use Rattle.construction.specs.History.{Entry, act, Steps, Invocation, History, turned, finishing, withFinish, withFinishes, Return, Event, eventOf, withResponse, withEntry, Observation, observe, Replacement, textAt}
@@ -27,7 +27,7 @@ use Rattle.construction.proofs.Invariant.ActiveFlags.{active-before}
 use Rattle.construction.proofs.Observing.Tracking.{requestOf, Own, Tracks, under-way, NothingFinishes, OneFinishes, kind-of, turned-ends, tracks-calm, tracks-finished, own-next, tracks-place, tracks-called, tracks-returned, tracks-changed}
 use Rattle.construction.specs.Linearizability.{FinishesOne, FinishesAtMostOne}
 use lib.Dec.{ltb}
-use Rattle.construction.specs.Changes.{changeRead, isUnsettled, revised, unchanged}
+use Rattle.construction.specs.Changes.{changeRead, isUnsettled, unchanged}
 use Rattle.construction.proofs.Text.Bounds.{change-bounded}
 use Rattle.construction.proofs.Invariant.WorldKept.{texts-move}
 use Rattle.construction.proofs.Invariant.Changing.{inv-change}
@@ -133,12 +133,12 @@ module _ (o : Card) (m : Observation) (O : Consistent o m) where
       (k from : ℕ) (t : List ℕ) → isProgram c k ≡ true → changeRead (contentsOf c) t .verdict ≡ Verdict.Accepted → c .gate .seq < from →
       isUnsettled c k ≡ false →
       Consistent o (after o m (Entry.Change k from t)
-      (record { card = withRevision c k (revised (revisionOf (c .revisions) k) from (changeRead (contentsOf c) t .program)); answer = Answer.Taken }))
+      (record { card = withRevision c k from (changeRead (contentsOf c) t .program); answer = Answer.Taken }))
   unfolding textAt
   altered-kept k from t p a ahead settled =
       let y = changeRead (contentsOf c) t .program in
       let bounds = change-bounded (contentsOf c) t a in
-      unturned (withRevision c k (revised (revisionOf (c .revisions) k) from y)) (Entry.Change k from t) Answer.Taken refl
+      unturned (withRevision c k from y) (Entry.Change k from t) Answer.Taken refl
       (record {
         world = changing w (withText (w .texts) k from y);
         inv =
@@ -262,7 +262,7 @@ module _ (o : Card) (m : Observation) (O : Consistent o m) where
         (⊎-elim (λ z. absurd (true-false _ (ap (λ (l : Place). not (isIdle l)) (at-P3 z)) idle)) (λ z. z)) own-stage
 
     text-moved : contentsOf d ≡ contentsOf o
-    text-moved = ap (λ (x : Script). x .contents) (sym (one-access c i .text)) ∙ O .text
+    text-moved = sym (one-access c i .text .0) ∙ O .text
 
     changes-moved : (v : Event) (k number : ℕ) → textAt (contentsOf o) (withResponse noticed i v .changes) k number ≡ S .after .texts k number
     changes-moved v k number =
@@ -287,7 +287,7 @@ module _ (o : Card) (m : Observation) (O : Consistent o m) where
     answered =
         ⊎-elim (λ busy. by-answer (cond-false (isIdle next-place) _ _ (not-true _ busy)) (running busy))
         (λ idle. ⊎-elim (λ z. by-answer (z .1) (ended-done idle (z .0))) (λ z. by-answer (z .1) (ended-exited idle (z .0)))
-        (answer-is (S .inv) i (subst (λ (x : Script). i < x .contents .processCount) (one-access c i .text) lt) idle))
+        (answer-is (S .inv) i (subst (λ (x : Contents). i < x .processCount) (one-access c i .text .0) lt) idle))
         (true-or-false (isBusy d i))
       where
         by-answer : {a : Answer} → answerOf (localAt d i) ≡ a → Ended (eventOf a) → Ended (eventOf (answerOf (localAt d i)))

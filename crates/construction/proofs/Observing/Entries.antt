@@ -8,9 +8,9 @@ use Rattle.construction.specs.Types.{Words, Card, Refusal, NoProcess, No
 use Rattle.construction.specs.Machine.{advance}
 use Rattle.construction.specs.Requests.{isProcess, isProgram, isVariable, isBusy, refused, call, requestExit, answerOf, step, valueOf, read, invoked, exiting}
 use Rattle.construction.proofs.Basics.{on-test, and-true}
-use Rattle.construction.specs.Parts.{withLocal, localAt, contentsOf, revisionOf, withRevision}
+use Rattle.construction.specs.Parts.{withLocal, localAt, contentsOf, withRevision}
 use mathlib.Core.List.{List}
-use Rattle.construction.specs.Changes.{changeRead, isUnsettled, revised, unchanged, ifRead, change}
+use Rattle.construction.specs.Changes.{changeRead, isUnsettled, unchanged, ifRead, change}
 
 -- by cases on a test that is denied
 on-not {ℓ κ} : {A : Type ℓ} (P : A → Type κ) (b : Bool) {x y : A} → P x → (b ≡ true → P y) → P (cond (not b) x y)
@@ -59,7 +59,7 @@ module _ {κ} (P : Answered → Type κ) (c : Card) (turned-back : (r : Refusal)
   pub on-change :
       (k from : ℕ) (t : List ℕ) → ((why : Refusal) (line : ℕ) → P (unchanged c why line)) →
       (isProgram c k ≡ true → changeRead (contentsOf c) t .verdict ≡ Verdict.Accepted → c .gate .seq < from → isUnsettled c k ≡ false →
-      P (record { card = withRevision c k (revised (revisionOf (c .revisions) k) from (changeRead (contentsOf c) t .program)); answer = Answer.Taken })) →
+      P (record { card = withRevision c k from (changeRead (contentsOf c) t .program); answer = Answer.Taken })) →
       P (change c k from t)
   unfolding change
   on-change k from t back taken =

@@ -8,9 +8,9 @@ use Rattle.construction.specs.Requests.{isBusy, refused, answerOf, value
 use Rattle.construction.specs.Tracing.{trace}
 use Rattle.construction.specs.History.{Entry, act, Steps}
 use Rattle.construction.proofs.Observing.Entries.{on-call, on-exit, on-step, on-read, on-change}
-use Rattle.construction.specs.Parts.{withLocal, localAt, contentsOf, revisionOf, withRevision}
+use Rattle.construction.specs.Parts.{withLocal, localAt, contentsOf, withRevision}
 use mathlib.Core.List.{List}
-use Rattle.construction.specs.Changes.{changeRead, isUnsettled, revised, unchanged}
+use Rattle.construction.specs.Changes.{changeRead, isUnsettled, unchanged}
 
 pub data Outcome (c : Card) : Entry → Answered → Type 0 where
   turned-back : (e : Entry) (why : Refusal) → Outcome c e (refused c why)
@@ -26,7 +26,7 @@ pub data Outcome (c : Card) : Entry → Answered → Type 0 where
       (k from : ℕ) (t : List ℕ) → isProgram c k ≡ true → changeRead (contentsOf c) t .verdict ≡ Verdict.Accepted → c .gate .seq < from →
       isUnsettled c k ≡ false →
       Outcome c (Entry.Change k from t)
-      (record { card = withRevision c k (revised (revisionOf (c .revisions) k) from (changeRead (contentsOf c) t .program)); answer = Answer.Taken })
+      (record { card = withRevision c k from (changeRead (contentsOf c) t .program); answer = Answer.Taken })
   shown : (v x : ℕ) → Outcome c (Entry.Read v) (record { card = c; answer = Answer.Value x })
 
 pub outcome : (c : Card) (e : Entry) → Outcome c e (act c e)

@@ -6,21 +6,19 @@ use mathlib.Core.Logic.{_⊎_, ⊎-elim, _≢_}
 use mathlib.Core.List.{List, _∷_}
 use native.Mathlib.Omega.{arith}
 use native.Mathlib.Nat.{eq-or-lt-of-le}
-use lib.ListN.{length, getD, set}
-use lib.Seq.{getD-set-same, getD-set-other}
+use lib.ListN.{length, getD}
 use lib.Dec.{ltb}
 use borrow.Author.Tests.{ltb-true, lt-ltb, le-ltb, eq-eqb, ne-eqb, le-leb}
 use Rattle.construction.specs.Types.{Program, Card, Refusal, TooLong, NoProgram, NotAhead, Unsettled, Answer, Answered, Contents, Verdict, Gate, Task}
-use Rattle.construction.specs.Instructions.{noProgram}
 use Rattle.construction.specs.Answers.{numberOf, isRefused, answerFields, RefusesAt}
-use Rattle.construction.specs.Parts.{localAt, contentsOf, programOf, revisionOf, unrevised, withRevision, idleTask, noGate}
+use Rattle.construction.specs.Parts.{localAt, contentsOf, textsOf, programOf, withRevision, idleTask, noGate}
 use Rattle.construction.specs.Requests.{isProgram, isProcess}
 use Rattle.construction.specs.Opening.{opened}
-use Rattle.construction.specs.Changes.{changeRead, hasRead, isBehind, someBehind, isUnsettled, revised, unchanged, change}
+use Rattle.construction.specs.Changes.{changeRead, hasRead, isBehind, someBehind, isUnsettled, unchanged, change}
 use Rattle.construction.specs.History.{Entry, Replacement, textAt}
 use Rattle.construction.specs.Texts.{Switches, RunsItsText}
 use Rattle.construction.proofs.Basics.{clash, and-true}
-use Rattle.construction.proofs.Invariant.Changing.{settled-gate, settled-read, text-before}
+use Rattle.construction.proofs.Invariant.Changing.{settled-gate, settled-read, text-before, revised-same, revised-other, later-holds}
 use Rattle.construction.proofs.Observing.Entries.{on-change}
 use Rattle.construction.proofs.Observing.Runs.{opened-consistent}
 
@@ -54,7 +52,7 @@ module _ (c : Card) (k from : ℕ) (t : List ℕ) where
   pub change-taken :
       isProgram c k ≡ true → changeRead (contentsOf c) t .verdict ≡ Verdict.Accepted → c .gate .seq < from → isUnsettled c k ≡ false →
       change c k from t
-      ≡ record { card = withRevision c k (revised (revisionOf (c .revisions) k) from (changeRead (contentsOf c) t .program)); answer = Answer.Taken }
+      ≡ record { card = withRevision c k from (changeRead (contentsOf c) t .program); answer = Answer.Taken }
   unfolding change
   change-taken p v l u = rw (p, v, lt-ltb _ _ l, u)
 
@@ -69,8 +67,8 @@ unfolding changeRead
 change-too-long x t l = rw (lt-ltb 16384 (length t) l)
 
 -- refusal 16: 'the last change of that sheet lies above the gate's number ..
-pub unsettled-gate : (c : Card) (k : ℕ) → c .gate .seq < revisionOf (c .revisions) k .from → isUnsettled c k ≡ true
-unsettled-gate c k l = rw (lt-ltb (c .gate .seq) (revisionOf (c .revisions) k .from) l)
+pub unsettled-gate : (c : Card) (k : ℕ) → c .gate .seq < getD (c .from) k 0 → isUnsettled c k ≡ true
+unsettled-gate c k l = rw (lt-ltb (c .gate .seq) (getD (c .from) k 0) l)
 
 -- .. or some operation under way last read a gate number below it'; and it means no more (`settled-gate`, `settled-read`)
 or-second : (a : Bool) {b : Bool} → b ≡ true → a || b ≡ true
@@ -86,30 +84,26 @@ behind-some tasks gates p number (suc n) i l e =
     ⊎-elim (λ (z : i ≡ n). rw (← z, e)) (λ z. or-second (ltb n p && isBehind (getD tasks n idleTask .place) (getD gates n noGate) number) (behind-some tasks gates p number n i z e)) (eq-or-lt-of-le (omega arith))
 
 pub unsettled-read :
-    (c : Card) (k i : ℕ) → isProcess c i ≡ true → hasRead (localAt c i .task .place) ≡ true → localAt c i .gate .seq < revisionOf (c .revisions) k .from →
+    (c : Card) (k i : ℕ) → isProcess c i ≡ true → hasRead (localAt c i .task .place) ≡ true → localAt c i .gate .seq < getD (c .from) k 0 →
     isUnsettled c k ≡ true
 unsettled-read c k i p e h =
     let z = and-true (ltb i (c .processCount)) _ p in
-    or-second (ltb (c .gate .seq) (revisionOf (c .revisions) k .from))
-    (behind-some (c .tasks) (c .gates) (c .processCount) (revisionOf (c .revisions) k .from) 8 i (ltb-true i 8 (z .1)) (rw (z .0, e, lt-ltb _ _ h)))
+    or-second (ltb (c .gate .seq) (getD (c .from) k 0))
+    (behind-some (c .tasks) (c .gates) (c .processCount) (getD (c .from) k 0) 8 i (ltb-true i 8 (z .1)) (rw (z .0, e, lt-ltb _ _ h)))
 
 -- a taken change of a card that has the place of program k
 pub switches :
-    (c : Card) (k from : ℕ) (y : Program) → k < length (c .revisions) → isUnsettled c k ≡ false →
-    Switches c (withRevision c k (revised (revisionOf (c .revisions) k) from y)) k from y
-unfolding programOf
-switches c k from y few u =
-    let r = revisionOf (c .revisions) k in
-    let here : revisionOf (set (c .revisions) k (revised r from y)) k ≡ revised r from y =
-    getD-set-same (c .revisions) k (revised r from y) (unrevised noProgram) few in
-    let old : (number : ℕ) → r .from ≤ number → number < from →
-    programOf (set (c .revisions) k (revised r from y)) k number ≡ programOf (c .revisions) k number =
-    λ number h l. rw (here, lt-ltb number from l, le-ltb number (r .from) h) in
+    (c : Card) (k from : ℕ) (y : Program) → (length (c .from) ≡ 8) × (length (c .earlier) ≡ 8) × (length (c .later) ≡ 8) → k < 8 → isUnsettled c k ≡ false →
+    Switches c (withRevision c k from y) k from y
+switches c k from y many few u =
+    let old : (number : ℕ) → getD (c .from) k 0 ≤ number → number < from →
+    programOf (textsOf (withRevision c k from y)) k number ≡ programOf (textsOf c) k number =
+    λ number h l. rw (revised-same c k from y many few number, lt-ltb number from l) (sym (later-holds c k number h)) in
     record {
-      later = λ number h. rw (here, le-ltb number from h);
+      later = λ number h. rw (revised-same c k from y many few number, le-ltb number from h);
       earlier = λ number h l. old number (omega (arith, settled-gate c k u)) l;
       helping = λ i p e l. old (localAt c i .gate .seq) (settled-read c k u i p e) l;
-      others = λ j number ne. rw (getD-set-other (c .revisions) k j (revised r from y) (unrevised noProgram) ne);
+      others = λ j number ne. revised-other c k from y j number ne;
     }
 
 -- what the bench runs after it was told of a change: from its number on the new text, before it and of other programs what it ran

@@ -13,7 +13,7 @@ use borrow.Author.Tests.{le-ltb}
 use Rattle.construction.specs.Types.{Gate, Words, Announcement, Record, Program, Dictionary, Simulation, Place, P5, H21, Access, Task, Helped, Card, Answered}
 use Rattle.construction.specs.Dictionary.{empty, noted, find, has, itemOf}
 use Rattle.construction.specs.Marks.{Marks}
-use Rattle.construction.specs.Parts.{Local, localAt, announcementAt, programOf}
+use Rattle.construction.specs.Parts.{Local, localAt, announcementAt, textsOf, programOf}
 use Rattle.construction.specs.Machine.{accessOf, accessIn, holderOf, beginHelp, note, perform, advance}
 use Rattle.construction.specs.Tracing.{labelOf, isNoting, reportOf, TellsNoted}
 use Rattle.construction.specs.Opening.{fresh, opened}
@@ -108,7 +108,7 @@ module _ (c : Card) (Z : Sizes c) (j : ℕ) (lt : j < 8) (H : AllMarked c) where
   access-marked Access.Help q i =
       let l = localAt c j in
       let cell = announcementAt c (holderOf (l .gate .holder)) in
-      let program = programOf (c .revisions) (cell .program) (l .gate .seq) in
+      let program = programOf (textsOf c) (cell .program) (l .gate .seq) in
       put-marked i _ _ (begun (beginHelp (c .variableCount) program cell (l .gate .seq) (l .task) (l .simulation) .helps))
     where
       begun : (b : Bool) → Marks (cond b 0 (localAt c j .mask)) (cond b empty (localAt c j .dictionary))

@@ -8,7 +8,7 @@ use native.Mathlib.Decide.{decLt}
 use lib.ListN.{length, getD, set, length-set}
 use lib.Seq.{set-out, getD-set-same, getD-set-other}
 use Rattle.construction.specs.Types.{Gate, Announcement, Record, Access, Cell, Card}
-use Rattle.construction.specs.Parts.{Local, localAt, contentsOf, announcementAt, recordAt, withGate, withAnnouncement, withRecord, withLocal, withSteps, scriptOf}
+use Rattle.construction.specs.Parts.{Local, localAt, contentsOf, announcementAt, recordAt, withGate, withAnnouncement, withRecord, withLocal, withSteps, textsOf}
 use Rattle.construction.specs.Machine.{whose, holderOf, writtenVariable, accessIn, cellOf, stepGate, stepAnnouncement, stepHelp, stepNote, stepWrite, AccessedCard, Accessed, after, perform, advance, swapOf}
 use Rattle.construction.specs.Requests.{answerOf}
 use Rattle.construction.specs.OneAccess.{touchedCell, Same, SameIn, SameLocal, SameText, OneAccess}
@@ -88,7 +88,7 @@ module _ (c d : Card) (i : ℕ) (T : SameText c d) (S : SameLocal i c d) where
       (put (ap (λ (y : Accessed Gate). y .local) x), ap (λ (y : Accessed Gate). y .cell) x, ap (λ (y : Accessed Gate). y .swap) x)
   access-alike (Access.Announcement a) n =
       let m : whose a (c .processCount) i (localAt c i .gate) ≡ whose a (d .processCount) i (localAt d i .gate) =
-      λ k. whose a (T k .contents .processCount) i (local-is k .gate) in
+      λ k. whose a (T .0 k .processCount) i (local-is k .gate) in
       let e = n .elements ∙ ap (announcementAt d) m in
       let x :
       stepAnnouncement a (whose a (c .processCount) i (localAt c i .gate)) (announcementAt c (whose a (c .processCount) i (localAt c i .gate))) (localAt c i)
@@ -99,17 +99,17 @@ module _ (c d : Card) (i : ℕ) (T : SameText c d) (S : SameLocal i c d) where
       let m : holderOf (localAt c i .gate .holder) ≡ holderOf (localAt d i .gate .holder) = ap (λ (l : Local). holderOf (l .gate .holder)) local-is in
       let e = n .elements ∙ ap (announcementAt d) m in
       let x :
-      stepHelp (scriptOf c) (announcementAt c (holderOf (localAt c i .gate .holder))) (localAt c i)
-      ≡ stepHelp (scriptOf d) (announcementAt d (holderOf (localAt d i .gate .holder))) (localAt d i) =
-      λ k. stepHelp (T k) (e k) (local-is k) in
+      stepHelp (c .variableCount) (textsOf c) (announcementAt c (holderOf (localAt c i .gate .holder))) (localAt c i)
+      ≡ stepHelp (d .variableCount) (textsOf d) (announcementAt d (holderOf (localAt d i .gate .holder))) (localAt d i) =
+      λ k. stepHelp (T .0 k .variableCount) (T .1 k) (e k) (local-is k) in
       (put (ap (λ (y : Accessed Announcement). y .local) x), stored-at m (ap (λ (y : Accessed Announcement). y .cell) x) n, refl)
   access-alike Access.Note n =
       let m : localAt c i .task .target ≡ localAt d i .task .target = ap (λ (l : Local). l .task .target) local-is in
       let e = n .elements ∙ ap (recordAt d) m in
       let x :
-      stepNote (scriptOf c) (recordAt c (localAt c i .task .target)) (localAt c i)
-      ≡ stepNote (scriptOf d) (recordAt d (localAt d i .task .target)) (localAt d i) =
-      λ k. stepNote (T k) (e k) (local-is k) in
+      stepNote (c .variableCount) (textsOf c) (recordAt c (localAt c i .task .target)) (localAt c i)
+      ≡ stepNote (d .variableCount) (textsOf d) (recordAt d (localAt d i .task .target)) (localAt d i) =
+      λ k. stepNote (T .0 k .variableCount) (T .1 k) (e k) (local-is k) in
       (put (ap (λ (y : Accessed Record). y .local) x), stored-at m (ap (λ (y : Accessed Record). y .cell) x) n, refl)
   access-alike Access.Write n =
       let m : writtenVariable (localAt c i) ≡ writtenVariable (localAt d i) = ap writtenVariable local-is in
@@ -166,12 +166,12 @@ Kept c i x e = ((y : Cell) → y ≢ x → SameIn y c e) × ((j : ℕ) → j ≢
 
 access-keeps : (c : Card) (i : ℕ) (a : Access) → Kept c i (cellOf a (contentsOf c) i (localAt c i)) (perform a c i .card)
 unfolding perform
-access-keeps c i Access.None = (λ y _. none-kept c i _ y, λ j n. other-kept c i j _ n, refl)
-access-keeps c i (Access.Gate a) = (λ y n. gate-kept c i _ y _ n, λ j n. other-kept c i j _ n, refl)
-access-keeps c i (Access.Announcement a) = (λ y n. announcement-kept c i _ y _ _ n, λ j n. other-kept c i j _ n, refl)
-access-keeps c i Access.Help = (λ y n. announcement-kept c i _ y _ _ n, λ j n. other-kept c i j _ n, refl)
-access-keeps c i Access.Note = (λ y n. record-kept c i _ y _ _ n, λ j n. other-kept c i j _ n, refl)
-access-keeps c i Access.Write = (λ y n. record-kept c i _ y _ _ n, λ j n. other-kept c i j _ n, refl)
+access-keeps c i Access.None = (λ y _. none-kept c i _ y, λ j n. other-kept c i j _ n, (refl, refl))
+access-keeps c i (Access.Gate a) = (λ y n. gate-kept c i _ y _ n, λ j n. other-kept c i j _ n, (refl, refl))
+access-keeps c i (Access.Announcement a) = (λ y n. announcement-kept c i _ y _ _ n, λ j n. other-kept c i j _ n, (refl, refl))
+access-keeps c i Access.Help = (λ y n. announcement-kept c i _ y _ _ n, λ j n. other-kept c i j _ n, (refl, refl))
+access-keeps c i Access.Note = (λ y n. record-kept c i _ y _ _ n, λ j n. other-kept c i j _ n, (refl, refl))
+access-keeps c i Access.Write = (λ y n. record-kept c i _ y _ _ n, λ j n. other-kept c i j _ n, (refl, refl))
 
 -- the count of accepted steps is no cell
 steps-alike : (x : Cell) (c d : Card) (k n : ℕ) → SameIn x c d → SameIn x (withSteps c k) (withSteps d n)
@@ -183,7 +183,7 @@ steps-alike (Cell.Record v) c d k n s = s
 pub one-access : (c : Card) (i : ℕ) → OneAccess c i
 unfolding advance swapOf
 one-access c i = record {
-  chosen = λ d T S. let l = local-is c d i T S in λ k. cellOf (accessIn (l k)) (T k .contents) i (l k);
+  chosen = λ d T S. let l = local-is c d i T S in λ k. cellOf (accessIn (l k)) (T .0 k) i (l k);
   depends = λ d T S n.
       let s = alike d T S n in
       (s .0, steps-alike (touchedCell c i) _ _ _ _ (s .1), s .2, ap answerOf (local-is (advance c i) (advance d i) i (text d T) (s .0)));
@@ -195,7 +195,9 @@ one-access c i = record {
   where
     text : (d : Card) → SameText c d → SameText (advance c i) (advance d i)
     text d T =
-        sym (access-keeps c i (accessIn (localAt c i)) .2) ∙ T ∙ access-keeps d i (accessIn (localAt d i)) .2
+        let x = access-keeps c i (accessIn (localAt c i)) .2 in
+        let y = access-keeps d i (accessIn (localAt d i)) .2 in
+        (sym (x .0) ∙ T .0 ∙ y .0, sym (x .1) ∙ T .1 ∙ y .1)
 
     alike :
         (d : Card) (T : SameText c d) (S : SameLocal i c d) → SameIn (touchedCell c i) c d →

@@ -14,7 +14,7 @@ use Rattle.construction.specs.Cells.{isDone, sameHolder, swapGate, swapA
 use Rattle.construction.specs.Instructions.{started}
 use Rattle.construction.specs.Dictionary.{empty, noted, insert, itemOf, nextWrite}
 use Rattle.construction.specs.Helping.{simulate}
-use Rattle.construction.specs.Parts.{idleTask, Local, localAt, contentsOf, announcementAt, recordAt, withLocal, scriptOf}
+use Rattle.construction.specs.Parts.{idleTask, Local, localAt, contentsOf, announcementAt, recordAt, withLocal, textsOf}
 use Rattle.construction.specs.Machine.{accessOf, accessGate, accessAnnouncement, byHolder, byFlag, holderOf, firstChoice, outcome, helps, afterPause, writeFrom, beginHelp, note, writing, writtenVariable, whose, cellOf, after, stepGate, stepAnnouncement, stepHelp, stepNote, stepWrite, perform, advance, swapOf}
 use Rattle.construction.specs.Requests.{isIdle, isBusy, invoked, exiting, returned, answerOf}
 use Rattle.construction.specs.Answers.{isRefused}
@@ -155,8 +155,8 @@ module _ (c : Card) (i : ℕ) (Z : Sizes c) (lt : i < 8) where
   leaves (Access.Announcement a) =
       let m = whose a (c .processCount) i (own .gate) in
       stepAnnouncement a m (announcementAt c m) own .local
-  leaves Access.Help = stepHelp (scriptOf c) (announcementAt c (holderOf (own .gate .holder))) own .local
-  leaves Access.Note = stepNote (scriptOf c) (recordAt c (own .task .target)) own .local
+  leaves Access.Help = stepHelp (c .variableCount) (textsOf c) (announcementAt c (holderOf (own .gate .holder))) own .local
+  leaves Access.Note = stepNote (c .variableCount) (textsOf c) (recordAt c (own .task .target)) own .local
   leaves Access.Write = stepWrite (recordAt c (writtenVariable own)) own .local
 
   left-is : (a : Access) → localAt (perform a c i .card) i ≡ leaves a

@@ -8,7 +8,7 @@ use native.Mathlib.Omega.{arith}
 use native.Mathlib.Decide.{ℕ-discrete}
 use lib.ListN.{getD}
 use borrow.Author.Tests.{not-true}
-use Rattle.construction.specs.Types.{Gate, Active, Words, Announcement, Place, Task, Card, Contents, Revision}
+use Rattle.construction.specs.Types.{Gate, Active, Words, Announcement, Place, Task, Card, Contents, Program}
 use Rattle.construction.specs.Cells.{openAnnouncement}
 use Rattle.construction.specs.Parts.{idleTask, Local, localAt, contentsOf, announcementAt, withLocal, withRevision}
 use Rattle.construction.specs.Machine.{accessIn, advance}
@@ -225,8 +225,8 @@ wait-fresh x j lj = record {
 }
 
 -- a change of a program: no course speaks of it
-pub wait-change : {F : Contents} {c : Card} (k : ℕ) (r : Revision) → AllWait F c → AllWait F (withRevision c k r)
-wait-change k r W j l =
+pub wait-change : {F : Contents} {c : Card} (k from : ℕ) (y : Program) → AllWait F c → AllWait F (withRevision c k from y)
+wait-change k from y W j l =
     let X = W j l in
     record {
       tally = X .tally;

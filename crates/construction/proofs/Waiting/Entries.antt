@@ -29,7 +29,7 @@ module _ (o : Card) (m : Observation) (O : Consistent o m) (W : AllWait (content
   by-outcome (Outcome.stepped i x lt b h) = wait-step (O .inv) here lt b h
   by-outcome (Outcome.shown v x) = here
   by-outcome (Outcome.unaltered k from t why line) = here
-  by-outcome (Outcome.altered k from t p a l u) = wait-change k _ here
+  by-outcome (Outcome.altered k from t p a l u) = wait-change k from _ here
 
   entry-waits : (e : Entry) → AllWait (contentsOf o) (act c e .card)
   entry-waits e = subst (λ (x : Contents). AllWait x (act c e .card)) (O .text) (by-outcome (outcome c e))

@@ -13,7 +13,7 @@ use Rattle.construction.specs.Instructions.{started}
 use Rattle.construction.specs.Dictionary.{empty, noted, nextWrite, itemOf, insert}
 use Rattle.construction.specs.Marks.{withBit}
 use Rattle.construction.specs.Helping.{simulate}
-use Rattle.construction.specs.Parts.{Local, localAt, contentsOf, announcementAt, recordAt, programOf, withAnnouncement, withRecord, withLocal}
+use Rattle.construction.specs.Parts.{Local, localAt, contentsOf, announcementAt, recordAt, textsOf, programOf, withAnnouncement, withRecord, withLocal}
 use Rattle.construction.specs.Machine.{goTo, holderOf, writeFrom, afterPause, helps, beginHelp, note, writing, after, perform}
 use Rattle.construction.specs.Weight.{cardWeight}
 use Rattle.construction.proofs.Basics.{on-test}
@@ -61,7 +61,7 @@ module _ {c : Card} {w : World} {i : ℕ} (B : Before c w i) (small : localAt c 
   at-P16 q =
       let a : Announcement = announcementAt c m in
       let l : List Announcement = set (c .announcements) m a in
-      let z : Simulated = simulate (c .variableCount) (programOf (c .revisions) (a .program) s) (a .words) started empty in
+      let z : Simulated = simulate (c .variableCount) (programOf (textsOf c) (a .program) s) (a .words) started empty in
       Went.went x refl refl refl
       (on-test (λ (b : Began). CourseIn c i x (helping b)) (helps (announcementAt c m) s)
       (λ _. put-course B (c .gate) l (c .records) (on (afterPause s (z .dictionary) (z .pause)) a (z .simulation) empty 0) x
@@ -81,7 +81,7 @@ module _ {c : Card} {w : World} {i : ℕ} (B : Before c w i) (small : localAt c 
   unfolding perform note
   at-H21 k q =
       let a : Announcement = localAt c i .announcement in
-      let program : Program = programOf (c .revisions) (a .program) s in
+      let program : Program = programOf (textsOf c) (a .program) s in
       let r : List Record = set (c .records) v (recordAt c v) in
       let d : Dictionary = insert (localAt c i .dictionary) (itemOf s v (recordAt c v)) in
       let z : Simulated = simulate (c .variableCount) program (a .words) (localAt c i .simulation) d in

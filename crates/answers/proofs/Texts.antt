@@ -10,8 +10,8 @@ use borrow.Author.Tests.{ltb-true, ltb-false}
 use Rattle.grammar.specs.Writing.{decimal, largest, Put}
 use Rattle.grammar.proofs.Decimals.{decimal-one, decimal-more}
 use Rattle.grammar.proofs.Puts.{Room, rest-all, rest-step, rest-last, put-both}
-use Rattle.construction.specs.declared.{Words.Words, Yield.Yield, Refusal.Refusal, Answer.Answer, Verdict.Verdict}
-use Rattle.construction.specs.Answers.{bytes, numberOf, refusedWith, wordText, doneWord, outputNumbers, answerFields, verdictFields, numbersText, fieldsText}
+use Rattle.construction.specs.declared.{Words.Words, Yield.Yield, Answer.Answer}
+use Rattle.construction.specs.Answers.{bytes, fields, refusedWith, wordText, doneWord, outputNumbers, answerFields, numbersText, fieldsText}
 
 -- ---- how long a number is: below `tens k` it has at most k + 1 digits
 abbrev tens : ℕ → ℕ
@@ -116,12 +116,12 @@ module _ {b : List ℕ} {at i₁ i₂ i₃ j : ℕ} {y₁ y₂ y₃ z : List ℕ
           ∙ ap (λ (l : List ℕ). 44 ∷ (decimal n ++ l)) (last-number (y .outputs) k)
 
 -- `refused`, its number and a line
-module _ {b : List ℕ} {at i j : ℕ} {y z : List ℕ} (r : Refusal) (line : ℕ) where
+module _ {b : List ℕ} {at i j : ℕ} {y z : List ℕ} (number line : ℕ) where
   pub put-refused-at :
-      Room b at → PutWithin b at (fieldsText (refusedWith (numberOf r))) i y 29 → PutWithin y i (44 ∷ decimal line) j z 21 →
-      PutWithin b at (fieldsText (verdictFields (Verdict.Refused r line))) j z 50
-  unfolding fieldsText verdictFields numbersText
+      Room b at → PutWithin b at (fieldsText (refusedWith number)) i y 29 → PutWithin y i (44 ∷ decimal line) j z 21 →
+      PutWithin b at (fieldsText (fields "refused" (number ∷ line ∷ []))) j z 50
+  unfolding fieldsText numbersText
   put-refused-at h p q =
       let l = p .1 in
       let m = q .1 in
-      (rw (append-nil (decimal line)) (put-both h (rw (append-nil (decimal (numberOf r))) at (p .0)) (q .0)), omega arith)
+      (rw (append-nil (decimal line)) (put-both h (rw (append-nil (decimal number)) at (p .0)) (q .0)), omega arith)

@@ -17,6 +17,10 @@ pub fn is_run(answer: Answer) -> bool
         Answer::Exited { steps: _ } => false,
         Answer::Value(_) => false,
         Answer::Refused(_) => false,
+        Answer::RefusedAt {
+            refusal: _,
+            line: _,
+        } => false,
     }
 }
 
@@ -34,5 +38,9 @@ pub fn is_refused(answer: Answer) -> bool
         Answer::Exited { steps: _ } => false,
         Answer::Value(_) => false,
         Answer::Refused(_) => true,
+        Answer::RefusedAt {
+            refusal: _,
+            line: _,
+        } => true,
     }
 }

@@ -14,12 +14,12 @@ use construction::Yield;
 use grammar::writing::put_decimal;
 use grammar::writing::put_word;
 ghost use mathlib.Core.Path.{_≡_};
-ghost use mathlib.Core.List.{_++_};
+ghost use mathlib.Core.List.{_++_, _∷_, []};
 ghost use Prim.Native.Nat.{_+_, _≤_};
 ghost use lib.ListN.{length};
 ghost use Rattle.grammar.specs.Writing.{decimal, Put};
 ghost use Rattle.construction.specs.declared.Answer.{Answer as AnswerOf};
-ghost use Rattle.construction.specs.Answers.{numberOf, refusedWith, bytes, wordText, doneWord, outputNumbers, answerFields, verdictFields, writtenFields, rowFields, numbersText, fieldsText};
+ghost use Rattle.construction.specs.Answers.{numberOf, refusedWith, fields, bytes, wordText, doneWord, outputNumbers, answerFields, verdictFields, writtenFields, rowFields, numbersText, fieldsText};
 
 // The number of a refusal.
 pub fn number_of(refusal: Refusal) -> u64
@@ -40,6 +40,8 @@ pub fn number_of(refusal: Refusal) -> u64
         Refusal::OperandOutOfRange => 12,
         Refusal::UnusedOperand => 13,
         Refusal::TooHeavy => 14,
+        Refusal::NotAhead => 15,
+        Refusal::Unsettled => 16,
     }
 }
 
@@ -89,7 +91,15 @@ fn put_done(buffer: &mut [u8], at: usize, number: u64, yields: Yield, steps: u64
     put_number(buffer, k, b",", steps)
 }
 
-// The answer to a call, an exit request, a step or a read.
+// `refused`, the number and a line.
+fn put_refused_at(buffer: &mut [u8], at: usize, refusal: Refusal, line: u64) -> usize
+    ensures { λ r. ⌜ Put (now (buffer .entry)) at (fieldsText (fields "refused" (numberOf refusal ∷ line ∷ []))) r (now (buffer .exit)) × (r ≤ at + 50) ⌝ }
+{
+    let next = put_refusal(buffer, at, refusal);
+    put_number(buffer, next, b",", line)
+}
+
+// The answer to a call, an exit request, a step, a read or a change.
 pub fn put_answer(buffer: &mut [u8], at: usize, answer: Answer) -> usize
     ensures { λ r. ⌜ Put (now (buffer .entry)) at (fieldsText (answerFields answer)) r (now (buffer .exit)) × (r ≤ at + 132) ⌝ }
 {
@@ -104,6 +114,7 @@ pub fn put_answer(buffer: &mut [u8], at: usize, answer: Answer) -> usize
         Answer::Exited { steps } => put_number(buffer, at, b",exited,", steps),
         Answer::Value(x) => put_number(buffer, at, b",", x as u64),
         Answer::Refused(refusal) => put_refusal(buffer, at, refusal),
+        Answer::RefusedAt { refusal, line } => put_refused_at(buffer, at, refusal, line),
     }
 }
 
@@ -113,10 +124,7 @@ pub fn put_verdict(buffer: &mut [u8], at: usize, verdict: Verdict) -> usize
 {
     match verdict {
         Verdict::Accepted => put_word(buffer, at, b",accepted"),
-        Verdict::Refused { refusal, line } => {
-            let next = put_refusal(buffer, at, refusal);
-            put_number(buffer, next, b",", line)
-        }
+        Verdict::Refused { refusal, line } => put_refused_at(buffer, at, refusal, line),
     }
 }
 

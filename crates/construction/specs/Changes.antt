@@ -19,11 +19,14 @@ abbrev pub programThenEnd : List ℕ → ProgramReading → ProgramReading
 programThenEnd t r =
     ifProgramAccepted (r .verdict) r (cond (eqb (r .at) (length t)) r (programRefusedAt Malformed (r .line)))
 
--- 'the text is judged as in a card, and 14 is also a text that counts more than the card's w, which stays that of the opening text whatever is changed'
+-- the text of one program and nothing after it, by the number of variables and the greatest weight: 'the text is judged as in a card'
+abbrev pub programText : ℕ → ℕ → List ℕ → ProgramReading
+programText n most t =
+    cond (ltb 16384 (length t)) (programRefusedAt TooLong 0) (programThenEnd t (readProgram n most t 0 1))
+
+-- 'and 14 is also a text that counts more than the card's w, which stays that of the opening text whatever is changed'
 unfoldable pub changeRead : Contents → List ℕ → ProgramReading
-changeRead x t =
-    cond (ltb 16384 (length t)) (programRefusedAt TooLong 0)
-    (programThenEnd t (readProgram (x .variableCount) (min 32 (cardWeight x)) t 0 1))
+changeRead x t = programText (x .variableCount) (min 32 (cardWeight x)) t
 
 -- an operation under way that has read a gate number: it is past P1, also where it has not announced itself yet (P3), or is done and has not returned
 abbrev pub hasRead : Place → Bool

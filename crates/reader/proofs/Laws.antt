@@ -10,6 +10,7 @@ use Rattle.construction.specs.declared.Refusal.the-variants.{Malformed, TooHeav
 use Rattle.construction.specs.Weight.{weight}
 use Rattle.construction.specs.Lines.{varLine, sheetLine, insLine}
 use Rattle.construction.specs.Opening.{refusedAt, programRefusedAt, weighed, withLine, insFrom, readProgram, programsFrom, withStart, varsFrom, ifAccepted, atEnd, thenEnd, thenPrograms}
+use Rattle.construction.specs.Changes.{programThenEnd}
 use Rattle.construction.proofs.Text.Lines.{sheet-read}
 use Rattle.construction.proofs.Text.Reading.{afterLength, on-ins, on-sheet, on-weighed, on-var}
 
@@ -25,11 +26,11 @@ ins-line n t (suc m) k r =
     on-ins (λ x. x .line ≤ r .line + suc m) (insLine n t (r .at)) r k (λ x. insFrom n t m (suc k) x)
     (λ y i _. omega (arith, ins-line n t m (suc k) (withLine r k y i))) (λ why. omega arith)
 
-pub program-line : (n : ℕ) (t : List ℕ) (at line : ℕ) → readProgram n t at line .line ≤ line + 33
+pub program-line : (n most : ℕ) (t : List ℕ) (at line : ℕ) → readProgram n most t at line .line ≤ line + 33
 unfolding readProgram
-program-line n t at line =
-    on-sheet (λ x. x .line ≤ line + 33) n t (sheetLine t at) line
-    (λ m i e. on-weighed (λ x. x .line ≤ line + 33) (line + m) (insFrom n t m 0 (afterLength m i (suc line)))
+program-line n most t at line =
+    on-sheet (λ x. x .line ≤ line + 33) n most t (sheetLine t at) line
+    (λ m i e. on-weighed (λ x. x .line ≤ line + 33) most (line + m) (insFrom n t m 0 (afterLength m i (suc line)))
     (λ _. omega (arith, ins-line n t m 0 (afterLength m i (suc line)), sheet-read t at m i e .fits)) (omega (arith, sheet-read t at m i e .fits)))
     (λ why. omega arith)
 
@@ -41,12 +42,12 @@ vars-line t (suc m) k r =
     (λ v i _. omega (arith, vars-line t m (suc k) (withStart r k v i))) (λ why. omega arith)
 
 -- ---- a program by its weight
-module _ (last : ℕ) (r : ProgramReading) {v : Verdict} (e : v ≡ r .verdict) (p : v ≡ Verdict.Accepted) {w : ℕ} (q : w ≡ weight (r .program)) where
-  pub weighed-heavy : 32 < w → programRefusedAt TooHeavy last ≡ weighed last r
-  weighed-heavy h = sym (rw (← e, p, ← q, lt-ltb 32 w h))
+module _ (most last : ℕ) (r : ProgramReading) {v : Verdict} (e : v ≡ r .verdict) (p : v ≡ Verdict.Accepted) {w : ℕ} (q : w ≡ weight (r .program)) where
+  pub weighed-heavy : most < w → programRefusedAt TooHeavy last ≡ weighed most last r
+  weighed-heavy h = sym (rw (← e, p, ← q, lt-ltb most w h))
 
-  pub weighed-light : w ≤ 32 → r ≡ weighed last r
-  weighed-light h = sym (rw (← e, p, ← q, le-ltb 32 w h))
+  pub weighed-light : w ≤ most → r ≡ weighed most last r
+  weighed-light h = sym (rw (← e, p, ← q, le-ltb most w h))
 
 -- ---- what follows the first line
 module _ {v : Verdict} (r : Reading) (go : Reading → Reading) where
@@ -81,3 +82,11 @@ module _ (t : List ℕ) (s : ℕ) (a : Reading) where
 
       pub body-left : (b .at ≡ length t → ⊥) → refusedAt Malformed (b .line) ≡ thenEnd t (thenPrograms t s a)
       body-left z = sym (rw (ne-eqb (b .at) (length t) z)) ∙ ended
+
+-- ---- the end of a change's text
+module _ (t : List ℕ) (r : ProgramReading) (p : r .verdict ≡ Verdict.Accepted) where
+  pub change-whole : r .at ≡ length t → r ≡ programThenEnd t r
+  change-whole z = sym (rw (p, eq-eqb (r .at) (length t) z))
+
+  pub change-left : (r .at ≡ length t → ⊥) → programRefusedAt Malformed (r .line) ≡ programThenEnd t r
+  change-left z = sym (rw (p, ne-eqb (r .at) (length t) z))

@@ -1,5 +1,7 @@
 // The reader of a card text (document 01, "The card text" and "Turned back"): the text is judged by its length, then line by line,
-// and the card is made once, at the end. It rests on the crates lines, opening and construction.
+// and the card is made once, at the end. The text of a change (document 02, order 11) is read by the same functions. It rests on the crates lines,
+// opening, programs and construction.
+pub mod changes; // changes.rt: the text of a change
 mod refusals; // refusals.rt: refused readings, and the refusal of a line
 
 use crate::refusals::card_refusal;
@@ -85,32 +87,38 @@ fn read_lines(
     }
 }
 
-// A program that counts more than 32 is refused at its last line.
-fn weigh(read: ProgramReading, last: u64) -> ProgramReading
-    ensures { λ r. ⌜ r ≡ weighed last read ⌝ }
+// A program that counts more than `most`, which is 32 in a card, is refused at its last line.
+fn weigh(most: u8, read: ProgramReading, last: u64) -> ProgramReading
+    ensures { λ r. ⌜ r ≡ weighed most last read ⌝ }
 {
     let verdict = read.verdict;
     let Verdict::Accepted = verdict else {
         return read;
     };
     let program = read.program;
-    if 32 < weight(program) {
+    if most < weight(program) {
         return program_refused_at(Refusal::TooHeavy, last);
     }
     read
 }
 
 // One program: its `sheet` line and its lines.
-fn read_program(variableCount: u8, text: &[u8], at: usize, number: u64) -> ProgramReading
+pub(crate) fn read_program(
+    variableCount: u8,
+    most: u8,
+    text: &[u8],
+    at: usize,
+    number: u64,
+) -> ProgramReading
     requires { ⌜ number ≤ 9000 ⌝ }
-    ensures { λ r. ⌜ r ≡ readProgram variableCount (now (text .entry)) at number ⌝ }
+    ensures { λ r. ⌜ r ≡ readProgram variableCount most (now (text .entry)) at number ⌝ }
 {
     let line = lines::sheet_line(text, at);
     let SheetLine::Length { length, next } = line else {
         return program_refused_at(sheet_refusal(line), number);
     };
     let read = read_lines(variableCount, text, length, next, number + 1);
-    weigh(read, number + length as u64)
+    weigh(most, read, number + length as u64)
 }
 
 // The programs, as many as the `card` line says.
@@ -125,7 +133,7 @@ fn read_programs(text: &[u8], count: u8, contents: Contents, start: usize, first
     let all = count as usize;
     let mut k: usize = 0;
     while k < all {
-        let read = read_program(variableCount, text, at, number);
+        let read = read_program(variableCount, 32, text, at, number);
         let verdict = read.verdict;
         if let Verdict::Refused { refusal, line } = verdict {
             return refused_at(refusal, line);

@@ -29,6 +29,10 @@ returns-6 : tie.Need-returns-6
 unfolding answerFields
 returns-6 c = laws.put-as-within 132 (c .before .before .put-refusal .ensures) (omega arith) (rw ((c .before .before .before .before .before .answer4 .given .1)))
 
+returns-7 : tie.Need-returns-7
+unfolding answerFields
+returns-7 c = laws.put-as-within 132 (c .before .before .put-refused-at .ensures) (omega arith) (rw ((c .before .before .before .before .before .answer5 .given .1)))
+
 pub put-answer-spec : {M : Type 1} → statement M
 put-answer-spec =
     tie.close
@@ -51,6 +55,8 @@ put-answer-spec =
     (λ c. search needs)
     (λ c κs. search needs)
     (λ c. search needs)
+    (λ c κs. search needs)
+    (λ c. search needs)
     returns
     (λ c. search needs)
     returns-2
@@ -61,4 +67,6 @@ put-answer-spec =
     (λ c. search needs)
     returns-5
     (λ c. search needs)
-    returns-6)
+    returns-6
+    (λ c. search needs)
+    returns-7)

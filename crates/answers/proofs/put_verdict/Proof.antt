@@ -10,15 +10,14 @@ unfolding fieldsText verdictFields numbersText
 returns c = laws.put-as 50 (c .before .before .put-word .ensures) (omega arith) (rw ((c .before .before .before .before .before .enum-told .given .1)))
 
 returns-2 : tie.Need-returns-2
-returns-2 c = rw ((c .before .before .before .before .before .before .before .before .before .before .verdict .given .1)) (laws.put-refused-at _ _ (omega arith) (c .before .before .before .before .before .before .before .put-refusal .ensures) (c .before .before .put-number .ensures))
+unfolding verdictFields
+returns-2 c = rw ((c .before .before .before .before .before .verdict .given .1)) (c .before .before .put-refused-at .ensures)
 
 pub put-verdict-spec : {M : Type 1} → statement M
 put-verdict-spec =
     tie.close
     (tie.spec
     (λ c. search needs)
-    (λ c. search needs)
-    (λ c κs. search needs)
     (λ c. search needs)
     (λ c κs. search needs)
     (λ c. search needs)

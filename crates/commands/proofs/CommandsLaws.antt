@@ -2,9 +2,9 @@
 use mathlib.Core.Bool.{Bool, true, false, cond}
 use mathlib.Core.Path.{_≡_, refl, _∙_, ap}
 use mathlib.Core.List.{List, [], _∷_}
-use Prim.Native.Nat.{ℕ, zero, suc, _+_, _<_, _≤_}
+use Prim.Native.Nat.{ℕ, zero, suc, _+_, _-_, _<_, _≤_}
 use lib.Dec.{ltb, eqb}
-use lib.ListN.{length, drop, getD}
+use lib.ListN.{length, drop, getD, drop-of-length-le}
 use lib.Seq.{drop-cons}
 use native.Mathlib.Omega.{arith}
 use borrow.Author.Tests.{lt-ltb, le-ltb, ltb-true}
@@ -13,7 +13,7 @@ use Rattle.grammar.specs.Reading.{field, hasWord}
 use Rattle.grammar.proofs.Cases.{on-test}
 use Rattle.grammar.proofs.Fields.{field-within}
 use Rattle.commands.specs.declared.{Command.Command, Parsed.Parsed}
-use Rattle.commands.specs.Commands.{callWord, wishWord, stepWord, lookWord, traceWord, lineEnd, malformed, limited, word, withWord, callAt, numbered, command, commandsFrom, commands}
+use Rattle.commands.specs.Commands.{callWord, wishWord, stepWord, lookWord, traceWord, changeWord, lineEnd, linesEnd, malformed, limited, word, withWord, callAt, numbered, changeAt, command, commandsFrom, commands}
 
 -- ---- a command ends past its place
 end-past : (xs : List ℕ) (at : ℕ) → at ≤ lineEnd at xs
@@ -29,6 +29,28 @@ line-past t at h =
     rw (drop-cons t at 0 h)
     (on-test (λ (n : ℕ). at < n) (eqb (getD t at 0) 10) (λ e. omega arith) (λ e. let m = end-past (drop (suc at) t) (suc at) in omega arith))
 
+lines-past : (k at : ℕ) (t : List ℕ) → at ≤ linesEnd k at t
+unfolding linesEnd
+lines-past zero at t = omega arith
+lines-past (suc k) at t =
+    let h = end-past (drop at t) at in
+    let l = lines-past k (lineEnd at (drop at t)) t in
+    omega arith
+
+-- the lines of a text, counted down
+pub lines-none : (k at : ℕ) (t : List ℕ) → length t ≤ at → linesEnd k at t ≡ at
+unfolding lineEnd linesEnd
+lines-none zero at t h = refl
+lines-none (suc k) at t h = rw (drop-of-length-le t h) (lines-none k at t h)
+
+pub lines-step : (k at : ℕ) (t : List ℕ) → (k ≡ 0 → ⊥) → linesEnd k at t ≡ linesEnd (k - 1) (lineEnd at (drop at t)) t
+unfolding linesEnd
+lines-step zero at t h = absurd (h refl)
+lines-step (suc k) at t h = rw (let e : suc k - 1 ≡ k = omega arith in e)
+
+pub line-more : (t : List ℕ) (at : ℕ) → at < length t → length t - lineEnd at (drop at t) < length t - at
+line-more t at h = omega (arith, line-past t at h)
+
 on-word :
     (P : Parsed → Type 0) (t : List ℕ) {m : Parsed} → P m → (s at : ℕ) {go : ℕ → ℕ → Parsed} → ((v i : ℕ) → at < i → P (go v i)) →
     P (withWord (word t s at) m go)
@@ -41,7 +63,7 @@ on-word P t {m} p s at {go} f = by (field t s at) refl
     by Number.Malformed e = p
 
 pub command-past : (t : List ℕ) (at : ℕ) → at < length t → at < command t at .next
-unfolding command callAt
+unfolding command callAt changeAt
 command-past t at h =
     let P : Parsed → Type 0 = λ m. at < m .next in
     let l = line-past t at h in
@@ -56,7 +78,12 @@ command-past t at h =
     (λ _. on-test P (hasWord t at wishWord) (λ _. number Command.Exit)
     (λ _. on-test P (hasWord t at stepWord) (λ _. number Command.Step)
     (λ _. on-test P (hasWord t at lookWord) (λ _. number Command.Read)
-    (λ _. on-test P (hasWord t at traceWord) (λ _. on-word P t l 10 (at + 6) (λ v i g. omega arith)) (λ _. l)))))
+    (λ _. on-test P (hasWord t at traceWord) (λ _. on-word P t l 10 (at + 6) (λ v i g. omega arith))
+    (λ _. on-test P (hasWord t at changeWord)
+    (λ _. on-word P t l 44 (at + 7)
+    (λ _ i a. on-word P t l 44 i
+    (λ _ j b. on-word P t l 10 j
+    (λ count start d. omega (arith, lines-past count start t))))) (λ _. l))))))
 
 -- ---- the commands of a text: enough fuel is enough
 module _ (t : List ℕ) where

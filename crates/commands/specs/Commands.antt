@@ -96,6 +96,16 @@ changeAt t at =
 abbrev pub part : List ℕ → ℕ → ℕ → List ℕ
 part t start end = take (end - start) (drop start t)
 
+-- the text of a change lies in the calls text
+abbrev pub Inside : List ℕ → Command → Type 0
+Inside t (Command.Call i k x) = Unit
+Inside t (Command.Exit i) = Unit
+Inside t (Command.Step i) = Unit
+Inside t (Command.Trace i) = Unit
+Inside t (Command.Read v) = Unit
+Inside t (Command.Change k from count start end) = (start ≤ end) × (end ≤ length t)
+Inside t Command.Malformed = Unit
+
 -- the command at a place, and the place past its lines
 unfoldable pub command : List ℕ → ℕ → Parsed
 command t at =

@@ -14,7 +14,7 @@ import sys
 ROOT = pathlib.Path(__file__).resolve().parents[2]
 
 # The requests, and the session of the bench program, whose card is that of `run` on its commands (theorem `session-run`).
-ALLOWED = {"card::call", "card::request_exit", "card::step", "tracing::trace", "card::read", "session::put_lines"}
+ALLOWED = {"card::call", "card::request_exit", "card::step", "tracing::trace", "card::read", "changing::change", "session::put_lines"}
 
 COMMENT = re.compile(r"//[^\n]*")
 TYPE = re.compile(r"\b(?:struct|enum)\s+(\w+)[^{;]*\{")

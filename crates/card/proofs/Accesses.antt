@@ -1,25 +1,47 @@
 -- What each access leaves: the card that code puts together from the pieces that changed is that of an accepted step.
 use Prim.Native.Nat.{ℕ, _+_, _%_, _<_}
-use mathlib.Core.Bool.{true, false, cond}
+use mathlib.Core.Bool.{Bool, true, false, cond}
 use mathlib.Core.List.{List, []}
-use mathlib.Core.Path.{_≡_}
+use mathlib.Core.Path.{_≡_, refl, _∙_}
 use native.Mathlib.Omega.{arith}
 use lib.Dec.{ltb}
 use native.Mathlib.Nat.{mod-eq-of-lt}
-use lib.ListN.{length, getD, set}
+use lib.ListN.{getD, set, List·getD-eq-default}
 use lib.Seq.{set-getD, getD-set-same}
+use borrow.Author.Tests.{ltb-true, ltb-false}
 use Rattle.opening.proofs.Laws.{inside}
 use Rattle.construction.specs.declared.{Gate.Gate, Words.Words, Announcement.Announcement, Record.Record, Program.Program, Dictionary.Dictionary, Simulation.Simulation, GateAccess.GateAccess, AnnouncementAccess.AnnouncementAccess, Access.Access, Task.Task, GateAccessed.GateAccessed, AnnouncementAccessed.AnnouncementAccessed, Began.Began, Helped.Helped, Writing.Writing, Card.Card, Answer.Answer, SwappedRecord.SwappedRecord}
 use Rattle.construction.specs.declared.Place.the-variants.{P1}
 use Rattle.construction.specs.Cells.{openAnnouncement, openRecord}
 use Rattle.construction.specs.Instructions.{noProgram}
 use Rattle.construction.specs.Dictionary.{empty}
-use Rattle.construction.specs.Parts.{Local, idleTask, localAt, withCells, withGate, withOwn, withLocal, withSteps}
+use Rattle.construction.specs.Parts.{Local, idleTask, localAt, textsOf, programOf, withCells, withGate, withOwn, withLocal, withSteps}
 use Rattle.construction.specs.Machine.{accessOf, accessIn, after, accessGate, accessAnnouncement, whose, holderOf, beginHelp, note, writing, write, writtenVariable, perform, advance}
 use Rattle.construction.specs.Requests.{invoked, exiting}
 use Rattle.requests.specs.Judging.{stepAnswer}
-use Rattle.card.proofs.Arrays.{Rooms, found}
+use Rattle.requests.proofs.Arrays.{Rooms, found}
 use Rattle.card.proofs.Requests.{steppedAt}
+
+-- the text that code takes out: the one of the number last read (document 02, order 11), past the room the empty program
+pub text-found :
+    (c : Card) → Rooms c → (k number : ℕ) (d x y : Program) →
+    x ≡ cond (ltb number (getD (c .from) (k % 8) 0)) (getD (c .earlier) (k % 8) d) (getD (c .later) (k % 8) d) →
+    y ≡ cond (ltb k 8) x noProgram → y ≡ programOf (textsOf c) k number
+unfolding programOf
+text-found c full k number d x y ex ey = ey ∙ go (ltb k 8) refl
+  where
+    either : (b : Bool) → noProgram ≡ cond b noProgram noProgram
+    either true = refl
+    either false = refl
+
+    go : (b : Bool) → ltb k 8 ≡ b → cond b x noProgram ≡ programOf (textsOf c) k number
+    go true q =
+        let h = ltb-true k 8 q in
+        rw (ex, mod-eq-of-lt h, inside (c .earlier) k d noProgram (rw (full .earlier) h), inside (c .later) k d noProgram (rw (full .later) h))
+    go false q =
+        let h = ltb-false k 8 q in
+        rw (List·getD-eq-default (c .earlier) noProgram {n = k} (rw (full .earlier) h), List·getD-eq-default (c .later) noProgram {n = k} (rw (full .later) h))
+        (either (ltb number (getD (c .from) k 0)))
 
 -- a call and an exit request leave the rest of a process as it was
 module _ (c : Card) (i : ℕ) where
@@ -113,7 +135,7 @@ module _ {c : Card} {i n m : ℕ} {a : Access} (h : Accepted c i n m a) where
     pub at-help :
         a ≡ Access.Help → (k : ℕ) → k ≡ holderOf (localAt c i .gate .holder) →
         (cell : Announcement) → cell ≡ cond (ltb k 8) (getD (c .announcements) (k % 8) openAnnouncement) openAnnouncement →
-        (program : Program) → program ≡ cond (ltb (cell .program) 8) (getD (c .programs) (cell .program % 8) (record { length = 0; lines = [] })) noProgram →
+        (program : Program) → program ≡ programOf (textsOf c) (cell .program) (localAt c i .gate .seq) →
         (r : Began) → r ≡ beginHelp (c .variableCount) program cell (localAt c i .gate .seq) (localAt c i .task) (localAt c i .simulation) →
         t ≡ stepAnswer (r .task .place) cell m → (ds : List Dictionary) → ds ≡ set (c .dictionaries) i (cond (r .helps) empty (localAt c i .dictionary)) →
         (masks : List ℕ) → masks ≡ set (c .masks) i (cond (r .helps) 0 (localAt c i .mask)) →
@@ -121,14 +143,13 @@ module _ {c : Card} {i n m : ℕ} {a : Access} (h : Accepted c i n m a) where
     unfolding perform
     at-help e k ek cell ec program ep r er told ds stored masks marked =
         let announced = found (c .announcements) 8 (h .rooms .announcements) k openAnnouncement openAnnouncement cell ec in
-        let helped = found (c .programs) 8 (h .rooms .programs) (cell .program) (record { length = 0; lines = [] }) noProgram program ep in
         rw (← stored, ← marked, ← h .own) at (simp set-getD at (stepped (c .gate) (c .announcements) (c .records) (r .task) (localAt c i .gate) cell (r .simulation) (cond (r .helps) empty (localAt c i .dictionary)) (cond (r .helps) 0 (localAt c i .mask))
-        (rw (← h .chosen, e, ← ek, ← announced, ← helped, ← er, announced, set-getD (c .announcements) k openAnnouncement)) t told))
+        (rw (← h .chosen, e, ← ek, ← announced, ← ep, ← er, announced, set-getD (c .announcements) k openAnnouncement)) t told))
 
     pub at-note :
         a ≡ Access.Note →
         (cell : Record) → cell ≡ cond (ltb (localAt c i .task .target) 64) (getD (c .records) (localAt c i .task .target % 64) (openRecord 0)) (openRecord 0) →
-        (program : Program) → program ≡ cond (ltb (localAt c i .announcement .program) 8) (getD (c .programs) (localAt c i .announcement .program % 8) (record { length = 0; lines = [] })) noProgram →
+        (program : Program) → program ≡ programOf (textsOf c) (localAt c i .announcement .program) (localAt c i .gate .seq) →
         (r : Helped) → r ≡ note (c .variableCount) program (localAt c i .announcement .words) cell (localAt c i .gate .seq) (localAt c i .task) (localAt c i .simulation) (getD (c .dictionaries) i (record { length = 0; items = [] })) (localAt c i .mask) →
         t ≡ stepAnswer (r .task .place) (localAt c i .announcement) m →
         left c (set (c .tasks) i (r .task)) (c .gates) (c .copies) (set (c .simulations) i (r .simulation)) (set (c .dictionaries) i (r .dictionary)) (set (c .masks) i (r .mask))
@@ -136,10 +157,9 @@ module _ {c : Card} {i n m : ℕ} {a : Access} (h : Accepted c i n m a) where
     at-note e cell ec program ep r er told =
         let v = localAt c i .task .target in
         let read = found (c .records) 64 (h .rooms .records) v (openRecord 0) (openRecord 0) cell ec in
-        let helped = found (c .programs) 8 (h .rooms .programs) (localAt c i .announcement .program) (record { length = 0; lines = [] }) noProgram program ep in
         let noted = rw own-dictionary at er in
         rw (← h .own) at (simp set-getD at (stepped (c .gate) (c .announcements) (c .records) (r .task) (localAt c i .gate) (localAt c i .announcement) (r .simulation) (r .dictionary) (r .mask)
-        (rw (← h .chosen, e, ← read, ← helped, ← noted, read, set-getD (c .records) v (openRecord 0))) t told))
+        (rw (← h .chosen, e, ← read, ← ep, ← noted, read, set-getD (c .records) v (openRecord 0))) t told))
 
     pub at-write :
         a ≡ Access.Write →

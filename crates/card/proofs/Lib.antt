@@ -1,4 +1,3 @@
 -- Laws that the proofs of the functions cite
-pub mod Arrays
 pub mod Requests
 pub mod Accesses

@@ -1,12 +1,12 @@
 -- The requests by the tests that judge them
 use Prim.Native.Nat.{ℕ, _%_, _<_}
-use mathlib.Core.Bool.{Bool, true, false, cond, not, _&&_, true≢false}
+use mathlib.Core.Bool.{Bool, true, false, cond, not, true≢false}
 use mathlib.Core.Path.{_≡_, refl, sym, _∙_}
 use native.Mathlib.Nat.{mod-eq-of-lt}
 use native.Mathlib.Omega.{arith}
 use lib.Dec.{ltb}
 use lib.ListN.{length, getD}
-use borrow.Author.Tests.{ltb-true, not-false}
+use borrow.Author.Tests.{not-false}
 use Rattle.construction.specs.declared.{Holder.Holder, Words.Words, Announcement.Announcement, Task.Task, Card.Card, Refusal.Refusal, Answer.Answer, Answered.Answered}
 use Rattle.construction.specs.declared.Holder.the-variants.{Nobody, Process}
 use Rattle.construction.specs.declared.Refusal.the-variants.{NoProcess, NoProgram, Busy, NotBusy, NoPlace, LimitReached}
@@ -17,23 +17,11 @@ use Rattle.construction.specs.Requests.{isProcess, isProgram, isIdle, refused, 
 use Rattle.construction.specs.Answers.{isRefused}
 use Rattle.requests.specs.Judging.{judged, callJudged, exitJudged, stepJudged}
 use Rattle.requests.specs.Reading.{pending, shown}
-use Rattle.card.proofs.Arrays.{found}
+use Rattle.requests.proofs.Arrays.{found, in-room, judged-there}
 
 -- a step that was accepted
 abbrev pub steppedAt : Card → ℕ → Answered
 steppedAt c i = record { card = advance c i; answer = answerOf (localAt (advance c i) i) }
-
--- a number that passed the test of its room
-second : (a b : Bool) → a && b ≡ true → b ≡ true
-second true b e = e
-second false b e = cc
-
-pub in-room : (a b n : ℕ) → ltb a b && ltb a n ≡ true → a < n
-in-room a b n e = ltb-true a n (second (ltb a b) (ltb a n) e)
-
-none-right : (a : Bool) → a && false ≡ false
-none-right true = refl
-none-right false = refl
 
 -- an answer refuses, or it is taken
 apart : (x : Answer) (r : Refusal) → x ≡ Answer.Refused r → isRefused x ≡ false → ⊥
@@ -74,11 +62,7 @@ module _ (c : Card) (i : ℕ) where
   judgedTask = getD (c .tasks) (i % 8) idleTask
 
   same-task : {A : Type 0} (none : A) (f : Task → A) → cond (not (isProcess c i)) none (f judgedTask) ≡ cond (not (isProcess c i)) none (f (localAt c i .task))
-  same-task none f = go (ltb i 8) refl
-    where
-      go : (b : Bool) → ltb i 8 ≡ b → cond (not (isProcess c i)) none (f judgedTask) ≡ cond (not (isProcess c i)) none (f (localAt c i .task))
-      go true q = rw (mod-eq-of-lt (ltb-true i 8 q))
-      go false q = rw (q, none-right (ltb i (c .processCount)))
+  same-task none f = judged-there (c .tasks) i (c .processCount) 8 idleTask none f
 
   module _ (k : ℕ) (x : Answer) (told : x ≡ callJudged i (c .processCount) k (c .programCount) (judgedTask .place)) where
     call-told : x ≡ callJudged i (c .processCount) k (c .programCount) (localAt c i .task .place)

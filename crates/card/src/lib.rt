@@ -135,7 +135,12 @@ pub fn step(card: Card, process: u32) -> Answered
             let found = c.announcements[(m % 8) as usize];
             let cell = announcement_at(m, found);
             let k = cell.program;
-            let stored = c.programs[(k % 8) as usize];
+            let at = (k % 8) as usize;
+            let stored = if gate.seq < c.from[at] {
+                c.earlier[at]
+            } else {
+                c.later[at]
+            };
             let simulation = c.simulations[i];
             let program = program_at(k, stored);
             let began = begin_help(c.variableCount, program, cell, gate.seq, task, simulation);
@@ -157,7 +162,12 @@ pub fn step(card: Card, process: u32) -> Answered
             let found = c.records[(v % 64) as usize];
             let k = last.program;
             let inputs = last.words;
-            let stored = c.programs[(k % 8) as usize];
+            let at = (k % 8) as usize;
+            let stored = if gate.seq < c.from[at] {
+                c.earlier[at]
+            } else {
+                c.later[at]
+            };
             let simulation = c.simulations[i];
             let dictionary = c.dictionaries[i];
             let cell = record_at(v, found);

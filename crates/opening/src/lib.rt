@@ -143,6 +143,9 @@ pub fn fresh(contents: Contents) -> Card
         limit: contents.limit,
         starts,
         programs,
+        from: [0; 8],
+        earlier: programs,
+        later: programs,
         gate: Gate {
             holder: Holder::Nobody,
             seq: 1,

@@ -1,9 +1,9 @@
--- Whether a request is taken, by numbers and the place of its process: refusals 5 to 8 and 10 in their order
+-- Whether a request is taken, by numbers and the place of its process: refusals 5 to 8, 10, 15 and 16 in their order
 use Prim.Native.Nat.{ℕ}
-use mathlib.Core.Bool.{Bool, cond, not, _&&_}
+use mathlib.Core.Bool.{Bool, cond, not, _&&_, _||_}
 use lib.Dec.{ltb}
-use Rattle.construction.specs.declared.{Announcement.Announcement, Place.Place, Refusal.Refusal, Answer.Answer}
-use Rattle.construction.specs.declared.Refusal.the-variants.{NoProcess, NoProgram, Busy, NotBusy, LimitReached}
+use Rattle.construction.specs.declared.{Announcement.Announcement, Place.Place, Refusal.Refusal, Answer.Answer, Verdict.Verdict}
+use Rattle.construction.specs.declared.Refusal.the-variants.{NoProcess, NoProgram, Busy, NotBusy, LimitReached, NotAhead, Unsettled}
 use Rattle.construction.specs.Requests.{isIdle, returned}
 
 -- the first of three tests that fails gives its refusal
@@ -22,6 +22,19 @@ exitJudged i p place =
 abbrev pub stepJudged : ℕ → ℕ → Place → ℕ → ℕ → Answer
 stepJudged i p place steps limit =
     judged (ltb i p && ltb i 8) NoProcess (not (isIdle place)) NotBusy (ltb steps limit) LimitReached
+
+-- a change of program k (document 02, order 11): a text that is refused gives the refusal with its line; the gate has this number, the program's last
+-- change holds from `last`, and an operation under way may be behind that
+abbrev pub ifTextAccepted : Verdict → Answer → Answer
+ifTextAccepted Verdict.Accepted x = x
+ifTextAccepted (Verdict.Refused why line) x = Answer.RefusedAt why line
+
+abbrev pub changeJudged : ℕ → ℕ → Verdict → ℕ → ℕ → ℕ → Bool → Answer
+changeJudged k s verdict number from last behind =
+    cond (not (ltb k s && ltb k 8)) (Answer.RefusedAt NoProgram 0)
+    (ifTextAccepted verdict
+    (cond (not (ltb number from)) (Answer.RefusedAt NotAhead 0)
+    (cond (ltb number last || behind) (Answer.RefusedAt Unsettled 0) Answer.Taken)))
 
 -- the answer to a step that was taken: `answerOf` of a process, by its place, the announcement last read and its own steps
 abbrev pub stepAnswer : Place → Announcement → ℕ → Answer

@@ -1,15 +1,16 @@
-// Whether a request is taken, by numbers and the place of its process (document 01, 'Turned back': refusals 5 to 8 and 10), and the answer to
-// a step that was.
+// Whether a request is taken, by numbers and the place of its process (document 01, 'Turned back': refusals 5 to 8 and 10; document 02, order 11: 15
+// and 16), and the answer to a step that was.
 use construction::Announcement;
 use construction::Answer;
 use construction::Place;
 use construction::Refusal;
+use construction::Verdict;
 use machine::announcement::returned;
 use machine::places::is_idle;
 ghost use mathlib.Core.Path.{_≡_};
 ghost use mathlib.Core.Bool.{_&&_};
 ghost use lib.Dec.{ltb};
-ghost use Rattle.requests.specs.Judging.{callJudged, exitJudged, stepJudged, stepAnswer};
+ghost use Rattle.requests.specs.Judging.{callJudged, exitJudged, stepJudged, changeJudged, stepAnswer};
 
 // Whether a number is below a count and below the room for it.
 pub fn is_below(number: u32, count: u8, room: u32) -> bool
@@ -65,6 +66,43 @@ pub fn judge_step(process: u32, processCount: u8, place: Place, steps: u64, limi
     }
     if limit <= steps {
         return Answer::Refused(Refusal::LimitReached);
+    }
+    Answer::Taken
+}
+
+// A change of a program: refusal 6, then that of its text, 15 and 16, or taken. `verdict` is that on the text, `number` the gate's, `last` the number
+// from which the program's last change holds, and `behind` tells whether an operation under way last read a gate number below that.
+pub fn judge_change(
+    program: u32,
+    programCount: u8,
+    verdict: Verdict,
+    number: u64,
+    from: u64,
+    last: u64,
+    behind: bool,
+) -> Answer
+    ensures { λ r. ⌜ r ≡ changeJudged program programCount verdict number from last behind ⌝ }
+{
+    if !is_below(program, programCount, 8) {
+        return Answer::RefusedAt {
+            refusal: Refusal::NoProgram,
+            line: 0,
+        };
+    }
+    if let Verdict::Refused { refusal, line } = verdict {
+        return Answer::RefusedAt { refusal, line };
+    }
+    if from <= number {
+        return Answer::RefusedAt {
+            refusal: Refusal::NotAhead,
+            line: 0,
+        };
+    }
+    if number < last || behind {
+        return Answer::RefusedAt {
+            refusal: Refusal::Unsettled,
+            line: 0,
+        };
     }
     Answer::Taken
 }

@@ -19,8 +19,8 @@ use Rattle.construction.specs.Requests.{isProcess, isIdle, refused, step}
 use Rattle.construction.specs.Answers.{isRefused}
 use Rattle.construction.specs.Tracing.{labelOf, reportWith, reportOf, noReport, trace}
 use Rattle.tracing.specs.Pieces.{cellBy, announcementIn, recordIn, swapBy}
-use Rattle.card.proofs.Arrays.{Rooms, found}
-use Rattle.card.proofs.Requests.{steppedAt, in-room}
+use Rattle.requests.proofs.Arrays.{Rooms, found, in-room}
+use Rattle.card.proofs.Requests.{steppedAt}
 
 -- a step that is not refused passed its three tests
 module _ (c : Card) (r s t : Refusal) where

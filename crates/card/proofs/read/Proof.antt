@@ -1,4 +1,4 @@
-use Rattle.card.proofs.Arrays as arrays
+use Rattle.requests.proofs.Arrays as arrays
 use Rattle.card.proofs.Requests as requests
 use borrow.Author.Needs.{needs}
 use Rattle.card.proofs.read.Statement.{statement}

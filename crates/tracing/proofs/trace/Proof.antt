@@ -1,4 +1,4 @@
-use Rattle.card.proofs.Arrays as arrays
+use Rattle.requests.proofs.Arrays as arrays
 use Rattle.tracing.proofs.Laws as laws
 use borrow.Author.Needs.{needs}
 use Rattle.tracing.proofs.trace.Statement.{statement}

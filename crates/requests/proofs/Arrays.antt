@@ -1,6 +1,6 @@
 -- The arrays of a card that code holds are full; and what stands at a place that may lie past the room of an array.
-use Prim.Native.Nat.{ℕ, _%_, _≤_}
-use mathlib.Core.Bool.{Bool, true, false, cond}
+use Prim.Native.Nat.{ℕ, _%_, _≤_, _<_}
+use mathlib.Core.Bool.{Bool, true, false, cond, not, _&&_}
 use mathlib.Core.List.{List}
 use mathlib.Core.Path.{_≡_, refl, sym, _∙_}
 use native.Mathlib.Nat.{mod-eq-of-lt}
@@ -16,7 +16,9 @@ use Rattle.construction.proofs.Card.{the-type}
 use Rattle.construction.specs.declared.Card.{Card}
 
 pub record Rooms (c : Card) : Type 0 where
-  pub programs : length (c .programs) ≡ 8
+  pub from : length (c .from) ≡ 8
+  pub earlier : length (c .earlier) ≡ 8
+  pub later : length (c .later) ≡ 8
   pub announcements : length (c .announcements) ≡ 8
   pub records : length (c .records) ≡ 64
   pub tasks : length (c .tasks) ≡ 8
@@ -29,8 +31,10 @@ pub record Rooms (c : Card) : Type 0 where
 pub rooms : (c : Card) (vs : List Val) → Is (row the-type) c vs → Rooms c
 rooms c vs p =
     let limit = p .1 .1 .1 .1 .1 in
-    let code = limit .1 .1 in
-    let announcements = code .1 .1 in
+    let from = limit .1 .1 .1 in
+    let earlier = from .1 in
+    let later = earlier .1 in
+    let announcements = later .1 .1 in
     let records = announcements .1 in
     let tasks = records .1 .1 in
     let counts = tasks .1 .1 .1 in
@@ -39,7 +43,9 @@ rooms c vs p =
     let gates = counts .1 in
     let masks = dictionaries .1 in
     record {
-      programs = simp length-map at (code .0 .1 .0 .1);
+      from = simp length-map at (from .0 .1 .0 .1);
+      earlier = simp length-map at (earlier .0 .1 .0 .1);
+      later = simp length-map at (later .0 .1 .0 .1);
       announcements = simp length-map at (announcements .0 .1 .0 .1);
       records = simp length-map at (records .0 .1 .0 .1);
       tasks = simp length-map at (tasks .0 .1 .0 .1);
@@ -62,3 +68,25 @@ module _ {A : Type 0} (l : List A) (n : ℕ) (full : length l ≡ n) (m : ℕ) w
   -- past the room nothing is stored
   pub not-stored : (a : A) → n ≤ m → l ≡ set l m a
   not-stored a h = sym (set-out l m a (rw full h))
+
+-- a number that passed the test of its room
+second : (a b : Bool) → a && b ≡ true → b ≡ true
+second true b e = e
+second false b e = cc
+
+pub in-room : (a b n : ℕ) → ltb a b && ltb a n ≡ true → a < n
+in-room a b n e = ltb-true a n (second (ltb a b) (ltb a n) e)
+
+none-right : (a : Bool) → a && false ≡ false
+none-right true = refl
+none-right false = refl
+
+-- what is judged stands at place m mod n: where that is another place, number m is not there
+pub judged-there :
+    {A B : Type 0} (l : List A) (m s n : ℕ) (d : A) (none : B) (f : A → B) →
+    cond (not (ltb m s && ltb m n)) none (f (getD l (m % n) d)) ≡ cond (not (ltb m s && ltb m n)) none (f (getD l m d))
+judged-there {A} {B} l m s n d none f = go (ltb m n) refl
+  where
+    go : (b : Bool) → ltb m n ≡ b → cond (not (ltb m s && ltb m n)) none (f (getD l (m % n) d)) ≡ cond (not (ltb m s && ltb m n)) none (f (getD l m d))
+    go true q = rw (mod-eq-of-lt (ltb-true m n q))
+    go false q = rw (q, none-right (ltb m s))

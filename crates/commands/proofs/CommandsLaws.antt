@@ -2,9 +2,9 @@
 use mathlib.Core.Bool.{Bool, true, false, cond}
 use mathlib.Core.Path.{_≡_, refl, _∙_, ap}
 use mathlib.Core.List.{List, [], _∷_}
-use Prim.Native.Nat.{ℕ, zero, suc, _+_, _<_, _≤_}
+use Prim.Native.Nat.{ℕ, zero, suc, _+_, _-_, _<_, _≤_}
 use lib.Dec.{ltb, eqb}
-use lib.ListN.{length, drop, getD}
+use lib.ListN.{length, drop, getD, length-drop, drop-of-length-le}
 use lib.Seq.{drop-cons}
 use native.Mathlib.Omega.{arith}
 use borrow.Author.Tests.{lt-ltb, le-ltb, ltb-true}
@@ -13,7 +13,7 @@ use Rattle.grammar.specs.Reading.{field, hasWord}
 use Rattle.grammar.proofs.Cases.{on-test}
 use Rattle.grammar.proofs.Fields.{field-within}
 use Rattle.commands.specs.declared.{Command.Command, Parsed.Parsed}
-use Rattle.commands.specs.Commands.{callWord, wishWord, stepWord, lookWord, traceWord, lineEnd, malformed, limited, word, withWord, callAt, numbered, command, commandsFrom, commands}
+use Rattle.commands.specs.Commands.{callWord, wishWord, stepWord, lookWord, traceWord, changeWord, lineEnd, linesEnd, malformed, limited, word, withWord, callAt, numbered, changeAt, Inside, command, commandsFrom, commands}
 
 -- ---- a command ends past its place
 end-past : (xs : List ℕ) (at : ℕ) → at ≤ lineEnd at xs
@@ -29,34 +29,96 @@ line-past t at h =
     rw (drop-cons t at 0 h)
     (on-test (λ (n : ℕ). at < n) (eqb (getD t at 0) 10) (λ e. omega arith) (λ e. let m = end-past (drop (suc at) t) (suc at) in omega arith))
 
+lines-past : (k at : ℕ) (t : List ℕ) → at ≤ linesEnd k at t
+unfolding linesEnd
+lines-past zero at t = omega arith
+lines-past (suc k) at t =
+    let h = end-past (drop at t) at in
+    let l = lines-past k (lineEnd at (drop at t)) t in
+    omega arith
+
+-- the lines of a text, counted down
+pub lines-none : (k at : ℕ) (t : List ℕ) → length t ≤ at → linesEnd k at t ≡ at
+unfolding lineEnd linesEnd
+lines-none zero at t h = refl
+lines-none (suc k) at t h = rw (drop-of-length-le t h) (lines-none k at t h)
+
+pub lines-step : (k at : ℕ) (t : List ℕ) → (k ≡ 0 → ⊥) → linesEnd k at t ≡ linesEnd (k - 1) (lineEnd at (drop at t)) t
+unfolding linesEnd
+lines-step zero at t h = absurd (h refl)
+lines-step (suc k) at t h = rw (let e : suc k - 1 ≡ k = omega arith in e)
+
+pub line-more : (t : List ℕ) (at : ℕ) → at < length t → length t - lineEnd at (drop at t) < length t - at
+line-more t at h = omega (arith, line-past t at h)
+
 on-word :
-    (P : Parsed → Type 0) (t : List ℕ) {m : Parsed} → P m → (s at : ℕ) {go : ℕ → ℕ → Parsed} → ((v i : ℕ) → at < i → P (go v i)) →
+    (P : Parsed → Type 0) (t : List ℕ) {m : Parsed} → P m → (s at : ℕ) {go : ℕ → ℕ → Parsed} → ((v i : ℕ) → at < i → i ≤ length t → P (go v i)) →
     P (withWord (word t s at) m go)
 unfolding word
 on-word P t {m} p s at {go} f = by (field t s at) refl
   where
     by : (n : Number) → field t s at ≡ n → P (withWord (limited n) m go)
     by (Number.Value v i) e =
-        on-test (λ w. P (withWord w m go)) (ltb v 4294967296) (λ _. f v i (field-within t s at v i e .0)) (λ _. p)
+        on-test (λ w. P (withWord w m go)) (ltb v 4294967296) (λ _. let l = field-within t s at v i e in f v i (l .0) (l .1)) (λ _. p)
     by Number.Malformed e = p
 
 pub command-past : (t : List ℕ) (at : ℕ) → at < length t → at < command t at .next
-unfolding command callAt
+unfolding command callAt changeAt
 command-past t at h =
     let P : Parsed → Type 0 = λ m. at < m .next in
     let l = line-past t at h in
-    let number : (make : ℕ → Command) → P (numbered t at 5 make) = λ make. on-word P t l 10 (at + 5) (λ v i g. omega arith) in
+    let number : (make : ℕ → Command) → P (numbered t at 5 make) = λ make. on-word P t l 10 (at + 5) (λ v i g _. omega arith) in
     on-test P (hasWord t at callWord)
     (λ _. on-word P t l 44 (at + 5)
-    (λ _ i a. on-word P t l 44 i
-    (λ _ j b. on-word P t l 44 j
-    (λ _ k c. on-word P t l 44 k
-    (λ _ n d. on-word P t l 44 n
-    (λ _ o e. on-word P t l 10 o (λ _ q f. omega arith)))))))
+    (λ _ i a _. on-word P t l 44 i
+    (λ _ j b _. on-word P t l 44 j
+    (λ _ k c _. on-word P t l 44 k
+    (λ _ n d _. on-word P t l 44 n
+    (λ _ o e _. on-word P t l 10 o (λ _ q f _. omega arith)))))))
     (λ _. on-test P (hasWord t at wishWord) (λ _. number Command.Exit)
     (λ _. on-test P (hasWord t at stepWord) (λ _. number Command.Step)
     (λ _. on-test P (hasWord t at lookWord) (λ _. number Command.Read)
-    (λ _. on-test P (hasWord t at traceWord) (λ _. on-word P t l 10 (at + 6) (λ v i g. omega arith)) (λ _. l)))))
+    (λ _. on-test P (hasWord t at traceWord) (λ _. on-word P t l 10 (at + 6) (λ v i g _. omega arith))
+    (λ _. on-test P (hasWord t at changeWord)
+    (λ _. on-word P t l 44 (at + 7)
+    (λ _ i a _. on-word P t l 44 i
+    (λ _ j b _. on-word P t l 10 j
+    (λ count start d _. omega (arith, lines-past count start t))))) (λ _. l))))))
+
+-- ---- the text of a change lies in the calls text
+end-within : (xs : List ℕ) (at : ℕ) → lineEnd at xs ≤ at + length xs
+unfolding lineEnd
+end-within [] at = omega arith
+end-within (x ∷ xs) at =
+    let h = end-within xs (suc at) in
+    on-test (λ (n : ℕ). n ≤ at + suc (length xs)) (eqb x 10) (λ e. omega arith) (λ e. omega arith)
+
+lines-within : (k at : ℕ) (t : List ℕ) → at ≤ length t → linesEnd k at t ≤ length t
+unfolding linesEnd
+lines-within zero at t h = h
+lines-within (suc k) at t h = lines-within k (lineEnd at (drop at t)) t (omega (arith, end-within (drop at t) at, length-drop at t))
+
+pub command-inside : (t : List ℕ) (at : ℕ) → Inside t (command t at .command)
+unfolding command callAt changeAt
+command-inside t at =
+    let P : Parsed → Type 0 = λ m. Inside t (m .command) in
+    on-test P (hasWord t at callWord)
+    (λ _. on-word P t tt 44 (at + 5)
+    (λ _ i _ _. on-word P t tt 44 i
+    (λ _ j _ _. on-word P t tt 44 j
+    (λ _ k _ _. on-word P t tt 44 k
+    (λ _ n _ _. on-word P t tt 44 n
+    (λ _ o _ _. on-word P t tt 10 o (λ _ _ _ _. tt)))))))
+    (λ _. on-test P (hasWord t at wishWord) (λ _. on-word P t tt 10 (at + 5) (λ _ _ _ _. tt))
+    (λ _. on-test P (hasWord t at stepWord) (λ _. on-word P t tt 10 (at + 5) (λ _ _ _ _. tt))
+    (λ _. on-test P (hasWord t at lookWord) (λ _. on-word P t tt 10 (at + 5) (λ _ _ _ _. tt))
+    (λ _. on-test P (hasWord t at traceWord) (λ _. on-word P t tt 10 (at + 6) (λ _ _ _ _. tt))
+    (λ _. on-test P (hasWord t at changeWord)
+    (λ _. on-word P t tt 44 (at + 7)
+    (λ _ i _ _. on-word P t tt 44 i
+    (λ _ j _ _. on-word P t tt 10 j
+    (λ count start _ l. (lines-past count start t, lines-within count start t l)))))
+    (λ _. tt))))))
 
 -- ---- the commands of a text: enough fuel is enough
 module _ (t : List ℕ) where

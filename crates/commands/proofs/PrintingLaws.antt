@@ -25,14 +25,14 @@ module _ {b : List ℕ} {at i j k : ℕ} {y₁ y₂ z : List ℕ} where
       (rest-last (rest-step (rest-step (rest-all b at _ h) (p .0)) (q .0)) r, omega arith)
 
   pub put-line :
-      {n : ℕ} {y₀ : List ℕ} (line : ℕ) (m : Command) (t : Report) (a : Answer) → Room b at → PutWithin b at (headText line m) n y₀ 26 →
+      {n : ℕ} {y₀ : List ℕ} (line : ℕ) (m : Command) (t : Report) (a : Answer) → Room b at → PutWithin b at (headText line m) n y₀ 27 →
       PutWithin y₀ n (reportText t) i y₁ 109 → PutWithin y₁ i (fieldsText (answerFields a)) j y₂ 132 → Put y₂ j (10 ∷ []) k z →
       PutWithin b at (lineText line m t a) k z longest
   unfolding lineText
   put-line line m t a h p u q r =
       let l = p .1 in
       let o = u .1 in
-      put-parts (answerFields a) 135 132 longest h (put-both h (p .0) (u .0), omega arith) q r (omega arith)
+      put-parts (answerFields a) 136 132 longest h (put-both h (p .0) (u .0), omega arith) q r (omega arith)
 
 -- refusals of the card and of the calls
 module _ {b : List ℕ} {i j k : ℕ} {y₁ y₂ z : List ℕ} where

@@ -1,9 +1,10 @@
 -- The commands of a calls text (document 01, 'The bench program'): `call,process,sheet,i0,i1,i2,i3`, `wish,process`, `step,process`,
--- `look,variable`, 'with fields and line ends as in the card text'; `trace,process` (document 02, order 1).
-use Prim.Native.Nat.{ℕ, zero, suc, _+_}
+-- `look,variable`, 'with fields and line ends as in the card text'; `trace,process` (document 02, order 1); `change,sheet,number,lines` and the
+-- lines of its text (order 11).
+use Prim.Native.Nat.{ℕ, zero, suc, _+_, _-_, _≤_}
 use mathlib.Core.Bool.{cond}
 use mathlib.Core.List.{List, [], _∷_}
-use lib.ListN.{length, drop}
+use lib.ListN.{length, take, drop}
 use lib.Dec.{eqb, ltb}
 use Rattle.grammar.specs.declared.Number.{Number}
 use Rattle.grammar.specs.Reading.{field, hasWord}
@@ -26,14 +27,27 @@ lookWord = 108 ∷ 111 ∷ 111 ∷ 107 ∷ 44 ∷ []
 abbrev pub traceWord : List ℕ
 traceWord = 116 ∷ 114 ∷ 97 ∷ 99 ∷ 101 ∷ 44 ∷ []
 
+-- `change,`
+abbrev pub changeWord : List ℕ
+changeWord = 99 ∷ 104 ∷ 97 ∷ 110 ∷ 103 ∷ 101 ∷ 44 ∷ []
+
 -- 'and the next line follows': the place past the next byte 10, or the end of the text
 unfoldable pub lineEnd : ℕ → List ℕ → ℕ
 lineEnd at [] = at
 lineEnd at (x ∷ xs) = cond (eqb x 10) (suc at) (lineEnd (suc at) xs)
 
+-- the place past the next k lines, or the end of the text
+unfoldable pub linesEnd : ℕ → ℕ → List ℕ → ℕ
+linesEnd zero at t = at
+linesEnd (suc k) at t = linesEnd k (lineEnd at (drop at t)) t
+
+-- a command of one line
+abbrev pub oneLine : Command → ℕ → Parsed
+oneLine m next = record { command = m; lines = 1; next = next }
+
 -- 'A misformed command, a last one without byte 10, or a number of 4,294,967,296 or more'
 abbrev pub malformed : List ℕ → ℕ → Parsed
-malformed t at = record { command = Command.Malformed; next = lineEnd at (drop at t) }
+malformed t at = oneLine Command.Malformed (lineEnd at (drop at t))
 
 -- a field of 32 bits with its separator s, and what follows it
 abbrev pub limited : Number → Word
@@ -57,22 +71,52 @@ callAt t at =
     (λ i0 k. withWord (word t 44 k) m
     (λ i1 l. withWord (word t 44 l) m
     (λ i2 n. withWord (word t 10 n) m
-    (λ i3 next. record { command = Command.Call process program (record { w0 = i0; w1 = i1; w2 = i2; w3 = i3 }); next = next }))))))
+    (λ i3 next. oneLine (Command.Call process program (record { w0 = i0; w1 = i1; w2 = i2; w3 = i3 })) next))))))
 
 -- `wish`, `step`, `look`, `trace`: one number after a word of so many bytes, which byte 10 ends
 abbrev pub numbered : List ℕ → ℕ → ℕ → (ℕ → Command) → Parsed
-numbered t at size make = withWord (word t 10 (at + size)) (malformed t at) (λ v next. record { command = make v; next = next })
+numbered t at size make = withWord (word t 10 (at + size)) (malformed t at) (λ v next. oneLine (make v) next)
 
--- the command at a place, and the place past its line
+-- `change`: sheet, gate number and the count of the lines of its text, which byte 10 ends. 'That sheet's lines as a card has them' follow: the next
+-- `count` lines of the calls text, byte for byte, or what is left of it, which no line follows.
+abbrev pub changeWith : List ℕ → ℕ → ℕ → ℕ → ℕ → Parsed
+changeWith t program from count start =
+    let end = linesEnd count start t in
+    record { command = Command.Change program from count start end; lines = suc count; next = end }
+
+unfoldable pub changeAt : List ℕ → ℕ → Parsed
+changeAt t at =
+    let m = malformed t at in
+    withWord (word t 44 (at + 7)) m
+    (λ program i. withWord (word t 44 i) m
+    (λ from j. withWord (word t 10 j) m
+    (λ count start. changeWith t program from count start)))
+
+-- the bytes from a place to another
+abbrev pub part : List ℕ → ℕ → ℕ → List ℕ
+part t start end = take (end - start) (drop start t)
+
+-- the text of a change lies in the calls text
+abbrev pub Inside : List ℕ → Command → Type 0
+Inside t (Command.Call i k x) = Unit
+Inside t (Command.Exit i) = Unit
+Inside t (Command.Step i) = Unit
+Inside t (Command.Trace i) = Unit
+Inside t (Command.Read v) = Unit
+Inside t (Command.Change k from count start end) = (start ≤ end) × (end ≤ length t)
+Inside t Command.Malformed = Unit
+
+-- the command at a place, and the place past its lines
 unfoldable pub command : List ℕ → ℕ → Parsed
 command t at =
     cond (hasWord t at callWord) (callAt t at)
     (cond (hasWord t at wishWord) (numbered t at 5 Command.Exit)
     (cond (hasWord t at stepWord) (numbered t at 5 Command.Step)
     (cond (hasWord t at lookWord) (numbered t at 5 Command.Read)
-    (cond (hasWord t at traceWord) (numbered t at 6 Command.Trace) (malformed t at)))))
+    (cond (hasWord t at traceWord) (numbered t at 6 Command.Trace)
+    (cond (hasWord t at changeWord) (changeAt t at) (malformed t at))))))
 
--- the commands from a place on, one for each line; each has a byte at least, so the length of the text bounds how many there are
+-- the commands from a place on, one after the other; each has a byte at least, so the length of the text bounds how many there are
 unfoldable pub commandsFrom : ℕ → List ℕ → ℕ → List Parsed
 commandsFrom zero t at = []
 commandsFrom (suc fuel) t at =

@@ -20,6 +20,7 @@ headText line (Command.Exit i) = verbText (commandFields (Command.Exit i))
 headText line (Command.Step i) = verbText (commandFields (Command.Step i))
 headText line (Command.Trace i) = verbText (commandFields (Command.Trace i))
 headText line (Command.Read v) = verbText (commandFields (Command.Read v))
+headText line (Command.Change k from count start end) = verbText (commandFields (Command.Change k from count start end))
 headText line Command.Malformed = verbText (fields "line" (line ∷ []))
 
 -- a line: what it begins with, and the fields that follow
@@ -32,7 +33,7 @@ lineText line m r a = lineWith (headText line m ++ reportText r) (answerFields a
 
 -- no line is longer: a verb, the six fields of a report, `fault` and seven numbers of at most 20 digits with their separators
 abbrev pub longest : ℕ
-longest = 268
+longest = 269
 
 -- 'A refused card .. prints only `card,refused,number,line`'
 abbrev pub cardRefusal : Verdict → List ℕ

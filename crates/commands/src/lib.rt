@@ -32,11 +32,20 @@ pub enum Command {
     Read {
         variable: u32,
     },
+    // The text of a change stands in the calls text, from `start` to `end`.
+    Change {
+        program: u32,
+        from: u32,
+        count: u32,
+        start: usize,
+        end: usize,
+    },
     Malformed,
 }
 
-// The command at a place, and the place past its line.
+// The command at a place, how many lines it takes, and the place past them.
 pub struct Parsed {
     pub command: Command,
+    pub lines: u64,
     pub next: usize,
 }

@@ -19,7 +19,7 @@ ghost use Rattle.commands.specs.Printing.{headText, lineText, longest, c
 
 // The verb of a command and its first number; of a malformed one its line.
 fn put_head(buffer: &mut [u8], at: usize, line: u64, command: Command) -> usize
-    ensures { λ r. ⌜ Put (now (buffer .entry)) at (headText line command) r (now (buffer .exit)) × (r ≤ at + 26) ⌝ }
+    ensures { λ r. ⌜ Put (now (buffer .entry)) at (headText line command) r (now (buffer .exit)) × (r ≤ at + 27) ⌝ }
 {
     match command {
         Command::Call {
@@ -31,6 +31,13 @@ fn put_head(buffer: &mut [u8], at: usize, line: u64, command: Command) -> usize
         Command::Step { process } => put_number(buffer, at, b"step,", process as u64),
         Command::Trace { process } => put_number(buffer, at, b"trace,", process as u64),
         Command::Read { variable } => put_number(buffer, at, b"look,", variable as u64),
+        Command::Change {
+            program,
+            from: _,
+            count: _,
+            start: _,
+            end: _,
+        } => put_number(buffer, at, b"change,", program as u64),
         Command::Malformed => put_number(buffer, at, b"line,", line),
     }
 }

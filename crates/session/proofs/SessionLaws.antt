@@ -20,9 +20,9 @@ use Rattle.session.specs.declared.{State.State, Printed.Printed}
 use Rattle.session.specs.Session.{execute, lineOf, afterLine, linesOf, linesText, gather, fitting, firstLine, printed, printedInto, Prints, overState, verdictBeginning, beginning, session, Starts}
 
 -- a malformed command is answered as its fields say
-pub malformed-refused : (c : Card) → answerFields (execute c Command.Malformed .answer) ≡ commandFields Command.Malformed
+pub malformed-refused : (t : List ℕ) (c : Card) → answerFields (execute t c Command.Malformed .answer) ≡ commandFields Command.Malformed
 unfolding execute answerFields commandFields
-malformed-refused c = refl
+malformed-refused t c = refl
 
 -- ---- stores into a buffer: what was put at its front stands there, and a store past it keeps it
 front-text : {b x : List ℕ} {n : ℕ} {z : List ℕ} → Put b 0 x n z → n < largest → n ≤ length b → take n z ≡ x
@@ -41,7 +41,7 @@ take-sets x b n = go x b n n (omega arith)
 pub record Going (t : List ℕ) (s₀ : State) (b₀ : List ℕ) (s : State) (n : ℕ) (b : List ℕ) : Type 0 where
   pub lines : List ℕ
   pub text : linesText t s₀ ≡ lines ++ linesText t s
-  pub gathered : fitting t s₀ (length b₀) ≡ gather (length b₀) (record { text = lines; state = s }) (commands t (s .at))
+  pub gathered : fitting t s₀ (length b₀) ≡ gather t (length b₀) (record { text = lines; state = s }) (commands t (s .at))
   pub put : Put b₀ 0 lines n b
   pub within : n ≤ length b₀
   pub small : length b₀ < largest
@@ -86,7 +86,7 @@ module _ {t : List ℕ} {s₀ : State} {b₀ : List ℕ} {s : State} {n : ℕ} {
 
   -- a turn; m, a and z are what the code computes
   module _
-      (h : s .at < length t) {m : Parsed} {a : Traced} {e : ℕ} {z : List ℕ} (em : m ≡ command t (s .at)) (ea : a ≡ execute (s .card) (m .command))
+      (h : s .at < length t) {m : Parsed} {a : Traced} {e : ℕ} {z : List ℕ} (em : m ≡ command t (s .at)) (ea : a ≡ execute t (s .card) (m .command))
       (p : Put b n (lineText (s .line) (m .command) (a .report) (a .answer)) e z × (e ≤ n + longest)) where
     more : commands t (s .at) ≡ m ∷ commands t (m .next)
     more = rw em (commands-more t (s .at) h)
@@ -94,22 +94,22 @@ module _ {t : List ℕ} {s₀ : State} {b₀ : List ℕ} {s : State} {n : ℕ} {
     past : s .at < m .next
     past = rw em (command-past t (s .at) h)
 
-    the-line : Put b n (lineOf s m) e z
+    the-line : Put b n (lineOf t s m) e z
     unfolding lineOf
     the-line = rw (← ea) (p .0)
 
-    put-more : Put b₀ 0 (g .lines ++ lineOf s m) e z
+    put-more : Put b₀ 0 (g .lines ++ lineOf t s m) e z
     put-more = let w = g .within in let l = g .small in put-both (omega arith) (g .put) the-line
 
     pub stopped-length : length z ≡ length b₀
-    stopped-length = ap length (put-more .bytes) ∙ length-sets b₀ 0 (g .lines ++ lineOf s m)
+    stopped-length = ap length (put-more .bytes) ∙ length-sets b₀ 0 (g .lines ++ lineOf t s m)
 
     pub less : length t - m .next < length t - s .at
     less = let l = past in omega arith
 
     -- the line fits
     pub again :
-        {l : ℕ} → l ≡ placeAfter (s .line) 1 → e ≤ length z → Going t s₀ b₀ (record { card = a .card; at = m .next; line = l }) e z
+        {l : ℕ} → l ≡ placeAfter (s .line) (m .lines) → e ≤ length z → Going t s₀ b₀ (record { card = a .card; at = m .next; line = l }) e z
     unfolding linesText linesOf afterLine gather
     again {l} el fits =
         let lz = stopped-length in
@@ -117,7 +117,7 @@ module _ {t : List ℕ} {s₀ : State} {b₀ : List ℕ} {s : State} {n : ℕ} {
         let k = g .later in
         let room = put-fits (length b₀) (g .small) put-more .0 (omega arith) in
         record {
-          lines = g .lines ++ lineOf s m;
+          lines = g .lines ++ lineOf t s m;
           text = g .text ∙ rw (append-assoc, more, ← ea, ← el);
           gathered = g .gathered ∙ rw (more, le-leb _ _ (room .0), ← ea, ← el);
           put = put-more;
@@ -138,7 +138,7 @@ module _ {t : List ℕ} {s₀ : State} {b₀ : List ℕ} {s : State} {n : ℕ} {
         record {
           answer = rw (f, count);
           bytes = rw (f, more) (put-more .bytes);
-          text = rw (the-line .bytes, take-sets (lineOf s m) b n, front) (g .text);
+          text = rw (the-line .bytes, take-sets (lineOf t s m) b n, front) (g .text);
           within = g .within;
           onward = λ k _. g .onward (omega arith);
         }
@@ -177,7 +177,7 @@ module _ {t : List ℕ} {s : State} {b : List ℕ} {r : Printed} {z : List ℕ} 
   unfolding printedInto
   prints-count =
       let g = fitting t s (length b) in
-      let e : length z ≡ length b = ap length (p .bytes) ∙ length-sets b 0 (g .text ++ firstLine (g .state) (commands t (g .state .at))) in
+      let e : length z ≡ length b = ap length (p .bytes) ∙ length-sets b 0 (g .text ++ firstLine t (g .state) (commands t (g .state .at))) in
       let h = p .within in
       sym (length-take-le (r .length) z (omega arith))
 

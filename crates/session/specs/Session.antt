@@ -14,18 +14,19 @@ use Rattle.construction.specs.Tracing.{noReport, trace}
 use Rattle.construction.specs.History.{Entry, act}
 use Rattle.construction.specs.Opening.{opened}
 use Rattle.commands.specs.declared.{Command.Command, Parsed.Parsed}
-use Rattle.commands.specs.Commands.{commands}
+use Rattle.commands.specs.Commands.{part, commands}
 use Rattle.commands.specs.Printing.{lineText, longest, cardRefusal, callsRefusal}
 use Rattle.session.specs.declared.{State.State, Printed.Printed}
 
--- the entries that a command names: one, or none where it is malformed
-abbrev pub entriesOf : Command → List Entry
-entriesOf (Command.Call i k x) = Entry.Call i k x ∷ []
-entriesOf (Command.Exit i) = Entry.Exit i ∷ []
-entriesOf (Command.Step i) = Entry.Step i ∷ []
-entriesOf (Command.Trace i) = Entry.Trace i ∷ []
-entriesOf (Command.Read v) = Entry.Read v ∷ []
-entriesOf Command.Malformed = []
+-- the entries that a command of the calls text t names: one, or none where it is malformed
+abbrev pub entriesOf : List ℕ → Command → List Entry
+entriesOf t (Command.Call i k x) = Entry.Call i k x ∷ []
+entriesOf t (Command.Exit i) = Entry.Exit i ∷ []
+entriesOf t (Command.Step i) = Entry.Step i ∷ []
+entriesOf t (Command.Trace i) = Entry.Trace i ∷ []
+entriesOf t (Command.Read v) = Entry.Read v ∷ []
+entriesOf t (Command.Change k from count start end) = Entry.Change k from (part t start end) ∷ []
+entriesOf t Command.Malformed = []
 
 -- the card acts on that entry; a malformed command is refusal 2 and leaves the card as it was
 abbrev pub executeEntries : Card → List Entry → Answered
@@ -39,38 +40,40 @@ toldOf c (Command.Exit i) = noReport
 toldOf c (Command.Step i) = noReport
 toldOf c (Command.Trace i) = trace c i .report
 toldOf c (Command.Read v) = noReport
+toldOf c (Command.Change k from count start end) = noReport
 toldOf c Command.Malformed = noReport
 
-unfoldable pub execute : Card → Command → Traced
-execute c m =
-    let r = executeEntries c (entriesOf m) in
+unfoldable pub execute : List ℕ → Card → Command → Traced
+execute t c m =
+    let r = executeEntries c (entriesOf t m) in
     record { card = r .card; answer = r .answer; report = toldOf c m }
 
--- 'It prints a line for each': the line of a command, and the session after it. N counts all lines from 1; line numbers have 64 bits.
-unfoldable pub lineOf : State → Parsed → List ℕ
-lineOf s m =
-    let r = execute (s .card) (m .command) in
+-- 'It prints a line for each': the line of a command, and the session after it. N counts all lines from 1, those of the texts of changes too; line
+-- numbers have 64 bits.
+unfoldable pub lineOf : List ℕ → State → Parsed → List ℕ
+lineOf t s m =
+    let r = execute t (s .card) (m .command) in
     lineText (s .line) (m .command) (r .report) (r .answer)
 
-unfoldable pub afterLine : State → Parsed → State
-afterLine s m = record { card = execute (s .card) (m .command) .card; at = m .next; line = placeAfter (s .line) 1 }
+unfoldable pub afterLine : List ℕ → State → Parsed → State
+afterLine t s m = record { card = execute t (s .card) (m .command) .card; at = m .next; line = placeAfter (s .line) (m .lines) }
 
 -- the lines one after the other, the card going from command to command
-unfoldable pub linesOf : State → List Parsed → List ℕ
-linesOf s [] = []
-linesOf s (m ∷ ms) = lineOf s m ++ linesOf (afterLine s m) ms
+unfoldable pub linesOf : List ℕ → State → List Parsed → List ℕ
+linesOf t s [] = []
+linesOf t s (m ∷ ms) = lineOf t s m ++ linesOf t (afterLine t s m) ms
 
 unfoldable pub linesText : List ℕ → State → List ℕ
-linesText t s = linesOf s (commands t (s .at))
+linesText t s = linesOf t s (commands t (s .at))
 
 -- the session that is left after the last line, and the entries of demand 3 that the commands name
-unfoldable pub lastState : State → List Parsed → State
-lastState s [] = s
-lastState s (m ∷ ms) = lastState (afterLine s m) ms
+unfoldable pub lastState : List ℕ → State → List Parsed → State
+lastState t s [] = s
+lastState t s (m ∷ ms) = lastState t (afterLine t s m) ms
 
-unfoldable pub entries : List Parsed → List Entry
-entries [] = []
-entries (m ∷ ms) = entriesOf (m .command) ++ entries ms
+unfoldable pub entries : List ℕ → List Parsed → List Entry
+entries t [] = []
+entries t (m ∷ ms) = entriesOf t (m .command) ++ entries t ms
 
 -- Lines gathered so far, and the session after them.
 pub record Gathered : Type 0 where
@@ -104,20 +107,20 @@ unfoldable pub session : List ℕ → List ℕ → List ℕ
 session card calls = beginning card calls .text ++ linesText calls (beginning card calls .state)
 
 -- The session in pieces: as many whole lines as `room` bytes take
-unfoldable pub gather : ℕ → Gathered → List Parsed → Gathered
-gather room g [] = g
-gather room g (m ∷ ms) =
-    cond (leb (length (g .text ++ lineOf (g .state) m)) room)
-    (gather room (record { text = g .text ++ lineOf (g .state) m; state = afterLine (g .state) m }) ms)
+unfoldable pub gather : List ℕ → ℕ → Gathered → List Parsed → Gathered
+gather t room g [] = g
+gather t room g (m ∷ ms) =
+    cond (leb (length (g .text ++ lineOf t (g .state) m)) room)
+    (gather t room (record { text = g .text ++ lineOf t (g .state) m; state = afterLine t (g .state) m }) ms)
     g
 
 abbrev pub fitting : List ℕ → State → ℕ → Gathered
-fitting t s room = gather room (record { text = []; state = s }) (commands t (s .at))
+fitting t s room = gather t room (record { text = []; state = s }) (commands t (s .at))
 
 -- the line of the first of these commands
-abbrev pub firstLine : State → List Parsed → List ℕ
-firstLine s [] = []
-firstLine s (m ∷ ms) = lineOf s m
+abbrev pub firstLine : List ℕ → State → List Parsed → List ℕ
+firstLine t s [] = []
+firstLine t s (m ∷ ms) = lineOf t s m
 
 -- what is printed into a buffer: the lines that fit
 unfoldable pub printed : List ℕ → State → List ℕ → Printed
@@ -129,7 +132,7 @@ printed t s b =
 unfoldable pub printedInto : List ℕ → State → List ℕ → List ℕ
 printedInto t s b =
     let g = fitting t s (length b) in
-    sets b 0 (g .text ++ firstLine (g .state) (commands t (g .state .at)))
+    sets b 0 (g .text ++ firstLine t (g .state) (commands t (g .state .at)))
 
 -- Printing into a buffer: the answer, the buffer, and that nothing of the session's text is lost; a buffer that has room for a line goes on.
 pub record Prints (t : List ℕ) (s : State) (b : List ℕ) (r : Printed) (z : List ℕ) : Type 0 where

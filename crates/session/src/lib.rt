@@ -1,7 +1,7 @@
 // A session of the bench program (document 01, "The bench program"): a card text and a calls text to the printed text, on slices.
-// It rests on the crates commands (the lines, read and printed), reader (the card text), card (the requests), tracing (what is told of a step),
-// grammar (stores into a buffer) and construction (types and definitions). Every public function is total, and its contract gives its whole
-// result and every byte of the buffer.
+// It rests on the crates commands (the lines, read and printed), reader (the card text), card (the requests), changing (changes of programs),
+// tracing (what is told of a step), grammar (stores into a buffer) and construction (types and definitions). Every public function is total, and
+// its contract gives its whole result and every byte of the buffer.
 pub mod running; // running.rt: the session, as many whole lines at a time as a buffer takes
 
 use construction::Card;

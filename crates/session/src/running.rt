@@ -15,6 +15,7 @@ use construction::Verdict;
 ghost use mathlib.Core.Path.{_≡_};
 ghost use Rattle.grammar.specs.Writing.{placeAfter};
 ghost use Rattle.construction.specs.Tracing.{noReport};
+ghost use Rattle.commands.specs.Commands.{Inside};
 ghost use Rattle.session.specs.Session.{execute as executed, Prints, Starts};
 
 // The most bytes of calls that are read.
@@ -36,8 +37,9 @@ fn untraced(answered: Answered) -> Traced
 }
 
 // The answer of the card to a command, and what it tells of a traced step.
-pub(crate) fn execute(card: Card, command: Command) -> Traced
-    ensures { λ r. ⌜ r ≡ executed card command ⌝ }
+pub(crate) fn execute(calls: &[u8], card: Card, command: Command) -> Traced
+    requires { ⌜ Inside (now calls) command ⌝ }
+    ensures { λ r. ⌜ r ≡ executed (now (calls .entry)) card command ⌝ }
 {
     match command {
         Command::Call {
@@ -49,6 +51,13 @@ pub(crate) fn execute(card: Card, command: Command) -> Traced
         Command::Step { process } => untraced(card::step(card, process)),
         Command::Trace { process } => tracing::trace(card, process),
         Command::Read { variable } => untraced(card::read(card, variable)),
+        Command::Change {
+            program,
+            from,
+            count: _,
+            start,
+            end,
+        } => untraced(changing::change(card, program, from as u64, &calls[start..end])),
         Command::Malformed => untraced(Answered {
             card,
             answer: Answer::Refused(Refusal::Malformed),
@@ -56,10 +65,15 @@ pub(crate) fn execute(card: Card, command: Command) -> Traced
     }
 }
 
-fn next_line(line: u64) -> u64
-    ensures { λ r. ⌜ r ≡ placeAfter line 1 ⌝ }
+// The number of the line so many lines on.
+fn next_line(line: u64, lines: u64) -> u64
+    ensures { λ r. ⌜ r ≡ placeAfter line lines ⌝ }
 {
-    if line < LARGEST { line + 1 } else { line }
+    if LARGEST - line < lines {
+        LARGEST
+    } else {
+        line + lines
+    }
 }
 
 // Prints the lines of the session from a state on, as many whole ones as fit into the buffer.
@@ -72,7 +86,7 @@ pub fn put_lines(state: State, calls: &[u8], buffer: &mut [u8]) -> Printed
         let parsed = command_at(calls, state.at);
         let command = parsed.command;
         let card = state.card;
-        let executed = execute(card, command);
+        let executed = execute(calls, card, command);
         let answer = executed.answer;
         let report = executed.report;
         let end = put_line(buffer, length, state.line, command, report, answer);
@@ -80,7 +94,7 @@ pub fn put_lines(state: State, calls: &[u8], buffer: &mut [u8]) -> Printed
             return Printed { state, length };
         }
         let after = executed.card;
-        let line = next_line(state.line);
+        let line = next_line(state.line, parsed.lines);
         state = State {
             card: after,
             at: parsed.next,

@@ -42,9 +42,9 @@ returns-6 c =
 returns-7 : tie.Need-returns-7
 unfolding callAt
 returns-7 c =
-    let c₅ = c .before .before .before .before in let c₄ = c₅ .before .before .before .before in let c₃ = c₄ .before .before .before .before in
+    let c₆ = c .before in let c₅ = c₆ .before .before .before .before in let c₄ = c₅ .before .before .before .before in let c₃ = c₄ .before .before .before .before in
     let c₂ = c₃ .before .before .before .before in let c₁ = c₂ .before .before .before .before in
-    rw (← c₁ .before .before .before .word-at .ensures, c₁ .before .value .given .1, ← c₂ .before .before .before .word-at2 .ensures, c₂ .before .value2 .given .1, ← c₃ .before .before .before .word-at3 .ensures, c₃ .before .value3 .given .1, ← c₄ .before .before .before .word-at4 .ensures, c₄ .before .value4 .given .1, ← c₅ .before .before .before .word-at5 .ensures, c₅ .before .value5 .given .1, ← c .before .before .before .word-at6 .ensures, c .before .value6 .given .1)
+    rw (← c₁ .before .before .before .word-at .ensures, c₁ .before .value .given .1, ← c₂ .before .before .before .word-at2 .ensures, c₂ .before .value2 .given .1, ← c₃ .before .before .before .word-at3 .ensures, c₃ .before .value3 .given .1, ← c₄ .before .before .before .word-at4 .ensures, c₄ .before .value4 .given .1, ← c₅ .before .before .before .word-at5 .ensures, c₅ .before .value5 .given .1, ← c₆ .before .before .before .word-at6 .ensures, c₆ .before .value6 .given .1) (c .one-line .ensures)
 
 pub call-at-spec : {M : Type 1} → statement M
 call-at-spec =
@@ -81,4 +81,5 @@ call-at-spec =
     (λ c. search needs)
     (λ c κs. search needs)
     returns-6
+    (λ c κs. search needs)
     returns-7)

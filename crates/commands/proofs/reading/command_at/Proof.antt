@@ -7,7 +7,7 @@ use native.Mathlib.Omega.{arith}
 use Rattle.grammar.specs.Reading.{hasWord}
 use Rattle.grammar.proofs.Bytes.{word-within}
 use Rattle.commands.specs.declared.Command.{Command}
-use Rattle.commands.specs.Commands.{malformed, callAt, numbered, command}
+use Rattle.commands.specs.Commands.{malformed, callAt, numbered, changeAt, command}
 use borrow.Author.Needs.{needs}
 use Rattle.commands.proofs.reading.command_at.Statement.{statement}
 use Rattle.commands.proofs.reading.command_at.Tie as tie
@@ -16,7 +16,7 @@ use Rattle.commands.proofs.reading.command_at.Tie as tie
 there : (t : List ℕ) (at x : ℕ) (xs : List ℕ) {b : Bool} → b ≡ hasWord t at (x ∷ xs) → b ≡ true → at < length t
 there t at x xs e taken = omega (arith, word-within t (x ∷ xs) at (omega arith) (sym e ∙ taken))
 
--- the command by the first of the words that stands there; `e₁` to `e₄` are the places where a word did not
+-- the command by the first of the words that stands there; `e₁` to `e₅` are the places where a word did not
 is-call : (c : tie.Then1) → let a = c .before .before .before .before .args in command (a .calls .now) (a .at) ≡ callAt (a .calls .now) (a .at)
 unfolding command
 is-call c = rw (← c .before .has-word .ensures, c .if1 .taken)
@@ -45,11 +45,17 @@ is-trace c =
     let e₄ = c .before .before .before in let e₃ = e₄ .before .before .before in let e₂ = e₃ .before .before .before in let e₁ = e₂ .before .before .before in
     rw (← e₁ .before .has-word .ensures, e₁ .if1 .left, ← e₂ .before .has-word2 .ensures, e₂ .if2 .left, ← e₃ .before .has-word3 .ensures, e₃ .if3 .left, ← e₄ .before .has-word4 .ensures, e₄ .if4 .left, ← c .before .has-word5 .ensures, c .if5 .taken)
 
-is-none : (c : tie.Else5) → let a = c .before .before .before .before .before .before .before .before .before .before .before .before .before .before .before .before .args in command (a .calls .now) (a .at) ≡ malformed (a .calls .now) (a .at)
+is-change : (c : tie.Then6) → let a = c .before .before .before .before .before .before .before .before .before .before .before .before .before .before .before .before .before .before .before .args in command (a .calls .now) (a .at) ≡ changeAt (a .calls .now) (a .at)
+unfolding command
+is-change c =
+    let e₅ = c .before .before .before in let e₄ = e₅ .before .before .before in let e₃ = e₄ .before .before .before in let e₂ = e₃ .before .before .before in let e₁ = e₂ .before .before .before in
+    rw (← e₁ .before .has-word .ensures, e₁ .if1 .left, ← e₂ .before .has-word2 .ensures, e₂ .if2 .left, ← e₃ .before .has-word3 .ensures, e₃ .if3 .left, ← e₄ .before .has-word4 .ensures, e₄ .if4 .left, ← e₅ .before .has-word5 .ensures, e₅ .if5 .left, ← c .before .has-word6 .ensures, c .if6 .taken)
+
+is-none : (c : tie.Else6) → let a = c .before .before .before .before .before .before .before .before .before .before .before .before .before .before .before .before .before .before .before .args in command (a .calls .now) (a .at) ≡ malformed (a .calls .now) (a .at)
 unfolding command
 is-none c =
-    let e₄ = c .before .before .before in let e₃ = e₄ .before .before .before in let e₂ = e₃ .before .before .before in let e₁ = e₂ .before .before .before in
-    rw (← e₁ .before .has-word .ensures, e₁ .if1 .left, ← e₂ .before .has-word2 .ensures, e₂ .if2 .left, ← e₃ .before .has-word3 .ensures, e₃ .if3 .left, ← e₄ .before .has-word4 .ensures, e₄ .if4 .left, ← c .before .has-word5 .ensures, c .if5 .left)
+    let e₅ = c .before .before .before in let e₄ = e₅ .before .before .before in let e₃ = e₄ .before .before .before in let e₂ = e₃ .before .before .before in let e₁ = e₂ .before .before .before in
+    rw (← e₁ .before .has-word .ensures, e₁ .if1 .left, ← e₂ .before .has-word2 .ensures, e₂ .if2 .left, ← e₃ .before .has-word3 .ensures, e₃ .if3 .left, ← e₄ .before .has-word4 .ensures, e₄ .if4 .left, ← e₅ .before .has-word5 .ensures, e₅ .if5 .left, ← c .before .has-word6 .ensures, c .if6 .left)
 
 pub command-at-spec : {M : Type 1} → statement M
 command-at-spec =
@@ -67,7 +73,8 @@ command-at-spec =
     (λ c. search needs)
     (λ c κs. search needs)
     (λ c. rw (is-exit (c .before .before .before .before), ← c .before .before .before .word-at .ensures, c .before .enum-told .given .1) (c .malformed-at .ensures))
-    (λ c. rw (is-exit (c .before .before .before .before), ← c .before .before .before .word-at .ensures, c .before .value .given .1))
+    (λ c κs. search needs)
+    (λ c. rw (is-exit (c .before .before .before .before .before), ← c .before .before .before .before .word-at .ensures, c .before .before .value .given .1) (c .one-line .ensures))
     (λ c. search needs)
     (λ c κs. search needs)
     (λ c. omega (arith, there _ _ _ _ (c .before .has-word3 .ensures) (c .if3 .taken)))
@@ -76,7 +83,8 @@ command-at-spec =
     (λ c. search needs)
     (λ c κs. search needs)
     (λ c. rw (is-step (c .before .before .before .before), ← c .before .before .before .word-at2 .ensures, c .before .enum-told2 .given .1) (c .malformed-at2 .ensures))
-    (λ c. rw (is-step (c .before .before .before .before), ← c .before .before .before .word-at2 .ensures, c .before .value2 .given .1))
+    (λ c κs. search needs)
+    (λ c. rw (is-step (c .before .before .before .before .before), ← c .before .before .before .before .word-at2 .ensures, c .before .before .value2 .given .1) (c .one-line2 .ensures))
     (λ c. search needs)
     (λ c κs. search needs)
     (λ c. omega (arith, there _ _ _ _ (c .before .has-word4 .ensures) (c .if4 .taken)))
@@ -85,7 +93,8 @@ command-at-spec =
     (λ c. search needs)
     (λ c κs. search needs)
     (λ c. rw (is-read (c .before .before .before .before), ← c .before .before .before .word-at3 .ensures, c .before .enum-told3 .given .1) (c .malformed-at3 .ensures))
-    (λ c. rw (is-read (c .before .before .before .before), ← c .before .before .before .word-at3 .ensures, c .before .value3 .given .1))
+    (λ c κs. search needs)
+    (λ c. rw (is-read (c .before .before .before .before .before), ← c .before .before .before .before .word-at3 .ensures, c .before .before .value3 .given .1) (c .one-line3 .ensures))
     (λ c. search needs)
     (λ c κs. search needs)
     (λ c. omega (arith, there _ _ _ _ (c .before .has-word5 .ensures) (c .if5 .taken)))
@@ -94,6 +103,11 @@ command-at-spec =
     (λ c. search needs)
     (λ c κs. search needs)
     (λ c. rw (is-trace (c .before .before .before .before), ← c .before .before .before .word-at4 .ensures, c .before .enum-told4 .given .1) (c .malformed-at4 .ensures))
-    (λ c. rw (is-trace (c .before .before .before .before), ← c .before .before .before .word-at4 .ensures, c .before .value4 .given .1))
+    (λ c κs. search needs)
+    (λ c. rw (is-trace (c .before .before .before .before .before), ← c .before .before .before .before .word-at4 .ensures, c .before .before .value4 .given .1) (c .one-line4 .ensures))
+    (λ c. search needs)
+    (λ c κs. search needs)
+    (λ c κs. there _ _ _ _ (c .before .has-word6 .ensures) (c .if6 .taken))
+    (λ c. rw (is-change (c .before)) (c .change-at .ensures))
     (λ c κs. search needs)
     (λ c. rw (is-none (c .before)) (c .malformed-at5 .ensures)))

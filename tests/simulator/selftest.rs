@@ -2,8 +2,8 @@
 //! schedules that show the faults met in drafts, and the sequential run side by side.
 
 use crate::generate::{card_text, case, longest_card};
-use crate::machine::{lines, open, Announcement, Answer, Flag, Instruction, Line, Machine, Record};
-use crate::session::{expected, parse, Command};
+use crate::machine::{open, read_change, Announcement, Answer, Flag, Instruction, Machine, Record};
+use crate::session::{expected, Command, Commands};
 
 /// Card K's program: store the input, output the old value.
 const EXCHANGE: &str = "sheet,4\nins,1,0,0,0\nins,3,1,0,0\nins,4,0,0,0\nins,11,0,1,0\n";
@@ -44,7 +44,7 @@ pub fn selftest() -> bool {
     card_sizes(&mut checks);
     command_refusals(&mut checks);
     fault_schedules(&mut checks);
-    for seed in 1..=400 {
+    for seed in 1..=600 {
         let found = side_by_side(seed);
         checks.equal(&format!("sequential run, seed {seed}"), found, Ok(()));
     }
@@ -186,7 +186,13 @@ fn program_pieces(checks: &mut Checks) {
     alone("giving back 0", &[0, 5], &["14,0,0,0", "11,0,0,0"], "fault", 12);
     alone("giving back n", &[0, 5], &["2,0,2,0", "14,0,0,0"], "fault", 12);
     alone("taken and given back", &[1, 0], &["13,0,0,0", "14,0,0,0", "11,0,0,0"], "1,0,0,0", 14);
-    alone("taken twice, given back in turn", &[1, 2, 0], &["13,0,0,0", "13,1,0,0", "14,0,0,0", "14,1,0,0"], "0,0,0,0", 18);
+    alone(
+        "taken twice, given back in turn",
+        &[1, 2, 0],
+        &["13,0,0,0", "13,1,0,0", "14,0,0,0", "14,1,0,0"],
+        "0,0,0,0",
+        18,
+    );
 }
 
 /// Rows 1 to 4 of 'Turned back', with their lines.
@@ -379,35 +385,57 @@ fn run_alone(words: &mut Vec<u32>, program: &[Instruction], inputs: [u32; 4]) ->
 /// What an operation came to that is done: its rank, its outputs, and whether it was a fault.
 type Done = (u64, [u32; 4], bool);
 
+/// The single-user bench: its words, the programs as they stand, the changes it was told of and has not made yet, and how many operations it has run.
+struct Bench {
+    words: Vec<u32>,
+    programs: Vec<Vec<Instruction>>,
+    told: Vec<(u64, usize, Vec<Instruction>)>,
+    run: u64,
+}
+
+impl Bench {
+    /// Runs an operation handed to it. Order 11: at the G-th operation it switches.
+    fn run(&mut self, program: usize, inputs: [u32; 4]) -> Done {
+        self.run += 1;
+        let (due, later) = self.told.drain(..).partition(|(from, ..)| *from <= self.run);
+        self.told = later;
+        for (_, place, text) in due {
+            self.programs[place] = text;
+        }
+        let outputs = run_alone(&mut self.words, &self.programs[program], inputs);
+        (self.run, outputs.unwrap_or([0; 4]), outputs.is_none())
+    }
+}
+
 /// Demand 3 on the case of a seed: the words equal the values read after each entry, rank, outputs and mark those of 'done' and 'fault'.
 fn side_by_side(seed: u64) -> Result<(), String> {
     let case = case(seed);
     let Ok(card) = open(case.card.as_deref().unwrap_or(&[])) else { return Ok(()) };
-    let mut words = card.starting.clone();
+    let (words, programs) = (card.starting.clone(), card.programs.clone());
+    let mut bench = Bench { words, programs, told: Vec::new(), run: 0 };
     let mut latest = vec![(0, [0; 4]); card.processes];
-    let mut finished = 0;
     let mut results = vec![(0, [0; 4], false); card.processes];
     let mut machine = Machine::new(card);
-    for (place, line) in lines(case.calls.as_deref().unwrap_or(&[])).iter().enumerate() {
+    for numbered in Commands::new(case.calls.as_deref().unwrap_or(&[])) {
+        let Ok(command) = numbered.command else { continue };
         let before = flags(&machine);
-        let answer = enter(&mut machine, line, &mut latest);
+        let answer = enter(&mut machine, command, &mut latest, &mut bench);
         for process in (0..before.len()).filter(|&at| before[at] != Flag::Done && flags(&machine)[at] == Flag::Done) {
             let (program, inputs) = latest[process];
-            finished += 1;
-            let outputs = run_alone(&mut words, &machine.card.programs[program], inputs);
-            results[process] = (finished, outputs.unwrap_or([0; 4]), outputs.is_none());
+            results[process] = bench.run(program, inputs);
         }
+        let words = &bench.words;
         let shown: Vec<u32> = (0..words.len()).map(|variable| machine.read(variable as u32).expect("there")).collect();
         let agreed = answer.is_none_or(|(process, found)| found == results[process]);
-        if shown != words || !agreed || !numbered(&machine, &results) {
-            return Err(format!("entry {}: shown {shown:?}, words {words:?}, answers agree: {agreed}", place + 1));
+        if shown != *words || !agreed || !numbered_right(&machine, &results) {
+            return Err(format!("line {}: shown {shown:?}, words {words:?}, answers agree: {agreed}", numbered.line));
         }
     }
     Ok(())
 }
 
 /// What a done announcement holds is what the process's latest finished operation came to; any other has number 0 and no mark.
-fn numbered(machine: &Machine, results: &[Done]) -> bool {
+fn numbered_right(machine: &Machine, results: &[Done]) -> bool {
     let agrees = |(announcement, result): (&Announcement, &Done)| match announcement.flag {
         Flag::Done => (announcement.number, announcement.words, announcement.fault) == *result,
         _ => announcement.number == 0 && !announcement.fault,
@@ -419,9 +447,14 @@ fn flags(machine: &Machine) -> Vec<Flag> {
     machine.cells.announcements.iter().map(|announcement| announcement.flag).collect()
 }
 
-/// Enters one command; keeps the latest taken call of each process; gives what a 'done' or 'fault' answer says.
-fn enter(machine: &mut Machine, line: &Line, latest: &mut [(usize, [u32; 4])]) -> Option<(usize, Done)> {
-    match parse(line)? {
+/// Enters one command; keeps the latest taken call of each process, and tells the bench of taken changes; gives what a 'done' or 'fault' answer says.
+fn enter(
+    machine: &mut Machine,
+    command: Command,
+    latest: &mut [(usize, [u32; 4])],
+    bench: &mut Bench,
+) -> Option<(usize, Done)> {
+    match command {
         Command::Call { process, program, inputs } => {
             if machine.call(process, program, inputs).is_ok() {
                 latest[process as usize] = (program as usize, inputs);
@@ -434,5 +467,12 @@ fn enter(machine: &mut Machine, line: &Line, latest: &mut [(usize, [u32; 4])]) -
             _ => None,
         },
         Command::Read { .. } => None,
+        Command::Change { program, from, text, .. } => {
+            if machine.change(program, u64::from(from), text).is_ok() {
+                let text = read_change(text, &machine.card).expect("it was taken");
+                bench.told.push((u64::from(from), program as usize, text));
+            }
+            None
+        }
     }
 }

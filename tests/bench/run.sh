@@ -118,5 +118,22 @@ printf x >>"$large/card.txt"
 echo card,refused,1,0 >"$large/expected.txt"
 compare card-16385 "$large"
 
+# a change's text of 16,384 bytes is judged by its lines, one of 16,385 is refusal 1; the line after it is a command
+cp "$card_k" "$large/card.txt"
+tail -n +3 "$card_k" >"$large/text"
+rest=$((16384 - $(wc -c <"$large/text")))
+for size in 16384 16385; do
+    { echo change,0,2,6; cat "$large/text"; repeat "$((rest - 1 + size - 16384))" x | tr -d '\n'; printf '\nlook\nlook,0\n'; } >"$large/calls.txt"
+    [ "$size" -eq 16384 ] && refusal=2,6 || refusal=1,0
+    printf 'change,0,refused,%s\nline,8,refused,2\nlook,0,7\n' "$refusal" >"$large/expected.txt"
+    compare "change-$size" "$large"
+done
+
+# a change that tells all the lines that are left of 65,536 bytes
+{ printf 'look,0\nchange,0,2,4294967295\n'; cat "$large/text"; } >"$large/calls.txt"
+repeat "$((65536 - $(wc -c <"$large/calls.txt")))" '' >>"$large/calls.txt"
+printf 'look,0,7\nchange,0,refused,1,0\n' >"$large/expected.txt"
+compare change-to-the-end "$large"
+
 echo "$((passed + failed)) cases, $failed failed"
 [ "$failed" -eq 0 ]

@@ -20,14 +20,26 @@ const OUTCOMES: [(Label, &[&str]); 18] = [
 
 /// Every refusal the bench program can print, by what was refused (document 01, 'Turned back').
 #[rustfmt::skip]
-const REFUSALS: [(&str, u8); 21] = [
+const REFUSALS: [(&str, u8); 31] = [
     ("card", 1), ("card", 2), ("card", 3), ("card", 4), ("card", 12), ("card", 13), ("card", 14), ("calls", 1), ("line", 2),
     ("call", 5), ("call", 6), ("call", 7), ("wish", 5), ("wish", 8),
     ("step", 5), ("step", 8), ("step", 10), ("trace", 5), ("trace", 8), ("trace", 10), ("look", 9),
+    ("change", 1), ("change", 2), ("change", 3), ("change", 4), ("change", 6), ("change", 12), ("change", 13), ("change", 14),
+    ("change", 15), ("change", 16),
 ];
 
 /// Every answer to a taken command.
-const ANSWERS: [&str; 8] = ["called", "requested", "run", "done", "fault", "exited", "traced", "value"];
+const ANSWERS: [&str; 9] = ["called", "requested", "run", "done", "fault", "exited", "traced", "value", "changed"];
+
+/// What else changes come to (document 02, order 11): by which text a helper runs a program that was changed, where it begins and where it goes on;
+/// by which text an operation ran that was called before a change and finished after it; each half of refusal 16 without the other; and the odd
+/// forms of the command and of its text.
+#[rustfmt::skip]
+const CHANGES: [&str; 13] = [
+    "P16 by the earlier text", "P16 by the later text", "H21 by the earlier text", "H21 by the later text",
+    "across by the old text", "across by the new text", "16 by a change ahead", "16 by a late reader", "past the step limit",
+    "misformed", "no lines", "fewer lines than told", "unended",
+];
 
 #[derive(Default)]
 pub struct Coverage {
@@ -36,6 +48,7 @@ pub struct Coverage {
     steps: BTreeMap<(Label, &'static str), u64>,
     refusals: BTreeMap<(&'static str, u8), u64>,
     answers: BTreeMap<&'static str, u64>,
+    changes: BTreeMap<&'static str, u64>,
     /// Steps past the longest wait of their operation (document 02, order 3).
     pub late: u64,
 }
@@ -44,6 +57,14 @@ impl Coverage {
     pub fn stepped(&mut self, stepped: &Stepped, longest_wait: u64) {
         *self.steps.entry((stepped.label, stepped.outcome)).or_default() += 1;
         self.late += u64::from(!stepped.in_time(longest_wait));
+        stepped.text.into_iter().for_each(|text| self.event_if(true, text));
+    }
+
+    /// Counts one of what else changes come to.
+    pub fn event_if(&mut self, occurred: bool, event: &'static str) {
+        if occurred {
+            *self.changes.entry(event).or_default() += 1;
+        }
     }
 
     pub fn refused(&mut self, what: &'static str, number: u8) {
@@ -71,9 +92,10 @@ impl Coverage {
     /// The summary, one line each.
     pub fn summary(&self) -> String {
         let labels = OUTCOMES.iter().map(|(label, _)| format!("{label:?} {}", self.label_count(*label)));
-        let numbers = (1..=10).map(|number| format!("{number}: {}", self.refusal_count(number)));
+        let numbers = (1..=10).chain(12..=16).map(|number| format!("{number}: {}", self.refusal_count(number)));
         let kinds = REFUSALS.iter().map(|at| format!("{} {}: {}", at.0, at.1, self.refusals.get(at).unwrap_or(&0)));
         let answers = ANSWERS.iter().map(|kind| format!("{kind} {}", self.answers.get(kind).unwrap_or(&0)));
+        let changes = CHANGES.iter().map(|kind| format!("{kind} {}", self.changes.get(kind).unwrap_or(&0)));
         [
             format!("cases {}", self.cases),
             format!("lines {}", self.lines),
@@ -83,6 +105,7 @@ impl Coverage {
             listed("refusals", numbers),
             listed("refusals by kind", kinds),
             listed("answers", answers),
+            listed("changes", changes),
             format!("steps past the longest wait: {}", self.late),
         ]
         .join("\n")
@@ -104,7 +127,9 @@ impl Coverage {
         let refusals = REFUSALS.iter().filter(|at| !self.refusals.contains_key(*at));
         let refusals = refusals.map(|(what, number)| format!("{what} refused {number}"));
         let answers = ANSWERS.iter().filter(|kind| !self.answers.contains_key(**kind)).map(|kind| kind.to_string());
-        steps.chain(refusals).chain(answers).collect()
+        let changes = CHANGES.iter().filter(|kind| !self.changes.contains_key(**kind));
+        let changes = changes.map(|kind| format!("change {kind}"));
+        steps.chain(refusals).chain(answers).chain(changes).collect()
     }
 }
 

@@ -1,6 +1,6 @@
 //! Cases from a seed: the two files of the bench program, valid and damaged.
 
-use crate::machine::{Card, Instruction, Machine, GREATEST_LIMIT, TEXT_LIMIT, WORD_END};
+use crate::machine::{weight, Card, Instruction, Machine, GREATEST_LIMIT, TEXT_LIMIT, WORD_END};
 use crate::session::CALLS_LIMIT;
 
 /// The two files of a case; none where the file is not there.
@@ -46,19 +46,35 @@ impl Random {
     }
 }
 
-/// The case of a seed.
+/// The case of a seed; every third has changes among its commands (document 02, order 11).
 pub fn case(seed: u64) -> Case {
     let random = &mut Random::new(seed);
+    if seed % 3 == 0 {
+        return changing(random);
+    }
     match random.below(100) {
-        0..=37 => valid(random, CONTENDED, false),
-        38..=45 => allocating(random),
-        46..=53 => valid(random, WIDE, false),
-        54..=57 => valid(random, ALONE, false),
-        58..=62 => valid(random, CONTENDED, true),
+        0..=37 => valid(random, CONTENDED, false, NO_CHANGES),
+        38..=45 => allocating(random, NO_CHANGES),
+        46..=53 => valid(random, WIDE, false, NO_CHANGES),
+        54..=57 => valid(random, ALONE, false, NO_CHANGES),
+        58..=62 => valid(random, CONTENDED, true, NO_CHANGES),
         63..=72 => damaged_card(random),
         73..=80 => odd_instruction(random),
-        81..=90 => damaged_calls(random),
+        81..=90 => damaged_calls(random, NO_CHANGES),
         _ => edge_of_size(random),
+    }
+}
+
+fn changing(random: &mut Random) -> Case {
+    let changes = random.pick(&[1, 3, 8]);
+    match random.below(100) {
+        0..=49 => valid(random, CONTENDED, false, changes),
+        50..=59 => allocating(random, changes),
+        60..=66 => valid(random, WIDE, false, changes),
+        67..=72 => valid(random, ALONE, false, changes),
+        73..=80 => valid(random, CONTENDED, true, changes),
+        81..=91 => damaged_calls(random, changes),
+        _ => edge_of_change(random, changes),
     }
 }
 
@@ -153,14 +169,14 @@ fn any_instruction(random: &mut Random, variables: usize) -> Instruction {
 // ---------------------------------------------------------------- cells taken and given back
 
 /// A card with a chain of free cells from variable 0, whole or broken, and programs that take cells and give them back.
-fn allocating(random: &mut Random) -> Case {
+fn allocating(random: &mut Random, changes: usize) -> Case {
     let mut card = make_card(random, CONTENDED, false);
     let variables = random.between(2, 7);
     card.starting = make_chain(random, variables);
     let count = random.between(1, 4);
     card.programs = (0..count).map(|_| allocating_program(random, variables)).collect();
     let commands = random.between(60, 700);
-    let calls = make_calls(random, &card, commands);
+    let calls = make_calls(random, &card, commands, changes);
     Case { card: Some(card_text(&card)), calls: Some(calls) }
 }
 
@@ -192,7 +208,14 @@ fn allocating_program(random: &mut Random, variables: usize) -> Vec<Instruction>
     let mut program = match random.below(8) {
         0 => vec![make(13, r, 0, 0), make(11, o, r, 0)],
         1 => vec![make(1, r, i, 0), make(14, r, 0, 0), make(11, o, r, 0)],
-        2 => vec![make(13, 0, 0, 0), make(1, 1, i, 0), make(6, 0, 1, 0), make(5, 2, 0, 0), make(11, o, 2, 0), make(14, 0, 0, 0)],
+        2 => vec![
+            make(13, 0, 0, 0),
+            make(1, 1, i, 0),
+            make(6, 0, 1, 0),
+            make(5, 2, 0, 0),
+            make(11, o, 2, 0),
+            make(14, 0, 0, 0),
+        ],
         3 => vec![make(13, 0, 0, 0), make(13, 1, 0, 0), make(14, 0, 0, 0), make(14, 1, 0, 0), make(11, o, 0, 0)],
         4 => vec![make(13, 0, 0, 0), make(9, 0, 1, 2), make(1, 2, i, 0), make(6, 0, 2, 0), make(11, o, 0, 0)],
         5 => vec![make(3, 0, 0, 0), make(14, 0, 0, 0), make(13, 1, 0, 0), make(11, o, 1, 0)],
@@ -216,13 +239,14 @@ pub fn card_text(card: &Card) -> Vec<u8> {
     for value in &card.starting {
         text += &format!("var,{value}\n");
     }
-    for program in &card.programs {
-        text += &format!("sheet,{}\n", program.len());
-        for Instruction { code, a, b, c } in program {
-            text += &format!("ins,{code},{a},{b},{c}\n");
-        }
-    }
+    text.extend(card.programs.iter().map(|program| program_text(program)));
     text.into_bytes()
+}
+
+/// The lines of a program, as a card and a change have them.
+fn program_text(program: &[Instruction]) -> String {
+    let line = |Instruction { code, a, b, c }: &Instruction| format!("ins,{code},{a},{b},{c}\n");
+    format!("sheet,{}\n{}", program.len(), program.iter().map(line).collect::<String>())
 }
 
 /// 'Proving pieces': the longest card that opens, of 6,440 bytes.
@@ -249,10 +273,11 @@ enum Schedule {
 struct Play<'a> {
     random: &'a mut Random,
     machine: Machine,
-    text: String,
+    text: Vec<u8>,
     exits: usize,
     reads: usize,
     odd: usize,
+    changes: usize,
     /// All calls alike, so that two announcements of a process differ in seq alone.
     alike: bool,
     written: usize,
@@ -260,11 +285,11 @@ struct Play<'a> {
 }
 
 impl<'a> Play<'a> {
-    fn new(random: &'a mut Random, card: Card) -> Play<'a> {
+    fn new(random: &'a mut Random, card: Card, changes: usize) -> Play<'a> {
         let (exits, reads, odd) = (random.pick(&[0, 1, 4, 15]), random.pick(&[0, 25, 100]), random.pick(&[0, 2, 8]));
         let alike = random.chance(25);
         let machine = Machine::new(card);
-        Play { random, machine, text: String::new(), exits, reads, odd, alike, written: 0, refused_by_limit: 0 }
+        Play { random, machine, text: Vec::new(), exits, reads, odd, changes, alike, written: 0, refused_by_limit: 0 }
     }
 
     fn processes(&self) -> usize {
@@ -272,8 +297,8 @@ impl<'a> Play<'a> {
     }
 
     fn write(&mut self, command: String) {
-        self.text += &command;
-        self.text.push('\n');
+        self.text.extend(command.bytes());
+        self.text.push(b'\n');
         self.written += 1;
     }
 
@@ -307,6 +332,9 @@ impl<'a> Play<'a> {
 
     /// One turn of a process: a call if it has no operation under way, else a step.
     fn turn(&mut self, process: usize) {
+        if self.changes != NO_CHANGES && self.random.chance(self.changes) {
+            self.change();
+        }
         if self.random.chance(self.odd) {
             self.odd_command(process);
         }
@@ -417,6 +445,9 @@ impl<'a> Play<'a> {
                 let verb = self.stepping();
                 self.write(format!("{verb},{process}"));
             }
+            if self.changes != NO_CHANGES {
+                self.change();
+            }
         }
     }
 
@@ -435,10 +466,207 @@ impl<'a> Play<'a> {
     }
 }
 
-fn make_calls(random: &mut Random, card: &Card, commands: usize) -> Vec<u8> {
+// ---------------------------------------------------------------- changes
+
+/// How many of a hundred turns begin with a change, in cases without any.
+const NO_CHANGES: usize = 0;
+
+/// Lines that are no change: the lines after them are commands.
+#[rustfmt::skip]
+const ODD_CHANGES: [&str; 18] = [
+    "change", "change,", "change,0", "change,0,9", "change,0,9,2,0", "change,0,9,02", "change,0,09,2", "change,00,9,2",
+    "change,0,4294967296,2", "change,0,9,4294967296", "change,4294967296,9,2", "change,0,18446744073709551617,2", "change,,9,2",
+    "change,0,9,", "change,0,-9,2", "Change,0,9,2", "changes,0,9,2", "change,0,9,2\r",
+];
+
+impl Play<'_> {
+    /// A change of a program, most often one that could be taken.
+    fn change(&mut self) {
+        let program = self.random.below(self.machine.card.programs.len()) as u32;
+        let mut text = self.correction(program as usize);
+        match self.random.below(20) {
+            0..=12 => self.enter_change(program, &text),
+            13..=16 => {
+                self.damage_text(&mut text);
+                self.enter_change(program, &text);
+            }
+            17 => self.change_elsewhere(text),
+            18 => self.change_miscounted(program, text),
+            _ => self.change_misformed(&text),
+        }
+    }
+
+    /// A number near the gate's: as often as not the next one.
+    fn from(&mut self) -> u64 {
+        let seq = self.machine.cells.gate.seq;
+        match self.random.below(20) {
+            0 => self.random.pick(&[0, 1, seq - 1, seq + 40, WORD_END - 1]),
+            1 | 2 => seq,
+            3..=11 => seq + 1,
+            12..=16 => seq + 2,
+            _ => seq + self.random.between(3, 9) as u64,
+        }
+    }
+
+    /// A text that the card's w allows: the opening text with one instruction altered, or another program.
+    fn correction(&mut self, program: usize) -> Vec<u8> {
+        let variables = self.machine.card.starting.len();
+        let mut text = match self.random.below(10) {
+            0..=3 => self.machine.card.programs[program].clone(),
+            4 => allocating_program(self.random, variables),
+            _ => make_program(self.random, variables, 10),
+        };
+        let place = self.random.below(text.len());
+        text[place] = any_instruction(self.random, variables);
+        lighten(&mut text, self.machine.card.weight());
+        program_text(&text).into_bytes()
+    }
+
+    /// Writes a change and its text, and enters it.
+    fn enter_change(&mut self, program: u32, text: &[u8]) {
+        self.enter_told(program, split_lines(text).len(), text);
+    }
+
+    /// The same with the number of lines that the command tells.
+    fn enter_told(&mut self, program: u32, told: usize, text: &[u8]) {
+        let from = self.from();
+        self.write(format!("change,{program},{from},{told}"));
+        self.text.extend(text);
+        let _ = self.machine.change(program, from, text);
+    }
+
+    /// A text that is refused, or nearly so, at any of its lines; its last line is ended, so that a command can follow.
+    fn damage_text(&mut self, text: &mut Vec<u8>) {
+        let (variables, weight) = (self.machine.card.starting.len(), self.machine.card.weight());
+        match self.random.below(10) {
+            0..=2 => damage_number(self.random, text),
+            3 | 4 => damage(self.random, text),
+            5 => damage_end(self.random, text),
+            6 | 7 => self.put_instruction(text, variables),
+            _ => *text = overweight_text(self.random, weight),
+        }
+        if text.last().is_some_and(|&byte| byte != 10) {
+            text.push(b'\n');
+        }
+    }
+
+    /// Any of the instructions becomes one with a code or an operand at or past an edge.
+    fn put_instruction(&mut self, text: &mut Vec<u8>, variables: usize) {
+        let mut lines = split_lines(text);
+        let place = self.random.between(1, lines.len() - 1);
+        let Instruction { code, a, b, c } = odd_operands(self.random, variables);
+        lines[place] = format!("ins,{code},{a},{b},{c}\n").into_bytes();
+        *text = lines.concat();
+    }
+
+    /// A program that is not there, with a good text or a bad one: refusal 6 is the first.
+    fn change_elsewhere(&mut self, mut text: Vec<u8>) {
+        let programs = self.machine.card.programs.len() as u32;
+        if self.random.chance(50) {
+            self.damage_text(&mut text);
+        }
+        let program = self.random.pick(&[programs, programs + 1, 255 + programs, u32::MAX]);
+        self.enter_change(program, &text);
+    }
+
+    /// Fewer lines told than the text has, so that the others are commands; or more, so that commands are lines of the text.
+    fn change_miscounted(&mut self, program: u32, mut text: Vec<u8>) {
+        let lines = split_lines(&text);
+        if self.random.chance(50) {
+            let told = self.random.below(lines.len());
+            self.enter_change(program, &lines[..told].concat());
+            self.text.extend(lines[told..].concat());
+        } else {
+            let process = self.random.below(self.processes());
+            text.extend(format!("step,{process}\nlook,0\n").bytes());
+            self.enter_change(program, &text);
+        }
+    }
+
+    /// A line that is no change: the lines of its text are commands, and so is what follows.
+    fn change_misformed(&mut self, text: &[u8]) {
+        let line = self.random.pick(&ODD_CHANGES).to_string();
+        self.write(line);
+        self.text.extend(text);
+        self.read();
+    }
+
+    /// A change at the end of the file, with fewer lines than it tells or an unended last one.
+    fn last_change(&mut self) {
+        let program = self.random.below(self.machine.card.programs.len()) as u32;
+        let mut text = self.correction(program as usize);
+        let lines = split_lines(&text).len();
+        match self.random.below(6) {
+            0 => text.clear(),
+            1 => text.truncate(self.random.below(text.len())),
+            2 | 3 => drop(text.pop()),
+            _ => (),
+        }
+        let more = self.random.pick(&[0, 1, 2, 70_000, WORD_END as usize - 1 - lines]);
+        self.enter_told(program, lines + more, &text);
+    }
+}
+
+/// Drops instructions from the end until a program counts no more than `heaviest`.
+fn lighten(program: &mut Vec<Instruction>, heaviest: u64) {
+    while weight(program) > heaviest {
+        let heavy = program.iter().rposition(|&instruction| weight(&[instruction]) > 0);
+        heavy.map(|place| program.remove(place));
+    }
+    if program.is_empty() {
+        program.push(make(11, 0, 0, 0));
+    }
+}
+
+/// A program that counts as much as the card's w or a little more, with a line left over or without: 14 comes first.
+fn overweight_text(random: &mut Random, weight: u64) -> Vec<u8> {
+    let weight = (weight as usize + random.between(0, 2)).min(34);
+    let twice = random.between(weight.saturating_sub(32), weight / 2);
+    let mut program = vec![make(13, random.below(4), 0, 0); twice];
+    program.extend(vec![make(3, random.below(4), 0, 0); weight - 2 * twice]);
+    if program.is_empty() {
+        program.push(make(12, 0, 0, 0));
+    }
+    let left_over = random.pick(&["", "", "\n", "ins,12,0,0,0\n", "look,0\n"]);
+    (program_text(&program) + left_over).into_bytes()
+}
+
+/// Texts at an edge of their size, among other commands or at the end of the file.
+fn edge_of_change(random: &mut Random, changes: usize) -> Case {
+    let card = make_card(random, CONTENDED, false);
+    let last = random.chance(50);
+    let size = random.pick(&[TEXT_LIMIT, TEXT_LIMIT + 1, TEXT_LIMIT + 2, 40_000]);
+    let mut play = Play::new(random, card.clone(), changes);
+    play.play(Schedule::Uniform, 200);
+    let program = play.random.below(card.programs.len()) as u32;
+    let text = play.correction(program as usize);
+    let mut text = padded_text(play.random, text, size);
+    if !last {
+        text[size - 1] = b'\n';
+    }
+    play.enter_change(program, &text);
+    if !last {
+        play.play(Schedule::Bursts, 200);
+    }
+    Case { card: Some(card_text(&card)), calls: Some(play.text) }
+}
+
+/// A change's text filled up to `size` bytes by left-over lines, one long line, or a long number in the first line or the last.
+fn padded_text(random: &mut Random, mut text: Vec<u8>, size: usize) -> Vec<u8> {
+    match random.below(5) {
+        0 => text.resize(size, b'\n'),
+        1 => text.extend(b"ins,12,0,0,0\n".iter().cycle().copied().take(size - text.len())),
+        2 => text = [b"sheet,".to_vec(), vec![b'1'; size - 7], b"\n".to_vec()].concat(),
+        3 => text = [b"sheet,1\nins,11,0,".to_vec(), vec![b'1'; size - 20], b",0\n".to_vec()].concat(),
+        _ => text.resize(size, b'7'),
+    }
+    text
+}
+
+fn make_calls(random: &mut Random, card: &Card, commands: usize, changes: usize) -> Vec<u8> {
     let schedules = [Schedule::Uniform, Schedule::RoundRobin, Schedule::Bursts, Schedule::Stalls, Schedule::Gaps];
     let (schedule, to_the_end) = (random.pick(&schedules), random.chance(60));
-    let mut play = Play::new(random, card.clone());
+    let mut play = Play::new(random, card.clone(), changes);
     play.play(schedule, commands);
     if to_the_end {
         play.finish();
@@ -446,17 +674,20 @@ fn make_calls(random: &mut Random, card: &Card, commands: usize) -> Vec<u8> {
     if play.refused_by_limit > 0 {
         play.after_limit();
     }
-    play.text.into_bytes()
+    if changes != NO_CHANGES && play.random.chance(40) {
+        play.last_change();
+    }
+    play.text
 }
 
-fn valid(random: &mut Random, shape: Shape, small_limit: bool) -> Case {
+fn valid(random: &mut Random, shape: Shape, small_limit: bool, changes: usize) -> Case {
     let card = make_card(random, shape, small_limit);
     let commands = match random.below(10) {
         0..=2 => random.between(1, 60),
         3..=8 => random.between(60, 500),
         _ => random.between(500, 3000),
     };
-    let calls = make_calls(random, &card, commands);
+    let calls = make_calls(random, &card, commands, changes);
     Case { card: Some(card_text(&card)), calls: Some(calls) }
 }
 
@@ -575,7 +806,7 @@ fn damage_number(random: &mut Random, text: &mut Vec<u8>) {
 fn damaged_card(random: &mut Random) -> Case {
     let shape = if random.chance(80) { CONTENDED } else { WIDE };
     let card = make_card(random, shape, false);
-    let calls = make_calls(random, &card, 40);
+    let calls = make_calls(random, &card, 40, NO_CHANGES);
     let mut text = card_text(&card);
     for _ in 0..random.pick(&[1, 1, 1, 2, 3]) {
         match random.below(10) {
@@ -591,8 +822,20 @@ fn damaged_card(random: &mut Random) -> Case {
 /// weight, at or past 14.
 fn odd_instruction(random: &mut Random) -> Case {
     let mut card = make_card(random, CONTENDED, false);
-    let calls = make_calls(random, &card, 40);
+    let calls = make_calls(random, &card, 40, NO_CHANGES);
     let variables = card.starting.len();
+    let odd = odd_operands(random, variables);
+    let program = random.below(card.programs.len());
+    let place = random.below(card.programs[program].len());
+    card.programs[program][place] = odd;
+    if random.chance(20) {
+        card.programs[program] = heavy_program(random, variables);
+    }
+    Case { card: Some(card_text(&card)), calls: Some(calls) }
+}
+
+/// An instruction whose code or operands stand at or past an edge.
+fn odd_operands(random: &mut Random, variables: usize) -> Instruction {
     let mut odd = if random.chance(12) { make(12, 0, 0, 0) } else { any_instruction(random, variables) };
     let edge = random.pick(&[0, 1, 3, 4, variables - 1, variables, 31, 32, WORD_END as usize - 1, WORD_END as usize]);
     for _ in 0..random.pick(&[1, 1, 1, 2, 3]) {
@@ -603,29 +846,24 @@ fn odd_instruction(random: &mut Random) -> Case {
             _ => odd.c = edge,
         }
     }
-    let program = random.below(card.programs.len());
-    let place = random.below(card.programs[program].len());
-    card.programs[program][place] = odd;
-    if random.chance(20) {
-        card.programs[program] = heavy_program(random, variables);
-    }
-    Case { card: Some(card_text(&card)), calls: Some(calls) }
+    odd
 }
 
 /// A program that counts 31 to 34.
 fn heavy_program(random: &mut Random, variables: usize) -> Vec<Instruction> {
     let weight = random.between(31, 34);
     let twice = random.between(weight.saturating_sub(32), weight / 2);
-    let mut program: Vec<Instruction> = (0..twice).map(|_| make(random.pick(&[13, 14]), random.below(4), 0, 0)).collect();
+    let mut program: Vec<Instruction> =
+        (0..twice).map(|_| make(random.pick(&[13, 14]), random.below(4), 0, 0)).collect();
     let single = |random: &mut Random| make(random.pick(&[3, 5]), random.below(4), random.below(variables.min(4)), 0);
     program.extend((0..weight - 2 * twice).map(|_| single(random)));
     program
 }
 
-fn damaged_calls(random: &mut Random) -> Case {
+fn damaged_calls(random: &mut Random, changes: usize) -> Case {
     let card = make_card(random, CONTENDED, false);
     let commands = random.between(1, 200);
-    let mut calls = make_calls(random, &card, commands);
+    let mut calls = make_calls(random, &card, commands, changes);
     for _ in 0..random.between(1, 30) {
         damage(random, &mut calls);
     }
@@ -638,7 +876,7 @@ fn damaged_calls(random: &mut Random) -> Case {
 fn edge_of_size(random: &mut Random) -> Case {
     let card = make_card(random, CONTENDED, false);
     let text = card_text(&card);
-    let calls = make_calls(random, &card, 60);
+    let calls = make_calls(random, &card, 60, NO_CHANGES);
     match random.below(12) {
         0 => Case { card: None, calls: Some(calls) },
         1 => Case { card: Some(Vec::new()), calls: Some(calls) },
@@ -668,7 +906,7 @@ fn padded_card(random: &mut Random, mut text: Vec<u8>, size: usize) -> Vec<u8> {
 
 /// Commands of exactly `size` bytes; the rest is filled with reads of 7 and 8 bytes, of which any rest from 42 can be made.
 fn padded_calls(random: &mut Random, card: &Card, size: usize) -> Vec<u8> {
-    let mut calls = make_calls(random, card, 6000);
+    let mut calls = make_calls(random, card, 6000, NO_CHANGES);
     let mut lines = split_lines(&calls);
     while calls.len() + 42 > size {
         calls.truncate(calls.len() - lines.pop().map_or(0, |line| line.len()));
@@ -683,7 +921,7 @@ fn padded_calls(random: &mut Random, card: &Card, size: usize) -> Vec<u8> {
 fn longest(random: &mut Random) -> Case {
     let card = longest_card();
     let commands = random.between(10, 300);
-    Case { calls: Some(make_calls(random, &card, commands)), card: Some(card_text(&card)) }
+    Case { calls: Some(make_calls(random, &card, commands, NO_CHANGES)), card: Some(card_text(&card)) }
 }
 
 /// 'Proving pieces': 65 variables and 33 instructions are refusal 3; so are 9 processes and 9 programs.

@@ -1,5 +1,5 @@
-//! The card of document 01: its text, its shared cells and its steps.
-//! Written from document 01 and the paper's numbered lines alone, so that it can judge the bench program.
+//! The card of document 01: its text, its shared cells and its steps, with the orders of document 02.
+//! Written from these documents and the paper's numbered lines alone, so that it can judge the bench program.
 
 use std::ops::Range;
 
@@ -7,6 +7,8 @@ use std::ops::Range;
 pub const TEXT_LIMIT: usize = 16_384;
 /// 'The card and its edges': the greatest step limit.
 pub const GREATEST_LIMIT: u64 = 1_000_000_000_000_000_000;
+/// Document 02, order 9: the most that a program may count towards w.
+pub const HEAVIEST: u64 = 32;
 /// One past the greatest 32-bit word.
 pub const WORD_END: u64 = 1 << 32;
 
@@ -20,12 +22,20 @@ pub struct Line<'a> {
 
 /// The lines of a text. What stands after the last byte 10 is a line if it has a byte.
 pub fn lines(text: &[u8]) -> Vec<Line<'_>> {
-    text.split_inclusive(|&byte| byte == 10)
-        .map(|line| match line.strip_suffix(b"\n") {
-            Some(bytes) => Line { bytes, ended: true },
-            None => Line { bytes: line, ended: false },
-        })
-        .collect()
+    text.split_inclusive(|&byte| byte == 10).map(line).collect()
+}
+
+/// A line from its bytes, its byte 10 among them.
+pub fn line(bytes: &[u8]) -> Line<'_> {
+    match bytes.strip_suffix(b"\n") {
+        Some(bytes) => Line { bytes, ended: true },
+        None => Line { bytes, ended: false },
+    }
+}
+
+/// How many bytes the first lines of a text have, all of it where it has no more lines.
+pub fn length_of_lines(text: &[u8], count: usize) -> usize {
+    text.split_inclusive(|&byte| byte == 10).take(count).map(<[u8]>::len).sum()
 }
 
 /// A decimal number without sign or leading zero. A number too large for 64 bits has the right form;
@@ -99,13 +109,21 @@ pub struct Refusal {
     pub line: usize,
 }
 
-/// Takes the lines of a card text one after the other.
+/// Takes the lines of a card text, or of a change's text, one after the other.
 struct Reader<'a> {
     lines: Vec<Line<'a>>,
     taken: usize,
 }
 
-impl Reader<'_> {
+impl<'a> Reader<'a> {
+    /// Row 1 is judged before all lines.
+    fn new(text: &'a [u8]) -> Result<Reader<'a>, Refusal> {
+        if text.len() > TEXT_LIMIT {
+            return Err(Refusal { number: 1, line: 0 });
+        }
+        Ok(Reader { lines: lines(text), taken: 0 })
+    }
+
     /// A refusal at the line taken last.
     fn refuse(&self, number: u8) -> Refusal {
         Refusal { number, line: self.taken }
@@ -127,14 +145,23 @@ impl Reader<'_> {
         }
     }
 
-    fn program(&mut self, variables: u64) -> Result<Vec<Instruction>, Refusal> {
+    /// The lines of a program that counts at most `heaviest`.
+    fn program(&mut self, variables: u64, heaviest: u64) -> Result<Vec<Instruction>, Refusal> {
         let length = self.take("sheet", 1)?[0];
         let length = self.in_range(length, 1, 32)?;
         let program: Vec<Instruction> = (0..length).map(|_| self.instruction(variables)).collect::<Result<_, _>>()?;
-        if weight(&program) > 32 {
+        if weight(&program) > heaviest {
             return Err(self.refuse(14));
         }
         Ok(program)
+    }
+
+    /// Nothing follows: a line left over is refused.
+    fn end(&self) -> Result<(), Refusal> {
+        if self.taken < self.lines.len() {
+            return Err(Refusal { number: 2, line: self.taken + 1 });
+        }
+        Ok(())
     }
 
     fn instruction(&mut self, variables: u64) -> Result<Instruction, Refusal> {
@@ -171,10 +198,7 @@ fn judge_instruction(numbers: &[u64], variables: u64) -> Result<Instruction, u8>
 
 /// 'The card text', rows 1 to 4 of 'Turned back', order 8's 12 and 13, and order 9's 14: judged by 1, then line by line.
 pub fn open(text: &[u8]) -> Result<Card, Refusal> {
-    if text.len() > TEXT_LIMIT {
-        return Err(Refusal { number: 1, line: 0 });
-    }
-    let mut reader = Reader { lines: lines(text), taken: 0 };
+    let mut reader = Reader::new(text)?;
     let head = reader.take("card", 4)?;
     let processes = reader.in_range(head[0], 1, 8)? as usize;
     let variables = reader.in_range(head[1], 1, 64)?;
@@ -187,12 +211,18 @@ pub fn open(text: &[u8]) -> Result<Card, Refusal> {
     }
     let mut programs = Vec::new();
     for _ in 0..program_count {
-        programs.push(reader.program(variables)?);
+        programs.push(reader.program(variables, HEAVIEST)?);
     }
-    if reader.taken < reader.lines.len() {
-        return Err(Refusal { number: 2, line: reader.taken + 1 });
-    }
+    reader.end()?;
     Ok(Card { processes, limit, starting, programs })
+}
+
+/// Order 11: a change's text is one program as a card has it, with that card's variables; it counts no more than the card's w.
+pub fn read_change(text: &[u8], card: &Card) -> Result<Vec<Instruction>, Refusal> {
+    let mut reader = Reader::new(text)?;
+    let program = reader.program(card.starting.len() as u64, card.weight().min(HEAVIEST))?;
+    reader.end()?;
+    Ok(program)
 }
 
 // ---------------------------------------------------------------- shared cells
@@ -455,8 +485,10 @@ struct Operation {
     announcement: Announcement,
     nominee: usize,
     helping: Helping,
-    /// Order 1: the gate number last read in this operation, 0 if none yet.
-    number: u64,
+    /// Order 1: the gate number last read in this operation; none before P1.
+    number: Option<u64>,
+    /// The number from which the last change of its program runs that was taken while it was under way; for the summary only.
+    changed: Option<u64>,
 }
 
 /// What an accepted step answers.
@@ -488,6 +520,8 @@ pub struct Stepped {
     pub count: usize,
     pub own_steps: u64,
     pub exit_request: bool,
+    /// Order 11, of a step that helped by a program which was changed, or finished an operation that was under way at a change: by which text.
+    pub text: Option<&'static str>,
 }
 
 impl Stepped {
@@ -514,7 +548,8 @@ impl Operation {
             announcement: cells.announcements[process],
             nominee: process,
             helping: Helping::default(),
-            number: 0,
+            number: None,
+            changed: None,
         }
     }
 
@@ -544,7 +579,7 @@ impl Operation {
     /// Reads the gate with its number.
     fn read_gate(&mut self, cells: &Cells) {
         self.gate = cells.gate;
-        self.number = cells.gate.seq;
+        self.number = Some(cells.gate.seq);
     }
 
     /// 'One step': the access that the next step makes.
@@ -557,7 +592,7 @@ impl Operation {
     }
 
     /// One shared access and the local work up to the next; tells how the access came out.
-    fn access(&mut self, label: Label, cells: &mut Cells, card: &Card) -> &'static str {
+    fn access(&mut self, label: Label, cells: &mut Cells, programs: &[Texts]) -> &'static str {
         let (place, outcome) = match label {
             Label::P1 => self.p1(cells),
             Label::P3 => self.p3(cells),
@@ -568,8 +603,8 @@ impl Operation {
             Label::C4 => self.c4(cells),
             Label::P13 => self.p13(cells),
             Label::P14 => self.p14(cells),
-            Label::P16 => self.p16(cells, card),
-            Label::H21 => self.h21(cells, card),
+            Label::P16 => self.p16(cells, programs),
+            Label::H21 => self.h21(cells, programs),
             Label::H36 => self.h36(cells),
             Label::P19 => self.mark_done(Flag::Active, Label::P20, cells),
             Label::P20 => self.mark_done(Flag::Exit, Label::P21, cells),
@@ -669,7 +704,7 @@ impl Operation {
     }
 
     /// P16, P17, H1.
-    fn p16(&mut self, cells: &Cells, card: &Card) -> (Place, &'static str) {
+    fn p16(&mut self, cells: &Cells, programs: &[Texts]) -> (Place, &'static str) {
         self.announcement = cells.announcements[self.holder()];
         if self.announcement.flag == Flag::Done {
             return (Place::At(Label::P21), "done");
@@ -678,17 +713,17 @@ impl Operation {
             return (Place::At(Label::P21), "greater seq");
         }
         self.helping = Helping::default();
-        (self.help(card), if self.helping.fault { "fault" } else { "help" })
+        (self.help(cells, programs), if self.helping.fault { "fault" } else { "help" })
     }
 
-    /// Local work of helping up to the next access.
-    fn help(&mut self, card: &Card) -> Place {
-        let program = &card.programs[self.announcement.program];
-        Place::At(self.helping.run(program, &self.announcement.words, self.gate.seq, card.starting.len()))
+    /// Local work of helping up to the next access. Order 11: the gate number read last chooses the text, whenever it was read.
+    fn help(&mut self, cells: &Cells, programs: &[Texts]) -> Place {
+        let program = programs[self.announcement.program].at(self.gate.seq);
+        Place::At(self.helping.run(program, &self.announcement.words, self.gate.seq, cells.records.len()))
     }
 
     /// H21 to H25.
-    fn h21(&mut self, cells: &Cells, card: &Card) -> (Place, &'static str) {
+    fn h21(&mut self, cells: &Cells, programs: &[Texts]) -> (Place, &'static str) {
         let variable = self.helping.touching;
         let record = cells.records[variable];
         if record.seq > self.gate.seq {
@@ -697,7 +732,7 @@ impl Operation {
         let (side, outcome) =
             if record.seq < self.gate.seq { (record.toggle, "lower seq") } else { (1 - record.toggle, "equal seq") };
         self.helping.dictionary.push(Noted { variable, record, value: record.val[side] });
-        (self.help(card), if self.helping.fault { "fault" } else { outcome })
+        (self.help(cells, programs), if self.helping.fault { "fault" } else { outcome })
     }
 
     /// H33 to H36, then H31 again.
@@ -758,20 +793,50 @@ impl Operation {
     }
 }
 
+// ---------------------------------------------------------------- programs and their changes
+
+/// Order 11: every text that a program has had, each with the gate number from which it runs; the opening text runs from 0.
+#[derive(Clone, Debug)]
+struct Texts(Vec<(u64, Vec<Instruction>)>);
+
+impl Texts {
+    fn new(opening: Vec<Instruction>) -> Texts {
+        Texts(vec![(0, opening)])
+    }
+
+    /// A taken change: operations numbered `from` or later run the new text.
+    fn change(&mut self, from: u64, text: Vec<Instruction>) {
+        self.0.push((from, text));
+    }
+
+    /// The text that the operation with this number runs.
+    fn at(&self, number: u64) -> &[Instruction] {
+        let reached = self.0.iter().rev().find(|(from, _)| *from <= number);
+        &reached.expect("the opening text runs from 0").1
+    }
+
+    /// The number of the last taken change, 0 without one.
+    fn last(&self) -> u64 {
+        self.0[self.0.len() - 1].0
+    }
+}
+
 // ---------------------------------------------------------------- the machine
 
-/// An opened card with its cells and processes.
+/// An opened card, which stays as it was opened, with its cells, its processes and the texts of its programs.
 #[derive(Clone, Debug)]
 pub struct Machine {
     pub card: Card,
     pub cells: Cells,
     pub steps: u64,
     operations: Vec<Option<Operation>>,
+    programs: Vec<Texts>,
 }
 
 impl Machine {
     pub fn new(card: Card) -> Machine {
-        Machine { cells: opening_cells(&card), steps: 0, operations: vec![None; card.processes], card }
+        let programs = card.programs.iter().cloned().map(Texts::new).collect();
+        Machine { cells: opening_cells(&card), steps: 0, operations: vec![None; card.processes], programs, card }
     }
 
     /// Row 5: the process as a place.
@@ -825,13 +890,71 @@ impl Machine {
         operation.own_steps += 1;
         let label = operation.next_access();
         let cell = operation.cell(label);
-        let outcome = operation.access(label, &mut self.cells, &self.card);
+        let outcome = operation.access(label, &mut self.cells, &self.programs);
         let (answer, own_steps, exit_request) = (operation.answer(), operation.own_steps, operation.exit_request);
-        let (number, (noted, count)) = (operation.number, operation.noted(label));
+        let (number, (noted, count)) = (operation.number.unwrap_or(0), operation.noted(label));
+        let helped = operation.announcement.program;
+        let text = self.text_of(label, outcome, cell, number, helped);
         if answer != Answer::Run {
             self.operations[process] = None;
         }
-        Ok(Stepped { answer, label, outcome, own_steps, exit_request, cell, number, noted, count })
+        Ok(Stepped { answer, label, outcome, own_steps, exit_request, cell, number, noted, count, text })
+    }
+
+    /// By which text a step helped, or the operation ran that it finished, where there is a choice.
+    fn text_of(&self, label: Label, outcome: &str, cell: Cell, number: u64, helped: usize) -> Option<&'static str> {
+        let ahead = |from: u64| usize::from(number < from);
+        match (label, outcome, cell) {
+            (Label::P16, "help" | "fault", _) => {
+                self.changed(helped).map(|from| ["P16 by the later text", "P16 by the earlier text"][ahead(from)])
+            }
+            (Label::H21, "lower seq" | "equal seq" | "fault", _) => {
+                self.changed(helped).map(|from| ["H21 by the later text", "H21 by the earlier text"][ahead(from)])
+            }
+            (Label::P19 | Label::P20, "won", Cell::Announcement(finished)) => {
+                let changed = self.operations[finished].as_ref().and_then(|operation| operation.changed);
+                changed.map(|from| ["across by the new text", "across by the old text"][ahead(from)])
+            }
+            _ => None,
+        }
+    }
+
+    /// The number of the last change of a program, if there was one.
+    fn changed(&self, program: usize) -> Option<u64> {
+        Some(self.programs[program].last()).filter(|&from| from > 0)
+    }
+
+    /// Change (order 11): 6, then the text's own refusals, 15, 16. It is no step: the limit does not count it.
+    pub fn change(&mut self, program: u32, from: u64, text: &[u8]) -> Result<(), Refusal> {
+        let refuse = |number| Err(Refusal { number, line: 0 });
+        let program = program as usize;
+        if program >= self.card.programs.len() {
+            return refuse(6);
+        }
+        let text = read_change(text, &self.card)?;
+        if from <= self.cells.gate.seq {
+            return refuse(15);
+        }
+        if self.change_ahead(program) || self.late_reader(program) {
+            return refuse(16);
+        }
+        self.programs[program].change(from, text);
+        for operation in self.operations.iter_mut().flatten().filter(|operation| operation.program == program) {
+            operation.changed = Some(from);
+        }
+        Ok(())
+    }
+
+    /// The first half of refusal 16: the last change of the program lies above the gate's number.
+    pub fn change_ahead(&self, program: usize) -> bool {
+        self.programs[program].last() > self.cells.gate.seq
+    }
+
+    /// The second half of refusal 16: some operation under way last read a gate number below that change; one that has read none doesn't count.
+    pub fn late_reader(&self, program: usize) -> bool {
+        let last = self.programs[program].last();
+        let mut numbers = self.operations.iter().flatten().filter_map(|operation| operation.number);
+        numbers.any(|number| number < last)
     }
 
     /// Read ('Look'): row 9. The old value stays in sight until the holder's operation is finished.

@@ -1,5 +1,5 @@
 #!/bin/sh
-# Tests the simulator itself, compares a bench program with it on 2,000 generated cases, and looks for waits past the longest.
+# Tests the simulator itself, compares a bench program with it on 3,000 generated cases (every third with changes of programs), and looks for waits past the longest.
 # usage: run.sh PROGRAM
 set -eu
 if [ $# -ne 1 ]; then
@@ -15,5 +15,5 @@ build=$(mktemp -d)
 trap 'rm -rf "$build"' EXIT
 rustc --edition 2021 -O -o "$build/simulator" "$here/main.rs"
 "$build/simulator" selftest
-"$build/simulator" compare "$1" 1 2000
+"$build/simulator" compare "$1" 1 3000
 "$build/simulator" waits

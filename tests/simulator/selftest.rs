@@ -1,12 +1,16 @@
 //! The simulator against document 01: the listing of card K, the proving pieces, the rows of 'Turned back',
-//! schedules that show the faults met in drafts, and the sequential run side by side.
+//! schedules that show the faults met in drafts, changes of programs (document 02, order 11), and the sequential run side by side.
 
 use crate::generate::{card_text, case, longest_card};
-use crate::machine::{lines, open, Announcement, Answer, Flag, Instruction, Line, Machine, Record};
-use crate::session::{expected, parse, Command};
+use crate::machine::{open, read_change, Announcement, Answer, Flag, Instruction, Machine, Record};
+use crate::session::{expected, Command, Commands};
 
 /// Card K's program: store the input, output the old value.
 const EXCHANGE: &str = "sheet,4\nins,1,0,0,0\nins,3,1,0,0\nins,4,0,0,0\nins,11,0,1,0\n";
+/// Adds the input to v0, outputs the sum; it counts 2 as card K's program does.
+const ADD: &str = "sheet,5\nins,3,0,0,0\nins,1,1,0,0\nins,7,0,1,0\nins,4,0,0,0\nins,11,0,0,0\n";
+/// Outputs 77 and touches nothing.
+const FIXED: &str = "sheet,2\nins,2,0,77,0\nins,11,0,0,0\n";
 /// The program v0 := 1 - v0.
 const FLIP: &str = "sheet,4\nins,2,0,1,0\nins,3,1,0,0\nins,8,0,1,0\nins,4,0,0,0\n";
 
@@ -44,7 +48,11 @@ pub fn selftest() -> bool {
     card_sizes(&mut checks);
     command_refusals(&mut checks);
     fault_schedules(&mut checks);
-    for seed in 1..=400 {
+    changed_programs(&mut checks);
+    changes_in_time(&mut checks);
+    change_refusals(&mut checks);
+    change_commands(&mut checks);
+    for seed in 1..=600 {
         let found = side_by_side(seed);
         checks.equal(&format!("sequential run, seed {seed}"), found, Ok(()));
     }
@@ -186,7 +194,13 @@ fn program_pieces(checks: &mut Checks) {
     alone("giving back 0", &[0, 5], &["14,0,0,0", "11,0,0,0"], "fault", 12);
     alone("giving back n", &[0, 5], &["2,0,2,0", "14,0,0,0"], "fault", 12);
     alone("taken and given back", &[1, 0], &["13,0,0,0", "14,0,0,0", "11,0,0,0"], "1,0,0,0", 14);
-    alone("taken twice, given back in turn", &[1, 2, 0], &["13,0,0,0", "13,1,0,0", "14,0,0,0", "14,1,0,0"], "0,0,0,0", 18);
+    alone(
+        "taken twice, given back in turn",
+        &[1, 2, 0],
+        &["13,0,0,0", "13,1,0,0", "14,0,0,0", "14,1,0,0"],
+        "0,0,0,0",
+        18,
+    );
 }
 
 /// Rows 1 to 4 of 'Turned back', with their lines.
@@ -339,6 +353,139 @@ fn late_write(checks: &mut Checks, flip: &str) {
     schedule(checks, "swap compares seq", flip, &entries, &["step,1,done,1,0,0,0,0,11"], &shown);
 }
 
+// ---------------------------------------------------------------- changes (document 02, order 11)
+
+fn change(program: usize, from: u64, text: &str) -> String {
+    format!("change,{program},{from},{}\n{text}", text.lines().count())
+}
+
+/// A call of program 0 by a process, and all its steps.
+fn operation(process: usize, input: u32, count: usize) -> String {
+    format!("call,{process},0,{input},0,0,0\n{}", steps(process, count))
+}
+
+/// What that prints: its gate number, its first output and its steps.
+fn operated(process: usize, number: u64, output: u32, count: usize) -> String {
+    format!("call,{process},taken\n{}step,{process},done,{number},{output},0,0,0,{count}\n", runs(process, count - 1))
+}
+
+/// Operations numbered G or later run the new text, earlier ones the old; a helper chooses by the number it last read.
+fn changed_programs(checks: &mut Checks) {
+    let k = card_of(1, 1000, 7, EXCHANGE);
+    let commands = change(0, 2, ADD) + &operation(0, 9, 14).repeat(2) + &change(0, 4, FIXED) + &operation(0, 1, 14);
+    let printed = "change,0,taken\n".to_string() + &operated(0, 1, 7, 14) + &operated(0, 2, 18, 14);
+    let printed = printed + "change,0,taken\n" + &operated(0, 3, 19, 14) + &operated(0, 4, 77, 12) + "look,0,19\n";
+    checks.session("both sides of G", &k, &(commands + &operation(0, 1, 12) + "look,0\n"), &printed);
+    // Both are announced before the change; process 1 has the first turn and is done under number 1.
+    let called = "call,0,0,5,0,0,0\ncall,1,0,9,0,0,0\n".to_string() + &steps(0, 2) + &steps(1, 2);
+    let commands = called + &change(0, 2, ADD) + &steps(1, 12) + &steps(0, 12) + "look,0\n";
+    let printed = "call,0,taken\ncall,1,taken\n".to_string() + &runs(0, 2) + &runs(1, 2) + "change,0,taken\n";
+    let printed = printed + &runs(1, 11) + "step,1,done,1,7,0,0,0,14\n" + &runs(0, 11) + "step,0,done,2,14,0,0,0,14\n";
+    checks.session("called before the change", &card_of(2, 1000, 7, EXCHANGE), &commands, &(printed + "look,0,14\n"));
+    // Process 0 helps 1 under number 1 and sleeps at H21; then it finishes that operation by the text of number 1.
+    let asleep = "call,1,0,9,0,0,0\n".to_string() + &steps(1, 6) + "call,0,0,5,0,0,0\n" + &steps(0, 4);
+    let commands = asleep + &change(0, 2, FIXED) + &steps(0, 6) + &steps(1, 4) + &steps(0, 10);
+    let printed = "call,1,taken\n".to_string() + &runs(1, 6) + "call,0,taken\n" + &runs(0, 4) + "change,0,taken\n";
+    let printed = printed + &runs(0, 6) + &runs(1, 3) + "step,1,done,1,7,0,0,0,10\n" + &runs(0, 9);
+    let printed = printed + "step,0,done,2,77,0,0,0,20\n";
+    checks.session("asleep at H21", &card_of(2, 1000, 7, EXCHANGE), &commands, &printed);
+}
+
+/// 15 and 16: what each answers at which gate number, and who counts.
+fn changes_in_time(checks: &mut Checks) {
+    let (one, two) = (card_of(1, 1000, 7, EXCHANGE), card_of(2, 1000, 7, EXCHANGE));
+    let tried = |from: u64| change(0, from, FIXED);
+    let mut answers = |name: &str, card: &str, commands: String, wanted: &[&str]| {
+        let printed = String::from_utf8(expected(card.as_bytes(), commands.as_bytes())).expect("ASCII");
+        let found: Vec<&str> = printed.lines().filter_map(|line| line.strip_prefix("change,0,")).collect();
+        checks.equal(name, found, wanted.to_vec());
+    };
+    let opening = tried(0) + &tried(1) + &tried(2);
+    answers("15 at opening", &one, opening, &["refused,15,0", "refused,15,0", "taken"]);
+    let held = "call,0,0,9,0,0,0\n".to_string() + &steps(0, 8) + &tried(1) + &steps(0, 6) + &tried(2) + &tried(3);
+    answers("15 at the gate's number", &one, held, &["refused,15,0", "refused,15,0", "taken"]);
+    let ahead = tried(3) + &tried(1) + &tried(4) + &operation(0, 9, 14) + &tried(4) + &operation(0, 9, 14) + &tried(4);
+    let wanted = ["taken", "refused,15,0", "refused,16,0", "refused,16,0", "taken"];
+    answers("a change ahead", &one, ahead, &wanted);
+    // Process 0 has read number 1 at P1; P3 reads nothing, P10 reads 2.
+    let asleep = "call,0,0,5,0,0,0\nstep,0\n".to_string() + &tried(2) + &operation(1, 9, 14) + &tried(2) + &tried(3);
+    let asleep = asleep + "step,0\n" + &tried(3) + "step,0\n" + &tried(3);
+    let wanted = ["taken", "refused,15,0", "refused,16,0", "refused,16,0", "taken"];
+    answers("a late reader", &two, asleep, &wanted);
+    // Done at step 10 under number 1; P21 raises the gate's number, F1 reads it and returns.
+    let done =
+        tried(2) + "call,0,0,9,0,0,0\n" + &steps(0, 12) + &tried(3) + "step,0\n" + &tried(3) + "step,0\n" + &tried(3);
+    answers("done and not returned", &one, done, &["taken", "refused,16,0", "refused,16,0", "taken"]);
+    // Process 0 last read 2 in the operation that has returned; called again it has read none.
+    let none = operation(0, 9, 15)
+        + &tried(3)
+        + &operation(1, 1, 15)
+        + "call,0,0,5,0,0,0\n"
+        + &tried(4)
+        + "step,0\n"
+        + &tried(5);
+    answers("none read", &two, none, &["taken", "taken", "refused,16,0"]);
+    let limit = "call,0,0,9,0,0,0\n".to_string() + &steps(0, 14) + &tried(2) + &tried(3);
+    answers("past the limit", &card_of(1, 13, 7, EXCHANGE), limit, &["refused,15,0", "taken"]);
+}
+
+/// 6, then the text's own refusals, each with its line; the card's w is 2.
+fn change_refusals(checks: &mut Checks) {
+    let k = card_of(1, 1000, 7, EXCHANGE);
+    let mut refused = |program: usize, text: &str, number: u8, line: usize| {
+        let wanted = format!("change,{program},refused,{number},{line}\nlook,0,7\n");
+        checks.session(text, &k, &format!("{}look,0\n", change(program, 1, text)), &wanted);
+    };
+    refused(0, ADD, 15, 0);
+    refused(1, ADD, 6, 0);
+    refused(1, "x\n", 6, 0);
+    refused(0, "", 2, 1);
+    refused(0, "\n", 2, 1);
+    refused(0, "sheet,01\n", 2, 1);
+    refused(0, "sheet,0\n", 3, 1);
+    refused(0, "sheet,33\n", 3, 1);
+    refused(0, "sheet,18446744073709551617\n", 3, 1);
+    refused(0, "sheet,1\n", 2, 2);
+    refused(0, "sheet,1\nins,13,0,0\n", 2, 2);
+    refused(0, "sheet,1\nins,15,9,0,0\n", 4, 2);
+    refused(0, "sheet,1\nins,3,0,1,7\n", 12, 2);
+    refused(0, "sheet,1\nins,12,0,0,1\n", 13, 2);
+    refused(0, "sheet,2\nins,3,0,0,0\nins,13,0,0,0\n", 14, 3);
+    refused(0, "sheet,2\nins,3,0,0,0\nins,13,0,0,1\n", 13, 3);
+    refused(0, "sheet,2\nins,3,0,0,0\nins,13,0,0,0\nx\n", 14, 3);
+    refused(0, "sheet,2\nins,13,0,0,0\nins,12,0,0,0\nx\n", 2, 4);
+    refused(0, &format!("{ADD}\n"), 2, 7);
+    refused(0, &format!("{ADD}{}", "\n".repeat(16_384 - ADD.len())), 2, 7);
+    refused(0, &format!("{ADD}{}", "\n".repeat(16_385 - ADD.len())), 1, 0);
+    // A change to a lighter text leaves the card's w as it was.
+    let commands = change(0, 2, FIXED) + &operation(0, 9, 14) + &change(0, 3, ADD);
+    let printed = "change,0,taken\n".to_string() + &operated(0, 1, 7, 14) + "change,0,taken\n";
+    checks.session("w stays", &k, &commands, &printed);
+}
+
+/// The lines of a text: fewer follow, none, an unended rest; a misformed change has no text; all lines are counted.
+fn change_commands(checks: &mut Checks) {
+    let k = card_of(1, 1000, 7, EXCHANGE);
+    checks.session("fewer lines", &k, &format!("change,0,2,9\n{ADD}"), "change,0,taken\n");
+    checks.session("unended text", &k, &format!("change,0,2,6\n{}", ADD.trim_end()), "change,0,refused,2,6\n");
+    checks.session("unended rest", &k, &format!("change,0,2,4294967295\n{ADD}x"), "change,0,refused,2,7\n");
+    checks.session("nothing follows", &k, "look,0\nchange,0,2,1\n", "look,0,7\nchange,0,refused,2,1\n");
+    checks.session("no lines", &k, "change,0,2,0\nlook,0\n", "change,0,refused,2,1\nlook,0,7\n");
+    checks.session("unended change", &k, "change,0,2,0", "line,1,refused,2\n");
+    let inside = "change,0,2,3\ncall,0,0,9,0,0,0\n\nstep,0\nstep\nlook,0\n";
+    checks.session("commands in a text", &k, inside, "change,0,refused,2,1\nline,5,refused,2\nlook,0,7\n");
+    for line in [
+        "change,0,2",
+        "change,0,2,1,0",
+        "change,0,02,1",
+        "change,0,4294967296,1",
+        "change,0,2,4294967296",
+        "Change,0,2,1",
+    ] {
+        checks.session(line, &k, &format!("{line}\nlook,0\n"), "line,1,refused,2\nlook,0,7\n");
+    }
+}
+
 // ---------------------------------------------------------------- card and sequential run side by side
 
 /// The single-user run of document 01: plain words, each operation from start to stop. None for a fault, which leaves the words.
@@ -379,35 +526,57 @@ fn run_alone(words: &mut Vec<u32>, program: &[Instruction], inputs: [u32; 4]) ->
 /// What an operation came to that is done: its rank, its outputs, and whether it was a fault.
 type Done = (u64, [u32; 4], bool);
 
+/// The single-user bench: its words, the programs as they stand, the changes it was told of and has not made yet, and how many operations it has run.
+struct Bench {
+    words: Vec<u32>,
+    programs: Vec<Vec<Instruction>>,
+    told: Vec<(u64, usize, Vec<Instruction>)>,
+    run: u64,
+}
+
+impl Bench {
+    /// Runs an operation handed to it. Order 11: at the G-th operation it switches.
+    fn run(&mut self, program: usize, inputs: [u32; 4]) -> Done {
+        self.run += 1;
+        let (due, later) = self.told.drain(..).partition(|(from, ..)| *from <= self.run);
+        self.told = later;
+        for (_, place, text) in due {
+            self.programs[place] = text;
+        }
+        let outputs = run_alone(&mut self.words, &self.programs[program], inputs);
+        (self.run, outputs.unwrap_or([0; 4]), outputs.is_none())
+    }
+}
+
 /// Demand 3 on the case of a seed: the words equal the values read after each entry, rank, outputs and mark those of 'done' and 'fault'.
 fn side_by_side(seed: u64) -> Result<(), String> {
     let case = case(seed);
     let Ok(card) = open(case.card.as_deref().unwrap_or(&[])) else { return Ok(()) };
-    let mut words = card.starting.clone();
+    let (words, programs) = (card.starting.clone(), card.programs.clone());
+    let mut bench = Bench { words, programs, told: Vec::new(), run: 0 };
     let mut latest = vec![(0, [0; 4]); card.processes];
-    let mut finished = 0;
     let mut results = vec![(0, [0; 4], false); card.processes];
     let mut machine = Machine::new(card);
-    for (place, line) in lines(case.calls.as_deref().unwrap_or(&[])).iter().enumerate() {
+    for numbered in Commands::new(case.calls.as_deref().unwrap_or(&[])) {
+        let Ok(command) = numbered.command else { continue };
         let before = flags(&machine);
-        let answer = enter(&mut machine, line, &mut latest);
+        let answer = enter(&mut machine, command, &mut latest, &mut bench);
         for process in (0..before.len()).filter(|&at| before[at] != Flag::Done && flags(&machine)[at] == Flag::Done) {
             let (program, inputs) = latest[process];
-            finished += 1;
-            let outputs = run_alone(&mut words, &machine.card.programs[program], inputs);
-            results[process] = (finished, outputs.unwrap_or([0; 4]), outputs.is_none());
+            results[process] = bench.run(program, inputs);
         }
+        let words = &bench.words;
         let shown: Vec<u32> = (0..words.len()).map(|variable| machine.read(variable as u32).expect("there")).collect();
         let agreed = answer.is_none_or(|(process, found)| found == results[process]);
-        if shown != words || !agreed || !numbered(&machine, &results) {
-            return Err(format!("entry {}: shown {shown:?}, words {words:?}, answers agree: {agreed}", place + 1));
+        if shown != *words || !agreed || !numbered_right(&machine, &results) {
+            return Err(format!("line {}: shown {shown:?}, words {words:?}, answers agree: {agreed}", numbered.line));
         }
     }
     Ok(())
 }
 
 /// What a done announcement holds is what the process's latest finished operation came to; any other has number 0 and no mark.
-fn numbered(machine: &Machine, results: &[Done]) -> bool {
+fn numbered_right(machine: &Machine, results: &[Done]) -> bool {
     let agrees = |(announcement, result): (&Announcement, &Done)| match announcement.flag {
         Flag::Done => (announcement.number, announcement.words, announcement.fault) == *result,
         _ => announcement.number == 0 && !announcement.fault,
@@ -419,9 +588,14 @@ fn flags(machine: &Machine) -> Vec<Flag> {
     machine.cells.announcements.iter().map(|announcement| announcement.flag).collect()
 }
 
-/// Enters one command; keeps the latest taken call of each process; gives what a 'done' or 'fault' answer says.
-fn enter(machine: &mut Machine, line: &Line, latest: &mut [(usize, [u32; 4])]) -> Option<(usize, Done)> {
-    match parse(line)? {
+/// Enters one command; keeps the latest taken call of each process, and tells the bench of taken changes; gives what a 'done' or 'fault' answer says.
+fn enter(
+    machine: &mut Machine,
+    command: Command,
+    latest: &mut [(usize, [u32; 4])],
+    bench: &mut Bench,
+) -> Option<(usize, Done)> {
+    match command {
         Command::Call { process, program, inputs } => {
             if machine.call(process, program, inputs).is_ok() {
                 latest[process as usize] = (program as usize, inputs);
@@ -434,5 +608,12 @@ fn enter(machine: &mut Machine, line: &Line, latest: &mut [(usize, [u32; 4])]) -
             _ => None,
         },
         Command::Read { .. } => None,
+        Command::Change { program, from, text, .. } => {
+            if machine.change(program, u64::from(from), text).is_ok() {
+                let text = read_change(text, &machine.card).expect("it was taken");
+                bench.told.push((u64::from(from), program as usize, text));
+            }
+            None
+        }
     }
 }

@@ -140,6 +140,18 @@ def refusals():
         holds(f"example of refusal {number}", ask(card, commands)[-1:], quoted(answer))
 
 
+def refusals_of_changes():
+    """Each row's example on card K: a change with its text, or one whose text is too long."""
+    table = rows("Refusals", "no. | of a change")
+    [command] = [row for row in rows("Commands", "command") if quoted(row[0])[0].startswith("change,")]
+    numbers = sorted(int(number) for number in re.findall(r"\d+", command[3]))
+    holds("a row for each refusal of a change", [int(row[0]) for row in table] + [15, 16], numbers)
+    for number, _, example, answer, _ in table:
+        long = re.search(r"([\d,]+) bytes", example)
+        commands = ["change,0,2,1", "x" * (int(long[1].replace(",", "")) - 1)] if long else quoted(example)
+        holds(f"example of refusal {number} of a change", ask(CARD_K, commands), quoted(answer))
+
+
 def others():
     """A row for each label, for each command of the bench program, and for each script at the top that runs a program."""
     labels = re.findall(r'word = "(\w+)"', (ROOT / "crates/construction/specs/Reports.antt").read_text())
@@ -158,6 +170,7 @@ with tempfile.TemporaryDirectory() as bin_folder:
 lines_of_examples()
 codes()
 refusals()
+refusals_of_changes()
 others()
 print(f"page of formats: {checks} checks, {failures} failed")
 sys.exit(failures != 0)

@@ -67,3 +67,32 @@ pub data Judged (t : List ℕ) : Fields → Type 0 where
   -- 'Nothing follows'
   leftOver : {k : ℕ} {r : Reading} → GoodUntil t (NextLine.sheet 0 k r) → r .at ≢ length t → Judged t (refusedIn (r .line) 2)
   accepted : {k : ℕ} {r : Reading} → GoodUntil t (NextLine.sheet 0 k r) → r .at ≡ length t → Judged t (fields "accepted" [])
+
+-- THE TEXT OF A CHANGE (document 02, order 11: 'the text is judged as in a card'): one program and nothing after it, by the number n of variables and the
+-- greatest weight. All its lines before an `ins` line are good, `more` of them to come, this one for place j; what was read before stands beside it.
+pub data GoodLines (n : ℕ) (t : List ℕ) : ℕ → ℕ → ProgramReading → Type 0 where
+  first :
+      {m next : ℕ} → length t ≤ 16384 → sheetLine t 0 ≡ SheetLine.Length m next →
+      GoodLines n t m 0 (programSoFar m (replicate 32 noLine) next 2)
+  next :
+      {m j next : ℕ} {x : ProgramReading} {y : Instruction} → GoodLines n t (suc m) j x → insLine n t (x .at) ≡ InsLine.Ins y next →
+      GoodLines n t m (suc j) (withLine x j y next)
+
+-- what the verdict on it says
+pub data ChangeJudged (n most : ℕ) (t : List ℕ) : Fields → Type 0 where
+  tooLong : 16384 < length t → ChangeJudged n most t (refusedIn 0 1)
+  sheet :
+      {number : ℕ} → length t ≤ 16384 → sheetLineFields (sheetLine t 0) ≡ refusedWith number → ChangeJudged n most t (refusedIn 1 number)
+  ins :
+      {m j number : ℕ} {x : ProgramReading} → GoodLines n t (suc m) j x → insLineFields (insLine n t (x .at)) ≡ refusedWith number →
+      ChangeJudged n most t (refusedIn (x .line) number)
+  -- 14 at the last `ins` line, before a line left over is looked at
+  tooHeavy :
+      {j : ℕ} {x : ProgramReading} → GoodLines n t 0 j x → most < weight (x .program) →
+      ChangeJudged n most t (refusedIn (1 + x .program .length) 14)
+  leftOver :
+      {j : ℕ} {x : ProgramReading} → GoodLines n t 0 j x → weight (x .program) ≤ most → x .at ≢ length t →
+      ChangeJudged n most t (refusedIn (x .line) 2)
+  accepted :
+      {j : ℕ} {x : ProgramReading} → GoodLines n t 0 j x → weight (x .program) ≤ most → x .at ≡ length t →
+      ChangeJudged n most t (fields "accepted" [])

@@ -1,6 +1,6 @@
 -- The refusals of a change (document 02, order 11), by their numbers: each is given when its condition holds and no earlier one does, and never else.
-use Prim.Native.Nat.{ℕ, zero, suc, _≤_, _<_}
-use mathlib.Core.Path.{_≡_, refl}
+use Prim.Native.Nat.{ℕ, zero, suc, min, _≤_, _<_}
+use mathlib.Core.Path.{_≡_, refl, ap, subst}
 use mathlib.Core.Bool.{Bool, true, false, _&&_, _||_, false≢true}
 use mathlib.Core.Logic.{_⊎_, inl, inr, ⊎-elim}
 use mathlib.Core.List.{List}
@@ -10,15 +10,18 @@ use lib.ListN.{length, getD}
 use lib.Dec.{ltb}
 use borrow.Author.Tests.{ltb-true, lt-ltb, le-ltb}
 use Rattle.construction.specs.Types.{Gate, Task, Card, Refusal, TooLong, TooHeavy, NoProgram, NotAhead, Unsettled, Answer, Answered, Contents, Verdict}
-use Rattle.construction.specs.Answers.{numberOf, isRefused, answerFields, RefusesAt}
+use Rattle.construction.specs.Answers.{Fields, numberOf, isRefused, answerFields, verdictFields, RefusesAt}
+use Rattle.construction.specs.Weight.{cardWeight}
 use Rattle.construction.specs.Parts.{localAt, contentsOf, idleTask, noGate}
 use Rattle.construction.specs.Requests.{isProgram}
 use Rattle.construction.specs.Changes.{changeRead, hasRead, isBehind, someBehind, isUnsettled, unchanged, changed, change}
+use Rattle.construction.specs.TextJudging.{refusedIn, ChangeJudged}
 use Rattle.construction.specs.Texts.{Overweight, UnsettledBy}
 use Rattle.construction.proofs.Basics.{clash, and-true, true-or-false}
 use Rattle.construction.proofs.Text.Changes.{Says, refused-says, overweight-judged}
 use Rattle.construction.proofs.Observing.Entries.{on-change, on-change-why}
 use Rattle.construction.proofs.Statements.AnswerFields.{answer-known}
+use Rattle.construction.proofs.Statements.TextRefusals.{change-judged-only}
 
 -- a refused change gives the number of its refusal, its line and the card as it was, and no other answer does
 refuses-at : (c : Card) (r : Answered) (why : Refusal) (line : ℕ) → r ≡ unchanged c why line → RefusesAt c r (numberOf why) line
@@ -106,6 +109,18 @@ module _ (c : Card) (k from : ℕ) (t : List ℕ) where
       (why : Refusal) (line : ℕ) → isProgram c k ≡ true → changeRead x t .verdict ≡ Verdict.Refused why line → RefusesAt c r (numberOf why) line
   unfolding change
   change-text why line p v = refuses-at c r why line (rw (p, v))
+
+  -- the same, by the first line of the text that is refused (specs/TextJudging)
+  pub change-line-refused :
+      (number line : ℕ) → isProgram c k ≡ true → ChangeJudged (x .variableCount) (min 32 (cardWeight x)) t (refusedIn line number) → RefusesAt c r number line
+  unfolding changeRead verdictFields
+  change-line-refused number line p d = go (changeRead x t .verdict) refl (change-judged-only (x .variableCount) (min 32 (cardWeight x)) t d)
+    where
+      go : (v : Verdict) → changeRead x t .verdict ≡ v → verdictFields v ≡ refusedIn line number → RefusesAt c r number line
+      go Verdict.Accepted e z = absurd (omega (arith, ap (λ (f : Fields). length (f .numbers)) z))
+      go (Verdict.Refused why at) e z =
+          subst (λ (m : ℕ). RefusesAt c r m line) (ap (λ (f : Fields). getD (f .numbers) 0 0) z)
+          (subst (λ (l : ℕ). RefusesAt c r (numberOf why) l) (ap (λ (f : Fields). getD (f .numbers) 1 0) z) (change-text why at p e))
 
   pub change-too-long : isProgram c k ≡ true → 16384 < length t → RefusesAt c r 1 0
   unfolding changeRead

@@ -5,15 +5,16 @@ use mathlib.Core.Path.{_≡_, refl, sym, ap, subst, _∙_}
 use mathlib.Core.Bool.{false, cond}
 use mathlib.Core.List.{List}
 use lib.ListN.{length, getD}
-use lib.Dec.{ltb}
+use lib.Dec.{eqb, ltb}
 use borrow.Author.Tests.{lt-ltb, le-ltb, ltb-true, ltb-false, eq-eqb, ne-eqb}
 use Rattle.grammar.specs.Reading.{hasWord}
 use Rattle.construction.specs.Types.{Instruction, Refusal, Malformed, CardLine, VarLine, SheetLine, InsLine, Verdict, ProgramReading, Reading}
 use Rattle.construction.specs.Weight.{weight}
 use Rattle.construction.specs.Answers.{numberOf, Fields, refusedWith, verdictFields, cardLineFields, varLineFields, sheetLineFields, decodedFields, insLineFields}
 use Rattle.construction.specs.Lines.{cardLine, varLine, sheetLine, insLine}
-use Rattle.construction.specs.Opening.{refusedAt, insFrom, nextIns, withLine, judgeWeight, weighed, programAfter, readProgram, nextProgram, withProgram, programsFrom, nextVar, withStart, varsFrom, ifAccepted, atEnd, thenEnd, thenPrograms, afterCard, readCard, opened}
-use Rattle.construction.specs.TextJudging.{NextLine, GoodUntil, refusedIn, Judged}
+use Rattle.construction.specs.Opening.{refusedAt, programRefusedAt, insFrom, nextIns, withLine, judgeWeight, weighed, programAfter, readProgram, nextProgram, withProgram, programsFrom, nextVar, withStart, varsFrom, ifAccepted, atEnd, thenEnd, thenPrograms, afterCard, readCard, opened}
+use Rattle.construction.specs.Changes.{ifProgramAccepted, programThenEnd, programText}
+use Rattle.construction.specs.TextJudging.{NextLine, GoodUntil, refusedIn, Judged, GoodLines, ChangeJudged}
 use Rattle.construction.proofs.Basics.{on-test, true-false}
 use Rattle.construction.proofs.Text.Reading.{afterFields, afterLength}
 use Rattle.construction.proofs.Observing.Histories.{on-equal}
@@ -219,3 +220,106 @@ module _ (t : List ℕ) where
       on-test (λ (r : Reading). Judged t (verdictOf r)) (ltb 16384 (length t))
       (λ h. unfold verdictFields in Judged.tooLong (ltb-true 16384 (length t) h))
       (λ h. by-card (GoodUntil.card (ltb-false 16384 (length t) h)))
+
+-- the text of a change
+module _ (n most : ℕ) (t : List ℕ) where
+  abbrev changeVerdict : ProgramReading → Fields
+  changeVerdict r = verdictFields (programThenEnd t r .verdict)
+
+  -- what is read from an `ins` line on
+  abbrev fromIns : ℕ → ℕ → ProgramReading → ProgramReading
+  fromIns m j x = weighed most (1 + x .program .length) (insFrom n t m j x)
+
+  -- the reading comes to a line before which all are good
+  good-lines :
+      {m j : ℕ} {x : ProgramReading} → GoodLines n t m j x →
+      (programText n most t ≡ programThenEnd t (fromIns m j x)) × (x .verdict ≡ Verdict.Accepted)
+  unfolding readProgram insFrom
+  good-lines (GoodLines.first l e) =
+      (rw (le-ltb 16384 (length t) l) (ap (λ (z : SheetLine). programThenEnd t (programAfter n most t z 1)) e), refl)
+  good-lines (GoodLines.next {m} {j} {x = x} d e) = (
+    good-lines d .0
+        ∙ ap (λ (z : InsLine). programThenEnd t (weighed most (1 + x .program .length) (nextIns z x j (λ y. insFrom n t m (suc j) y)))) e,
+    refl,
+  )
+
+  refused-sheet : {number : ℕ} (z : SheetLine) → sheetLineFields z ≡ refusedWith number → changeVerdict (programAfter n most t z 1) ≡ refusedIn 1 number
+  unfolding sheetLineFields hasWord
+  refused-sheet (SheetLine.Length m i) e = absurd (unlike refl e)
+  refused-sheet (SheetLine.Refused why) e = told why 1 e
+
+  refused-ins :
+      {number : ℕ} (last j : ℕ) (x : ProgramReading) (go : ProgramReading → ProgramReading) (z : InsLine) →
+      insLineFields z ≡ refusedWith number → changeVerdict (weighed most last (nextIns z x j go)) ≡ refusedIn (x .line) number
+  unfolding insLineFields decodedFields hasWord
+  refused-ins last j x go (InsLine.Ins y i) e = absurd (unlike refl e)
+  refused-ins last j x go (InsLine.Refused why) e = told why (x .line) e
+
+  -- a program whose lines are good, of no more weight: what follows it is looked at
+  abbrev atItsEnd : ProgramReading → ProgramReading
+  atItsEnd x = cond (eqb (x .at) (length t)) x (programRefusedAt Malformed (x .line))
+
+  good-end :
+      {j : ℕ} {x : ProgramReading} → GoodLines n t 0 j x → weight (x .program) ≤ most → programText n most t ≡ atItsEnd x
+  unfolding insFrom
+  good-end {x = x} d w =
+      let h = good-lines d in
+      h .0
+      ∙ ap (λ (v : Verdict). programThenEnd t (judgeWeight most v (1 + x .program .length) x)) (h .1)
+      ∙ rw (le-ltb most (weight (x .program)) w) (ap (λ (v : Verdict). ifProgramAccepted v x (atItsEnd x)) (h .1))
+
+  -- a change's text has no other verdict than that of its first refusal
+  pub change-judged-only : {f : Fields} → ChangeJudged n most t f → verdictFields (programText n most t .verdict) ≡ f
+  unfolding readProgram insFrom verdictFields
+  change-judged-only (ChangeJudged.tooLong l) = rw (lt-ltb 16384 (length t) l)
+  change-judged-only (ChangeJudged.sheet l e) = rw (le-ltb 16384 (length t) l) (refused-sheet (sheetLine t 0) e)
+  change-judged-only (ChangeJudged.ins {m} {j} {x = x} d e) =
+      ap (λ (r : ProgramReading). verdictFields (r .verdict)) (good-lines d .0)
+      ∙ refused-ins (1 + x .program .length) j x (λ y. insFrom n t m (suc j) y) (insLine n t (x .at)) e
+  change-judged-only (ChangeJudged.tooHeavy {x = x} d w) =
+      let h = good-lines d in
+      ap (λ (r : ProgramReading). verdictFields (r .verdict)) (h .0)
+      ∙ ap (λ (v : Verdict). changeVerdict (judgeWeight most v (1 + x .program .length) x)) (h .1)
+      ∙ rw (lt-ltb most (weight (x .program)) w)
+  change-judged-only (ChangeJudged.leftOver {x = x} d w ne) =
+      ap (λ (r : ProgramReading). verdictFields (r .verdict)) (good-end d w) ∙ rw (ne-eqb (x .at) (length t) ne)
+  change-judged-only (ChangeJudged.accepted {x = x} d w e) =
+      ap (λ (r : ProgramReading). verdictFields (r .verdict)) (good-end d w)
+      ∙ rw (eq-eqb (x .at) (length t) e) (ap verdictFields (good-lines d .1))
+
+  -- from an `ins` line on before which all are good
+  by-lines :
+      (m j : ℕ) (x : ProgramReading) → GoodLines n t m j x → x .verdict ≡ Verdict.Accepted → ChangeJudged n most t (changeVerdict (fromIns m j x))
+  unfolding insFrom insLineFields decodedFields verdictFields
+  by-lines zero j x d a =
+      subst (λ (v : Verdict). ChangeJudged n most t (changeVerdict (judgeWeight most v (1 + x .program .length) x))) (sym a)
+      (on-test (λ (y : ProgramReading). ChangeJudged n most t (changeVerdict y)) (ltb most (weight (x .program)))
+      (λ w. ChangeJudged.tooHeavy d (ltb-true most (weight (x .program)) w))
+      (λ w. subst (λ (v : Verdict). ChangeJudged n most t (verdictFields (ifProgramAccepted v x (atItsEnd x) .verdict))) (sym a)
+      (on-equal (λ b. ChangeJudged n most t (verdictFields (cond b x (programRefusedAt Malformed (x .line)) .verdict))) (x .at) (length t)
+      (λ e. subst (λ (v : Verdict). ChangeJudged n most t (verdictFields v)) (sym a) (ChangeJudged.accepted d (ltb-false most (weight (x .program)) w) e))
+      (λ ne. ChangeJudged.leftOver d (ltb-false most (weight (x .program)) w) ne))))
+  by-lines (suc m) j x d a = line (λ y i e. by-lines m (suc j) (withLine x j y i) (GoodLines.next d e) refl) (insLine n t (x .at)) refl
+    where
+      line :
+          ((y : Instruction) (i : ℕ) → insLine n t (x .at) ≡ InsLine.Ins y i → ChangeJudged n most t (changeVerdict (fromIns m (suc j) (withLine x j y i)))) →
+          (z : InsLine) → insLine n t (x .at) ≡ z →
+          ChangeJudged n most t (changeVerdict (weighed most (1 + x .program .length) (nextIns z x j (λ y. insFrom n t m (suc j) y))))
+      line f (InsLine.Ins y i) e = f y i e
+      line f (InsLine.Refused why) e = ChangeJudged.ins d (ap insLineFields e)
+
+  by-first : length t ≤ 16384 → ChangeJudged n most t (changeVerdict (programAfter n most t (sheetLine t 0) 1))
+  unfolding verdictFields sheetLineFields
+  by-first l = line (sheetLine t 0) refl
+    where
+      line : (z : SheetLine) → sheetLine t 0 ≡ z → ChangeJudged n most t (changeVerdict (programAfter n most t z 1))
+      line (SheetLine.Length m i) e = by-lines m 0 (afterLength m i 2) (GoodLines.first l e) refl
+      line (SheetLine.Refused why) e = ChangeJudged.sheet l (ap sheetLineFields e)
+
+  -- every text of a change has one of these verdicts
+  pub change-judged : ChangeJudged n most t (verdictFields (programText n most t .verdict))
+  unfolding readProgram
+  change-judged =
+      on-test (λ (r : ProgramReading). ChangeJudged n most t (verdictFields (r .verdict))) (ltb 16384 (length t))
+      (λ h. unfold verdictFields in ChangeJudged.tooLong (ltb-true 16384 (length t) h))
+      (λ h. by-first (ltb-false 16384 (length t) h))

@@ -95,35 +95,37 @@ pub fn step(card: Card, process: u32) -> Answered
     c.counts[i] = steps;
     let access = access_of(place, c.exits[i]);
     let answer = match access {
-        Access::None => answer_of(place, last, steps),
+        Access::None => answer_of(task, last, steps),
         Access::Gate(access) => {
-            let cell = c.gate;
-            let after = access_gate(access, id, cell, gate, task);
+            let after = access_gate(access, id, c.gate, gate, task);
             let stored = after.cell;
             let read = after.read;
             let task = after.task;
-            let place = task.place;
             c.gate = stored;
             c.gates[i] = read;
             c.tasks[i] = task;
-            answer_of(place, last, steps)
+            answer_of(task, last, steps)
         }
         Access::Announcement(access) => {
             let m = whose(access, c.processCount, id, gate);
             let at = (m % 8) as usize;
-            let found = c.announcements[at];
-            let operation = c.operations[i];
             let simulation = c.simulations[i];
-            let yields = simulation.yields;
-            let cell = announcement_at(m, found);
-            let after = access_announcement(access, m, cell, operation, gate, last, yields, task);
+            let after = access_announcement(
+                access,
+                m,
+                announcement_at(m, c.announcements[at]),
+                c.operations[i],
+                gate,
+                last,
+                simulation.yields,
+                task,
+            );
             let stored = after.cell;
             let read = after.read;
             let task = after.task;
-            let place = task.place;
             c.copies[i] = read;
             c.tasks[i] = task;
-            let answer = answer_of(place, read, steps);
+            let answer = answer_of(task, read, steps);
             if m < 8 {
                 c.announcements[at] = stored;
             }
@@ -132,8 +134,7 @@ pub fn step(card: Card, process: u32) -> Answered
         Access::Help => {
             let holder = gate.holder;
             let m = holder_of(holder);
-            let found = c.announcements[(m % 8) as usize];
-            let cell = announcement_at(m, found);
+            let cell = announcement_at(m, c.announcements[(m % 8) as usize]);
             let k = cell.program;
             let at = (k % 8) as usize;
             let stored = if gate.seq < c.from[at] {
@@ -141,16 +142,20 @@ pub fn step(card: Card, process: u32) -> Answered
             } else {
                 c.later[at]
             };
-            let simulation = c.simulations[i];
-            let program = program_at(k, stored);
-            let began = begin_help(c.variableCount, program, cell, gate.seq, task, simulation);
+            let began = begin_help(
+                c.variableCount,
+                program_at(k, stored),
+                cell,
+                gate.seq,
+                task,
+                c.simulations[i],
+            );
             let state = began.simulation;
             let task = began.task;
-            let place = task.place;
             c.copies[i] = cell;
             c.simulations[i] = state;
             c.tasks[i] = task;
-            let answer = answer_of(place, cell, steps);
+            let answer = answer_of(task, cell, steps);
             if began.helps {
                 c.dictionaries[i] = opening::empty();
                 c.masks[i] = 0;
@@ -159,53 +164,43 @@ pub fn step(card: Card, process: u32) -> Answered
         }
         Access::Note => {
             let v = task.target;
-            let found = c.records[(v % 64) as usize];
             let k = last.program;
-            let inputs = last.words;
             let at = (k % 8) as usize;
             let held = if gate.seq < c.from[at] {
                 c.earlier[at]
             } else {
                 c.later[at]
             };
-            let simulation = c.simulations[i];
-            let dictionary = c.dictionaries[i];
-            let cell = record_at(v, found);
-            let program = program_at(k, held);
             let helped = note(
                 c.variableCount,
-                program,
-                inputs,
-                cell,
+                program_at(k, held),
+                last.words,
+                record_at(v, c.records[(v % 64) as usize]),
                 gate.seq,
                 task,
-                simulation,
-                dictionary,
+                c.simulations[i],
+                c.dictionaries[i],
                 c.masks[i],
             );
             let state = helped.simulation;
             let noted = helped.dictionary;
             let task = helped.task;
-            let place = task.place;
             c.simulations[i] = state;
             c.dictionaries[i] = noted;
             c.masks[i] = helped.mask;
             c.tasks[i] = task;
-            answer_of(place, last, steps)
+            answer_of(task, last, steps)
         }
         Access::Write => {
-            let dictionary = c.dictionaries[i];
-            let written = writing(gate.seq, task, dictionary);
+            let written = writing(gate.seq, task, c.dictionaries[i]);
             let item = written.item;
             let task = written.task;
-            let place = task.place;
             let v = item.variable;
             let at = (v % 64) as usize;
-            let found = c.records[at];
-            let swapped = write(record_at(v, found), item, gate.seq);
+            let swapped = write(record_at(v, c.records[at]), item, gate.seq);
             let stored = swapped.cell;
             c.tasks[i] = task;
-            let answer = answer_of(place, last, steps);
+            let answer = answer_of(task, last, steps);
             if v < 64 {
                 c.records[at] = stored;
             }

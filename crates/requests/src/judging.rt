@@ -4,6 +4,7 @@ use construction::Announcement;
 use construction::Answer;
 use construction::Place;
 use construction::Refusal;
+use construction::Task;
 use construction::Verdict;
 use machine::announcement::returned;
 use machine::places::is_idle;
@@ -108,11 +109,12 @@ pub fn judge_change(
     Answer::Taken
 }
 
-// 'Returning is local work of the last access': the answer to a step that was taken, by the place after it, the announcement last read and
+// 'Returning is local work of the last access': the answer to a step that was taken, by the task after it, the announcement last read and
 // the operation's own steps.
-pub fn answer_of(place: Place, last: Announcement, steps: u64) -> Answer
-    ensures { λ r. ⌜ r ≡ stepAnswer place last steps ⌝ }
+pub fn answer_of(task: Task, last: Announcement, steps: u64) -> Answer
+    ensures { λ r. ⌜ r ≡ stepAnswer (task .place) last steps ⌝ }
 {
+    let place = task.place;
     if is_idle(place) {
         return returned(last, steps);
     }

@@ -48,30 +48,29 @@ blank = record { length = 0; lines = [] }
 
 -- the text that a helper runs: at P16, and at H21
 begun-text :
-    (c : tie.After-program-at) → let read = c .before .before .before .before .before .before .before .before .before .before in
-    let a = read .before .before .before .before .before .before .before .before .before .before .before .args in
+    (c : tie.After-program-at) → let a = c .before .before .before .before .before .before .before .before .before .before .before .before .before .before .before .before .before .before .before .before .args in
     c .program-at .result
-    ≡ programOf (textsOf (a .card)) (c .before .before .before .before .before .announcement-at2 .result .program) (localAt (a .card) (a .process % 8) .gate .seq)
+    ≡ programOf (textsOf (a .card)) (c .before .before .before .before .announcement-at2 .result .program) (localAt (a .card) (a .process % 8) .gate .seq)
 begun-text c =
-    let at = c .before .before .before .before .before .before .before .before .before .before in
+    let at = c .before .before .before .before .before .before .before .before .before in
     let a = at .before .before .before .before .before .before .before .before .before .before .before .args in
-    let k = c .before .before .before .before .before .announcement-at2 .result .program in
+    let k = c .before .before .before .before .announcement-at2 .result .program in
     let number = localAt (a .card) (a .process % 8) .gate .seq in
-    let chosen : c .before .before .if3 .stored ≡ cond (ltb number (getD (a .card .from) (k % 8) 0)) (getD (a .card .earlier) (k % 8) blank) (getD (a .card .later) (k % 8) blank) =
-    ⊎-elim (λ w. rw (lt-ltb _ _ (w .0 .taken)) (w .2)) (λ w. rw (le-ltb _ _ (w .0 .left)) (w .2)) (c .before .before .if3 .came) in
+    let chosen : c .before .if3 .stored ≡ cond (ltb number (getD (a .card .from) (k % 8) 0)) (getD (a .card .earlier) (k % 8) blank) (getD (a .card .later) (k % 8) blank) =
+    ⊎-elim (λ w. rw (lt-ltb _ _ (w .0 .taken)) (w .2)) (λ w. rw (le-ltb _ _ (w .0 .left)) (w .2)) (c .before .if3 .came) in
     accesses.text-found (a .card) (accepted at .rooms) k number blank _ _ chosen (c .program-at .ensures)
 
 noted-text :
-    (c : tie.After-program-at2) → let a = c .before .before .before .before .before .before .before .before .before .before .before .before .before .before .before .before .before .before .before .before .before .before .args in
+    (c : tie.After-program-at2) → let a = c .before .before .before .before .before .before .before .before .before .before .before .before .before .before .before .before .before .args in
     let l = localAt (a .card) (a .process % 8) in
     c .program-at2 .result ≡ programOf (textsOf (a .card)) (l .announcement .program) (l .gate .seq)
 noted-text c =
-    let at = c .before .before .before .before .before .before .before .before .before .before .before in
+    let at = c .before .before .before .before .before .before in
     let a = at .before .before .before .before .before .before .before .before .before .before .before .args in
     let k = localAt (a .card) (a .process % 8) .announcement .program in
     let number = localAt (a .card) (a .process % 8) .gate .seq in
-    let chosen : c .before .before .before .before .if5 .held ≡ cond (ltb number (getD (a .card .from) (k % 8) 0)) (getD (a .card .earlier) (k % 8) blank) (getD (a .card .later) (k % 8) blank) =
-    ⊎-elim (λ w. rw (lt-ltb _ _ (w .0 .taken)) (w .2)) (λ w. rw (le-ltb _ _ (w .0 .left)) (w .2)) (c .before .before .before .before .if5 .came) in
+    let chosen : c .before .if5 .held ≡ cond (ltb number (getD (a .card .from) (k % 8) 0)) (getD (a .card .earlier) (k % 8) blank) (getD (a .card .later) (k % 8) blank) =
+    ⊎-elim (λ w. rw (lt-ltb _ _ (w .0 .taken)) (w .2)) (λ w. rw (le-ltb _ _ (w .0 .left)) (w .2)) (c .before .if5 .came) in
     accesses.text-found (a .card) (accepted at .rooms) k number blank _ _ chosen (c .program-at2 .ensures)
 
 returns : tie.Need-returns
@@ -84,19 +83,19 @@ returns-3 : tie.Need-returns-3
 returns-3 c = let at = c .before .before .before .before .before .before .before .before .before in step-is at _ (accesses.at-gate (accepted at) _ _ (c .before .before .before .before .before .before .before .access .given .1) _ (c .before .before .before .before .access-gate .ensures) (c .answer-of2 .ensures))
 
 returns-4 : tie.Need-returns-4
-returns-4 c = let at = c .before .before .before .before .before .before .before .before .before .before .before .before .before .before .before in step-is at _ (accesses.at-announcement (accepted at) _ _ (c .before .before .before .before .before .before .before .before .before .before .before .before .before .access2 .given .1) _ (c .before .before .before .before .before .before .before .before .before .before .before .whose .ensures) _ (c .before .before .before .before .before .before .announcement-at .ensures) _ (c .before .before .before .before .before .access-announcement .ensures) (c .before .answer-of3 .ensures) _ (rw (mod-eq-of-lt (c .if2 .taken))))
+returns-4 c = let at = c .before .before .before .before .before .before .before .before .before .before .before .before .before .before in step-is at _ (accesses.at-announcement (accepted at) _ _ (c .before .before .before .before .before .before .before .before .before .before .before .before .access2 .given .1) _ (c .before .before .before .before .before .before .before .before .before .before .whose .ensures) _ (c .before .before .before .before .before .before .before .announcement-at .ensures) _ (c .before .before .before .before .before .access-announcement .ensures) (c .before .answer-of3 .ensures) _ (rw (mod-eq-of-lt (c .if2 .taken))))
 
 returns-5 : tie.Need-returns-5
-returns-5 c = let at = c .before .before .before .before .before .before .before .before .before .before .before .before .before .before .before in step-is at _ (accesses.at-announcement (accepted at) _ _ (c .before .before .before .before .before .before .before .before .before .before .before .before .before .access2 .given .1) _ (c .before .before .before .before .before .before .before .before .before .before .before .whose .ensures) _ (c .before .before .before .before .before .before .announcement-at .ensures) _ (c .before .before .before .before .before .access-announcement .ensures) (c .before .answer-of3 .ensures) _ (arrays.not-stored _ _ (accepted at .rooms .announcements) _ _ (c .if2 .left)))
+returns-5 c = let at = c .before .before .before .before .before .before .before .before .before .before .before .before .before .before in step-is at _ (accesses.at-announcement (accepted at) _ _ (c .before .before .before .before .before .before .before .before .before .before .before .before .access2 .given .1) _ (c .before .before .before .before .before .before .before .before .before .before .whose .ensures) _ (c .before .before .before .before .before .before .before .announcement-at .ensures) _ (c .before .before .before .before .before .access-announcement .ensures) (c .before .answer-of3 .ensures) _ (arrays.not-stored _ _ (accepted at .rooms .announcements) _ _ (c .if2 .left)))
 
 returns-6 : tie.Need-returns-6
-returns-6 c = let at = c .before .before .before .before .before .before .before .before .before .before .before .before .before .before .before .before in step-is at _ (accesses.at-help (accepted at) _ (c .before .before .before .before .before .before .before .before .before .before .before .before .before .before .enum-told2 .given .1) _ (c .before .before .before .before .before .before .before .before .before .before .before .before .before .holder-of .ensures) _ (c .before .before .before .before .before .before .before .before .before .before .before .announcement-at2 .ensures) _ (begun-text (c .before .before .before .before .before .before)) _ (c .before .before .before .before .before .begin-help .ensures) (c .before .before .answer-of4 .ensures) _ (rw (c .before .if4 .taken, c .empty .ensures)) _ (rw (c .before .if4 .taken)))
+returns-6 c = let at = c .before .before .before .before .before .before .before .before .before .before .before .before .before .before .before .before in step-is at _ (accesses.at-help (accepted at) _ (c .before .before .before .before .before .before .before .before .before .before .before .before .before .before .enum-told2 .given .1) _ (c .before .before .before .before .before .before .before .before .before .before .before .before .before .holder-of .ensures) _ (c .before .before .before .before .before .before .before .before .before .before .before .announcement-at2 .ensures) _ (begun-text (c .before .before .before .before .before .before .before)) _ (c .before .before .before .before .before .begin-help .ensures) (c .before .before .answer-of4 .ensures) _ (rw (c .before .if4 .taken, c .empty .ensures)) _ (rw (c .before .if4 .taken)))
 
 returns-7 : tie.Need-returns-7
-returns-7 c = let at = c .before .before .before .before .before .before .before .before .before .before .before .before .before .before .before in step-is at _ (accesses.at-help (accepted at) _ (c .before .before .before .before .before .before .before .before .before .before .before .before .before .enum-told2 .given .1) _ (c .before .before .before .before .before .before .before .before .before .before .before .before .holder-of .ensures) _ (c .before .before .before .before .before .before .before .before .before .before .announcement-at2 .ensures) _ (begun-text (c .before .before .before .before .before)) _ (c .before .before .before .before .begin-help .ensures) (c .before .answer-of4 .ensures) _ (rw (c .if4 .left) (sym (set-getD _ _ _))) _ (rw (c .if4 .left) (sym (set-getD _ _ _))))
+returns-7 c = let at = c .before .before .before .before .before .before .before .before .before .before .before .before .before .before .before in step-is at _ (accesses.at-help (accepted at) _ (c .before .before .before .before .before .before .before .before .before .before .before .before .before .enum-told2 .given .1) _ (c .before .before .before .before .before .before .before .before .before .before .before .before .holder-of .ensures) _ (c .before .before .before .before .before .before .before .before .before .before .announcement-at2 .ensures) _ (begun-text (c .before .before .before .before .before .before)) _ (c .before .before .before .before .begin-help .ensures) (c .before .answer-of4 .ensures) _ (rw (c .if4 .left) (sym (set-getD _ _ _))) _ (rw (c .if4 .left) (sym (set-getD _ _ _))))
 
 returns-8 : tie.Need-returns-8
-returns-8 c = let at = c .before .before .before .before .before .before .before .before .before .before .before .before .before .before .before .before .before in step-is at _ (accesses.at-note (accepted at) _ (c .before .before .before .before .before .before .before .before .before .before .before .before .before .before .before .enum-told3 .given .1) _ (c .before .before .before .before .before .before .before .record-at .ensures) _ (noted-text (c .before .before .before .before .before .before)) _ (c .before .before .before .before .note .ensures) (c .answer-of5 .ensures))
+returns-8 c = let at = c .before .before .before .before .before .before .before .before .before .before .before .before .before .before .before .before in step-is at _ (accesses.at-note (accepted at) _ (c .before .before .before .before .before .before .before .before .before .before .before .before .before .before .enum-told3 .given .1) _ (c .before .before .before .before .before .before .before .before .record-at .ensures) _ (noted-text (c .before .before .before .before .before .before .before .before .before .before)) _ (c .before .before .before .before .note .ensures) (c .answer-of5 .ensures))
 
 returns-9 : tie.Need-returns-9
 returns-9 c = let at = c .before .before .before .before .before .before .before .before .before .before .before .before in step-is at _ (accesses.at-write (accepted at) _ (c .before .before .before .before .before .before .before .before .before .before .enum-told4 .given .1) _ (c .before .before .before .before .before .before .before .before .writing .ensures) _ (c .before .before .before .before .record-at2 .ensures) _ (c .before .before .before .write .ensures) (c .before .answer-of6 .ensures) _ (rw (mod-eq-of-lt (c .if6 .taken))))
@@ -143,15 +142,11 @@ step-spec =
     (λ c. search needs)
     (λ c. search needs)
     (λ c. search needs)
-    (λ c. search needs)
-    (λ c. search needs)
-    (λ c κs. search needs)
     (λ c κs. search needs)
     (λ c. search needs)
     (λ c. search needs)
-    (λ c. search needs)
-    (λ c. search needs)
     (λ c κs. search needs)
+    (λ c. search needs)
     (λ c. search needs)
     (λ c. search needs)
     (λ c. search needs)
@@ -163,21 +158,6 @@ step-spec =
     (λ c. search needs)
     (λ c. search needs)
     (λ c. search needs)
-    (λ c. search needs)
-    (λ c. search needs)
-    (λ c. search needs)
-    (λ c. search needs)
-    (λ c. search needs)
-    (λ c. search needs)
-    (λ c κs. search needs)
-    (λ c κs. search needs)
-    (λ c. search needs)
-    (λ c. search needs)
-    (λ c. search needs)
-    (λ c. search needs)
-    (λ c. search needs)
-    (λ c. search needs)
-    (λ c κs. search needs)
     (λ c κs. search needs)
     (λ c. search needs)
     (λ c. search needs)
@@ -186,6 +166,18 @@ step-spec =
     (λ c. search needs)
     (λ c. search needs)
     (λ c. search needs)
+    (λ c κs. search needs)
+    (λ c. search needs)
+    (λ c. search needs)
+    (λ c κs. search needs)
+    (λ c. search needs)
+    (λ c. search needs)
+    (λ c. search needs)
+    (λ c. search needs)
+    (λ c. search needs)
+    (λ c. search needs)
+    (λ c κs. search needs)
+    (λ c κs. search needs)
     (λ c. search needs)
     (λ c. search needs)
     (λ c. search needs)
@@ -199,7 +191,14 @@ step-spec =
     (λ c. search needs)
     (λ c. search needs)
     (λ c κs. search needs)
+    (λ c. search needs)
+    (λ c. search needs)
+    (λ c. search needs)
     (λ c κs. search needs)
+    (λ c. search needs)
+    (λ c. search needs)
+    (λ c. search needs)
+    (λ c. search needs)
     (λ c. search needs)
     (λ c. search needs)
     (λ c κs. search needs)

@@ -18,7 +18,7 @@ use Rattle.construction.specs.OneAccess.{touchedCell}
 use Rattle.construction.specs.Requests.{isProcess, isIdle, refused, step}
 use Rattle.construction.specs.Answers.{isRefused}
 use Rattle.construction.specs.Tracing.{labelOf, reportWith, reportOf, noReport, trace}
-use Rattle.tracing.specs.Pieces.{announcementIn, recordIn, swapBy, cellBy}
+use Rattle.tracing.specs.Pieces.{announcementIn, recordIn, swapBy}
 use Rattle.card.proofs.Requests.{steppedAt}
 use Rattle.requests.proofs.Arrays.{Rooms, found, in-room}
 

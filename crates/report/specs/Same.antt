@@ -86,12 +86,20 @@ sameSimulation a b =
     eqb (a .counter) (b .counter)
     && (sameWords (a .registers) (b .registers) && sameYield (a .yields) (b .yields))
 
--- program i of a card, and the dictionary of process i
-abbrev pub programAt : Card → ℕ → Program
-programAt c i = getD (c .programs) i (record { length = 0; lines = [] })
+-- program i of an array, and the dictionary of process i
+abbrev pub programAt : List Program → ℕ → Program
+programAt l i = getD l i (record { length = 0; lines = [] })
 
 abbrev pub dictionaryAt : Card → ℕ → Dictionary
 dictionaryAt c i = getD (c .dictionaries) i (record { length = 0; items = [] })
+
+-- the texts of program i: as it was opened, and as it was changed (document 02, order 11), the number of its last change, the earlier and the later text
+unfoldable pub sameTexts : Card → Card → ℕ → Bool
+sameTexts a b i =
+    sameProgram (programAt (a .programs) i) (programAt (b .programs) i)
+    && (eqb (getD (a .from) i 0) (getD (b .from) i 0)
+    && (sameProgram (programAt (a .earlier) i) (programAt (b .earlier) i)
+    && sameProgram (programAt (a .later) i) (programAt (b .later) i)))
 
 -- what the call of process i asked for and how far it came, and the set of the variables that it noted
 unfoldable pub sameWork : Card → Card → ℕ → Bool
@@ -109,10 +117,10 @@ sameCopies a b i =
     && (sameSimulation (getD (a .simulations) i started) (getD (b .simulations) i started)
     && sameDictionary (dictionaryAt a i) (dictionaryAt b i)))
 
--- all that stands at place i of an array of eight: program i, the announcement of process i, and its own state
+-- all that stands at place i of an array of eight: the texts of program i, the announcement of process i, and its own state
 unfoldable pub sameAt : Card → Card → ℕ → Bool
 sameAt a b i =
-    sameProgram (programAt a i) (programAt b i)
+    sameTexts a b i
     && (sameAnnouncement (announcementAt a i) (announcementAt b i) && (sameWork a b i && sameCopies a b i))
 
 -- the fields that are no arrays

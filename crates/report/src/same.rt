@@ -21,7 +21,7 @@ ghost use Prim.Native.Nat.{_<_};
 ghost use lib.Dec.{eqb};
 ghost use Rattle.construction.specs.Cells.{sameBool};
 ghost use Rattle.report.specs.Same.{sameInstruction, sameProgram, sameStarts, sameRecords, sameItem, sameDictionary, placeNumber};
-ghost use Rattle.report.specs.Same.{sameTask, sameOperation, sameYield, sameSimulation, sameWork, sameCopies, sameAt, sameNumbers, sameCard};
+ghost use Rattle.report.specs.Same.{sameTask, sameOperation, sameYield, sameSimulation, sameTexts, sameWork, sameCopies, sameAt, sameNumbers, sameCard};
 
 pub fn both(a: bool, b: bool) -> bool
     ensures { λ r. ⌜ r ≡ (a && b) ⌝ }
@@ -178,6 +178,22 @@ fn same_simulation(a: Simulation, b: Simulation) -> bool
     )
 }
 
+fn same_texts(a: Card, b: Card, i: usize) -> bool
+    requires { ⌜ i < 8 ⌝ }
+    ensures { λ r. ⌜ r ≡ sameTexts a b i ⌝ }
+{
+    both(
+        same_program(a.programs[i], b.programs[i]),
+        both(
+            same_number(a.from[i], b.from[i]),
+            both(
+                same_program(a.earlier[i], b.earlier[i]),
+                same_program(a.later[i], b.later[i]),
+            ),
+        ),
+    )
+}
+
 fn same_work(a: Card, b: Card, i: usize) -> bool
     requires { ⌜ i < 8 ⌝ }
     ensures { λ r. ⌜ r ≡ sameWork a b i ⌝ }
@@ -218,7 +234,7 @@ fn same_at(a: Card, b: Card, i: usize) -> bool
     ensures { λ r. ⌜ r ≡ sameAt a b i ⌝ }
 {
     both(
-        same_program(a.programs[i], b.programs[i]),
+        same_texts(a, b, i),
         both(
             same_announcement(a.announcements[i], b.announcements[i]),
             both(same_work(a, b, i), same_copies(a, b, i)),

@@ -163,7 +163,7 @@ pub fn step(card: Card, process: u32) -> Answered
             let k = last.program;
             let inputs = last.words;
             let at = (k % 8) as usize;
-            let stored = if gate.seq < c.from[at] {
+            let held = if gate.seq < c.from[at] {
                 c.earlier[at]
             } else {
                 c.later[at]
@@ -171,7 +171,7 @@ pub fn step(card: Card, process: u32) -> Answered
             let simulation = c.simulations[i];
             let dictionary = c.dictionaries[i];
             let cell = record_at(v, found);
-            let program = program_at(k, stored);
+            let program = program_at(k, held);
             let helped = note(
                 c.variableCount,
                 program,

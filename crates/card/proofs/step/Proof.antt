@@ -70,7 +70,7 @@ noted-text c =
     let a = at .before .before .before .before .before .before .before .before .before .before .before .args in
     let k = localAt (a .card) (a .process % 8) .announcement .program in
     let number = localAt (a .card) (a .process % 8) .gate .seq in
-    let chosen : c .before .before .before .before .if5 .stored ≡ cond (ltb number (getD (a .card .from) (k % 8) 0)) (getD (a .card .earlier) (k % 8) blank) (getD (a .card .later) (k % 8) blank) =
+    let chosen : c .before .before .before .before .if5 .held ≡ cond (ltb number (getD (a .card .from) (k % 8) 0)) (getD (a .card .earlier) (k % 8) blank) (getD (a .card .later) (k % 8) blank) =
     ⊎-elim (λ w. rw (lt-ltb _ _ (w .0 .taken)) (w .2)) (λ w. rw (le-ltb _ _ (w .0 .left)) (w .2)) (c .before .before .before .before .if5 .came) in
     accesses.text-found (a .card) (accepted at .rooms) k number blank _ _ chosen (c .program-at2 .ensures)
 

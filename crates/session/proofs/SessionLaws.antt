@@ -12,7 +12,7 @@ use Rattle.construction.specs.declared.{Card.Card, Refusal.Refusal, Traced.Trac
 use Rattle.construction.specs.Opening.{opened}
 use Rattle.construction.specs.Answers.{answerFields}
 use Rattle.commands.specs.declared.{Command.Command, Parsed.Parsed}
-use Rattle.commands.specs.Commands.{command, commands}
+use Rattle.commands.specs.Commands.{Inside, command, commands}
 use Rattle.commands.specs.CommandFields.{commandFields}
 use Rattle.commands.specs.Printing.{lineText, longest, cardRefusal, callsRefusal}
 use Rattle.commands.proofs.CommandsLaws.{command-past, commands-end, commands-more}
@@ -23,6 +23,12 @@ use Rattle.session.specs.Session.{execute, lineOf, afterLine, linesOf, l
 pub malformed-refused : (t : List ℕ) (c : Card) → answerFields (execute t c Command.Malformed .answer) ≡ commandFields Command.Malformed
 unfolding execute answerFields commandFields
 malformed-refused t c = refl
+
+-- the text of a change lies in the calls text
+pub inside :
+    (t : List ℕ) {m : Command} {k from count start end : ℕ} → m ≡ Command.Change k from count start end → Inside t m →
+    (start ≤ end) × (end ≤ length t)
+inside t e h = rw e at h
 
 -- ---- stores into a buffer: what was put at its front stands there, and a store past it keeps it
 front-text : {b x : List ℕ} {n : ℕ} {z : List ℕ} → Put b 0 x n z → n < largest → n ≤ length b → take n z ≡ x

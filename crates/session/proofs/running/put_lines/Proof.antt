@@ -2,6 +2,7 @@ use native.Mathlib.Omega.{arith}
 use borrow.Author.Needs.{needs}
 use Prim.Native.Nat.{_-_}
 use lib.ListN as list
+use Rattle.commands.proofs.CommandsLaws.{command-inside}
 use Rattle.session.proofs.SessionLaws as laws
 use Rattle.session.proofs.running.put_lines.Statement.{statement}
 use Rattle.session.proofs.running.put_lines.Tie as tie
@@ -40,7 +41,7 @@ put-lines-spec =
     μ-loop
     (λ c. laws.going _ _ _ (omega arith))
     (λ c κs. search needs)
-    (λ c κs. search needs)
+    (λ c κs. rw (c .before .command-at .ensures) (command-inside (c .before .before .before .before .before .before .before .args .calls .now) _))
     (λ c κs. search needs)
     same-length
     returns

@@ -1,6 +1,6 @@
 -- What is due in a helping by its own reads (specs/Paths) is what the machine does next.
 use Prim.Native.Nat.{ℕ, suc, _+_, _≤_, _<_}
-use mathlib.Core.Path.{_≡_, refl, sym, subst, ap, _∙_}
+use mathlib.Core.Path.{_≡_, refl, subst, ap, _∙_}
 use mathlib.Core.Bool.{Bool, true, false, cond}
 use mathlib.Core.Logic.{⊎-elim}
 use mathlib.Core.List.{List, [], _∷_}
@@ -9,14 +9,14 @@ use lib.Dec.{ltb}
 use lib.ListN.{length, getD, drop, length-take, length-drop, length-replicate}
 use lib.Seq.{getD-take, getD-drop, drop-drop}
 use borrow.Author.Tests.{ltb-true, ltb-false}
-use Rattle.construction.specs.Types.{Announcement, Record, Item, Dictionary, Simulation, Pause, Ended, Faulted, Lacks, Simulated, Place, Idle, P1, P3, P5, P7, P10, C2, C4, P13, P14, P16, H21, H36, P19, P20, P21, P22, F1, F3, Cell, Task, Began, Helped, Label, Contents}
+use Rattle.construction.specs.Types.{Announcement, Record, Item, Dictionary, Simulation, Pause, Ended, Faulted, Lacks, Simulated, Place, Idle, P1, P3, P5, P7, P10, C2, C4, P13, P14, P16, H21, H36, P19, P20, P21, P22, F1, F3, Cell, Task, Began, Helped, Contents}
 use Rattle.construction.specs.Instructions.{started}
 use Rattle.construction.specs.Dictionary.{noItem, empty, noted, insert, itemOf, altered, unaltered, nextWrite}
 use Rattle.construction.specs.Helping.{simulate}
 use Rattle.construction.specs.Parts.{programOf}
 use Rattle.construction.specs.Marks.{withBit}
 use Rattle.construction.specs.Machine.{goTo, helps, afterPause, writeFrom, helped, beginHelp, note}
-use Rattle.construction.specs.Paths.{Found, Help, Due, alteredIn, dueBy, dueOf, afterWrite, withRead}
+use Rattle.construction.specs.Paths.{Help, Due, alteredIn, dueBy, dueOf, withRead}
 use Rattle.construction.proofs.Basics.{on-test, true-or-false}
 use Rattle.construction.proofs.Simulating.Sequential.{Short}
 use Rattle.construction.proofs.Simulating.Dictionaries.{insert-items}

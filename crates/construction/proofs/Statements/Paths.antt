@@ -16,7 +16,6 @@ use Rattle.construction.specs.Helping.{simulate}
 use Rattle.construction.specs.Parts.{idleTask, Local, localAt, contentsOf, announcementAt, recordAt, programOf, withLocal}
 use Rattle.construction.specs.Machine.{accessOf, accessGate, accessAnnouncement, byHolder, byFlag, holderOf, firstChoice, outcome, helps, afterPause, writeFrom, beginHelp, note, writing, writtenVariable, whose, cellOf, after, stepGate, stepAnnouncement, stepHelp, stepNote, stepWrite, perform, advance, swapOf}
 use Rattle.construction.specs.Requests.{isIdle, isBusy, invoked, exiting, returned, answerOf}
-use Rattle.construction.specs.Answers.{isRefused}
 use Rattle.construction.specs.Tracing.{labelOf, reportOf}
 use Rattle.construction.specs.Opening.{fresh, opened}
 use Rattle.construction.specs.History.{Event, eventOf, Entry, act, Steps, Observation, observe, observeAll, opening, run}

@@ -1,15 +1,15 @@
 -- A simulation that lacked a variable and goes on once that is noted is the simulation from its start with that variable noted (lines H7, H20 to H30).
 use Prim.Native.Nat.{ℕ, zero, suc, _+_, _-_, _≤_, _<_}
 use mathlib.Core.Path.{_≡_, refl, sym, subst, ap, _∙_}
-use mathlib.Core.Bool.{true, false, cond, false≢true}
+use mathlib.Core.Bool.{true, false, false≢true}
 use mathlib.Core.List.{List, [], _∷_, _++_}
-use mathlib.Core.Logic.{_≢_, inl, inr, ⊎-elim}
+use mathlib.Core.Logic.{⊎-elim}
 use native.Mathlib.Omega.{arith}
 use lib.Dec.{eqb, ltb}
 use lib.ListN.{length, getD, set, length-take}
 use lib.Seq.{getD-set-other, set-comm}
 use borrow.Author.Tests.{lt-ltb, ltb-true}
-use Rattle.construction.specs.Types.{Words, Program, Effect, Item, Dictionary, Simulation, Pause, Ended, Faulted, Lacks, Simulated}
+use Rattle.construction.specs.Types.{Words, Program, Effect, Item, Dictionary, Simulation, Lacks, Simulated}
 use Rattle.construction.specs.Instructions.{nextEffect}
 use Rattle.construction.specs.Effects.{Store, Executed, touched, execute, onExecuted}
 use Rattle.construction.specs.Dictionary.{noItem, noted, position, find, has, withValue, assign, insert}

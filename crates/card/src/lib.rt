@@ -1,6 +1,6 @@
 // The card of document 01 as code: call, exit request (wish), step and read (look), for every value of a card. With the traced step (crate tracing)
-// these alone take and give a card: each takes the pieces that it needs out of it, has functions on small values judge them and work on them, and
-// puts back what changed. It rests on the crates construction (types and definitions), answers, helping, machine, opening and requests.
+// and the change (crate changing) these alone take and give a card: each takes the pieces that it needs out of it, has functions on small values judge
+// them and work on them, and puts back what changed. It rests on the crates construction (types and definitions), answers, helping, machine, opening and requests.
 use answers::kinds::is_refused;
 use construction::Access;
 use construction::Answer;

@@ -10,7 +10,7 @@ use Rattle.construction.specs.declared.{Program.Program, Card.Card, Answer.Answ
 use Rattle.construction.specs.declared.Refusal.the-variants.{NoProgram, NotAhead, Unsettled}
 use Rattle.construction.specs.Weight.{heaviest}
 use Rattle.construction.specs.Instructions.{noProgram}
-use Rattle.construction.specs.Parts.{contentsOf, withRevision}
+use Rattle.construction.specs.Parts.{withTexts, contentsOf, withRevision}
 use Rattle.construction.specs.Requests.{isProgram}
 use Rattle.construction.specs.Answers.{isRefused}
 use Rattle.construction.specs.Changes.{programText, changeRead, someBehind, isUnsettled, unchanged, ifRead, change}
@@ -80,34 +80,13 @@ module _
         (λ (there : isProgram c k ≡ true). p (in-room k (c .programCount) 8 there)))
 
 -- the card that code leaves
-abbrev withTexts : Card → List ℕ → List Program → List Program → Card
-withTexts c from earlier later =
-    record {
-      processCount = c .processCount;
-      variableCount = c .variableCount;
-      programCount = c .programCount;
-      limit = c .limit;
-      starts = c .starts;
-      programs = c .programs;
-      from = from;
-      earlier = earlier;
-      later = later;
-      gate = c .gate;
-      announcements = c .announcements;
-      records = c .records;
-      steps = c .steps;
-      tasks = c .tasks;
-      operations = c .operations;
-      exits = c .exits;
-      counts = c .counts;
-      gates = c .gates;
-      copies = c .copies;
-      simulations = c .simulations;
-      dictionaries = c .dictionaries;
-      masks = c .masks;
-    }
-
 pub changed :
     (c : Card) → length (c .later) ≡ 8 → (k from : ℕ) (y d : Program) → k < 8 →
-    withTexts c (set (c .from) (k % 8) from) (set (c .earlier) (k % 8) (getD (c .later) (k % 8) d)) (set (c .later) (k % 8) y) ≡ withRevision c k from y
+    withTexts c
+    (record {
+      from = set (c .from) (k % 8) from;
+      earlier = set (c .earlier) (k % 8) (getD (c .later) (k % 8) d);
+      later = set (c .later) (k % 8) y;
+    })
+    ≡ withRevision c k from y
 changed c full k from y d p = rw (mod-eq-of-lt p, inside (c .later) k d noProgram (rw full p))

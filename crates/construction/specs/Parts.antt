@@ -77,11 +77,11 @@ textsOf c = record { from = c .from; earlier = c .earlier; later = c .later }
 unfoldable pub programOf : Texts → ℕ → ℕ → Program
 programOf x k number = cond (ltb number (getD (x .from) k 0)) (getD (x .earlier) k noProgram) (getD (x .later) k noProgram)
 
--- a card of the same text: its shared cells, its accepted steps, and what its processes keep
-abbrev pub withState :
-    Card → Gate → List Announcement → List Record → ℕ →
+-- the card of the same opening text: the texts of its programs, its shared cells, its accepted steps, and what its processes keep
+abbrev pub withTextsAndState :
+    Card → Texts → Gate → List Announcement → List Record → ℕ →
     List Task → List Operation → List Bool → List ℕ → List Gate → List Announcement → List Simulation → List Dictionary → List ℕ → Card
-withState c gate announcements records steps tasks operations exits counts gates copies simulations dictionaries masks =
+withTextsAndState c texts gate announcements records steps tasks operations exits counts gates copies simulations dictionaries masks =
     record {
       processCount = c .processCount;
       variableCount = c .variableCount;
@@ -89,9 +89,9 @@ withState c gate announcements records steps tasks operations exits counts gates
       limit = c .limit;
       starts = c .starts;
       programs = c .programs;
-      from = c .from;
-      earlier = c .earlier;
-      later = c .later;
+      from = texts .from;
+      earlier = texts .earlier;
+      later = texts .later;
       gate = gate;
       announcements = announcements;
       records = records;
@@ -106,6 +106,18 @@ withState c gate announcements records steps tasks operations exits counts gates
       dictionaries = dictionaries;
       masks = masks;
     }
+
+-- with the same texts ..
+abbrev pub withState :
+    Card → Gate → List Announcement → List Record → ℕ →
+    List Task → List Operation → List Bool → List ℕ → List Gate → List Announcement → List Simulation → List Dictionary → List ℕ → Card
+withState c = withTextsAndState c (textsOf c)
+
+-- .. and with other texts and the same state
+abbrev pub withTexts : Card → Texts → Card
+withTexts c texts =
+    withTextsAndState c texts (c .gate) (c .announcements) (c .records) (c .steps)
+    (c .tasks) (c .operations) (c .exits) (c .counts) (c .gates) (c .copies) (c .simulations) (c .dictionaries) (c .masks)
 
 -- the card with other shared cells, ..
 abbrev pub withCells : Card → Gate → List Announcement → List Record → Card
@@ -143,27 +155,9 @@ withSteps c k =
 -- the card with program k changed to y from a gate number on: its later text becomes the earlier one
 abbrev pub withRevision : Card → ℕ → ℕ → Program → Card
 withRevision c k from y =
-    record {
-      processCount = c .processCount;
-      variableCount = c .variableCount;
-      programCount = c .programCount;
-      limit = c .limit;
-      starts = c .starts;
-      programs = c .programs;
+    withTexts c
+    (record {
       from = set (c .from) k from;
       earlier = set (c .earlier) k (getD (c .later) k noProgram);
       later = set (c .later) k y;
-      gate = c .gate;
-      announcements = c .announcements;
-      records = c .records;
-      steps = c .steps;
-      tasks = c .tasks;
-      operations = c .operations;
-      exits = c .exits;
-      counts = c .counts;
-      gates = c .gates;
-      copies = c .copies;
-      simulations = c .simulations;
-      dictionaries = c .dictionaries;
-      masks = c .masks;
-    }
+    })

@@ -99,15 +99,27 @@ replaceGate cell g task new next =
     let swapped = swapGate cell g new in
     record { cell = swapped .cell; read = g; task = goTo task next; swap = outcome (swapped .won) }
 
-unfoldable pub accessGate : GateAccess → ℕ → Gate → Gate → Task → GateAccessed
--- lines P1, P10, P14
-accessGate (GateAccess.Read held free) i cell g task = readGate cell task (byHolder (cell .holder) held free)
+-- lines P1, P10, P14: the holder says where the process goes on
+abbrev pub readHolder : Gate → Task → Place → Place → GateAccessed
+readHolder cell task held free = readGate cell task (byHolder (cell .holder) held free)
+
 -- lines F1, F2, F4
-accessGate GateAccess.ReadLast i cell g task = readGate cell task (afterLast (cell .holder) i)
+abbrev pub readLast : Gate → Task → ℕ → GateAccessed
+readLast cell task i = readGate cell task (afterLast (cell .holder) i)
+
 -- line P13
-accessGate GateAccess.Nominate i cell g task = replaceGate cell g task (nominated g (task .target)) P14
+abbrev pub nominate : Gate → Gate → Task → GateAccessed
+nominate cell g task = replaceGate cell g task (nominated g (task .target)) P14
+
 -- lines P21 and F3
-accessGate (GateAccess.Release next) i cell g task = replaceGate cell g task (released g) next
+abbrev pub release : Gate → Gate → Task → Place → GateAccessed
+release cell g task next = replaceGate cell g task (released g) next
+
+unfoldable pub accessGate : GateAccess → ℕ → Gate → Gate → Task → GateAccessed
+accessGate (GateAccess.Read held free) i cell g task = readHolder cell task held free
+accessGate GateAccess.ReadLast i cell g task = readLast cell task i
+accessGate GateAccess.Nominate i cell g task = nominate cell g task
+accessGate (GateAccess.Release next) i cell g task = release cell g task next
 
 -- the announcement of process m, for a process that last read the announcement a: it is read ..
 abbrev pub readAnnouncement : Announcement → ℕ → Place → AnnouncementAccessed
@@ -129,23 +141,31 @@ whose (AnnouncementAccess.ReadOwn done active exit) p i g = i
 whose AnnouncementAccess.ReadFirst p i g = firstChoice (g .seq) p
 whose (AnnouncementAccess.Finish flag next) p i g = holderOf (g .holder)
 
+-- lines P2, P3
+abbrev pub announce : Operation → Gate → Task → AnnouncementAccessed
+announce operation g task =
+    record { cell = announced operation g; read = announced operation g; task = goTo task P5; swap = Swap.None }
+
+-- line P6
+abbrev pub withdraw : Announcement → Operation → Announcement → Task → AnnouncementAccessed
+withdraw cell operation a task = replaceAnnouncement cell a task a (withdrawn a operation) P7
+
+-- lines P7, C2, C4 with C6, P22: the flag says where the process goes on
+abbrev pub readFlag : Announcement → ℕ → Place → Place → Place → AnnouncementAccessed
+readFlag cell m done active exit = readAnnouncement cell m (byFlag (cell .flag) done active exit)
+
+-- lines P19, P20
+abbrev pub finish : Flag → Place → Announcement → Gate → Announcement → Yield → Task → AnnouncementAccessed
+finish flag next cell g a y task = replaceAnnouncement cell a task (flagged a flag) (finished a g y) next
+
 unfoldable pub accessAnnouncement :
     AnnouncementAccess → ℕ → Announcement → Operation → Gate → Announcement → Yield → Task → AnnouncementAccessed
--- lines P2, P3
-accessAnnouncement AnnouncementAccess.Announce m cell operation g a y task =
-    record { cell = announced operation g; read = announced operation g; task = goTo task P5; swap = Swap.None }
--- line P6
-accessAnnouncement AnnouncementAccess.Withdraw m cell operation g a y task =
-    replaceAnnouncement cell a task a (withdrawn a operation) P7
--- lines P7, C4 with C6, P22
-accessAnnouncement (AnnouncementAccess.ReadOwn done active exit) m cell operation g a y task =
-    readAnnouncement cell m (byFlag (cell .flag) done active exit)
--- line C2
-accessAnnouncement AnnouncementAccess.ReadFirst m cell operation g a y task =
-    readAnnouncement cell m (byFlag (cell .flag) C4 P13 C4)
--- lines P19, P20
-accessAnnouncement (AnnouncementAccess.Finish flag next) m cell operation g a y task =
-    replaceAnnouncement cell a task (flagged a flag) (finished a g y) next
+accessAnnouncement AnnouncementAccess.Announce m cell operation g a y task = announce operation g task
+accessAnnouncement AnnouncementAccess.Withdraw m cell operation g a y task = withdraw cell operation a task
+accessAnnouncement (AnnouncementAccess.ReadOwn done active exit) m cell operation g a y task = readFlag cell m done active exit
+-- line C2, by C3
+accessAnnouncement AnnouncementAccess.ReadFirst m cell operation g a y task = readFlag cell m C4 P13 C4
+accessAnnouncement (AnnouncementAccess.Finish flag next) m cell operation g a y task = finish flag next cell g a y task
 
 -- lines H31 and H32: the write of item `next` of so many, or P19 past the last; ..
 abbrev pub writeTask : ℕ → ℕ → Task

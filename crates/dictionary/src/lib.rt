@@ -61,7 +61,7 @@ pub fn with_bit(mask: u64, variable: u8) -> u64
 }
 
 // Line H32: whether an item is to be written.
-fn altered(seq: u64, item: Item) -> bool
+pub fn altered(seq: u64, item: Item) -> bool
     ensures { λ r. ⌜ r ≡ altered seq item ⌝ }
 {
     let cell = item.cell;

@@ -1,6 +1,6 @@
 -- The simulation by the tests that decide it, over plain values
 use Prim.Native.Nat.{ℕ, zero, suc, _+_, _-_, _%_, _<_, _≤_}
-use mathlib.Core.Bool.{Bool, true, false, not}
+use mathlib.Core.Bool.{Bool, true, false, not, cond}
 use mathlib.Core.Logic.{⊎-elim}
 use mathlib.Core.List.{List, [], _∷_, map}
 use mathlib.Core.Path.{_≡_, refl, sym, _∙_, ap}
@@ -11,15 +11,15 @@ use lib.ListN.{length, getD, set, take, drop, length-take, length-set, length-ma
 use lib.Seq.{set-getD, drop-cons, getD-take, map-set-same, length-take-le, take-set-lt}
 use borrow.Author.Tests.{eq-eqb, ne-eqb, lt-ltb, le-ltb, eqb-true, leb-true, leb-false, not-true}
 use Rattle.construction.specs.declared.{Words.Words, Instruction.Instruction, Program.Program, Effect.Effect, Item.Item, Dictionary.Dictionary, Simulation.Simulation, Simulated.Simulated}
-use Rattle.construction.specs.Instructions.{isCell, effectOf, noLine, shortened, nextEffect, withRegister, withOutput, skipped, faulted}
-use Rattle.programs.specs.Fetching.{instructionAt}
-use Rattle.programs.proofs.Laws.{fetched}
+use Rattle.construction.specs.declared.Pause.the-variants.{Ended, Faulted, Lacks}
+use Rattle.construction.specs.Instructions.{isCell, effectOf, nextInstruction, withRegister, withOutput, skipped, faulted}
 use Rattle.programs.specs.Cells.{isAstray}
-use Rattle.construction.specs.Effects.{allocated}
+use Rattle.construction.specs.Effects.{Executed, touched, allocated, execute, onExecuted}
 use Rattle.construction.proofs.Basics.{and-true, true-or-false}
-use Rattle.construction.specs.Dictionary.{noItem, noted, position, find, valueAt, withValue, assign}
-use Rattle.helping.specs.Numbers.{keys, placeOf, revalued, withValues, Numbered}
-use Rattle.construction.specs.Helping.{ended, faults, lacks, simulateFrom, simulate}
+use Rattle.construction.specs.Dictionary.{noItem, noted, position, find, has, valueAt, withValue, assign}
+use Rattle.helping.specs.Numbers.{keys, placeOf, revalued, withValues, Numbered, goes, stands, turned, Turns}
+use Rattle.helping.specs.declared.simulation.Turned.{Turned}
+use Rattle.construction.specs.Helping.{ended, faults, lacks, noteOf, withNotes, onLacking, simulateFrom, simulate}
 
 -- a value assigned
 module _ (d : Dictionary) where
@@ -138,6 +138,21 @@ revalued-more (e ∷ es) [] k p q = absurd (omega arith)
 revalued-more (e ∷ es) (x ∷ xs) zero p q = rw (revalued-none es)
 revalued-more (e ∷ es) (x ∷ xs) (suc k) p q = rw (revalued-more es xs k (omega arith) (omega arith))
 
+-- .. the values that they then have, and other values once more
+revalued-values : (es : List Item) (xs : List ℕ) → length xs ≤ length es → take (length xs) (map (λ (e : Item). e .value) (revalued es xs)) ≡ xs
+unfolding revalued
+revalued-values [] [] p = refl
+revalued-values [] (x ∷ xs) p = absurd (omega arith)
+revalued-values (e ∷ es) [] p = refl
+revalued-values (e ∷ es) (x ∷ xs) p = rw (revalued-values es xs (omega arith))
+
+revalued-twice : (es : List Item) (xs ys : List ℕ) → length xs ≡ length ys → revalued (revalued es xs) ys ≡ revalued es ys
+unfolding revalued
+revalued-twice [] xs ys p = refl
+revalued-twice (e ∷ es) [] ys p = refl
+revalued-twice (e ∷ es) (x ∷ xs) [] p = absurd (omega arith)
+revalued-twice (e ∷ es) (x ∷ xs) (y ∷ ys) p = rw (revalued-twice es xs ys (omega arith))
+
 -- a dictionary that takes values one after the other: none, and one more
 pub no-values : (d : Dictionary) → d ≡ withValues d []
 no-values d = rw (revalued-none (d .items))
@@ -212,146 +227,187 @@ no-cell n x e = rw e
 keyed-assign : (ks : List ℕ) (end : ℕ) (d : Dictionary) (k x : ℕ) → Keyed d ks end → Keyed (assign d k x) ks end
 keyed-assign ks end d k x q = (q .0 ∙ sym (assign-noted d k x), rw (assign-keys d k x) (q .1))
 
--- a simulation whose result is `total` goes on from s and d with so many instructions left
-abbrev pub Going : ℕ → Program → Words → Simulated → List ℕ → ℕ → ℕ → Simulation → Dictionary → Type 0
-Going n program inputs total ks end fuel s d = (total ≡ simulateFrom n program inputs fuel s d) × Keyed d ks end
+-- a turn whose result is `total` is made from s and d at the effect e
+pub record Here (n : ℕ) (total : Turned × Dictionary) (ks : List ℕ) (end : ℕ) (s : Simulation) (d : Dictionary) (e : Effect) : Type 0 where
+  pub going : total ≡ turned n s d e
+  pub keyed : Keyed d ks end
 
--- it stands before the effect e, with m instructions left after it
-pub record Here (n : ℕ) (program : Program) (inputs : Words) (total : Simulated) (ks : List ℕ) (end fuel m : ℕ) (s : Simulation) (d : Dictionary) (e : Effect) : Type 0 where
-  pub going : Going n program inputs total ks end fuel s d
-  pub left : fuel ≡ suc m
-  pub next : e ≡ nextEffect n program inputs s
+module _ {n : ℕ} {total : Turned × Dictionary} {ks : List ℕ} {end : ℕ} {s : Simulation} {d : Dictionary} {e : Effect} (h : Here n total ks end s d e) where
+  pub stops : e ≡ Effect.Stop → (stands Ended s, d) ≡ total
+  unfolding turned
+  stops p = sym (h .going ∙ rw (p))
 
-module _ {n : ℕ} {program : Program} {inputs : Words} {total : Simulated} {ks : List ℕ} {end fuel m : ℕ} {s : Simulation} {d : Dictionary} {e : Effect} (h : Here n program inputs total ks end fuel m s d e) where
-  pub stops : e ≡ Effect.Stop → ended s d ≡ total
-  unfolding simulateFrom
-  stops p = sym (h .going .0 ∙ rw (h .left, ← h .next, p))
+  pub faulted-at : e ≡ Effect.Fault → (stands Faulted (faulted s), d) ≡ total
+  unfolding turned
+  faulted-at p = sym (h .going ∙ rw (p))
 
-  pub faulted-at : e ≡ Effect.Fault → faults s d ≡ total
-  unfolding simulateFrom
-  faulted-at p = sym (h .going .0 ∙ rw (h .left, ← h .next, p))
+  pub sets : (a x : ℕ) (t : Simulation) → e ≡ Effect.Set a x → t ≡ withRegister s a x → total ≡ (goes t, d)
+  unfolding turned
+  sets a x t p q = h .going ∙ rw (p, q)
 
-  pub sets : (a x : ℕ) (t : Simulation) → e ≡ Effect.Set a x → t ≡ withRegister s a x → Going n program inputs total ks end m t d
-  unfolding simulateFrom
-  sets a x t p q = (h .going .0 ∙ rw (h .left, ← h .next, p, q), h .going .1)
+  pub outputs : (a x : ℕ) (t : Simulation) → e ≡ Effect.Output a x → t ≡ withOutput s a x → total ≡ (goes t, d)
+  unfolding turned
+  outputs a x t p q = h .going ∙ rw (p, q)
 
-  pub outputs : (a x : ℕ) (t : Simulation) → e ≡ Effect.Output a x → t ≡ withOutput s a x → Going n program inputs total ks end m t d
-  unfolding simulateFrom
-  outputs a x t p q = (h .going .0 ∙ rw (h .left, ← h .next, p, q), h .going .1)
-
-  pub skips : (c : ℕ) (t : Simulation) → e ≡ Effect.Skip c → t ≡ skipped s c → Going n program inputs total ks end m t d
-  unfolding simulateFrom
-  skips c t p q = (h .going .0 ∙ rw (h .left, ← h .next, p, q), h .going .1)
+  pub skips : (c : ℕ) (t : Simulation) → e ≡ Effect.Skip c → t ≡ skipped s c → total ≡ (goes t, d)
+  unfolding turned
+  skips c t p q = h .going ∙ rw (p, q)
 
   module _ (v k : ℕ) (place : k ≡ placeOf (take end ks) v) where
     found : k ≡ find d v
-    found = find-by-keys d ks v end k (h .going .1) place
+    found = find-by-keys d ks v end k (h .keyed) place
 
     there : k < end → ltb k (length (noted d)) ≡ true
-    there q = lt-ltb _ _ (rw (h .going .1 .0) at q)
+    there q = lt-ltb _ _ (rw (h .keyed .0) at q)
 
     absent : end ≤ k → ltb k (length (noted d)) ≡ false
-    absent q = le-ltb _ _ (rw (h .going .1 .0) at q)
+    absent q = le-ltb _ _ (rw (h .keyed .0) at q)
 
     -- a value assigned moves no variable
     found-after : (j w : ℕ) → k ≡ find (assign d j w) v
-    found-after j w = find-by-keys (assign d j w) ks v end k (keyed-assign ks end d j w (h .going .1)) place
+    found-after j w = find-by-keys (assign d j w) ks v end k (keyed-assign ks end d j w (h .keyed)) place
 
     pub loads :
         (a x : ℕ) (t : Simulation) → e ≡ Effect.Load a v → k < end → x ≡ valueAt d k → t ≡ withRegister s a x →
-        Going n program inputs total ks end m t d
-    unfolding simulateFrom
-    loads a x t p q y z = (h .going .0 ∙ rw (h .left, ← h .next, p, ← found, there q, z, y), h .going .1)
+        total ≡ (goes t, d)
+    unfolding turned
+    loads a x t p q y z = h .going ∙ rw (p, ← found, there q, z, y)
 
-    pub load-lacks : (a : ℕ) → e ≡ Effect.Load a v → end ≤ k → lacks v s d ≡ total
-    unfolding simulateFrom
-    load-lacks a p q = sym (h .going .0 ∙ rw (h .left, ← h .next, p, ← found, absent q))
+    pub load-lacks : (a : ℕ) → e ≡ Effect.Load a v → end ≤ k → (stands (Lacks v) s, d) ≡ total
+    unfolding turned
+    load-lacks a p q = sym (h .going ∙ rw (p, ← found, absent q))
 
     pub stores :
         (x : ℕ) (t : Simulation) (b : Dictionary) → e ≡ Effect.Store v x → k < end → b ≡ assign d k x → t ≡ skipped s 0 →
-        Going n program inputs total ks end m t b
-    unfolding simulateFrom
-    stores x t b p q y z = (
-      h .going .0 ∙ rw (h .left, ← h .next, p, ← found, there q, z, y),
-      (rw y (h .going .1 .0 ∙ sym (assign-noted d k x)), rw (y, assign-keys d k x) (h .going .1 .1)),
-    )
+        total ≡ (goes t, b)
+    unfolding turned
+    stores x t b p q y z = h .going ∙ rw (p, ← found, there q, z, y)
 
-    pub store-lacks : (x : ℕ) → e ≡ Effect.Store v x → end ≤ k → lacks v s d ≡ total
-    unfolding simulateFrom
-    store-lacks x p q = sym (h .going .0 ∙ rw (h .left, ← h .next, p, ← found, absent q))
+    pub store-lacks : (x : ℕ) → e ≡ Effect.Store v x → end ≤ k → (stands (Lacks v) s, d) ≡ total
+    unfolding turned
+    store-lacks x p q = sym (h .going ∙ rw (p, ← found, absent q))
 
   -- codes 13 and 14: variable 0 stands at k
   module _ (k : ℕ) (first : k ≡ placeOf (take end ks) 0) where
-    pub allocate-lacks : (a : ℕ) → e ≡ Effect.Allocate a → end ≤ k → lacks 0 s d ≡ total
-    unfolding simulateFrom
-    allocate-lacks a p q = sym (h .going .0 ∙ rw (h .left, ← h .next, p, ← found 0 k first, absent 0 k first q))
+    pub allocate-lacks : (a : ℕ) → e ≡ Effect.Allocate a → end ≤ k → (stands (Lacks 0) s, d) ≡ total
+    unfolding turned
+    allocate-lacks a p q = sym (h .going ∙ rw (p, ← found 0 k first, absent 0 k first q))
 
-    pub free-lacks : (c : ℕ) → e ≡ Effect.Free c → end ≤ k → lacks 0 s d ≡ total
-    unfolding simulateFrom
-    free-lacks c p q = sym (h .going .0 ∙ rw (h .left, ← h .next, p, ← found 0 k first, absent 0 k first q))
+    pub free-lacks : (c : ℕ) → e ≡ Effect.Free c → end ≤ k → (stands (Lacks 0) s, d) ≡ total
+    unfolding turned
+    free-lacks c p q = sym (h .going ∙ rw (p, ← found 0 k first, absent 0 k first q))
 
     module _ (here : k < end) (x : ℕ) (y : x ≡ valueAt d k) {b : Bool} (t : b ≡ isAstray n x) where
-      pub allocate-faults : (a : ℕ) → e ≡ Effect.Allocate a → b ≡ true → faults s d ≡ total
-      unfolding simulateFrom allocated
+      pub allocate-faults : (a : ℕ) → e ≡ Effect.Allocate a → b ≡ true → (stands Faulted (faulted s), d) ≡ total
+      unfolding turned allocated
       allocate-faults a p q =
           let z = astray-true n x (sym t ∙ q) in
-          sym (h .going .0 ∙ rw (h .left, ← h .next, p, ← found 0 k first, there 0 k first here, ← y, z .0, z .1))
+          sym (h .going ∙ rw (p, ← found 0 k first, there 0 k first here, ← y, z .0, z .1))
 
       -- the cell, or variable 0 where there is none, stands at j
       module _ (a : ℕ) (p : e ≡ Effect.Allocate a) (q : b ≡ false) (j : ℕ) (place : j ≡ placeOf (take end ks) x) where
         same-place : x ≡ 0 → j ≡ k
         same-place z = place ∙ (ap (placeOf (take end ks)) z ∙ sym first)
 
-        pub allocate-lacks-cell : end ≤ j → lacks x s d ≡ total
-        unfolding simulateFrom
+        pub allocate-lacks-cell : end ≤ j → (stands (Lacks x) s, d) ≡ total
+        unfolding turned
         allocate-lacks-cell g =
             ⊎-elim
             (λ z. absurd (omega (arith, same-place (eqb-true x 0 z))))
-            (λ z. sym (h .going .0
-            ∙ rw (h .left, ← h .next, p, ← found 0 k first, there 0 k first here, ← y, astray-false n x (sym t ∙ q) z, ← found x j place, absent x j place g)))
+            (λ z. sym (h .going
+            ∙ rw (p, ← found 0 k first, there 0 k first here, ← y, astray-false n x (sym t ∙ q) z, ← found x j place, absent x j place g)))
             (true-or-false (eqb x 0))
 
         pub allocates :
             (w : ℕ) (u : Simulation) (f : Dictionary) → j < end → w ≡ valueAt d j → f ≡ assign (assign d k w) j 0 → u ≡ withRegister s a x →
-            Going n program inputs total ks end m u f
-        unfolding simulateFrom allocated
+            total ≡ (goes u, f)
+        unfolding turned allocated
         allocates w u f g v r o =
             ⊎-elim
             (λ z.
             let none : x ≡ 0 = eqb-true x 0 z in
             let same : f ≡ d =
             r ∙ rw (same-place none, v, same-place none, assign-own d k) (ap (assign d k) (sym none ∙ y) ∙ assign-own d k) in
-            (h .going .0 ∙ rw (h .left, ← h .next, p, ← found 0 k first, there 0 k first here, ← y, no-cell n x none, z, o, same, none), rw same (h .going .1)))
-            (λ z. (
-              h .going .0
-                  ∙ rw (h .left, ← h .next, p, ← found 0 k first, there 0 k first here, ← y, astray-false n x (sym t ∙ q) z, ← found x j place, there x j place g, ← v, ← found 0 k first, ← found-after x j place k w, o, r),
-              rw r (keyed-assign ks end (assign d k w) j 0 (keyed-assign ks end d k w (h .going .1))),
-            ))
+            h .going ∙ rw (p, ← found 0 k first, there 0 k first here, ← y, no-cell n x none, z, o, same, none))
+            (λ z.
+            h .going
+            ∙ rw (p, ← found 0 k first, there 0 k first here, ← y, astray-false n x (sym t ∙ q) z, ← found x j place, there x j place g, ← v, ← found 0 k first, ← found-after x j place k w, o, r))
             (true-or-false (eqb x 0))
 
     module _ (here : k < end) (c : ℕ) (p : e ≡ Effect.Free c) (j : ℕ) (place : j ≡ placeOf (take end ks) c) where
-      pub free-lacks-cell : end ≤ j → lacks c s d ≡ total
-      unfolding simulateFrom
+      pub free-lacks-cell : end ≤ j → (stands (Lacks c) s, d) ≡ total
+      unfolding turned
       free-lacks-cell g =
-          sym (h .going .0 ∙ rw (h .left, ← h .next, p, ← found 0 k first, there 0 k first here, ← found c j place, absent c j place g))
+          sym (h .going ∙ rw (p, ← found 0 k first, there 0 k first here, ← found c j place, absent c j place g))
 
       pub frees :
           (w : ℕ) (u : Simulation) (f : Dictionary) → j < end → w ≡ valueAt d k → f ≡ assign (assign d j w) k c → u ≡ skipped s 0 →
-          Going n program inputs total ks end m u f
-      unfolding simulateFrom
-      frees w u f g v r o = (
-        h .going .0
-            ∙ rw (h .left, ← h .next, p, ← found 0 k first, there 0 k first here, ← found c j place, there c j place g, ← v, ← found-after 0 k first j w, o, r),
-        rw r (keyed-assign ks end (assign d j w) k c (keyed-assign ks end d j w (h .going .1))),
-      )
+          total ≡ (goes u, f)
+      unfolding turned
+      frees w u f g v r o =
+          h .going
+          ∙ rw (p, ← found 0 k first, there 0 k first here, ← found c j place, there c j place g, ← v, ← found-after 0 k first j w, o, r)
 
--- the effect by the line at the counter
-pub effect-is :
-    (n : ℕ) (program : Program) (inputs : Words) (s : Simulation) (e : Effect) → length (program .lines) ≡ 32 →
-    e ≡ effectOf n inputs (s .registers) (shortened (program .length - suc (s .counter)) (instructionAt (program .length) (s .counter) (getD (program .lines) (s .counter % 32) noLine))) →
-    e ≡ nextEffect n program inputs s
-effect-is n program inputs s e z p =
-    p ∙ ap (λ (i : Instruction). effectOf n inputs (s .registers) (shortened (program .length - suc (s .counter)) i)) (fetched program (s .counter) z)
+-- a turn, and the rest of the simulation after it
+abbrev onTurned : Turned × Dictionary → (Simulation → Dictionary → Simulated) → Simulated
+onTurned x next =
+    cond (x .0 .going) (next (x .0 .simulation) (x .1)) (record { pause = x .0 .pause; simulation = x .0 .simulation; dictionary = x .1 })
+
+either :
+    (next : Simulation → Dictionary → Simulated) (b : Bool) (x y : Turned × Dictionary) (z : Simulated) →
+    onTurned x next ≡ z → onTurned (cond b x y) next ≡ cond b z (onTurned y next)
+either next true x y z e = e
+either next false x y z e = refl
+
+turn-by :
+    (next : Simulation → Dictionary → Simulated) (s : Simulation) (d : Dictionary) (l : List ℕ) (x : Executed) →
+    onTurned
+    (onLacking d l (λ v. (stands (Lacks v) s, d))
+    (onExecuted x (stands Ended s, d) (stands Faulted (faulted s), d) (λ t w. (goes t, withNotes d w)))) next
+    ≡ onLacking d l (λ v. lacks v s d) (onExecuted x (ended s d) (faults s d) (λ t w. next t (withNotes d w)))
+turn-by next s d [] Executed.Ends = refl
+turn-by next s d [] Executed.Faults = refl
+turn-by next s d [] (Executed.Goes t w) = refl
+turn-by next s d (v ∷ l) x = either next (has d v) _ (stands (Lacks v) s, d) _ (turn-by next s d l x)
+
+one-turn :
+    (n : ℕ) (program : Program) (inputs : Words) (m : ℕ) (s : Simulation) (d : Dictionary) →
+    simulateFrom n program inputs (suc m) s d
+    ≡ onTurned (turned n s d (effectOf n inputs (s .registers) (nextInstruction program (s .counter)))) (simulateFrom n program inputs m)
+unfolding simulateFrom turned
+one-turn n program inputs m s d =
+    let e : Effect = effectOf n inputs (s .registers) (nextInstruction program (s .counter)) in
+    sym (turn-by (simulateFrom n program inputs m) s d (touched n (noteOf d) e) (execute n (noteOf d) s e))
+
+-- a turn within a run: of the dictionary d only the values changed so far, and `fuel` instructions are left
+module _ {ks before : List ℕ} {end : ℕ} {d : Dictionary} (h : Numbered ks before end d) where
+  pub numbered-again : (xs : List ℕ) → length xs ≡ length before → Numbered ks xs end (withValues d (take end xs))
+  numbered-again xs same =
+      record {
+        keyed = keyed h (take end xs) .1;
+        valued =
+            let z : length (take end xs) ≡ end = length-take-le end xs (omega (arith, enough-values h)) in
+            sym (rw z at (revalued-values (d .items) (take end xs) (omega (arith, inside h))));
+        count = keyed h (take end xs) .0;
+      }
+
+  revalued-again :
+      (xs ys : List ℕ) → length xs ≡ length before → length ys ≡ length before →
+      withValues (withValues d (take end xs)) (take end ys) ≡ withValues d (take end ys)
+  revalued-again xs ys p q =
+      rw (revalued-twice (d .items) (take end xs) (take end ys) (omega (arith, length-take end xs, length-take end ys)))
+
+  module _ (n : ℕ) (program : Program) (inputs : Words) (total : Simulated) (fuel m : ℕ) (s : Simulation) (xs : List ℕ) (same : length xs ≡ length before) (going : total ≡ simulateFrom n program inputs fuel s (withValues d (take end xs))) (some : fuel ≡ suc m) {instruction : Instruction} (here : instruction ≡ nextInstruction program (s .counter)) {after : List ℕ} {r : Turned} (made : Turns n instruction inputs s ks end xs after r) where
+    turn-is : total ≡ onTurned (r, withValues d (take end after)) (simulateFrom n program inputs m)
+    turn-is =
+        let e = made .left (withValues d (take end xs)) (numbered-again xs same) in
+        going ∙ rw (some, one-turn, ← here, e, revalued-again xs after same (made .long ∙ same))
+
+    pub turn-goes : r .going ≡ true → total ≡ simulateFrom n program inputs m (r .simulation) (withValues d (take end after))
+    turn-goes p = turn-is ∙ rw p
+
+    pub turn-stands : r .going ≡ false → _≡_ {A = Simulated} total (record { pause = r .pause; simulation = r .simulation; dictionary = withValues d (take end after) })
+    turn-stands p = turn-is ∙ rw p
 
 -- where the loop begins and ends
 module _ (n : ℕ) (program : Program) (inputs : Words) (s : Simulation) (d : Dictionary) where

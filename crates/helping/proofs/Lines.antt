@@ -20,7 +20,7 @@ use Rattle.helping.specs.Numbers.{withValues, Numbered, standing}
 use Rattle.helping.proofs.Laws as laws
 
 -- a program that starts has nothing to write yet
-start-writes : (number : ℕ) (xs : List ℕ) (p : Pause) → pauseTask p 0 0 ≡ afterPause number (withValues empty xs) p
+pub start-writes : (number : ℕ) (xs : List ℕ) (p : Pause) → pauseTask p 0 0 ≡ afterPause number (withValues empty xs) p
 unfolding nextWrite unaltered
 start-writes number xs Ended = refl
 start-writes number xs Faulted = refl
@@ -40,7 +40,7 @@ module _ (n : ℕ) (program : Program) (cell : Announcement) (number : ℕ) (tas
   helps-on q r xs e t f = rw (← tested, q, e, f, start-writes number xs (r .pause))
 
 -- where a simulation that stands still goes on, by the next write and how many items are noted
-goes-on :
+pub goes-on :
     (number : ℕ) (d : Dictionary) (p : Pause) (next end : ℕ) → next ≡ nextWrite number d 0 → end ≡ length (noted d) →
     pauseTask p next end ≡ afterPause number d p
 goes-on number d Ended next end e f = rw (e, f)

@@ -1,14 +1,18 @@
 -- The numbers that stand in a dictionary as arrays of their own: a program runs on its keys and values, and copies no dictionary.
 use Prim.Native.Nat.{ℕ, suc}
-use mathlib.Core.Bool.{cond}
+use mathlib.Core.Bool.{true, false, cond}
 use mathlib.Core.List.{List, [], _∷_, map}
 use mathlib.Core.Path.{_≡_}
 use lib.Dec.{eqb}
-use lib.ListN.{length, take}
-use Rattle.construction.specs.declared.{Words.Words, Program.Program, Item.Item, Dictionary.Dictionary, Simulation.Simulation, Simulated.Simulated}
+use lib.ListN.{length, take, drop}
+use Rattle.construction.specs.declared.{Words.Words, Instruction.Instruction, Program.Program, Effect.Effect, Item.Item, Dictionary.Dictionary, Simulation.Simulation, Pause.Pause, Simulated.Simulated}
+use Rattle.construction.specs.declared.Pause.the-variants.{Ended, Faulted, Lacks}
+use Rattle.construction.specs.Instructions.{effectOf, faulted}
+use Rattle.construction.specs.Effects.{touched, execute, onExecuted}
 use Rattle.construction.specs.Dictionary.{noted, withValue}
-use Rattle.construction.specs.Helping.{simulate}
+use Rattle.construction.specs.Helping.{noteOf, withNotes, onLacking, simulate}
 use Rattle.helping.specs.declared.simulation.Paused.{Paused}
+use Rattle.helping.specs.declared.simulation.Turned.{Turned}
 
 -- the variable and the value of each item (document 01: the noted records of a book)
 abbrev pub keys : Dictionary → List ℕ
@@ -45,3 +49,28 @@ standing r d = record { pause = r .pause; simulation = r .simulation; dictionary
 pub record Runs (n : ℕ) (program : Program) (inputs : Words) (s : Simulation) (ks : List ℕ) (end : ℕ) (before after : List ℕ) (r : Paused) : Type 0 where
   pub long : length after ≡ length before
   pub left : (d : Dictionary) → Numbered ks before end d → simulate n program inputs s d ≡ standing r (withValues d (take end after))
+
+-- what one instruction leaves: the program goes on, or stands still
+abbrev pub goes : Simulation → Turned
+goes s = record { going = true; pause = Ended; simulation = s }
+
+abbrev pub stands : Pause → Simulation → Turned
+stands p s = record { going = false; pause = p; simulation = s }
+
+-- lines H7 and H20 to H30: one turn of `simulateFrom`, and the dictionary that it leaves
+unfoldable pub turned : ℕ → Simulation → Dictionary → Effect → Turned × Dictionary
+turned n s d e =
+    onLacking d (touched n (noteOf d) e)
+    (λ v. (stands (Lacks v) s, d))
+    (onExecuted (execute n (noteOf d) s e)
+    (stands Ended s, d)
+    (stands Faulted (faulted s), d)
+    (λ t l. (goes t, withNotes d l)))
+
+-- a turn on the first numbers leaves what the turn leaves on every dictionary in which they stand, and the other numbers as they were
+pub record Turns (n : ℕ) (instruction : Instruction) (inputs : Words) (s : Simulation) (ks : List ℕ) (end : ℕ) (before after : List ℕ) (r : Turned) : Type 0 where
+  pub long : length after ≡ length before
+  pub rest : drop end after ≡ drop end before
+  pub left :
+      (d : Dictionary) → Numbered ks before end d →
+      turned n s d (effectOf n inputs (s .registers) instruction) ≡ (r, withValues d (take end after))

@@ -1,7 +1,7 @@
 // Helping (lines P16 to P18 and H1 to H36 of the paper): what a process goes on with that helps the operation whose turn it is. A program is
 // simulated on the numbers of a dictionary, and only `note` takes a dictionary, updates it and gives it back.
 // It rests on the crates construction (types and definitions), cells, dictionary, opening and programs.
-mod simulation; // simulation.rt: a program that runs on lent keys and values
+pub mod simulation; // simulation.rt: a program that runs on lent keys and values
 
 use crate::simulation::simulate;
 use construction::Announcement;
@@ -42,7 +42,7 @@ pub fn helps(announcement: Announcement, number: u64) -> bool
 }
 
 // Lines H31 and H32: the write of the next item of so many, or P19 past the last.
-fn write_from(next: u8, end: u8) -> Task
+pub fn write_from(next: u8, end: u8) -> Task
     ensures { λ r. ⌜ r ≡ writeTask next end ⌝ }
 {
     if next < end {
@@ -58,7 +58,7 @@ fn write_from(next: u8, end: u8) -> Task
 }
 
 // Where a simulation goes on that stands still: it reads a record, or writes what it altered, or nothing after a fault.
-fn after_pause(pause: Pause, next: u8, end: u8) -> Task
+pub fn after_pause(pause: Pause, next: u8, end: u8) -> Task
     ensures { λ r. ⌜ r ≡ pauseTask pause next end ⌝ }
 {
     match pause {

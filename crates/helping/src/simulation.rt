@@ -1,27 +1,55 @@
 // A program that runs on numbers that its caller lends: the keys of a dictionary, and their values, which it alters.
 use construction::Effect;
-use construction::Line;
+use construction::Instruction;
 use construction::Pause;
 use construction::Program;
 use construction::Simulation;
 use construction::Words;
 ghost use mathlib.Core.Path.{_≡_};
-ghost use Rattle.construction.specs.Instructions.{effectOf, shortened};
-ghost use Rattle.programs.specs.Fetching.{instructionAt};
-ghost use Prim.Native.Nat.{suc, _-_, _≤_};
+ghost use Prim.Native.Nat.{_≤_, min};
 ghost use lib.ListN.{length, take};
-ghost use Rattle.helping.specs.Numbers.{placeOf, Runs};
+ghost use Rattle.construction.specs.Instructions.{shortened};
+ghost use Rattle.helping.specs.Numbers.{placeOf, goes, stands, Turns, Runs};
 
 // Why a program stands still, and its state.
-pub(crate) struct Paused {
+pub struct Paused {
     pub pause: Pause,
     pub simulation: Simulation,
 }
 
+// What one instruction leaves: whether the program goes on, why it stands still if not, and its state.
+pub struct Turned {
+    pub going: bool,
+    pub pause: Pause,
+    pub simulation: Simulation,
+}
+
+// The program goes on.
+fn goes(simulation: Simulation) -> Turned
+    ensures { λ r. ⌜ r ≡ goes simulation ⌝ }
+{
+    Turned {
+        going: true,
+        pause: Pause::Ended,
+        simulation,
+    }
+}
+
+// The program stands still.
+fn stands(pause: Pause, simulation: Simulation) -> Turned
+    ensures { λ r. ⌜ r ≡ stands pause simulation ⌝ }
+{
+    Turned {
+        going: false,
+        pause,
+        simulation,
+    }
+}
+
 // The place of a variable among the first keys, or how many these are.
 fn find(keys: &[u8; 32], end: u8, variable: u8) -> u8
-    requires { ⌜ (end ≤ 32) × (end ≤ length (now keys)) ⌝ }
-    ensures { λ r. ⌜ r ≡ placeOf (take end (now (keys .entry))) variable ⌝ }
+    requires { ⌜ end ≤ 32 ⌝ }
+    ensures { λ r. ⌜ (end ≤ length (now (keys .entry)) → r ≡ placeOf (take end (now (keys .entry))) variable) ⌝ }
 {
     let mut k: u8 = 0;
     while k < end {
@@ -33,14 +61,76 @@ fn find(keys: &[u8; 32], end: u8, variable: u8) -> u8
     k
 }
 
-// What the instruction at the counter does, given the line that stands there in a program of this length.
-fn next_effect(n: u8, length: u8, line: Line, inputs: Words, simulation: Simulation) -> Effect
-    ensures { λ r. ⌜ r ≡ effectOf n inputs (simulation .registers) (shortened (length - suc (simulation .counter)) (instructionAt length (simulation .counter) line)) ⌝ }
+// Lines H7 and H20 to H30: one instruction with so many behind it, on the first keys and values.
+pub fn turn(
+    n: u8,
+    instruction: Instruction,
+    remaining: u8,
+    inputs: Words,
+    s: Simulation,
+    keys: &[u8; 32],
+    end: u8,
+    values: &mut [u32; 32],
+) -> Turned
+    ensures { λ r. ⌜ Turns n (shortened remaining instruction) inputs s (now (keys .entry)) (min end 32) (now (values .entry)) (now (values .exit)) r ⌝ }
 {
-    let registers = simulation.registers;
-    let remaining = programs::remaining_after(length, simulation.counter);
-    let instruction = programs::instruction_at(length, simulation.counter, line);
-    programs::effect_of(n, inputs, registers, remaining, instruction)
+    let registers = s.registers;
+    let end = dictionary::noted(end);
+    let effect = programs::effect_of(n, inputs, registers, remaining, instruction);
+    match effect {
+        Effect::Stop => stands(Pause::Ended, s),
+        Effect::Fault => stands(Pause::Faulted, programs::faulted(s)),
+        Effect::Set { register, value } => goes(programs::with_register(s, register, value)),
+        Effect::Load { register, variable } => {
+            let source = find(keys, end, variable);
+            if end <= source {
+                return stands(Pause::Lacks(variable), s);
+            }
+            goes(programs::with_register(s, register, values[source as usize]))
+        }
+        Effect::Store { variable, value } => {
+            let target = find(keys, end, variable);
+            if end <= target {
+                return stands(Pause::Lacks(variable), s);
+            }
+            values[target as usize] = value;
+            goes(programs::skipped(s, 0))
+        }
+        Effect::Output { output, value } => goes(programs::with_output(s, output, value)),
+        Effect::Skip { count } => goes(programs::skipped(s, count)),
+        Effect::Allocate { register } => {
+            let first = find(keys, end, 0);
+            if end <= first {
+                return stands(Pause::Lacks(0), s);
+            }
+            let number = values[first as usize];
+            if programs::is_astray(n, number) {
+                return stands(Pause::Faulted, programs::faulted(s));
+            }
+            // where there is no free cell, this is variable 0 itself, which is 0 and stays so
+            let cell = number as u8;
+            let place = find(keys, end, cell);
+            if end <= place {
+                return stands(Pause::Lacks(cell), s);
+            }
+            values[first as usize] = values[place as usize];
+            values[place as usize] = 0;
+            goes(programs::with_register(s, register, number))
+        }
+        Effect::Free { cell } => {
+            let first = find(keys, end, 0);
+            if end <= first {
+                return stands(Pause::Lacks(0), s);
+            }
+            let place = find(keys, end, cell);
+            if end <= place {
+                return stands(Pause::Lacks(cell), s);
+            }
+            values[place as usize] = values[first as usize];
+            values[first as usize] = cell as u32;
+            goes(programs::skipped(s, 0))
+        }
+    }
 }
 
 // Lines H7 and H20 to H30: the program runs until it ends, or ends as a fault, or lacks a variable.
@@ -53,7 +143,7 @@ pub(crate) fn simulate(
     end: u8,
     values: &mut [u32; 32],
 ) -> Paused
-    requires { ⌜ (end ≤ 32) × (end ≤ length (now keys)) ⌝ }
+    requires { ⌜ end ≤ 32 ⌝ }
     ensures { λ r. ⌜ Runs n program inputs s (now (keys .entry)) end (now (values .entry)) (now (values .exit)) r ⌝ }
 {
     let mut s = s;
@@ -61,88 +151,18 @@ pub(crate) fn simulate(
     while 0 < fuel {
         fuel = fuel - 1;
         let line = program.lines[(s.counter % 32) as usize];
-        let effect = next_effect(n, program.length, line, inputs, s);
-        match effect {
-            Effect::Stop => return Paused {
-                pause: Pause::Ended,
-                simulation: s,
-            },
-            Effect::Fault => return Paused {
-                pause: Pause::Faulted,
-                simulation: programs::faulted(s),
-            },
-            Effect::Set { register, value } => s = programs::with_register(s, register, value),
-            Effect::Load { register, variable } => {
-                let source = find(keys, end, variable);
-                if end <= source {
-                    return Paused {
-                        pause: Pause::Lacks(variable),
-                        simulation: s,
-                    };
-                }
-                s = programs::with_register(s, register, values[source as usize]);
-            }
-            Effect::Store { variable, value } => {
-                let target = find(keys, end, variable);
-                if end <= target {
-                    return Paused {
-                        pause: Pause::Lacks(variable),
-                        simulation: s,
-                    };
-                }
-                values[target as usize] = value;
-                s = programs::skipped(s, 0);
-            }
-            Effect::Output { output, value } => s = programs::with_output(s, output, value),
-            Effect::Skip { count } => s = programs::skipped(s, count),
-            Effect::Allocate { register } => {
-                let first = find(keys, end, 0);
-                if end <= first {
-                    return Paused {
-                        pause: Pause::Lacks(0),
-                        simulation: s,
-                    };
-                }
-                let number = values[first as usize];
-                if programs::is_astray(n, number) {
-                    return Paused {
-                        pause: Pause::Faulted,
-                        simulation: programs::faulted(s),
-                    };
-                }
-                // where there is no free cell, this is variable 0 itself, which is 0 and stays so
-                let cell = number as u8;
-                let place = find(keys, end, cell);
-                if end <= place {
-                    return Paused {
-                        pause: Pause::Lacks(cell),
-                        simulation: s,
-                    };
-                }
-                values[first as usize] = values[place as usize];
-                values[place as usize] = 0;
-                s = programs::with_register(s, register, number);
-            }
-            Effect::Free { cell } => {
-                let first = find(keys, end, 0);
-                if end <= first {
-                    return Paused {
-                        pause: Pause::Lacks(0),
-                        simulation: s,
-                    };
-                }
-                let place = find(keys, end, cell);
-                if end <= place {
-                    return Paused {
-                        pause: Pause::Lacks(cell),
-                        simulation: s,
-                    };
-                }
-                values[place as usize] = values[first as usize];
-                values[first as usize] = cell as u32;
-                s = programs::skipped(s, 0);
-            }
+        let instruction = programs::instruction_at(program.length, s.counter, line);
+        let remaining = programs::remaining_after(program.length, s.counter);
+        let turned = turn(n, instruction, remaining, inputs, s, keys, end, values);
+        let state = turned.simulation;
+        if !turned.going {
+            let pause = turned.pause;
+            return Paused {
+                pause,
+                simulation: state,
+            };
         }
+        s = state;
     }
     Paused {
         pause: Pause::Ended,

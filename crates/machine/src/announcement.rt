@@ -16,7 +16,7 @@ use construction::Swap;
 use construction::Task;
 use construction::Yield;
 ghost use mathlib.Core.Path.{_≡_};
-ghost use Rattle.construction.specs.Machine.{announced, flagged, withdrawn, finished, readAnnouncement, replaceAnnouncement, whose, accessAnnouncement};
+ghost use Rattle.construction.specs.Machine.{announced, flagged, withdrawn, finished, readAnnouncement, replaceAnnouncement, whose, announce, withdraw, readFlag, finish, accessAnnouncement};
 ghost use Rattle.construction.specs.Requests.{returned};
 
 // Line P2: what a process announces.
@@ -137,6 +137,77 @@ pub fn whose(access: AnnouncementAccess, processCount: u8, process: u8, gate: Ga
     }
 }
 
+// Lines P2 and P3: an operation is announced.
+pub fn announce(operation: Operation, gate: Gate, task: Task) -> AnnouncementAccessed
+    ensures { λ r. ⌜ r ≡ announce operation gate task ⌝ }
+{
+    let new = announced(operation, gate);
+    AnnouncementAccessed {
+        cell: new,
+        read: new,
+        task: Task {
+            place: Place::P5,
+            target: task.target,
+        },
+        swap: Swap::None,
+    }
+}
+
+// Line P6: the process asks to exit.
+pub fn withdraw(
+    cell: Announcement,
+    operation: Operation,
+    last: Announcement,
+    task: Task,
+) -> AnnouncementAccessed
+    ensures { λ r. ⌜ r ≡ withdraw cell operation last task ⌝ }
+{
+    replace_announcement(
+        cell,
+        last,
+        task,
+        last,
+        withdrawn(last, operation),
+        Place::P7,
+    )
+}
+
+// Lines P7, C2, C4 and P22: the announcement of process m is read, and its flag says where the process goes on.
+pub fn read_flag(
+    cell: Announcement,
+    m: u8,
+    done: Place,
+    active: Place,
+    exit: Place,
+) -> AnnouncementAccessed
+    ensures { λ r. ⌜ r ≡ readFlag cell m done active exit ⌝ }
+{
+    let now = cell.flag;
+    read_announcement(cell, m, by_flag(now, done, active, exit))
+}
+
+// Lines P19 and P20: the announcement of the gate's holder is swapped to done.
+pub fn finish(
+    flag: Flag,
+    next: Place,
+    cell: Announcement,
+    gate: Gate,
+    last: Announcement,
+    yields: Yield,
+    task: Task,
+) -> AnnouncementAccessed
+    ensures { λ r. ⌜ r ≡ finish flag next cell gate last yields task ⌝ }
+{
+    replace_announcement(
+        cell,
+        last,
+        task,
+        flagged(last, flag),
+        finished(last, gate, yields),
+        next,
+    )
+}
+
 // The accesses of the announcement of process m.
 pub fn access_announcement(
     access: AnnouncementAccess,
@@ -150,45 +221,25 @@ pub fn access_announcement(
 ) -> AnnouncementAccessed
     ensures { λ r. ⌜ r ≡ accessAnnouncement access m cell operation gate last yields task ⌝ }
 {
-    let now = cell.flag;
     match access {
-        AnnouncementAccess::Announce => {
-            let new = announced(operation, gate);
-            AnnouncementAccessed {
-                cell: new,
-                read: new,
-                task: Task {
-                    place: Place::P5,
-                    target: task.target,
-                },
-                swap: Swap::None,
-            }
-        }
-        AnnouncementAccess::Withdraw => replace_announcement(
-            cell,
-            last,
-            task,
-            last,
-            withdrawn(last, operation),
-            Place::P7,
-        ),
-        AnnouncementAccess::ReadOwn { done, active, exit } => read_announcement(
+        AnnouncementAccess::Announce => announce(operation, gate, task),
+        AnnouncementAccess::Withdraw => withdraw(cell, operation, last, task),
+        AnnouncementAccess::ReadOwn { done, active, exit } => read_flag(
             cell,
             m,
-            by_flag(now, done, active, exit),
+            done,
+            active,
+            exit,
         ),
-        AnnouncementAccess::ReadFirst => read_announcement(
-            cell,
-            m,
-            by_flag(now, Place::C4, Place::P13, Place::C4),
-        ),
-        AnnouncementAccess::Finish { flag, next } => replace_announcement(
-            cell,
-            last,
-            task,
-            flagged(last, flag),
-            finished(last, gate, yields),
+        AnnouncementAccess::ReadFirst => read_flag(cell, m, Place::C4, Place::P13, Place::C4),
+        AnnouncementAccess::Finish { flag, next } => finish(
+            flag,
             next,
+            cell,
+            gate,
+            last,
+            yields,
+            task,
         ),
     }
 }

@@ -10,7 +10,7 @@ use construction::Place;
 use construction::Swap;
 use construction::Task;
 ghost use mathlib.Core.Path.{_≡_};
-ghost use Rattle.construction.specs.Machine.{nominated, readGate, replaceGate, accessGate};
+ghost use Rattle.construction.specs.Machine.{nominated, readGate, replaceGate, readHolder, readLast, nominate, release, accessGate};
 
 // Line P13: the gate that a nomination stores.
 pub fn nominated(gate: Gate, nominee: u8) -> Gate
@@ -54,6 +54,36 @@ fn replace_gate(cell: Gate, last: Gate, task: Task, new: Gate, next: Place) -> G
     }
 }
 
+// Lines P1, P10 and P14: the gate is read, and its holder says where the process goes on.
+pub fn read_holder(cell: Gate, task: Task, held: Place, free: Place) -> GateAccessed
+    ensures { λ r. ⌜ r ≡ readHolder cell task held free ⌝ }
+{
+    let holder = cell.holder;
+    read_gate(cell, task, by_holder(holder, held, free))
+}
+
+// Lines F1, F2 and F4: the gate is read, and a process that holds it goes on to release it.
+pub fn read_last(cell: Gate, task: Task, process: u8) -> GateAccessed
+    ensures { λ r. ⌜ r ≡ readLast cell task process ⌝ }
+{
+    let holder = cell.holder;
+    read_gate(cell, task, after_last(holder, process))
+}
+
+// Line P13: the process of the task is nominated.
+pub fn nominate(cell: Gate, last: Gate, task: Task) -> GateAccessed
+    ensures { λ r. ⌜ r ≡ nominate cell last task ⌝ }
+{
+    replace_gate(cell, last, task, nominated(last, task.target), Place::P14)
+}
+
+// Lines P21 and F3: the gate is released.
+pub fn release(cell: Gate, last: Gate, task: Task, next: Place) -> GateAccessed
+    ensures { λ r. ⌜ r ≡ release cell last task next ⌝ }
+{
+    replace_gate(cell, last, task, cells::released(last), next)
+}
+
 // The accesses of the gate, for a process.
 pub fn access_gate(
     access: GateAccess,
@@ -64,17 +94,10 @@ pub fn access_gate(
 ) -> GateAccessed
     ensures { λ r. ⌜ r ≡ accessGate access process cell last task ⌝ }
 {
-    let holder = cell.holder;
     match access {
-        GateAccess::Read { held, free } => read_gate(cell, task, by_holder(holder, held, free)),
-        GateAccess::ReadLast => read_gate(cell, task, after_last(holder, process)),
-        GateAccess::Nominate => replace_gate(
-            cell,
-            last,
-            task,
-            nominated(last, task.target),
-            Place::P14,
-        ),
-        GateAccess::Release { next } => replace_gate(cell, last, task, cells::released(last), next),
+        GateAccess::Read { held, free } => read_holder(cell, task, held, free),
+        GateAccess::ReadLast => read_last(cell, task, process),
+        GateAccess::Nominate => nominate(cell, last, task),
+        GateAccess::Release { next } => release(cell, last, task, next),
     }
 }

@@ -214,7 +214,8 @@ fn read_body(
     }
 }
 
-fn read_card(text: &[u8]) -> Reading
+// The contents of a text with its verdict; a refused text has those of the empty card.
+pub fn read_card(text: &[u8]) -> Reading
     ensures { λ r. ⌜ r ≡ readCard (now (text .entry)) ⌝ }
 {
     if 16384 < text.len() {

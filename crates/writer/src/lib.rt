@@ -1,6 +1,7 @@
 // The writer of a card text (document 01, "Turned back"): the card as it was opened, after any steps, put into a lent buffer.
 // It rests on the crates grammar, opening and construction.
 use construction::Card;
+use construction::Contents;
 use construction::Encoded;
 use construction::Instruction;
 use construction::Line;
@@ -15,6 +16,7 @@ ghost use lib.ListN.{getD};
 ghost use Rattle.grammar.specs.Writing.{Put};
 ghost use Rattle.construction.specs.Instructions.{noLine, noProgram, encoded as encodedAs, encode as encodedOf};
 ghost use Rattle.construction.specs.Lines.{varText, insText};
+ghost use Rattle.construction.specs.Opening.{fresh};
 ghost use Rattle.construction.specs.Writing.{varsText, linesText, programText, programsText, textOf};
 ghost use Rattle.writer.specs.Written.{Writes};
 
@@ -151,18 +153,18 @@ fn put_programs(buffer: &mut [u8], at: usize, count: u8, programs: [Program; 8])
     i
 }
 
-// The text of a card at the front of a buffer, as far as it fits; the place told is the length of the text.
-fn put_text(buffer: &mut [u8], card: Card) -> usize
-    ensures { λ r. ⌜ Put (now (buffer .entry)) 0 (textOf card) r (now (buffer .exit)) ⌝ }
+// The text of a card with these contents at the front of a buffer, as far as it fits; the place told is the length of the text.
+fn put_text(buffer: &mut [u8], contents: Contents) -> usize
+    ensures { λ r. ⌜ Put (now (buffer .entry)) 0 (textOf (fresh contents)) r (now (buffer .exit)) ⌝ }
 {
-    let processCount = card.processCount;
+    let processCount = contents.processCount;
     if processCount == 0 {
         return 0;
     }
-    let variableCount = card.variableCount;
-    let programCount = card.programCount;
-    let starts = card.starts;
-    let programs = card.programs;
+    let variableCount = contents.variableCount;
+    let programCount = contents.programCount;
+    let starts = contents.starts;
+    let programs = contents.programs;
     let i = put_word(buffer, 0, b"card,");
     let j = put_four(
         buffer,
@@ -170,21 +172,38 @@ fn put_text(buffer: &mut [u8], card: Card) -> usize
         processCount as u64,
         variableCount as u64,
         programCount as u64,
-        card.limit,
+        contents.limit,
     );
     let k = put_vars(buffer, j, variableCount, starts);
     put_programs(buffer, k, programCount, programs)
 }
 
-// The length of the text is learnt from a buffer of no bytes; then the text is put where it fits.
-pub fn write(card: Card, buffer: &mut [u8]) -> Written
-    ensures { λ r. ⌜ Writes card (now (buffer .entry)) r (now (buffer .exit)) ⌝ }
+// The text of a card with these contents. The length of the text is learnt from a buffer of no bytes; then the text is put where it fits.
+pub fn write_contents(contents: Contents, buffer: &mut [u8]) -> Written
+    ensures { λ r. ⌜ Writes (fresh contents) (now (buffer .entry)) r (now (buffer .exit)) ⌝ }
 {
-    let length = put_text(&mut buffer[..0], card);
+    let length = put_text(&mut buffer[..0], contents);
     if length <= buffer.len() {
-        put_text(buffer, card);
+        put_text(buffer, contents);
         Written::Bytes(length)
     } else {
         Written::Refused(Refusal::ShortBuffer)
     }
+}
+
+// The text of a card: that of what it was opened with.
+pub fn write(card: Card, buffer: &mut [u8]) -> Written
+    ensures { λ r. ⌜ Writes card (now (buffer .entry)) r (now (buffer .exit)) ⌝ }
+{
+    let starts = card.starts;
+    let programs = card.programs;
+    let contents = Contents {
+        processCount: card.processCount,
+        variableCount: card.variableCount,
+        programCount: card.programCount,
+        limit: card.limit,
+        starts,
+        programs,
+    };
+    write_contents(contents, buffer)
 }

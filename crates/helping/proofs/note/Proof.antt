@@ -64,7 +64,7 @@ note-spec =
     (λ c κs. search needs)
     (λ c κs. search needs)
     (λ c κs. search needs)
-    (λ c κs. (omega arith, laws.enough (numbered (c .before .before .before .before))))
+    (λ c κs. omega arith)
     loop-holds
     (λ c. omega arith)
     (λ c. omega arith)

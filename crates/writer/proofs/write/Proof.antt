@@ -1,38 +1,13 @@
-use Rattle.construction.proofs.Text.Writing as laws
-use native.Mathlib.Omega.{arith}
+use Rattle.construction.specs.Opening.{fresh}
+use Rattle.construction.specs.Writing.{textOf, written, writtenInto}
 use borrow.Author.Needs.{needs}
 use Rattle.writer.proofs.write.Statement.{statement}
 use Rattle.writer.proofs.write.Tie as tie
 
+-- the text of a card is that of what it was opened with
 returns : tie.Need-returns
-returns c =
-    let told = c .before .before .before .before .before .before .before .put-text in
-    let a = c .before .before .before .before .before .before .before .before .before .before .args in
-    let same = laws.no-front (told .last .0) (a .buffer .now) (told .kept .0) in
-    record {
-      answer = laws.written-bytes (a .card) (a .buffer .now) same (told .ensures) (omega arith) (omega arith);
-      bytes = laws.text-there (a .card) (a .buffer .now) same (told .ensures) (omega arith) (omega arith) (c .before .before .put-text2 .ensures);
-    }
-
-returns-2 : tie.Need-returns-2
-returns-2 c =
-    let told = c .before .before .before .put-text in
-    let a = c .before .before .before .before .before .before .args in
-    let same = laws.no-front (told .last .0) (a .buffer .now) (told .kept .0) in
-    record {
-      answer = laws.written-short (a .card) (a .buffer .now) same (told .ensures) (omega arith) (omega arith);
-      bytes = laws.bytes-kept (a .card) (a .buffer .now) same (told .ensures) (omega arith) (omega arith);
-    }
+unfolding fresh textOf written writtenInto
+returns c = record { answer = c .before .before .write-contents .ensures .answer; bytes = c .before .before .write-contents .ensures .bytes }
 
 pub write-spec : {M : Type 1} → statement M
-write-spec =
-    tie.close
-    (tie.spec
-    (λ c. search needs)
-    (λ c. search needs)
-    (λ c κs. search needs)
-    (λ c κs. search needs)
-    (λ c. search needs)
-    returns
-    (λ c. search needs)
-    returns-2)
+write-spec = tie.close (tie.spec (λ c κs. search needs) (λ c. search needs) returns)

@@ -1,0 +1,3 @@
+-- The card in a block of words
+pub mod Layout
+pub mod Cards

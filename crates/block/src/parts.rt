@@ -1,0 +1,199 @@
+// The parts of a block at a place, taken out and put back by value: a part starts at word `at`.
+use codes::bit;
+use codes::byte;
+use codes::flag_from;
+use codes::flag_word;
+use codes::half;
+use codes::holder_from;
+use codes::holder_word;
+use codes::odd;
+use codes::place_from;
+use codes::place_word;
+use construction::Announcement;
+use construction::Gate;
+use construction::Operation;
+use construction::Record;
+use construction::Simulation;
+use construction::Task;
+use construction::Words;
+use construction::Yield;
+ghost use mathlib.Core.Path.{_≡_};
+ghost use Prim.Native.Nat.{_+_, _<_, _≤_};
+ghost use lib.ListN.{length};
+ghost use Rattle.codes.specs.Parts.{part, stores};
+ghost use Rattle.codes.specs.Codes.{gateOf, gateWords, taskOf, taskWords, announcementOf, announcementWords, recordOf, recordWords, operationOf, operationWords, simulationOf, simulationWords};
+
+pub(crate) fn gate_at(b: &[u64], at: usize) -> Gate
+    requires { ⌜ (at < 1000000) × (at + 2 ≤ length (now b)) ⌝ }
+    ensures { λ r. ⌜ r ≡ gateOf (part (now (b .entry)) at 2) ⌝ }
+{
+    Gate {
+        holder: holder_from(b[at]),
+        seq: b[at + 1],
+    }
+}
+
+pub(crate) fn put_gate(b: &mut [u64], at: usize, gate: Gate)
+    requires { ⌜ (at < 1000000) × (at + 2 ≤ length (now b)) ⌝ }
+    ensures { λ r. ⌜ now (b .exit) ≡ stores (now (b .entry)) at (gateWords gate) ⌝ }
+{
+    let holder = gate.holder;
+    b[at] = holder_word(holder);
+    b[at + 1] = gate.seq;
+}
+
+pub(crate) fn task_at(b: &[u64], at: usize) -> Task
+    requires { ⌜ (at < 1000000) × (at + 2 ≤ length (now b)) ⌝ }
+    ensures { λ r. ⌜ r ≡ taskOf (part (now (b .entry)) at 2) ⌝ }
+{
+    Task {
+        place: place_from(b[at]),
+        target: byte(b[at + 1]),
+    }
+}
+
+pub(crate) fn put_task(b: &mut [u64], at: usize, task: Task)
+    requires { ⌜ (at < 1000000) × (at + 2 ≤ length (now b)) ⌝ }
+    ensures { λ r. ⌜ now (b .exit) ≡ stores (now (b .entry)) at (taskWords task) ⌝ }
+{
+    let place = task.place;
+    b[at] = place_word(place);
+    b[at + 1] = task.target as u64;
+}
+
+pub(crate) fn announcement_at(b: &[u64], at: usize) -> Announcement
+    requires { ⌜ (at < 1000000) × (at + 9 ≤ length (now b)) ⌝ }
+    ensures { λ r. ⌜ r ≡ announcementOf (part (now (b .entry)) at 9) ⌝ }
+{
+    Announcement {
+        program: byte(b[at]),
+        flag: flag_from(b[at + 1]),
+        seq: b[at + 2],
+        number: b[at + 3],
+        words: Words {
+            w0: half(b[at + 4]),
+            w1: half(b[at + 5]),
+            w2: half(b[at + 6]),
+            w3: half(b[at + 7]),
+        },
+        fault: odd(b[at + 8]),
+    }
+}
+
+pub(crate) fn put_announcement(b: &mut [u64], at: usize, announcement: Announcement)
+    requires { ⌜ (at < 1000000) × (at + 9 ≤ length (now b)) ⌝ }
+    ensures { λ r. ⌜ now (b .exit) ≡ stores (now (b .entry)) at (announcementWords announcement) ⌝ }
+{
+    let flag = announcement.flag;
+    let words = announcement.words;
+    b[at] = announcement.program as u64;
+    b[at + 1] = flag_word(flag);
+    b[at + 2] = announcement.seq;
+    b[at + 3] = announcement.number;
+    b[at + 4] = words.w0 as u64;
+    b[at + 5] = words.w1 as u64;
+    b[at + 6] = words.w2 as u64;
+    b[at + 7] = words.w3 as u64;
+    b[at + 8] = bit(announcement.fault);
+}
+
+// What a simulation yields, of the ten words of a simulation.
+pub(crate) fn yields_at(b: &[u64], at: usize) -> Yield
+    requires { ⌜ (at < 1000000) × (at + 10 ≤ length (now b)) ⌝ }
+    ensures { λ r. ⌜ r ≡ simulationOf (part (now (b .entry)) at 10) .yields ⌝ }
+{
+    Yield {
+        outputs: Words {
+            w0: half(b[at + 5]),
+            w1: half(b[at + 6]),
+            w2: half(b[at + 7]),
+            w3: half(b[at + 8]),
+        },
+        fault: odd(b[at + 9]),
+    }
+}
+
+pub(crate) fn record_at(b: &[u64], at: usize) -> Record
+    requires { ⌜ (at < 1000000) × (at + 4 ≤ length (now b)) ⌝ }
+    ensures { λ r. ⌜ r ≡ recordOf (part (now (b .entry)) at 4) ⌝ }
+{
+    Record {
+        val0: half(b[at]),
+        val1: half(b[at + 1]),
+        toggle: odd(b[at + 2]),
+        seq: b[at + 3],
+    }
+}
+
+pub(crate) fn put_record(b: &mut [u64], at: usize, r: Record)
+    requires { ⌜ (at < 1000000) × (at + 4 ≤ length (now b)) ⌝ }
+    ensures { λ x. ⌜ now (b .exit) ≡ stores (now (b .entry)) at (recordWords r) ⌝ }
+{
+    b[at] = r.val0 as u64;
+    b[at + 1] = r.val1 as u64;
+    b[at + 2] = bit(r.toggle);
+    b[at + 3] = r.seq;
+}
+
+pub(crate) fn operation_at(b: &[u64], at: usize) -> Operation
+    requires { ⌜ (at < 1000000) × (at + 5 ≤ length (now b)) ⌝ }
+    ensures { λ r. ⌜ r ≡ operationOf (part (now (b .entry)) at 5) ⌝ }
+{
+    Operation {
+        program: byte(b[at]),
+        inputs: Words {
+            w0: half(b[at + 1]),
+            w1: half(b[at + 2]),
+            w2: half(b[at + 3]),
+            w3: half(b[at + 4]),
+        },
+    }
+}
+
+pub(crate) fn simulation_at(b: &[u64], at: usize) -> Simulation
+    requires { ⌜ (at < 1000000) × (at + 10 ≤ length (now b)) ⌝ }
+    ensures { λ r. ⌜ r ≡ simulationOf (part (now (b .entry)) at 10) ⌝ }
+{
+    let yields = yields_at(b, at);
+    Simulation {
+        counter: byte(b[at]),
+        registers: Words {
+            w0: half(b[at + 1]),
+            w1: half(b[at + 2]),
+            w2: half(b[at + 3]),
+            w3: half(b[at + 4]),
+        },
+        yields,
+    }
+}
+
+pub(crate) fn put_simulation(b: &mut [u64], at: usize, s: Simulation)
+    requires { ⌜ (at < 1000000) × (at + 10 ≤ length (now b)) ⌝ }
+    ensures { λ x. ⌜ now (b .exit) ≡ stores (now (b .entry)) at (simulationWords s) ⌝ }
+{
+    let r = s.registers;
+    let y = s.yields;
+    let o = y.outputs;
+    b[at] = s.counter as u64;
+    b[at + 1] = r.w0 as u64;
+    b[at + 2] = r.w1 as u64;
+    b[at + 3] = r.w2 as u64;
+    b[at + 4] = r.w3 as u64;
+    b[at + 5] = o.w0 as u64;
+    b[at + 6] = o.w1 as u64;
+    b[at + 7] = o.w2 as u64;
+    b[at + 8] = o.w3 as u64;
+    b[at + 9] = bit(y.fault);
+}
+
+pub(crate) fn put_operation(b: &mut [u64], at: usize, operation: Operation)
+    requires { ⌜ (at < 1000000) × (at + 5 ≤ length (now b)) ⌝ }
+    ensures { λ r. ⌜ now (b .exit) ≡ stores (now (b .entry)) at (operationWords operation) ⌝ }
+{
+    let inputs = operation.inputs;
+    b[at] = operation.program as u64;
+    b[at + 1] = inputs.w0 as u64;
+    b[at + 2] = inputs.w1 as u64;
+    b[at + 3] = inputs.w2 as u64;
+    b[at + 4] = inputs.w3 as u64;
+}

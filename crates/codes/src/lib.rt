@@ -1,0 +1,199 @@
+// Small values as words (document 02, order 10): a code for each place, flag, holder and instruction, and the value of every word. Every word is some
+// value, so that every block of words is some card. It rests on the crate construction (types).
+use construction::Encoded;
+use construction::Flag;
+use construction::Holder;
+use construction::Instruction;
+use construction::Place;
+ghost use mathlib.Core.Path.{_≡_};
+ghost use Rattle.codes.specs.Codes.{byte, half, odd, bit, holderFrom, holderWord, flagFrom, flagWord, placeFrom, placeWord, instructionFrom, packed, instructionWord};
+
+pub fn byte(w: u64) -> u8
+    ensures { λ r. ⌜ r ≡ byte w ⌝ }
+{
+    (w % 256) as u8
+}
+
+pub fn half(w: u64) -> u32
+    ensures { λ r. ⌜ r ≡ half w ⌝ }
+{
+    (w % 4294967296) as u32
+}
+
+pub fn odd(w: u64) -> bool
+    ensures { λ r. ⌜ r ≡ odd w ⌝ }
+{
+    w % 2 == 1
+}
+
+pub fn bit(test: bool) -> u64
+    ensures { λ r. ⌜ r ≡ bit test ⌝ }
+{
+    if test { 1 } else { 0 }
+}
+
+pub fn holder_from(w: u64) -> Holder
+    ensures { λ r. ⌜ r ≡ holderFrom w ⌝ }
+{
+    if w == 0 {
+        return Holder::Nobody;
+    }
+    Holder::Process(byte(w - 1))
+}
+
+pub fn holder_word(holder: Holder) -> u64
+    ensures { λ r. ⌜ r ≡ holderWord holder ⌝ }
+{
+    match holder {
+        Holder::Nobody => 0,
+        Holder::Process(m) => m as u64 + 1,
+    }
+}
+
+pub fn flag_from(w: u64) -> Flag
+    ensures { λ r. ⌜ r ≡ flagFrom w ⌝ }
+{
+    match w {
+        0 => Flag::Done,
+        1 => Flag::Active,
+        _ => Flag::Exit,
+    }
+}
+
+pub fn flag_word(flag: Flag) -> u64
+    ensures { λ r. ⌜ r ≡ flagWord flag ⌝ }
+{
+    match flag {
+        Flag::Done => 0,
+        Flag::Active => 1,
+        Flag::Exit => 2,
+    }
+}
+
+pub fn place_from(w: u64) -> Place
+    ensures { λ r. ⌜ r ≡ placeFrom w ⌝ }
+{
+    match w {
+        1 => Place::P1,
+        2 => Place::P3,
+        3 => Place::P5,
+        4 => Place::P7,
+        5 => Place::P10,
+        6 => Place::C2,
+        7 => Place::C4,
+        8 => Place::P13,
+        9 => Place::P14,
+        10 => Place::P16,
+        11 => Place::H21,
+        12 => Place::H36,
+        13 => Place::P19,
+        14 => Place::P20,
+        15 => Place::P21,
+        16 => Place::P22,
+        17 => Place::F1,
+        18 => Place::F3,
+        _ => Place::Idle,
+    }
+}
+
+pub fn place_word(place: Place) -> u64
+    ensures { λ r. ⌜ r ≡ placeWord place ⌝ }
+{
+    match place {
+        Place::Idle => 0,
+        Place::P1 => 1,
+        Place::P3 => 2,
+        Place::P5 => 3,
+        Place::P7 => 4,
+        Place::P10 => 5,
+        Place::C2 => 6,
+        Place::C4 => 7,
+        Place::P13 => 8,
+        Place::P14 => 9,
+        Place::P16 => 10,
+        Place::H21 => 11,
+        Place::H36 => 12,
+        Place::P19 => 13,
+        Place::P20 => 14,
+        Place::P21 => 15,
+        Place::P22 => 16,
+        Place::F1 => 17,
+        Place::F3 => 18,
+    }
+}
+
+pub fn instruction_from(w: u64) -> Instruction
+    ensures { λ r. ⌜ r ≡ instructionFrom w ⌝ }
+{
+    let a = byte(w / 256);
+    let x = half(w / 4294967296);
+    let b = byte(w / 4294967296);
+    let c = byte(w / 65536);
+    let code = byte(w);
+    match code {
+        1 => Instruction::Input {
+            register: a,
+            input: b,
+        },
+        2 => Instruction::Constant {
+            register: a,
+            constant: x,
+        },
+        3 => Instruction::Load {
+            register: a,
+            variable: b,
+        },
+        4 => Instruction::Store {
+            variable: a,
+            register: b,
+        },
+        5 => Instruction::LoadAt {
+            register: a,
+            address: b,
+        },
+        6 => Instruction::StoreAt {
+            address: a,
+            register: b,
+        },
+        7 => Instruction::Add {
+            register: a,
+            operand: b,
+        },
+        8 => Instruction::Subtract {
+            register: a,
+            operand: b,
+        },
+        9 => Instruction::SkipEqual {
+            left: a,
+            right: b,
+            skip: c,
+        },
+        10 => Instruction::SkipLess {
+            left: a,
+            right: b,
+            skip: c,
+        },
+        11 => Instruction::Output {
+            output: a,
+            register: b,
+        },
+        13 => Instruction::Allocate { register: a },
+        14 => Instruction::Free { register: a },
+        _ => Instruction::Stop,
+    }
+}
+
+// The four numbers of an instruction's line in one word, each as far as its bytes go.
+fn packed(line: Encoded) -> u64
+    ensures { λ r. ⌜ r ≡ packed line ⌝ }
+{
+    line.code % 256 + line.a % 256 * 256 + line.c % 256 * 65536 + line.b % 4294967296 * 4294967296
+}
+
+// The word of an instruction.
+pub fn instruction_word(x: Instruction) -> u64
+    ensures { λ r. ⌜ r ≡ instructionWord x ⌝ }
+{
+    let line = writer::encode(x);
+    packed(line)
+}

@@ -1,0 +1,2 @@
+-- The requests on a block of words
+pub mod Requests

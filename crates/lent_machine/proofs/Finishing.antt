@@ -1,0 +1,18 @@
+-- Lines P19 and P20 on a block, over the values that are taken out of it
+use Prim.Native.Nat.{ℕ}
+use mathlib.Core.Path.{_≡_, ap, _∙_}
+use mathlib.Core.List.{List}
+use Rattle.construction.specs.Machine.{holderOf, finish}
+use Rattle.codes.specs.Types.{Flag, Place, Gate, Announcement, Simulation, Task, AnnouncementAccessed}
+use Rattle.block.specs.Layout.{announcementIn, taskIn, lastGateIn, lastIn, simulationIn}
+use Rattle.lent_machine.specs.Accesses.{announcementSwapped, finishStep}
+
+pub finish-in :
+    (flag : Flag) (next : Place) (b : List ℕ) (i : ℕ) {g : Gate} {m : ℕ} {s : Simulation} {cell last : Announcement} {task : Task} {x : AnnouncementAccessed} {e : List ℕ} →
+    g ≡ lastGateIn b i → m ≡ holderOf (g .holder) → s ≡ simulationIn b i → cell ≡ announcementIn b m → last ≡ lastIn b i → task ≡ taskIn b i →
+    x ≡ finish flag next cell g last (s .yields) task → e ≡ announcementSwapped b i m x → e ≡ finishStep flag next b i
+finish-in flag next b i {g} {m} pg pm ps pc pa pt px pe =
+    let holder : m ≡ holderOf (lastGateIn b i .holder) = pm ∙ ap (λ (z : Gate). holderOf (z .holder)) pg in
+    let found = pc ∙ ap (λ (z : ℕ). announcementIn b z) holder in
+    pe ∙ (ap (λ (z : AnnouncementAccessed). announcementSwapped b i m z) px
+    ∙ λ j. announcementSwapped b i (holder j) (finish flag next (found j) (pg j) (pa j) (ps j .yields) (pt j)))

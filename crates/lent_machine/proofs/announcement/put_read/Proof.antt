@@ -1,0 +1,26 @@
+use borrow.Author.Needs.{needs}
+use Rattle.lent_machine.proofs.announcement.put_read.Statement.{statement}
+use Rattle.lent_machine.proofs.announcement.put_read.Tie as tie
+use Rattle.lent_machine.proofs.announcement.put_read.Reads as reads
+use Rattle.lent_machine.proofs.announcement.put_read.Lts as lts
+use Rattle.block.proofs.own.put_last.Reads as put-last-reads
+use Rattle.block.proofs.own.put_task.Reads as put-task-reads
+
+-- src/announcement.rt:35:5
+put-last-requires : tie.Need-put-last-requires
+put-last-requires c κs = search needs
+
+-- src/announcement.rt:36:5
+put-task-requires : tie.Need-put-task-requires
+put-task-requires c κs = search needs
+
+-- src/announcement.rt:30:1
+same-length : tie.Need-same-length
+same-length c = search needs
+
+-- src/announcement.rt:30:1
+returns : tie.Need-returns
+returns c = rw (← (c .before .before .before .before .before .before .put-last .ensures)) ((c .before .before .put-task .ensures))
+
+pub put-read-spec : {M : Type 1} → statement M
+put-read-spec = tie.close (tie.spec put-last-requires put-task-requires same-length returns)

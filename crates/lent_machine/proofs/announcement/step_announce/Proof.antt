@@ -1,0 +1,56 @@
+use borrow.Author.Needs.{needs}
+use Rattle.lent_machine.proofs.announcement.step_announce.Statement.{statement}
+use Rattle.lent_machine.proofs.announcement.step_announce.Tie as tie
+use Rattle.lent_machine.proofs.announcement.step_announce.Reads as reads
+use Rattle.lent_machine.proofs.announcement.step_announce.Lts as lts
+use Rattle.block.proofs.cells.put_announcement.Reads as put-announcement-reads
+use Rattle.block.proofs.own.last_gate.Reads as last-gate-reads
+use Rattle.block.proofs.own.operation.Reads as operation-reads
+use Rattle.block.proofs.own.task.Reads as task-reads
+use Rattle.lent_machine.proofs.announcement.put_read.Reads as put-read-reads
+use Rattle.machine.proofs.announcement.announce.Reads as announce-reads
+
+-- src/announcement.rt:65:22
+operation-requires : tie.Need-operation-requires
+operation-requires c κs = search needs
+
+-- src/announcement.rt:65:39
+last-gate-requires : tie.Need-last-gate-requires
+last-gate-requires c κs = search needs
+
+-- src/announcement.rt:65:56
+task-requires : tie.Need-task-requires
+task-requires c κs = search needs
+
+-- src/announcement.rt:65:9
+announce-requires : tie.Need-announce-requires
+announce-requires c κs = search needs
+
+-- src/announcement.rt:67:5
+put-announcement-requires : tie.Need-put-announcement-requires
+put-announcement-requires c κs = search needs
+
+-- src/announcement.rt:68:5
+put-read-requires : tie.Need-put-read-requires
+put-read-requires c κs = search needs
+
+-- src/announcement.rt:62:1
+same-length : tie.Need-same-length
+same-length c = search needs
+
+-- src/announcement.rt:62:1
+returns : tie.Need-returns
+returns c = rw ((c .before .before .before .before .before .before .put-announcement .ensures), (c .before .before .before .before .before .before .before .before .before .announce .ensures), (c .before .before .before .before .before .before .before .before .before .before .task .ensures), (c .before .before .before .before .before .before .before .before .before .before .before .before .last-gate .ensures), (c .before .before .before .before .before .before .before .before .before .before .before .before .before .before .operation .ensures)) at ((c .before .before .put-read .ensures))
+
+pub step-announce-spec : {M : Type 1} → statement M
+step-announce-spec =
+    tie.close
+    (tie.spec
+    operation-requires
+    last-gate-requires
+    task-requires
+    announce-requires
+    put-announcement-requires
+    put-read-requires
+    same-length
+    returns)

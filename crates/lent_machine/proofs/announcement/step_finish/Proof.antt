@@ -1,0 +1,69 @@
+use Rattle.lent_machine.proofs.Finishing.{finish-in}
+use borrow.Author.Needs.{needs}
+use Rattle.lent_machine.proofs.announcement.step_finish.Statement.{statement}
+use Rattle.lent_machine.proofs.announcement.step_finish.Tie as tie
+use Rattle.lent_machine.proofs.announcement.step_finish.Reads as reads
+use Rattle.lent_machine.proofs.announcement.step_finish.Lts as lts
+use Rattle.block.proofs.cells.announcement.Reads as announcement-reads
+use Rattle.block.proofs.own.last.Reads as last-reads
+use Rattle.block.proofs.own.last_gate.Reads as last-gate-reads
+use Rattle.block.proofs.own.simulation.Reads as simulation-reads
+use Rattle.block.proofs.own.task.Reads as task-reads
+use Rattle.lent_machine.proofs.announcement.put_swapped.Reads as put-swapped-reads
+use Rattle.machine.proofs.announcement.finish.Reads as finish-reads
+use Rattle.machine.proofs.places.holder_of.Reads as holder-of-reads
+
+-- src/announcement.rt:99:9
+last-gate-requires : tie.Need-last-gate-requires
+last-gate-requires c κs = search needs
+
+-- src/announcement.rt:101:9
+holder-of-requires : tie.Need-holder-of-requires
+holder-of-requires c κs = search needs
+
+-- src/announcement.rt:102:9
+simulation-requires : tie.Need-simulation-requires
+simulation-requires c κs = search needs
+
+-- src/announcement.rt:107:9
+announcement-requires : tie.Need-announcement-requires
+announcement-requires c κs = search needs
+
+-- src/announcement.rt:109:9
+last-requires : tie.Need-last-requires
+last-requires c κs = search needs
+
+-- src/announcement.rt:111:9
+task-requires : tie.Need-task-requires
+task-requires c κs = search needs
+
+-- src/announcement.rt:104:9
+finish-requires : tie.Need-finish-requires
+finish-requires c κs = search needs
+
+-- src/announcement.rt:113:5
+put-swapped-requires : tie.Need-put-swapped-requires
+put-swapped-requires c κs = search needs
+
+-- src/announcement.rt:96:1
+same-length : tie.Need-same-length
+same-length c = search needs
+
+-- src/announcement.rt:96:1
+returns : tie.Need-returns
+returns c = finish-in _ _ _ _ ((c .before .before .before .before .before .before .before .before .before .before .before .before .before .before .before .last-gate .ensures)) ((c .before .before .before .before .before .before .before .before .before .before .before .before .before .before .holder-of .ensures)) ((c .before .before .before .before .before .before .before .before .before .before .before .before .simulation .ensures)) ((c .before .before .before .before .before .before .before .before .before .announcement .ensures)) ((c .before .before .before .before .before .before .before .last .ensures)) ((c .before .before .before .before .before .task .ensures)) ((c .before .before .before .before .finish .ensures)) ((c .before .before .put-swapped .ensures))
+
+pub step-finish-spec : {M : Type 1} → statement M
+step-finish-spec =
+    tie.close
+    (tie.spec
+    last-gate-requires
+    holder-of-requires
+    simulation-requires
+    announcement-requires
+    last-requires
+    task-requires
+    finish-requires
+    put-swapped-requires
+    same-length
+    returns)

@@ -1,0 +1,26 @@
+use borrow.Author.Needs.{needs}
+use Rattle.lent_machine.proofs.gate.put_read.Statement.{statement}
+use Rattle.lent_machine.proofs.gate.put_read.Tie as tie
+use Rattle.lent_machine.proofs.gate.put_read.Reads as reads
+use Rattle.lent_machine.proofs.gate.put_read.Lts as lts
+use Rattle.block.proofs.own.put_last_gate.Reads as put-last-gate-reads
+use Rattle.block.proofs.own.put_task.Reads as put-task-reads
+
+-- src/gate.rt:28:5
+put-last-gate-requires : tie.Need-put-last-gate-requires
+put-last-gate-requires c κs = search needs
+
+-- src/gate.rt:29:5
+put-task-requires : tie.Need-put-task-requires
+put-task-requires c κs = search needs
+
+-- src/gate.rt:23:1
+same-length : tie.Need-same-length
+same-length c = search needs
+
+-- src/gate.rt:23:1
+returns : tie.Need-returns
+returns c = rw (← (c .before .before .before .before .before .before .put-last-gate .ensures)) ((c .before .before .put-task .ensures))
+
+pub put-read-spec : {M : Type 1} → statement M
+put-read-spec = tie.close (tie.spec put-last-gate-requires put-task-requires same-length returns)

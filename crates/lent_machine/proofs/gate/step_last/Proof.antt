@@ -1,0 +1,38 @@
+use borrow.Author.Needs.{needs}
+use Rattle.lent_machine.proofs.gate.step_last.Statement.{statement}
+use Rattle.lent_machine.proofs.gate.step_last.Tie as tie
+use Rattle.lent_machine.proofs.gate.step_last.Reads as reads
+use Rattle.lent_machine.proofs.gate.step_last.Lts as lts
+use Rattle.block.proofs.cells.gate.Reads as gate-reads
+use Rattle.block.proofs.own.task.Reads as task-reads
+use Rattle.lent_machine.proofs.gate.put_read.Reads as put-read-reads
+use Rattle.machine.proofs.gate.read_last.Reads as read-last-reads
+
+-- src/gate.rt:66:23
+gate-requires : tie.Need-gate-requires
+gate-requires c κs = search needs
+
+-- src/gate.rt:66:32
+task-requires : tie.Need-task-requires
+task-requires c κs = search needs
+
+-- src/gate.rt:66:9
+read-last-requires : tie.Need-read-last-requires
+read-last-requires c κs = search needs
+
+-- src/gate.rt:67:5
+put-read-requires : tie.Need-put-read-requires
+put-read-requires c κs = search needs
+
+-- src/gate.rt:63:1
+same-length : tie.Need-same-length
+same-length c = search needs
+
+-- src/gate.rt:63:1
+returns : tie.Need-returns
+returns c = rw ((c .before .before .before .before .read-last .ensures), (c .before .before .before .before .before .task .ensures), (c .before .before .before .before .before .before .before .gate .ensures)) at ((c .before .before .put-read .ensures))
+
+pub step-last-spec : {M : Type 1} → statement M
+step-last-spec =
+    tie.close
+    (tie.spec gate-requires task-requires read-last-requires put-read-requires same-length returns)

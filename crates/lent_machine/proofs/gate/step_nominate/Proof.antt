@@ -1,0 +1,50 @@
+use borrow.Author.Needs.{needs}
+use Rattle.lent_machine.proofs.gate.step_nominate.Statement.{statement}
+use Rattle.lent_machine.proofs.gate.step_nominate.Tie as tie
+use Rattle.lent_machine.proofs.gate.step_nominate.Reads as reads
+use Rattle.lent_machine.proofs.gate.step_nominate.Lts as lts
+use Rattle.block.proofs.cells.gate.Reads as gate-reads
+use Rattle.block.proofs.own.last_gate.Reads as last-gate-reads
+use Rattle.block.proofs.own.task.Reads as task-reads
+use Rattle.lent_machine.proofs.gate.put_swapped.Reads as put-swapped-reads
+use Rattle.machine.proofs.gate.nominate.Reads as nominate-reads
+
+-- src/gate.rt:74:22
+gate-requires : tie.Need-gate-requires
+gate-requires c κs = search needs
+
+-- src/gate.rt:74:31
+last-gate-requires : tie.Need-last-gate-requires
+last-gate-requires c κs = search needs
+
+-- src/gate.rt:74:48
+task-requires : tie.Need-task-requires
+task-requires c κs = search needs
+
+-- src/gate.rt:74:9
+nominate-requires : tie.Need-nominate-requires
+nominate-requires c κs = search needs
+
+-- src/gate.rt:75:5
+put-swapped-requires : tie.Need-put-swapped-requires
+put-swapped-requires c κs = search needs
+
+-- src/gate.rt:71:1
+same-length : tie.Need-same-length
+same-length c = search needs
+
+-- src/gate.rt:71:1
+returns : tie.Need-returns
+returns c = rw ((c .before .before .before .before .nominate .ensures), (c .before .before .before .before .before .task .ensures), (c .before .before .before .before .before .before .before .last-gate .ensures), (c .before .before .before .before .before .before .before .before .before .gate .ensures)) at ((c .before .before .put-swapped .ensures))
+
+pub step-nominate-spec : {M : Type 1} → statement M
+step-nominate-spec =
+    tie.close
+    (tie.spec
+    gate-requires
+    last-gate-requires
+    task-requires
+    nominate-requires
+    put-swapped-requires
+    same-length
+    returns)

@@ -1,0 +1,44 @@
+use borrow.Author.Needs.{needs}
+use Rattle.lent_machine.proofs.gate.step_read.Statement.{statement}
+use Rattle.lent_machine.proofs.gate.step_read.Tie as tie
+use Rattle.lent_machine.proofs.gate.step_read.Reads as reads
+use Rattle.lent_machine.proofs.gate.step_read.Lts as lts
+use Rattle.block.proofs.cells.gate.Reads as gate-reads
+use Rattle.block.proofs.own.task.Reads as task-reads
+use Rattle.lent_machine.proofs.gate.put_read.Reads as put-read-reads
+use Rattle.machine.proofs.gate.read_holder.Reads as read-holder-reads
+
+-- src/gate.rt:58:25
+gate-requires : tie.Need-gate-requires
+gate-requires c κs = search needs
+
+-- src/gate.rt:58:34
+task-requires : tie.Need-task-requires
+task-requires c κs = search needs
+
+-- src/gate.rt:58:9
+read-holder-requires : tie.Need-read-holder-requires
+read-holder-requires c κs = search needs
+
+-- src/gate.rt:59:5
+put-read-requires : tie.Need-put-read-requires
+put-read-requires c κs = search needs
+
+-- src/gate.rt:55:1
+same-length : tie.Need-same-length
+same-length c = search needs
+
+-- src/gate.rt:55:1
+returns : tie.Need-returns
+returns c = rw ((c .before .before .before .before .read-holder .ensures), (c .before .before .before .before .before .task .ensures), (c .before .before .before .before .before .before .before .gate .ensures)) at ((c .before .before .put-read .ensures))
+
+pub step-read-spec : {M : Type 1} → statement M
+step-read-spec =
+    tie.close
+    (tie.spec
+    gate-requires
+    task-requires
+    read-holder-requires
+    put-read-requires
+    same-length
+    returns)

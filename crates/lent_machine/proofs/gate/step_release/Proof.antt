@@ -1,0 +1,50 @@
+use borrow.Author.Needs.{needs}
+use Rattle.lent_machine.proofs.gate.step_release.Statement.{statement}
+use Rattle.lent_machine.proofs.gate.step_release.Tie as tie
+use Rattle.lent_machine.proofs.gate.step_release.Reads as reads
+use Rattle.lent_machine.proofs.gate.step_release.Lts as lts
+use Rattle.block.proofs.cells.gate.Reads as gate-reads
+use Rattle.block.proofs.own.last_gate.Reads as last-gate-reads
+use Rattle.block.proofs.own.task.Reads as task-reads
+use Rattle.lent_machine.proofs.gate.put_swapped.Reads as put-swapped-reads
+use Rattle.machine.proofs.gate.release.Reads as release-reads
+
+-- src/gate.rt:82:21
+gate-requires : tie.Need-gate-requires
+gate-requires c κs = search needs
+
+-- src/gate.rt:82:30
+last-gate-requires : tie.Need-last-gate-requires
+last-gate-requires c κs = search needs
+
+-- src/gate.rt:82:47
+task-requires : tie.Need-task-requires
+task-requires c κs = search needs
+
+-- src/gate.rt:82:9
+release-requires : tie.Need-release-requires
+release-requires c κs = search needs
+
+-- src/gate.rt:83:5
+put-swapped-requires : tie.Need-put-swapped-requires
+put-swapped-requires c κs = search needs
+
+-- src/gate.rt:79:1
+same-length : tie.Need-same-length
+same-length c = search needs
+
+-- src/gate.rt:79:1
+returns : tie.Need-returns
+returns c = rw ((c .before .before .before .before .release .ensures), (c .before .before .before .before .before .task .ensures), (c .before .before .before .before .before .before .before .last-gate .ensures), (c .before .before .before .before .before .before .before .before .before .gate .ensures)) at ((c .before .before .put-swapped .ensures))
+
+pub step-release-spec : {M : Type 1} → statement M
+step-release-spec =
+    tie.close
+    (tie.spec
+    gate-requires
+    last-gate-requires
+    task-requires
+    release-requires
+    put-swapped-requires
+    same-length
+    returns)

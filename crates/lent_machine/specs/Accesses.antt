@@ -1,0 +1,69 @@
+-- The accesses of the gate and of announcements (construction's specs/Machine) on a block: what the access needs is taken out of the block, and what it
+-- changes is put back. A read leaves its cell as it is; a swap stores its cell only where it won.
+use Prim.Native.Nat.{ℕ, _+_, _%_}
+use mathlib.Core.List.{List}
+use Rattle.construction.specs.declared.Swap.{Swap}
+use Rattle.construction.specs.Machine.{firstChoice, holderOf, readHolder, readLast, nominate, release, announce, withdraw, readFlag, finish}
+use Rattle.codes.specs.Types.{Flag, Place, GateAccess, GateAccessed, AnnouncementAccess, AnnouncementAccessed, C4, P13}
+use Rattle.block.specs.Layout.{processCountIn, stepsIn, putSteps, gateIn, putGate, announcementIn, putAnnouncement, taskIn, putTask, operationIn, countIn, putCount, lastGateIn, putLastGate, lastIn, putLast, simulationIn}
+
+-- one of two blocks, by whether a swap won
+abbrev pub ifWon : Swap → List ℕ → List ℕ → List ℕ
+ifWon Swap.None won b = b
+ifWon Swap.Lost won b = b
+ifWon Swap.Won won b = won
+
+-- the gate read, and swapped, by process i
+abbrev pub gateRead : List ℕ → ℕ → GateAccessed → List ℕ
+gateRead b i x = putTask (putLastGate b i (x .read)) i (x .task)
+
+abbrev pub gateSwapped : List ℕ → ℕ → GateAccessed → List ℕ
+gateSwapped b i x = putTask (ifWon (x .swap) (putGate b (x .cell)) b) i (x .task)
+
+unfoldable pub gateStep : GateAccess → List ℕ → ℕ → List ℕ
+gateStep (GateAccess.Read held free) b i = gateRead b i (readHolder (gateIn b) (taskIn b i) held free)
+gateStep GateAccess.ReadLast b i = gateRead b i (readLast (gateIn b) (taskIn b i) i)
+gateStep GateAccess.Nominate b i = gateSwapped b i (nominate (gateIn b) (lastGateIn b i) (taskIn b i))
+gateStep (GateAccess.Release next) b i = gateSwapped b i (release (gateIn b) (lastGateIn b i) (taskIn b i) next)
+
+-- the announcement of process m read, and swapped, by process i
+abbrev pub announcementRead : List ℕ → ℕ → AnnouncementAccessed → List ℕ
+announcementRead b i x = putTask (putLast b i (x .read)) i (x .task)
+
+abbrev pub announcementSwapped : List ℕ → ℕ → ℕ → AnnouncementAccessed → List ℕ
+announcementSwapped b i m x = putTask (ifWon (x .swap) (putAnnouncement b m (x .cell)) b) i (x .task)
+
+-- lines P2 and P3
+abbrev pub announceStep : List ℕ → ℕ → List ℕ
+announceStep b i =
+    let x = announce (operationIn b i) (lastGateIn b i) (taskIn b i) in
+    putTask (putLast (putAnnouncement b i (x .cell)) i (x .read)) i (x .task)
+
+-- line P6
+abbrev pub withdrawStep : List ℕ → ℕ → List ℕ
+withdrawStep b i = announcementSwapped b i i (withdraw (announcementIn b i) (operationIn b i) (lastIn b i) (taskIn b i))
+
+-- lines P19 and P20, of the gate's holder
+abbrev pub finishStep : Flag → Place → List ℕ → ℕ → List ℕ
+finishStep flag next b i =
+    let m = holderOf (lastGateIn b i .holder) in
+    announcementSwapped b i m (finish flag next (announcementIn b m) (lastGateIn b i) (lastIn b i) (simulationIn b i .yields) (taskIn b i))
+
+-- lines P7, C2, C4 and P22
+abbrev pub flagStep : List ℕ → ℕ → ℕ → Place → Place → Place → List ℕ
+flagStep b i m done active exit = announcementRead b i (readFlag (announcementIn b m) m done active exit)
+
+unfoldable pub announcementStep : AnnouncementAccess → List ℕ → ℕ → List ℕ
+announcementStep AnnouncementAccess.Announce b i = announceStep b i
+announcementStep AnnouncementAccess.Withdraw b i = withdrawStep b i
+announcementStep (AnnouncementAccess.ReadOwn done active exit) b i = flagStep b i i done active exit
+-- of the process whose turn it is (line C1)
+announcementStep AnnouncementAccess.ReadFirst b i = flagStep b i (firstChoice (lastGateIn b i .seq) (processCountIn b)) C4 P13 C4
+announcementStep (AnnouncementAccess.Finish flag next) b i = finishStep flag next b i
+
+-- an accepted step is counted: of the card, and of its process's operation
+abbrev pub next : ℕ → ℕ
+next k = (k + 1) % 18446744073709551616
+
+abbrev pub counted : List ℕ → ℕ → List ℕ
+counted b i = putCount (putSteps b (next (stepsIn b))) i (next (countIn b i))

@@ -1,0 +1,2 @@
+-- The accesses of a step on lent words
+pub mod Accesses

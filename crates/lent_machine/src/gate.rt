@@ -1,0 +1,95 @@
+// The accesses of the gate, by process i.
+use block::cells::gate;
+use block::cells::put_gate;
+use block::own::last_gate;
+use block::own::put_last_gate;
+use block::own::put_task;
+use block::own::task;
+use construction::Gate;
+use construction::GateAccess;
+use construction::GateAccessed;
+use construction::Place;
+use construction::Swap;
+use machine::gate::nominate;
+use machine::gate::read_holder;
+use machine::gate::read_last;
+use machine::gate::release;
+ghost use mathlib.Core.Path.{_≡_};
+ghost use Rattle.construction.specs.Machine.{readHolder, readLast, nominate, release};
+ghost use Rattle.block.specs.Layout.{gateIn, putGate, taskIn, lastGateIn};
+ghost use Rattle.lent_machine.specs.Accesses.{ifWon, gateRead, gateSwapped, gateStep};
+
+// The gate was read.
+fn put_read(b: &mut [u64], i: u8, x: GateAccessed)
+    ensures { λ r. ⌜ now (b .exit) ≡ gateRead (now (b .entry)) i x ⌝ }
+{
+    let read = x.read;
+    let task = x.task;
+    put_last_gate(b, i, read);
+    put_task(b, i, task);
+}
+
+// The gate is stored where its swap won.
+fn put_won(b: &mut [u64], swap: Swap, cell: Gate)
+    ensures { λ r. ⌜ now (b .exit) ≡ ifWon swap (putGate (now (b .entry)) cell) (now (b .entry)) ⌝ }
+{
+    match swap {
+        Swap::None => {}
+        Swap::Lost => {}
+        Swap::Won => put_gate(b, cell),
+    }
+}
+
+// The gate was swapped.
+fn put_swapped(b: &mut [u64], i: u8, x: GateAccessed)
+    ensures { λ r. ⌜ now (b .exit) ≡ gateSwapped (now (b .entry)) i x ⌝ }
+{
+    let swap = x.swap;
+    let cell = x.cell;
+    let task = x.task;
+    put_won(b, swap, cell);
+    put_task(b, i, task);
+}
+
+// Lines P1, P10 and P14.
+fn step_read(b: &mut [u64], i: u8, held: Place, free: Place)
+    ensures { λ r. ⌜ now (b .exit) ≡ gateRead (now (b .entry)) i (readHolder (gateIn (now (b .entry))) (taskIn (now (b .entry)) i) held free) ⌝ }
+{
+    let x = read_holder(gate(b), task(b, i), held, free);
+    put_read(b, i, x);
+}
+
+// Line F1.
+fn step_last(b: &mut [u64], i: u8)
+    ensures { λ r. ⌜ now (b .exit) ≡ gateRead (now (b .entry)) i (readLast (gateIn (now (b .entry))) (taskIn (now (b .entry)) i) i) ⌝ }
+{
+    let x = read_last(gate(b), task(b, i), i);
+    put_read(b, i, x);
+}
+
+// Line P13.
+fn step_nominate(b: &mut [u64], i: u8)
+    ensures { λ r. ⌜ now (b .exit) ≡ gateSwapped (now (b .entry)) i (nominate (gateIn (now (b .entry))) (lastGateIn (now (b .entry)) i) (taskIn (now (b .entry)) i)) ⌝ }
+{
+    let x = nominate(gate(b), last_gate(b, i), task(b, i));
+    put_swapped(b, i, x);
+}
+
+// Lines P21 and F3.
+fn step_release(b: &mut [u64], i: u8, next: Place)
+    ensures { λ r. ⌜ now (b .exit) ≡ gateSwapped (now (b .entry)) i (release (gateIn (now (b .entry))) (lastGateIn (now (b .entry)) i) (taskIn (now (b .entry)) i) next) ⌝ }
+{
+    let x = release(gate(b), last_gate(b, i), task(b, i), next);
+    put_swapped(b, i, x);
+}
+
+pub fn step_gate(access: GateAccess, b: &mut [u64], i: u8)
+    ensures { λ r. ⌜ now (b .exit) ≡ gateStep access (now (b .entry)) i ⌝ }
+{
+    match access {
+        GateAccess::Read { held, free } => step_read(b, i, held, free),
+        GateAccess::ReadLast => step_last(b, i),
+        GateAccess::Nominate => step_nominate(b, i),
+        GateAccess::Release { next } => step_release(b, i, next),
+    }
+}

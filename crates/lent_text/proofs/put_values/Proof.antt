@@ -1,0 +1,44 @@
+use borrow.Author.Needs.{needs}
+use native.Mathlib.Omega.{arith}
+use mathlib.Core.Path.{_≡_, refl}
+use Prim.Native.Nat.{_-_, _≤_}
+use lib.ListN.{length}
+use Rattle.lent_text.proofs.Loops as loops
+use Rattle.lent_text.specs.Opened.{putValues}
+use Rattle.lent_text.proofs.put_values.Statement.{statement}
+use Rattle.lent_text.proofs.put_values.Tie as tie
+
+abbrev Inv-loop : tie.InvT-loop
+Inv-loop b₀ starts k₀ b k = (b ≡ putValues k b₀ starts) × (length b ≡ length b₀) × (k ≤ 64)
+
+abbrev μ-loop : tie.MeasureT-loop
+μ-loop b₀ starts k₀ b k = 64 - k
+
+loop-holds : tie.Need-loop-holds Inv-loop μ-loop
+loop-holds c = (loops.values-start (c .before .args .b .now) (c .before .args .t2), refl, omega arith)
+
+loop-again : tie.Need-loop-again Inv-loop μ-loop
+loop-again c = (loops.values-turn (c .before .before .before .before .before .before .before .args .b .now) (c .before .before .before .before .before .before .before .args .t2) _ _ _ _ (c .before .before .before .before .before .loop .inv .0) (c .before .before .put-value .ensures) refl, search needs, omega arith)
+
+same-length : tie.Need-same-length Inv-loop μ-loop
+same-length c = (c .before .loop .inv .1)
+
+returns : tie.Need-returns Inv-loop μ-loop
+returns c = loops.values-done (c .before .before .before .args .b .now) (c .before .before .before .args .t2) _ _ (c .before .loop .inv .0) (omega arith)
+
+pub put-values-spec : {M : Type 1} → statement M
+put-values-spec =
+    tie.close
+    (tie.spec
+    Inv-loop
+    μ-loop
+    loop-holds
+    (λ c. search needs)
+    (λ c. search needs)
+    (λ c. search needs)
+    (λ c κs. search needs)
+    (λ c. omega arith)
+    (λ c. omega arith)
+    loop-again
+    same-length
+    returns)

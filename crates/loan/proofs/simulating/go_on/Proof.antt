@@ -1,0 +1,46 @@
+use native.Mathlib.Omega.{arith}
+use borrow.Author.Needs.{needs}
+use Rattle.loan.proofs.Spans as spans
+use Rattle.loan.proofs.Runs as runs
+use Rattle.loan.proofs.simulating.go_on.Statement.{statement}
+use Rattle.loan.proofs.simulating.go_on.Tie as tie
+
+-- the items of the process stand inside the loan
+fits : (c : tie.After-items-of) → spans.Fits (c .before .before .before .before .before .args .l .now) (c .items-of .result)
+fits c =
+    let a = c .before .before .before .before .before .args in
+    spans.span-fits (a .b .now) (a .l .now) (a .i) (omega arith) _ (c .items-of .ensures)
+
+numbers-of-requires : tie.Need-numbers-of-requires
+numbers-of-requires c κs = let f = fits (c .before .before .before .before .before) in (f .base, f .end, omega (arith, f .long))
+
+put-values-requires : tie.Need-put-values-requires
+put-values-requires c κs = let f = fits (c .before .before .before .before .before .before .before .before .before .before .before .before .before .before .before .before) in (f .base, f .end, omega (arith, f .long))
+
+next-write-requires : tie.Need-next-write-requires
+next-write-requires c κs = let f = fits (c .before .before .before .before .before .before .before .before .before .before .before .before .before .before .before .before .before .before .before .before) in (f .base, f .end, omega (arith, f .long))
+
+returns : tie.Need-returns
+returns c =
+    let read = c .before .before .before .before .before .before .before .before .before .before .before .before .before .before .before .before .before .before .before .before .before .before in
+    let ran = c .before .before .before .before .before .before .before .before .before .before in
+    let put = c .before .before .before .before .before .put-values in
+    let a = read .before .before .before .before .before .args in
+    runs.gone-on (a .b .now) _ (a .l .now) _ (a .i) (a .number) _ _ _ (read .items-of .ensures) (fits read) _ (c .before .before .before .before .before .before .before .before .before .before .before .before .before .before .before .before .before .before .before .before .last .ensures) _ (c .before .before .before .before .before .before .before .before .before .before .before .before .before .before .before .before .before .before .simulation .ensures) _ (c .before .before .before .before .before .before .before .before .before .before .before .before .before .before .before .before .numbers-of .ensures)
+    (ran .simulate .ensures) (put .ensures .0) (put .ensures .1) _ (c .before .next-write .ensures) _ (c .after-pause .ensures)
+
+pub go-on-spec : {M : Type 1} → statement M
+go-on-spec =
+    tie.close
+    (tie.spec
+    (λ c κs. search needs)
+    (λ c κs. search needs)
+    (λ c κs. search needs)
+    numbers-of-requires
+    (λ c κs. fits (c .before .before .before .before .before .before .before .before .before .before .before) .end)
+    put-values-requires
+    next-write-requires
+    (λ c κs. search needs)
+    (λ c. search needs)
+    (λ c. search needs)
+    returns)

@@ -1,0 +1,4 @@
+-- The dictionaries in a loan
+pub mod Items
+pub mod Loans
+pub mod Simulated

@@ -1,0 +1,2 @@
+-- The texts of the programs in a block
+pub mod Texts

@@ -1,2 +1,2 @@
--- A card text opened into a block of words, and how many words its loan takes
+-- A card text opened into a block of words
 pub mod Opened

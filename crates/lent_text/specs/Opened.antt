@@ -1,6 +1,5 @@
--- What a card text leaves in a block of 1456 words that its owner lends, what is told of it, and how many words the card's loan takes (document 02,
--- order 10). Each part stands where specs/Layout of the crate block has it.
-use Prim.Native.Nat.{ℕ, zero, suc, _*_}
+-- What a card text leaves in a block of 1456 words that its owner lends, and what is told of it (document 02, order 10). Each part stands where specs/Layout of the crate block has it.
+use Prim.Native.Nat.{ℕ, zero, suc}
 use mathlib.Core.Bool.{cond}
 use mathlib.Core.List.{List, _++_}
 use mathlib.Core.Path.{_≡_}
@@ -12,7 +11,7 @@ use Rattle.construction.specs.Cells.{openGate, openRecord}
 use Rattle.construction.specs.Instructions.{noProgram}
 use Rattle.construction.specs.Opening.{readCard}
 use Rattle.construction.specs.Weight.{cardWeight}
-use Rattle.block.specs.Layout.{processCountIn, roomIn, putRoom, putProcessCount, putVariableCount, putProgramCount, putLimit, putGate, putStart, putRecord, putOpening, putEarlier, putLater}
+use Rattle.block.specs.Layout.{putRoom, putProcessCount, putVariableCount, putProgramCount, putLimit, putGate, putStart, putRecord, putOpening, putEarlier, putLater}
 
 -- the first n words are 0, the words past them are kept
 unfoldable pub zeroed : ℕ → List ℕ → List ℕ
@@ -64,7 +63,3 @@ judged (Verdict.Refused why line) b = Verdict.Refused why line
 pub record Opens (t b : List ℕ) (r : Verdict) (z : List ℕ) : Type 0 where
   pub answer : r ≡ judged (readCard t .verdict) b
   pub words : z ≡ openedBlock t b
-
--- p dictionaries of w items, three words an item
-abbrev pub loanWords : List ℕ → ℕ
-loanWords b = 3 * processCountIn b * roomIn b

@@ -11,7 +11,6 @@ use block::cells::put_program_count;
 use block::cells::put_record;
 use block::cells::put_room;
 use block::cells::put_variable_count;
-use block::cells::room;
 use block::cells::variable_count;
 use block::texts::put_start;
 use block::texts::start;
@@ -32,7 +31,7 @@ ghost use Rattle.codes.specs.Parts.{table};
 ghost use Rattle.block.specs.Layout.{startIn, openingText};
 ghost use Rattle.block.specs.Cards.{cardOf};
 ghost use Rattle.writer.specs.Written.{Writes};
-ghost use Rattle.lent_text.specs.Opened.{cleared, putHead, putValue, putValues, putTexts, putPrograms, contentsBlock, judged, Opens, loanWords};
+ghost use Rattle.lent_text.specs.Opened.{cleared, putHead, putValue, putValues, putTexts, putPrograms, contentsBlock, judged, Opens};
 
 // How many words a block has.
 const SIZE: usize = 1456;
@@ -197,11 +196,4 @@ pub fn write(b: &[u64], buffer: &mut [u8]) -> Written
 {
     let contents = contents_of(b);
     writer::write_contents(contents, buffer)
-}
-
-// How many words the loan of the card in a block takes.
-pub fn loan_words(b: &[u64]) -> usize
-    ensures { λ r. ⌜ r ≡ loanWords (now (b .entry)) ⌝ }
-{
-    3 * (process_count(b) as usize) * (room(b) as usize)
 }

@@ -8,9 +8,13 @@ use lib.ListN.{length}
 use Rattle.codes.specs.Types.{Item, Dictionary}
 use Rattle.codes.specs.Parts.{stores}
 use Rattle.codes.specs.Codes.{itemWords}
-use Rattle.block.specs.Layout.{roomIn, notedIn, putNoted}
+use Rattle.block.specs.Layout.{processCountIn, roomIn, notedIn, putNoted}
 use Rattle.block.specs.Cards.{dictionaryAt}
 use Rattle.loan.specs.declared.dictionaries.Span.{Span}
+
+-- how many words the loan of a card takes: p dictionaries of w items, three words an item
+abbrev pub loanWords : List ℕ → ℕ
+loanWords b = 3 * processCountIn b * roomIn b
 
 -- whether the loan has the w items of process i
 unfoldable pub hasItems : List ℕ → List ℕ → ℕ → Bool

@@ -1,5 +1,6 @@
 // The dictionary of a process: what stands in the loan for it, by process number.
 use crate::items;
+use block::cells::process_count;
 use block::cells::room;
 use block::own::noted;
 use block::own::put_noted;
@@ -10,12 +11,19 @@ ghost use mathlib.Core.Path.{_≡_};
 ghost use lib.ListN.{getD};
 ghost use Rattle.construction.specs.Dictionary.{noItem, nextWrite};
 ghost use Rattle.construction.specs.Machine.{writing};
-ghost use Rattle.loan.specs.Loans.{hasItems, spanIn, heldDictionary, insertBlock, insertLoan};
+ghost use Rattle.loan.specs.Loans.{loanWords, hasItems, spanIn, heldDictionary, insertBlock, insertLoan};
 
 // The items that a process has noted: the first of them, and how many these are.
 pub(crate) struct Span {
     pub base: usize,
     pub end: u8,
+}
+
+// How many words the loan of the card in a block takes.
+pub fn loan_words(b: &[u64]) -> usize
+    ensures { λ r. ⌜ r ≡ loanWords (now (b .entry)) ⌝ }
+{
+    3 * (process_count(b) as usize) * (room(b) as usize)
 }
 
 // Whether the loan has room for the dictionary of process i.

@@ -32,7 +32,7 @@ fn untraced(answered: Answered) -> Traced
     Traced {
         card,
         answer,
-        report: tracing::pieces::no_report(),
+        report: reports::no_report(),
     }
 }
 

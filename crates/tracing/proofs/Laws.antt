@@ -18,7 +18,8 @@ use Rattle.construction.specs.OneAccess.{touchedCell}
 use Rattle.construction.specs.Requests.{isProcess, isIdle, refused, step}
 use Rattle.construction.specs.Answers.{isRefused}
 use Rattle.construction.specs.Tracing.{labelOf, reportWith, reportOf, noReport, trace}
-use Rattle.tracing.specs.Pieces.{announcementIn, recordIn, swapBy}
+use Rattle.reports.specs.Pieces.{announcementIn, recordIn, swapBy}
+use Rattle.reports.proofs.Swaps.{swap-is}
 use Rattle.card.proofs.Requests.{steppedAt}
 use Rattle.requests.proofs.Arrays.{Rooms, found, in-room}
 
@@ -38,21 +39,6 @@ unfolding step
 accepted c i h =
     let p = unrefused c NoProcess NotBusy LimitReached (isProcess c i) (not (isIdle (localAt c i .task .place))) (ltb (c .steps) (c .limit)) (steppedAt c i) h in
     (in-room i (c .processCount) 8 (p .0), p .1)
-
--- the swap of an access by pieces is that of the access on the card
-pub swap-is :
-    (c : Card) (i : ℕ) (a : Access) → let l = localAt c i in
-    let x = cellOf a (contentsOf c) i l in
-    perform a c i .swap
-    ≡ swapBy a i (announcementIn x) (c .gate) (announcementAt c (announcementIn x)) (recordAt c (recordIn x)) (l .gate) (l .announcement) (l .operation)
-    (l .simulation .yields) (l .task) (writing (l .gate .seq) (l .task) (l .dictionary) .item)
-unfolding perform
-swap-is c i Access.None = refl
-swap-is c i (Access.Gate a) = refl
-swap-is c i (Access.Announcement a) = refl
-swap-is c i Access.Help = refl
-swap-is c i Access.Note = refl
-swap-is c i Access.Write = refl
 
 -- the pieces of process i, the cell and what stands there, as code takes them out
 pub record Pieces (c : Card) (i : ℕ) (label : Label) (a : Access) (w : Writing) (x : Cell) (m v : ℕ) (b : Announcement) (r : Record) (s : Swap) : Type 0 where

@@ -1,13 +1,11 @@
 // The line behind each step (document 02, order 1): a step of the card with its report. It rests on the crates construction (types and
-// definitions), answers, card, helping, machine, opening and requests.
-pub mod pieces; // pieces.rt: label, cell, swap and report on small values
-
-use crate::pieces::announcement_in;
-use crate::pieces::cell_of;
-use crate::pieces::label_of;
-use crate::pieces::record_in;
-use crate::pieces::swap_of;
-use crate::pieces::told;
+// definitions), card, helping, machine, reports and requests.
+use reports::announcement_in;
+use reports::cell_of;
+use reports::label_of;
+use reports::record_in;
+use reports::swap_of;
+use reports::told;
 use construction::Card;
 use construction::Traced;
 use helping::writing;

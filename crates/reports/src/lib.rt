@@ -1,4 +1,5 @@
-// What is told of a step on small values: the label of an access, the cell that it touches, whether its swap won, and the report.
+// What is told of a step (document 02, order 1), on small values: the label of an access, the cell that it touches, whether its swap won, and the report.
+// It rests on the crates construction (types and definitions), answers and machine; both representations of the card tell their steps by it.
 use answers::kinds::is_refused;
 use construction::Access;
 use construction::Announcement;
@@ -25,7 +26,7 @@ ghost use mathlib.Core.Bool.{cond};
 ghost use Rattle.construction.specs.Machine.{cellBy};
 ghost use Rattle.construction.specs.Tracing.{labelOf, isNoting, notedAt, reportWith, noReport};
 ghost use Rattle.construction.specs.Answers.{isRefused};
-ghost use Rattle.tracing.specs.Pieces.{announcementIn, recordIn, swapBy};
+ghost use Rattle.reports.specs.Pieces.{announcementIn, recordIn, swapBy};
 
 // At the top of the loop: with an exit request P6, without one P10.
 fn top_label(exit: bool) -> Label

@@ -18,7 +18,7 @@ recordIn (Cell.Record v) = v
 
 -- whether the swap of an access won: the gate, the announcement of process m and the record as they stand, and what process i goes by. It is
 -- `swapOf` of construction, which gives the swap together with the card that the access leaves, told without a card: the function that tells it has
--- none. `swap-is` (proofs/Laws) says that the two are the same on every card.
+-- none. `swap-is` (proofs/Swaps) says that the two are the same on every card.
 abbrev pub swapBy :
     Access → ℕ → ℕ → Gate → Announcement → Record → Gate → Announcement → Operation → Yield → Task → Item → Swap
 swapBy Access.None i m held announced recorded g last operation yields task item = Swap.None

@@ -1,6 +1,6 @@
 use borrow.Author.Needs.{needs}
-use Rattle.tracing.proofs.pieces.report_with.Statement.{statement}
-use Rattle.tracing.proofs.pieces.report_with.Tie as tie
+use Rattle.reports.proofs.report_with.Statement.{statement}
+use Rattle.reports.proofs.report_with.Tie as tie
 
 returns : tie.Need-returns
 returns c = rw (c .noted-at .ensures)

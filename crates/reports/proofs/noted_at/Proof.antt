@@ -1,6 +1,6 @@
 use borrow.Author.Needs.{needs}
-use Rattle.tracing.proofs.pieces.noted_at.Statement.{statement}
-use Rattle.tracing.proofs.pieces.noted_at.Tie as tie
+use Rattle.reports.proofs.noted_at.Statement.{statement}
+use Rattle.reports.proofs.noted_at.Tie as tie
 
 returns : tie.Need-returns
 returns c = rw (← c .before .is-noting .ensures, c .if1 .taken)

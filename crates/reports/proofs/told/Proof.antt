@@ -1,6 +1,6 @@
 use borrow.Author.Needs.{needs}
-use Rattle.tracing.proofs.pieces.told.Statement.{statement}
-use Rattle.tracing.proofs.pieces.told.Tie as tie
+use Rattle.reports.proofs.told.Statement.{statement}
+use Rattle.reports.proofs.told.Tie as tie
 
 pub told-spec : {M : Type 1} → statement M
 told-spec =

@@ -2,8 +2,8 @@ use native.Mathlib.Nat.{mul-le-mul-left}
 use Prim.Native.Nat.{_*_, _≤_}
 use native.Mathlib.Omega.{arith}
 use borrow.Author.Needs.{needs}
-use Rattle.lent_text.proofs.loan_words.Statement.{statement}
-use Rattle.lent_text.proofs.loan_words.Tie as tie
+use Rattle.loan.proofs.dictionaries.loan_words.Statement.{statement}
+use Rattle.loan.proofs.dictionaries.loan_words.Tie as tie
 
 mul-result-2 : tie.Need-mul-result-2
 mul-result-2 c =

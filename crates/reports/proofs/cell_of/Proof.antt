@@ -1,6 +1,6 @@
 use borrow.Author.Needs.{needs}
-use Rattle.tracing.proofs.pieces.cell_of.Statement.{statement}
-use Rattle.tracing.proofs.pieces.cell_of.Tie as tie
+use Rattle.reports.proofs.cell_of.Statement.{statement}
+use Rattle.reports.proofs.cell_of.Tie as tie
 
 pub cell-of-spec : {M : Type 1} → statement M
 cell-of-spec =

@@ -1,15 +1,16 @@
 use borrow.Author.Needs.{needs}
-use Rattle.tracing.proofs.pieces.is_noting.Statement.{statement}
-use Rattle.tracing.proofs.pieces.is_noting.Tie as tie
+use Rattle.reports.proofs.label_of.Statement.{statement}
+use Rattle.reports.proofs.label_of.Tie as tie
 
-pub is-noting-spec : {M : Type 1} → statement M
-is-noting-spec =
+pub label-of-spec : {M : Type 1} → statement M
+label-of-spec =
     tie.close
     (tie.spec
     (λ c. search needs)
     (λ c. search needs)
     (λ c. search needs)
     (λ c. search needs)
+    (λ c κs. search needs)
     (λ c. search needs)
     (λ c. search needs)
     (λ c. search needs)
@@ -28,7 +29,7 @@ is-noting-spec =
     (λ c. rw (c .enum-told .given .1))
     (λ c. rw (c .enum-told2 .given .1))
     (λ c. rw (c .enum-told3 .given .1))
-    (λ c. rw (c .enum-told4 .given .1))
+    (λ c. rw (c .before .enum-told4 .given .1) (c .top-label .ensures))
     (λ c. rw (c .enum-told5 .given .1))
     (λ c. rw (c .enum-told6 .given .1))
     (λ c. rw (c .enum-told7 .given .1))

@@ -1,6 +1,6 @@
 use borrow.Author.Needs.{needs}
-use Rattle.tracing.proofs.pieces.swap_of.Statement.{statement}
-use Rattle.tracing.proofs.pieces.swap_of.Tie as tie
+use Rattle.reports.proofs.swap_of.Statement.{statement}
+use Rattle.reports.proofs.swap_of.Tie as tie
 
 pub swap-of-spec : {M : Type 1} → statement M
 swap-of-spec =

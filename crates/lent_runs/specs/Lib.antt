@@ -1,0 +1,2 @@
+-- A block and a loan over lists of entries
+pub mod Runs

@@ -1,0 +1,155 @@
+-- A block and a loan over a list of entries (document 02, order 10): 'If the owner hands them back unaltered at each step, every answer, cell and count equals
+-- that with the full books'.
+use Prim.Native.Nat.{ℕ, _<_}
+use mathlib.Core.Path.{_≡_}
+use mathlib.Core.Bool.{Bool, true, false, cond, not}
+use mathlib.Core.List.{List, [], _∷_}
+use lib.Dec.{eqb}
+use lib.ListN.{take}
+use Rattle.construction.specs.declared.{Answer.Answer, Card.Card, Report.Report, Words.Words}
+use Rattle.construction.specs.Answers.{numberOf, isRefused}
+use Rattle.construction.specs.Tracing.{trace, noReport}
+use Rattle.construction.specs.History.{Entry, act, run}
+use Rattle.construction.specs.Opening.{opened}
+use Rattle.codes.proofs.Values.{FitsWords}
+use Rattle.block.specs.Cards.{cardOf}
+use Rattle.loan.specs.Loans.{loanWords}
+use Rattle.lent_text.specs.Opened.{openedBlock}
+use Rattle.lent_card.specs.Requests.{callAnswer, callBlock, exitAnswer, exitBlock, readAnswer, changeAnswer, changeBlock}
+use Rattle.lent_card.specs.Steps.{stepVerdict, stepBlock, stepLoan, answerTo, reportTo}
+
+-- an entry of demand 3 with the loan that the owner hands in; only a step looks at it
+pub record Handed : Type 0 where
+  pub entry : Entry
+  pub loan : List ℕ
+
+-- the block, and the loan as the last accepted step left it
+pub record Memory : Type 0 where
+  pub block : List ℕ
+  pub loan : List ℕ
+
+-- what an entry gets: its answer, and the report of a traced step
+pub record Reply : Type 0 where
+  pub answer : Answer
+  pub report : Report
+
+abbrev pub untraced : Answer → Reply
+untraced x = record { answer = x; report = noReport }
+
+-- .. on block and loan
+abbrev pub replyIn : List ℕ → List ℕ → Entry → Reply
+replyIn b l (Entry.Call i k inputs) = untraced (callAnswer b i k)
+replyIn b l (Entry.Exit i) = untraced (exitAnswer b i)
+replyIn b l (Entry.Step i) = untraced (answerTo b l i)
+replyIn b l (Entry.Trace i) = record { answer = answerTo b l i; report = reportTo b l i }
+replyIn b l (Entry.Read v) = untraced (readAnswer b v)
+replyIn b l (Entry.Change k from t) = untraced (changeAnswer b k from t)
+
+-- .. on the card by value
+abbrev pub reportFor : Card → Entry → Report
+reportFor c (Entry.Call i k inputs) = noReport
+reportFor c (Entry.Exit i) = noReport
+reportFor c (Entry.Step i) = noReport
+reportFor c (Entry.Trace i) = trace c i .report
+reportFor c (Entry.Read v) = noReport
+reportFor c (Entry.Change k from t) = noReport
+
+abbrev pub replyOf : Card → Entry → Reply
+replyOf c e = record { answer = act c e .answer; report = reportFor c e }
+
+-- the block after an entry
+abbrev pub blockAfter : List ℕ → List ℕ → Entry → List ℕ
+blockAfter b l (Entry.Call i k inputs) = callBlock b i k inputs
+blockAfter b l (Entry.Exit i) = exitBlock b i
+blockAfter b l (Entry.Step i) = stepBlock b l i
+blockAfter b l (Entry.Trace i) = stepBlock b l i
+blockAfter b l (Entry.Read v) = b
+blockAfter b l (Entry.Change k from t) = changeBlock b k from t
+
+-- whether an entry is an accepted step; the loan after it, and as it was left before where it is none
+abbrev pub isAccepted : List ℕ → List ℕ → Entry → Bool
+isAccepted b l (Entry.Call i k inputs) = false
+isAccepted b l (Entry.Exit i) = false
+isAccepted b l (Entry.Step i) = not (isRefused (stepVerdict b l i))
+isAccepted b l (Entry.Trace i) = not (isRefused (stepVerdict b l i))
+isAccepted b l (Entry.Read v) = false
+isAccepted b l (Entry.Change k from t) = false
+
+abbrev pub loanAfter : List ℕ → List ℕ → Entry → List ℕ
+loanAfter b l (Entry.Call i k inputs) = l
+loanAfter b l (Entry.Exit i) = l
+loanAfter b l (Entry.Step i) = stepLoan b l i
+loanAfter b l (Entry.Trace i) = stepLoan b l i
+loanAfter b l (Entry.Read v) = l
+loanAfter b l (Entry.Change k from t) = l
+
+abbrev pub left : Memory → Handed → List ℕ
+left m x = cond (isAccepted (m .block) (x .loan) (x .entry)) (loanAfter (m .block) (x .loan) (x .entry)) (m .loan)
+
+abbrev pub memoryAfter : Memory → Handed → Memory
+memoryAfter m x = record { block = blockAfter (m .block) (x .loan) (x .entry); loan = left m x }
+
+unfoldable pub remember : Memory → List Handed → Memory
+remember m [] = m
+remember m (x ∷ xs) = remember (memoryAfter m x) xs
+
+-- refusal 11 of a step: its loan is too short. The by-value run leaves these entries out.
+abbrev pub isEleven : Answer → Bool
+isEleven Answer.Taken = false
+isEleven Answer.Run = false
+isEleven (Answer.Done number y steps) = false
+isEleven (Answer.Exited steps) = false
+isEleven (Answer.Value x) = false
+isEleven (Answer.Refused r) = eqb (numberOf r) 11
+isEleven (Answer.RefusedAt r line) = false
+
+abbrev pub isShort : Memory → Handed → Bool
+isShort m x = isEleven (replyIn (m .block) (x .loan) (x .entry) .answer)
+
+unfoldable pub entriesOf : Memory → List Handed → List Entry
+entriesOf m [] = []
+entriesOf m (x ∷ xs) = cond (isShort m x) (entriesOf (memoryAfter m x) xs) (x .entry ∷ entriesOf (memoryAfter m x) xs)
+
+-- the replies to the others, one after the other; and those of the card by value
+unfoldable pub repliesIn : Memory → List Handed → List Reply
+repliesIn m [] = []
+repliesIn m (x ∷ xs) =
+    cond (isShort m x) (repliesIn (memoryAfter m x) xs) (replyIn (m .block) (x .loan) (x .entry) ∷ repliesIn (memoryAfter m x) xs)
+
+unfoldable pub repliesOf : Card → List Entry → List Reply
+repliesOf c [] = []
+repliesOf c (e ∷ es) = replyOf c e ∷ repliesOf (act c e .card) es
+
+-- THE PREMISE: at each accepted step the first p × w items of the loan are as the last accepted step left them. What stands behind them, and the length of
+-- the loan, may differ from step to step. Before the first step the loan may hold anything, as the statement is for every first loan.
+unfoldable pub HandedBack : Memory → List Handed → Type 0
+HandedBack m [] = Unit
+HandedBack m (x ∷ xs) =
+    (isAccepted (m .block) (x .loan) (x .entry) ≡ true → take (loanWords (m .block)) (x .loan) ≡ take (loanWords (m .block)) (m .loan))
+    × HandedBack (memoryAfter m x) xs
+
+-- the inputs of a call have 32 bits each, as the functions' types have it
+abbrev pub Fits : Entry → Type 0
+Fits (Entry.Call i k inputs) = FitsWords inputs
+Fits (Entry.Exit i) = Unit
+Fits (Entry.Step i) = Unit
+Fits (Entry.Trace i) = Unit
+Fits (Entry.Read v) = Unit
+Fits (Entry.Change k from t) = Unit
+
+unfoldable pub AllFit : List Handed → Type 0
+AllFit [] = Unit
+AllFit (x ∷ xs) = Fits (x .entry) × AllFit xs
+
+-- the text opened into a block, with a loan of any content
+abbrev pub openedMemory : List ℕ → List ℕ → List ℕ → Memory
+openedMemory t b l = record { block = openedBlock t b; loan = l }
+
+abbrev pub memoryOf : List ℕ → List ℕ → List ℕ → List Handed → Memory
+memoryOf t b l xs = remember (openedMemory t b l) xs
+
+-- ORDER 10 for the text t opened into the block b, after the entries xs: block and loan hold the card of demand 3's run over the entries, and the replies
+-- are the same
+pub record AsByValue (t b l : List ℕ) (xs : List Handed) : Type 0 where
+  pub card : cardOf (memoryOf t b l xs .block) (memoryOf t b l xs .loan) ≡ run (opened t .card) (entriesOf (openedMemory t b l) xs) .card
+  pub replies : repliesIn (openedMemory t b l) xs ≡ repliesOf (opened t .card) (entriesOf (openedMemory t b l) xs)

@@ -1,0 +1,2 @@
+-- The definitions that the contracts of reports add to those of construction
+pub mod Pieces

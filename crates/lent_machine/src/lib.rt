@@ -2,4 +2,5 @@
 // small values that the by-value card uses do the work, and puts back what changed. It rests on the crates construction (types and definitions), block
 // (the parts of a block) and machine (the accesses on small values).
 pub mod announcement; // announcement.rt: the accesses of an announcement
+pub mod counting; // counting.rt: the step counted
 pub mod gate; // gate.rt: the accesses of the gate

@@ -1,0 +1,23 @@
+-- Any access of a step (construction's specs/Machine: `perform`) on a block and a loan: the block and the loan after it. That the step is counted is
+-- apart (`counted` of lent_machine).
+use Prim.Native.Nat.{ℕ}
+use mathlib.Core.List.{List}
+use Rattle.codes.specs.Types.{Access}
+use Rattle.lent_machine.specs.Accesses.{gateStep, announcementStep}
+use Rattle.lent_helping.specs.Helps.{helpStep, noteBlock, noteLoan, writeStep}
+
+unfoldable pub accessBlock : Access → List ℕ → List ℕ → ℕ → List ℕ
+accessBlock Access.None b l i = b
+accessBlock (Access.Gate a) b l i = gateStep a b i
+accessBlock (Access.Announcement a) b l i = announcementStep a b i
+accessBlock Access.Help b l i = helpStep b i
+accessBlock Access.Note b l i = noteBlock b l i
+accessBlock Access.Write b l i = writeStep b l i
+
+unfoldable pub accessLoan : Access → List ℕ → List ℕ → ℕ → List ℕ
+accessLoan Access.None b l i = l
+accessLoan (Access.Gate a) b l i = l
+accessLoan (Access.Announcement a) b l i = l
+accessLoan Access.Help b l i = l
+accessLoan Access.Note b l i = noteLoan b l i
+accessLoan Access.Write b l i = l

@@ -1,0 +1,35 @@
+// A record written (line H36), by process i.
+use block::cells::put_record;
+use block::cells::record;
+use block::own::last_gate;
+use block::own::put_task;
+use block::own::task;
+use construction::SwappedRecord;
+use loan::dictionaries::writing;
+use machine::record::write;
+ghost use mathlib.Core.Path.{_≡_};
+ghost use Rattle.lent_helping.specs.Helps.{recordSwapped, writeStep};
+
+// The record of variable v is stored where its swap won.
+fn put_swapped(b: &mut [u64], v: u8, x: SwappedRecord)
+    ensures { λ r. ⌜ now (b .exit) ≡ recordSwapped (now (b .entry)) v x ⌝ }
+{
+    let cell = x.cell;
+    if x.won {
+        put_record(b, v, cell);
+    }
+}
+
+// The loan is only read.
+pub fn step_write(b: &mut [u64], l: &[u64], i: u8)
+    ensures { λ r. ⌜ now (b .exit) ≡ writeStep (now (b .entry)) (now (l .entry)) i ⌝ }
+{
+    let gate = last_gate(b, i);
+    let writing = writing(b, l, i, gate.seq, task(b, i));
+    let item = writing.item;
+    let task = writing.task;
+    let v = item.variable;
+    let swapped = write(record(b, v), item, gate.seq);
+    put_swapped(b, v, swapped);
+    put_task(b, i, task);
+}

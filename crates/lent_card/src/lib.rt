@@ -2,5 +2,5 @@
 // that the by-value card uses judge it, and puts back what changed. It rests on the crates construction (types and definitions), answers, block, texts,
 // machine, reader and requests.
 pub mod changing; // changing.rt: change of a program
-mod narrow; // narrow.rt: numbers of processes and programs as bytes
+pub mod narrow; // narrow.rt: numbers of processes and programs as bytes
 pub mod requesting; // requesting.rt: call, exit request and read

@@ -2,7 +2,7 @@
 ghost use mathlib.Core.Path.{_≡_};
 ghost use Prim.Native.Nat.{min};
 
-pub(crate) fn narrow(number: u32) -> u8
+pub fn narrow(number: u32) -> u8
     ensures { λ r. ⌜ r ≡ min number 255 ⌝ }
 {
     if number < 255 { number as u8 } else { 255 }

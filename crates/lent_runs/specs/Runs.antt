@@ -16,7 +16,7 @@ use Rattle.block.specs.Cards.{cardOf}
 use Rattle.loan.specs.Loans.{loanWords}
 use Rattle.lent_text.specs.Opened.{openedBlock}
 use Rattle.lent_card.specs.Requests.{callAnswer, callBlock, exitAnswer, exitBlock, readAnswer, changeAnswer, changeBlock}
-use Rattle.lent_card.specs.Steps.{stepVerdict, stepBlock, stepLoan, answerTo, reportTo}
+use Rattle.lent_steps.specs.Steps.{stepVerdict, stepBlock, stepLoan, answerTo, reportTo}
 
 -- an entry of demand 3 with the loan that the owner hands in; only a step looks at it
 pub record Handed : Type 0 where

@@ -1,0 +1,2 @@
+-- A step on lent words
+pub mod Steps

@@ -1,0 +1,95 @@
+// Step: refusals 5, 8, 10 and 11, or one shared access.
+use answers::kinds::is_refused;
+use block::cells::limit;
+use block::cells::process_count;
+use block::cells::put_steps;
+use block::cells::steps;
+use block::own::count;
+use block::own::exit;
+use block::own::last;
+use block::own::put_count;
+use block::own::task;
+use construction::Access;
+use construction::Answer;
+use construction::Refusal;
+use lent_card::narrow::narrow;
+use lent_helping::access::step_access;
+use loan::dictionaries::loan_words;
+use machine::announcement::returned;
+use machine::places::access_of;
+use machine::places::is_idle;
+use requests::judging::judge_step;
+ghost use mathlib.Core.Path.{_≡_};
+ghost use Rattle.lent_machine.specs.Accesses.{counted};
+ghost use Rattle.lent_helping.specs.Steps.{accessLoan};
+ghost use Rattle.lent_steps.specs.Steps.{stepVerdict, accessAt, advanced, stepBlock, stepLoan, answerIn, answerTo};
+
+// Whether a step is accepted: refusals 5, 8, 10, and then 11.
+pub(crate) fn judge(b: &[u64], l: &[u64], process: u32) -> Answer
+    ensures { λ r. ⌜ r ≡ stepVerdict (now (b .entry)) (now (l .entry)) process ⌝ }
+{
+    let task = task(b, narrow(process));
+    let place = task.place;
+    let judged = judge_step(process, process_count(b), place, steps(b), limit(b));
+    if is_refused(judged) {
+        return judged;
+    }
+    if l.len() < loan_words(b) {
+        return Answer::Refused(Refusal::ShortBuffer);
+    }
+    Answer::Taken
+}
+
+// The access of process i.
+pub(crate) fn access_at(b: &[u64], i: u8) -> Access
+    ensures { λ r. ⌜ r ≡ accessAt (now (b .entry)) i ⌝ }
+{
+    let task = task(b, i);
+    let place = task.place;
+    access_of(place, exit(b, i))
+}
+
+// An accepted step of process i is counted.
+fn put_counted(b: &mut [u64], i: u8)
+    ensures { λ r. ⌜ now (b .exit) ≡ counted (now (b .entry)) i ⌝ }
+{
+    let all = std::num::wrapping_add_u64(steps(b), 1);
+    let own = std::num::wrapping_add_u64(count(b, i), 1);
+    put_steps(b, all);
+    put_count(b, i, own);
+}
+
+// An accepted step.
+pub(crate) fn advance(b: &mut [u64], l: &mut [u64], i: u8)
+    ensures { λ r. ⌜ (now (b .exit) ≡ advanced (now (b .entry)) (now (l .entry)) i) × (now (l .exit) ≡ accessLoan (accessAt (now (b .entry)) i) (now (b .entry)) (now (l .entry)) i) ⌝ }
+{
+    let access = access_at(b, i);
+    step_access(access, b, l, i);
+    put_counted(b, i);
+}
+
+// The answer to a step of process i that was accepted.
+pub(crate) fn answer_in(b: &[u64], i: u8) -> Answer
+    ensures { λ r. ⌜ r ≡ answerIn (now (b .entry)) i ⌝ }
+{
+    let task = task(b, i);
+    let place = task.place;
+    if is_idle(place) {
+        returned(last(b, i), count(b, i))
+    } else {
+        Answer::Run
+    }
+}
+
+// Step.
+pub fn step(b: &mut [u64], l: &mut [u64], process: u32) -> Answer
+    ensures { λ r. ⌜ (r ≡ answerTo (now (b .entry)) (now (l .entry)) process) × (now (b .exit) ≡ stepBlock (now (b .entry)) (now (l .entry)) process) × (now (l .exit) ≡ stepLoan (now (b .entry)) (now (l .entry)) process) ⌝ }
+{
+    let judged = judge(b, l, process);
+    if is_refused(judged) {
+        return judged;
+    }
+    let i = narrow(process);
+    advance(b, l, i);
+    answer_in(b, i)
+}

@@ -77,7 +77,7 @@ pub fn show_refused_text(refusal: Refusal, line: u64) {
     write(b"\n");
 }
 
-fn show_gate(gate: Gate) {
+pub fn show_gate(gate: Gate) {
     let holder = gate.holder;
     match holder {
         Holder::Nobody => write(b"gate,none"),
@@ -95,7 +95,7 @@ fn write_flag(flag: Flag) {
     }
 }
 
-fn show_announcement(process: u64, announcement: Announcement) {
+pub fn show_announcement(process: u64, announcement: Announcement) {
     let flag = announcement.flag;
     let words = announcement.words;
     write_field(b"announcement,", process);
@@ -108,7 +108,7 @@ fn show_announcement(process: u64, announcement: Announcement) {
     write(b"\n");
 }
 
-fn show_record(variable: u64, record: Record) {
+pub fn show_record(variable: u64, record: Record) {
     write_field(b"record,", variable);
     write_field(b",", record.val0 as u64);
     write_field(b",", record.val1 as u64);

@@ -2,18 +2,19 @@
 use Prim.Native.Nat.{ℕ, _+_, _*_, _<_, _≤_}
 use mathlib.Core.Path.{_≡_, refl, sym, _∙_, ap, subst}
 use mathlib.Core.Logic.{_⊎_}
-use mathlib.Core.Bool.{Bool, true, false, cond}
+use mathlib.Core.Bool.{Bool, true, false, cond, _&&_}
 use mathlib.Core.List.{List}
 use native.Mathlib.Omega.{arith}
-use native.Mathlib.Nat.{mul-le-mul-left}
-use lib.Dec.{ltb}
+use native.Mathlib.Nat.{mul-comm, mul-le-mul-left}
+use lib.Dec.{leb, ltb}
 use lib.ListN.{length}
-use borrow.Author.Tests.{le-leb}
+use borrow.Author.Tests.{leb-true, le-leb}
 use Rattle.construction.specs.Marks.{withBit}
 use Rattle.construction.specs.Machine.{outcome, goTo, helps, afterPause}
 use Rattle.codes.specs.Types.{Announcement, Item, P19, P21}
 use Rattle.codes.specs.Parts.{wordAt}
-use Rattle.block.specs.Layout.{processCountIn, roomIn, notedIn, putNoted, maskIn, taskIn, putTask, putLast, putSimulation, putMask, putRecord}
+use Rattle.codes.specs.Codes.{byte}
+use Rattle.block.specs.Layout.{isRoom, numberAt, processCountIn, roomIn, notedIn, putNoted, maskIn, taskIn, putTask, putLast, putSimulation, putMask, putRecord}
 use Rattle.loan.specs.Loans.{hasItems, isInserted, insertBlock, insertLoan}
 use Rattle.loan.specs.Simulated.{begunIn, simulatedIn, simulatedLoan}
 use Rattle.loan.proofs.Kept.{Only, insert-only, simulated-only}
@@ -40,13 +41,24 @@ only-either : {b l m n : List ℕ} {i : ℕ} (t : Bool) → Only b l m i → Onl
 only-either true x y = x
 only-either false x y = y
 
+-- a process of the card stands in a block that is long enough
+pub below-long : (b : List ℕ) (i : ℕ) → i < processCountIn b → 1456 ≤ length b
+unfolding numberAt isRoom
+below-long b i = go (leb 1456 (length b)) refl
+  where
+    go : (t : Bool) → leb 1456 (length b) ≡ t → i < byte (cond (t && ltb 0 1) (wordAt b 0) 0) → 1456 ≤ length b
+    go true e p = leb-true 1456 (length b) e
+    go false e p = absurd (omega arith)
+
 -- a loan of p w items has those of every process
-pub has-items : (b l : List ℕ) (i : ℕ) → i < processCountIn b → roomIn b * processCountIn b * 3 ≤ length l → hasItems b l i ≡ true
+pub has-items : (b l : List ℕ) (i : ℕ) → i < processCountIn b → 3 * processCountIn b * roomIn b ≤ length l → hasItems b l i ≡ true
 unfolding hasItems
-has-items b l i p h =
-    let q : i + 1 ≤ processCountIn b = omega arith in
-    let r = mul-le-mul-left (roomIn b) q in
-    le-leb ((roomIn b * i + roomIn b) * 3) (length l) (omega arith)
+has-items b l i p h = le-leb ((roomIn b * i + roomIn b) * 3) (length l) (inside (roomIn b) i (processCountIn b) (length l) p h)
+  where
+    inside : (w i p n : ℕ) → i < p → 3 * p * w ≤ n → (w * i + w) * 3 ≤ n
+    inside w i p n below lent =
+        let q : 3 * i + 3 ≤ 3 * p = omega arith in
+        omega (arith, mul-le-mul-left w q, mul-comm (3 * p) w)
 
 -- the items of a process stand in a block and a loan that were changed by one access
 pub has-kept : (b c l m : List ℕ) (i : ℕ) → Kept b c → length m ≡ length l → hasItems b l i ≡ true → hasItems c m i ≡ true

@@ -151,91 +151,91 @@ module _ (b l : List ℕ) (long : 1456 ≤ length b) (i : ℕ) (h : i < 8) (has 
         ∙ ap (λ (d : Dictionary). withDictionary (cardOf b l) i d) (simulated-is b l i number (omega arith) has))
         ∙ ap (λ (z : Simulated). goneWith (cardOf b l) i number z) simulated-named
 
-  -- lines H23 to H25, together
-  module _ (room : notedIn b i < roomIn b) where
-    marked-is : (v : ℕ) → cardOf (putMarked b i v) l ≡ withMask (cardOf b l) i (withBit (localAt (cardOf b l) i .mask) v)
-    marked-is v =
-        mask-stored b l long i (withBit (maskIn b i) v) ∙ ap (λ (k : ℕ). withMask (cardOf b l) i (withBit k v)) (mask-is b l i)
+-- lines H23 to H25, together
+module _ (b l : List ℕ) (long : 1456 ≤ length b) (i : ℕ) (h : i < 8) (has : hasItems b l i ≡ true) (room : notedIn b i < roomIn b) where
+  marked-is : (v : ℕ) → cardOf (putMarked b i v) l ≡ withMask (cardOf b l) i (withBit (localAt (cardOf b l) i .mask) v)
+  marked-is v =
+      mask-stored b l long i (withBit (maskIn b i) v) ∙ ap (λ (k : ℕ). withMask (cardOf b l) i (withBit k v)) (mask-is b l i)
 
-    noted-is :
-        (number : ℕ) (e : Item) → FitsItem e →
-        let o = localAt (cardOf b l) i in
-        cardOf (notedBlock b l i number e) (notedLoan b l i number e)
-        ≡ goneCard (withDictionary (withMask (cardOf b l) i (withBit (o .mask) (e .variable))) i (insert (o .dictionary) e)) i number
-    noted-is number e fits =
-        let c = putMarked b i (e .variable) in
-        let marked = marked-kept b i (e .variable) in
-        let size = marked .size in
-        let more = insert-kept c l i .size in
-        let count = marked-noted b i (e .variable) h in
-        let space = kept-room marked in
-        let mine = has-kept b c l l i marked refl has in
-        let after = has-kept c (insertBlock c l i) l (insertLoan c l i e) i (insert-kept c l i) (insert-only c l i e .long) mine in
-        gone-on-is (insertBlock c l i) (insertLoan c l i e) (omega arith) i h after number
-        ∙ ap (λ (k : Card). goneCard k i number)
-        (insert-stored c l (omega arith) i h mine e fits (rw (count, space) room)
-        ∙ ap (λ (k : Card). withDictionary k i (insert (localAt k i .dictionary) e)) (marked-is (e .variable)))
+  noted-is :
+      (number : ℕ) (e : Item) → FitsItem e →
+      let o = localAt (cardOf b l) i in
+      cardOf (notedBlock b l i number e) (notedLoan b l i number e)
+      ≡ goneCard (withDictionary (withMask (cardOf b l) i (withBit (o .mask) (e .variable))) i (insert (o .dictionary) e)) i number
+  noted-is number e fits =
+      let c = putMarked b i (e .variable) in
+      let marked = marked-kept b i (e .variable) in
+      let size = marked .size in
+      let more = insert-kept c l i .size in
+      let count = marked-noted b i (e .variable) h in
+      let space = kept-room marked in
+      let mine = has-kept b c l l i marked refl has in
+      let after = has-kept c (insertBlock c l i) l (insertLoan c l i e) i (insert-kept c l i) (insert-only c l i e .long) mine in
+      gone-on-is (insertBlock c l i) (insertLoan c l i e) (omega arith) i h after number
+      ∙ ap (λ (k : Card). goneCard k i number)
+      (insert-stored c l (omega arith) i h mine e fits (rw (count, space) room)
+      ∙ ap (λ (k : Card). withDictionary k i (insert (localAt k i .dictionary) e)) (marked-is (e .variable)))
 
-    -- the access on what is taken out
-    abbrev notedAs : Record → ℕ → Task → Helped
-    notedAs cell number task =
-        let c = cardOf b l in
-        let o = localAt c i in
-        note (c .variableCount) (programOf (textsOf c) (o .announcement .program) number) (o .announcement .words) cell number task
-        (o .simulation) (o .dictionary) (o .mask)
+  -- the access on what is taken out
+  abbrev notedAs : Record → ℕ → Task → Helped
+  notedAs cell number task =
+      let c = cardOf b l in
+      let o = localAt c i in
+      note (c .variableCount) (programOf (textsOf c) (o .announcement .program) number) (o .announcement .words) cell number task
+      (o .simulation) (o .dictionary) (o .mask)
 
-    -- the card after the access, but for the counts
-    abbrev notedCard : ℕ → Record → Helped → Card
-    notedCard v cell x =
-        let o = localAt (cardOf b l) i in
-        placed (withRecord (cardOf b l) v cell) i (x .task) (o .gate) (o .announcement) (x .simulation) (x .dictionary) (x .mask)
+  -- the card after the access, but for the counts
+  abbrev notedCard : ℕ → Record → Helped → Card
+  notedCard v cell x =
+      let o = localAt (cardOf b l) i in
+      placed (withRecord (cardOf b l) v cell) i (x .task) (o .gate) (o .announcement) (x .simulation) (x .dictionary) (x .mask)
 
-    note-placed :
-        cardOf (noteBlock b l i) (noteLoan b l i) ≡ notedCard (taskIn b i .target) (lackedIn b i) (notedAs (lackedIn b i) (numberIn b i) (taskIn b i))
-    unfolding noteBlock noteLoan note
-    note-placed = go (ltb (numberIn b i) (lackedIn b i .seq))
-      where
-        go :
-            (t : Bool) →
-            let number = numberIn b i in
-            let o = localAt (cardOf b l) i in
-            let e = lackedItem b i in
-            cardOf (cond t (putTask b i (goTo (taskIn b i) P19)) (notedBlock b l i number e)) (cond t l (notedLoan b l i number e))
-            ≡ notedCard (taskIn b i .target) (lackedIn b i)
-            (cond t (record { task = goTo (taskIn b i) P19; simulation = o .simulation; dictionary = o .dictionary; mask = o .mask })
-            (helped number (runOn (cardOf b l) i number (insert (o .dictionary) e)) (withBit (o .mask) (taskIn b i .target))))
-        go true =
-            let o = localAt (cardOf b l) i in
-            let t = goTo (taskIn b i) P19 in
-            task-put b l long i t (task-fits b i)
-            ∙ ap (λ (k : Card). placed k i t (o .gate) (o .announcement) (o .simulation) (o .dictionary) (o .mask)) (record-same b l (taskIn b i .target))
-        go false =
-            let c = cardOf b l in
-            let o = localAt c i in
-            let number = numberIn b i in
-            let e = lackedItem b i in
-            let mask = withBit (o .mask) (taskIn b i .target) in
-            let x = helped number (runOn c i number (insert (o .dictionary) e)) mask in
-            let fits = item-fits number (taskIn b i .target) (lackedIn b i) (task-fits b i) (record-fits b (taskIn b i .target)) in
-            let size = dictionaries-long b l long in
-            noted-is number e fits
-            ∙ noted-placed c i number mask (insert (o .dictionary) e) (omega arith)
-            ∙ ap (λ (k : Card). placed k i (x .task) (o .gate) (o .announcement) (x .simulation) (x .dictionary) (x .mask)) (record-same b l (taskIn b i .target))
+  note-placed :
+      cardOf (noteBlock b l i) (noteLoan b l i) ≡ notedCard (taskIn b i .target) (lackedIn b i) (notedAs (lackedIn b i) (numberIn b i) (taskIn b i))
+  unfolding noteBlock noteLoan note
+  note-placed = go (ltb (numberIn b i) (lackedIn b i .seq))
+    where
+      go :
+          (t : Bool) →
+          let number = numberIn b i in
+          let o = localAt (cardOf b l) i in
+          let e = lackedItem b i in
+          cardOf (cond t (putTask b i (goTo (taskIn b i) P19)) (notedBlock b l i number e)) (cond t l (notedLoan b l i number e))
+          ≡ notedCard (taskIn b i .target) (lackedIn b i)
+          (cond t (record { task = goTo (taskIn b i) P19; simulation = o .simulation; dictionary = o .dictionary; mask = o .mask })
+          (helped number (runOn (cardOf b l) i number (insert (o .dictionary) e)) (withBit (o .mask) (taskIn b i .target))))
+      go true =
+          let o = localAt (cardOf b l) i in
+          let t = goTo (taskIn b i) P19 in
+          task-put b l long i t (task-fits b i)
+          ∙ ap (λ (k : Card). placed k i t (o .gate) (o .announcement) (o .simulation) (o .dictionary) (o .mask)) (record-same b l (taskIn b i .target))
+      go false =
+          let c = cardOf b l in
+          let o = localAt c i in
+          let number = numberIn b i in
+          let e = lackedItem b i in
+          let mask = withBit (o .mask) (taskIn b i .target) in
+          let x = helped number (runOn c i number (insert (o .dictionary) e)) mask in
+          let fits = item-fits number (taskIn b i .target) (lackedIn b i) (task-fits b i) (record-fits b (taskIn b i .target)) in
+          let size = dictionaries-long b l long in
+          noted-is number e fits
+          ∙ noted-placed c i number mask (insert (o .dictionary) e) (omega arith)
+          ∙ ap (λ (k : Card). placed k i (x .task) (o .gate) (o .announcement) (x .simulation) (x .dictionary) (x .mask)) (record-same b l (taskIn b i .target))
 
-    -- AN ACCEPTED STEP THAT NOTES A RECORD (line H21): the block and the loan after it hold what `advance` makes of the card that they held
-    pub note-step-is :
-        cardOf (counted (noteBlock b l i) i) (noteLoan b l i) ≡ withSteps (perform Access.Note (cardOf b l) i .card) (next (cardOf b l .steps))
-    unfolding perform
-    note-step-is =
-        let c = cardOf b l in
-        let o = localAt c i in
-        let gate = last-gate-is b l i in
-        let number : numberIn b i ≡ o .gate .seq = ap (λ (g : Gate). g .seq) gate in
-        let task = task-is b l i in
-        let cell : lackedIn b i ≡ recordAt c (o .task .target) = record-is b l (taskIn b i .target) ∙ (λ j. recordAt c (task j .target)) in
-        let found = recordAt c (o .task .target) in
-        let x = notedAs found (o .gate .seq) (o .task) in
-        let size = note-step-kept b l i .size in
-        accepted (noteBlock b l i) (noteLoan b l i) (omega arith) i (withRecord c (o .task .target) found) (x .task) (o .gate) (o .announcement)
-        (x .simulation) (x .dictionary) (x .mask)
-        (note-placed ∙ λ j. notedCard (task j .target) (cell j) (notedAs (cell j) (number j) (task j)))
+  -- AN ACCEPTED STEP THAT NOTES A RECORD (line H21): the block and the loan after it hold what `advance` makes of the card that they held
+  pub note-step-is :
+      cardOf (counted (noteBlock b l i) i) (noteLoan b l i) ≡ withSteps (perform Access.Note (cardOf b l) i .card) (next (cardOf b l .steps))
+  unfolding perform
+  note-step-is =
+      let c = cardOf b l in
+      let o = localAt c i in
+      let gate = last-gate-is b l i in
+      let number : numberIn b i ≡ o .gate .seq = ap (λ (g : Gate). g .seq) gate in
+      let task = task-is b l i in
+      let cell : lackedIn b i ≡ recordAt c (o .task .target) = record-is b l (taskIn b i .target) ∙ (λ j. recordAt c (task j .target)) in
+      let found = recordAt c (o .task .target) in
+      let x = notedAs found (o .gate .seq) (o .task) in
+      let size = note-step-kept b l i .size in
+      accepted (noteBlock b l i) (noteLoan b l i) (omega arith) i (withRecord c (o .task .target) found) (x .task) (o .gate) (o .announcement)
+      (x .simulation) (x .dictionary) (x .mask)
+      (note-placed ∙ λ j. notedCard (task j .target) (cell j) (notedAs (cell j) (number j) (task j)))

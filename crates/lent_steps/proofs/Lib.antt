@@ -1,3 +1,4 @@
 -- Laws that proofs cite
 pub mod Judging
+pub mod Telling
 pub mod Stepped

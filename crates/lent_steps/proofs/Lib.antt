@@ -2,3 +2,4 @@
 pub mod Judging
 pub mod Telling
 pub mod Stepped
+pub mod Keeping

@@ -47,7 +47,7 @@ answer-is b l i d e =
     (λ j. stepAnswer (t j .place) (a j) (n j)) ∙ ap (λ (x : Card). answerOf (localAt x i)) e
 
 -- H21 alone is an access that notes
-isNote : Access → Bool
+abbrev isNote : Access → Bool
 isNote Access.None = false
 isNote (Access.Gate a) = false
 isNote (Access.Announcement a) = false
@@ -251,7 +251,7 @@ module _ (b l : List ℕ) (i : ℕ) where
             (reportWith (labelOf (taskIn b i .place) (exitIn b i)) (cellTo b l i) (swapTo b l i) (lastGateIn (advanced b l i) i .seq) (maskIn (advanced b l i) i))
             ≡ cond (isRefused (step c i .answer)) noReport (reportOf c i)
         go true e = rw (e, e, sym (judged-is .0) ∙ e)
-        go false e = rw (e, sym (judged-is .0) ∙ e) (told-is (below (ltb i (processCountIn b) && ltb i 8) _ _ e))
+        go false e = rw (e, sym (judged-is .0) ∙ e) (told-is (below (ltb i (processCountIn b) && ltb i 8) (not (isIdle (taskIn b i .place))) (ltb (stepsIn b) (limitIn b)) e))
           where
             below : (t₁ t₂ t₃ : Bool) → isRefused (judged t₁ NoProcess t₂ NotBusy t₃ LimitReached) ≡ false → t₁ ≡ true
             below true t₂ t₃ h = refl

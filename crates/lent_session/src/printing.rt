@@ -34,7 +34,14 @@ pub(crate) fn put_start(card: &[u8], calls: &[u8], b: &mut [u64], buffer: &mut [
 }
 
 // The answer to a command, and its line put into the buffer: how long that is.
-pub(crate) fn put_command(calls: &[u8], command: Command, line: u64, b: &mut [u64], l: &mut [u64], buffer: &mut [u8]) -> usize
+pub(crate) fn put_command(
+    calls: &[u8],
+    command: Command,
+    line: u64,
+    b: &mut [u64],
+    l: &mut [u64],
+    buffer: &mut [u8],
+) -> usize
     requires { ⌜ Inside (now calls) command ⌝ }
     ensures { λ r. ⌜ Prints (now (calls .entry)) command line (now (b .entry)) (now (l .entry)) (now (buffer .entry)) r (now (b .exit)) (now (l .exit)) (now (buffer .exit)) ⌝ }
 {

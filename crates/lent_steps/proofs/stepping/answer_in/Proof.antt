@@ -1,4 +1,3 @@
-use mathlib.Core.Path.{refl}
 use borrow.Author.Needs.{needs}
 use Rattle.lent_steps.proofs.stepping.answer_in.Statement.{statement}
 use Rattle.lent_steps.proofs.stepping.answer_in.Tie as tie

@@ -1,19 +1,11 @@
 // Other words in the loan, and the words past them.
+use report::random::next_random;
 ghost use mathlib.Core.Path.{_≡_};
 ghost use lib.ListN.{drop};
-ghost use Rattle.lent_session.specs.Altering.{nextRandom, alteredLoan, lastDrawn, kept};
+ghost use Rattle.lent_session.specs.Altering.{alteredLoan, lastDrawn, kept};
 
 // A word that is not drawn, so that a stray store shows.
 pub(crate) const PATTERN: u64 = 6_510_615_555_426_900_570;
-
-// Marsaglia's xorshift with shifts 13, 7 and 17.
-fn next_random(x: u64) -> u64
-    ensures { λ r. ⌜ r ≡ nextRandom x ⌝ }
-{
-    let a = x ^ (x << 13);
-    let b = a ^ (a >> 7);
-    b ^ (b << 17)
-}
 
 // The first words become the numbers that follow x; the answer is the last of them. 0 alters nothing.
 pub(crate) fn alter(l: &mut [u64], words: usize, x: u64) -> u64

@@ -27,7 +27,7 @@ ghost use mathlib.Core.Bool.{_&&_};
 ghost use Rattle.io.specs.Counts.{Counts};
 
 // What was put into a buffer: its length, and where the next command stands.
-struct Put {
+struct Begun {
     length: usize,
     at: usize,
 }

@@ -1,5 +1,5 @@
 // The printed lines.
-use crate::Put;
+use crate::Begun;
 use crate::answering::execute;
 use commands::Command;
 use commands::printing::put_calls_refusal;
@@ -14,23 +14,23 @@ ghost use Rattle.lent_session.specs.Printing.{Starts, Prints};
 const LIMIT: usize = 65_536;
 
 // Opens the card: a refusal is put into the buffer, and no command is left after it.
-pub(crate) fn put_start(card: &[u8], calls: &[u8], b: &mut [u64], buffer: &mut [u8]) -> Put
+pub(crate) fn put_start(card: &[u8], calls: &[u8], b: &mut [u64], buffer: &mut [u8]) -> Begun
     ensures { λ r. ⌜ Starts (now (card .entry)) (now (calls .entry)) (now (b .entry)) (now (buffer .entry)) r (now (b .exit)) (now (buffer .exit)) ⌝ }
 {
     let verdict = lent_text::open(card, b);
     if let Verdict::Refused { refusal, line } = verdict {
-        return Put {
+        return Begun {
             length: put_card_refusal(buffer, refusal, line),
             at: calls.len(),
         };
     }
     if LIMIT < calls.len() {
-        return Put {
+        return Begun {
             length: put_calls_refusal(buffer),
             at: calls.len(),
         };
     }
-    Put { length: 0, at: 0 }
+    Begun { length: 0, at: 0 }
 }
 
 // The answer to a command, and its line put into the buffer: how long that is.

@@ -13,16 +13,10 @@ use grammar::reading::number_at;
 use lent_card::requesting::call;
 use lent_steps::stepping::step;
 use libc::STDIN_FILENO;
+use report::random::next_random;
 use report::show_announcement;
 use report::show_gate;
 use report::show_record;
-
-// Marsaglia's xorshift with shifts 13, 7 and 17.
-fn next_random(x: u64) -> u64 {
-    let a = x ^ (x << 13);
-    let b = a ^ (a >> 7);
-    b ^ (b << 17)
-}
 
 // The next number of the schedule, whose remainder by 8 is the process of a step.
 fn draw(turns: bool, x: u64) -> u64 {

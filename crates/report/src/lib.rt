@@ -1,6 +1,7 @@
 // What test programs share: lines that they write to standard output (an answer with the verb and first number of its entry and whether the card
-// changed, and the shared cells), and the comparison of cards. It rests on the crates construction, answers, cells, writer, io and libc.
+// changed, and the shared cells), the comparison of cards, and pseudo-random numbers. It rests on the crates construction, answers, cells, writer, io and libc.
 // What is computed equals its definition in specs/; no contract can say what is written, so whatever writes gives nothing back.
+pub mod random; // random.rt: pseudo-random numbers
 pub mod same; // same.rt: whether two cards are the same in every part
 
 use answers::put_answer;

@@ -1,2 +1,7 @@
 -- What is proved of block and loan over lists of entries
 pub mod Loans
+pub mod Judged
+pub mod Requested
+pub mod Stepped
+pub mod Entries
+pub mod Runs

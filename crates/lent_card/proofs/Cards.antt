@@ -32,7 +32,7 @@ use Rattle.lent_machine.proofs.Own.{gates-kept, copies-kept, simulations-kept, 
 use Rattle.lent_card.specs.Requests.{unlessRefused, callAnswer, putCall, callBlock, exitAnswer, exitBlock, valueIn, readAnswer, changeText, behindIn, changeAnswer, putChange, changeBlock, RoomKept}
 
 -- a block that has a process, or a program, is long enough
-there-long : (b : List ℕ) (base i : ℕ) (r : Bool) → ltb i (byte (numberAt b base 1 0)) && r ≡ true → 1456 ≤ length b
+pub there-long : (b : List ℕ) (base i : ℕ) (r : Bool) → ltb i (byte (numberAt b base 1 0)) && r ≡ true → 1456 ≤ length b
 unfolding numberAt isRoom
 there-long b base i r e = go (leb 1456 (length b)) refl (and-true (ltb i (byte (cond (leb 1456 (length b) && true) (wordAt b (base + 0)) 0))) r e .0)
   where

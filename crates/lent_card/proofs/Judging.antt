@@ -45,7 +45,7 @@ same-part f d n h past i = go (ltb i n) refl
     go false e = let p = ltb-false i n e in past (min i 255) (omega arith) ∙ sym (past i p)
 
 module _ (b : List ℕ) where
-  task-narrow : (i : ℕ) → taskIn b (min i 255) ≡ taskIn b i
+  pub task-narrow : (i : ℕ) → taskIn b (min i 255) ≡ taskIn b i
   task-narrow = same-part (λ i. taskIn b i) _ 8 (omega arith) (λ i h. row-past b 336 2 8 _ _ i h)
 
   record-narrow : (v : ℕ) → recordIn b (min v 255) ≡ recordIn b v

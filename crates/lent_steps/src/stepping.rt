@@ -2,25 +2,23 @@
 use answers::kinds::is_refused;
 use block::cells::limit;
 use block::cells::process_count;
-use block::cells::put_steps;
 use block::cells::steps;
 use block::own::count;
 use block::own::exit;
 use block::own::last;
-use block::own::put_count;
 use block::own::task;
 use construction::Access;
 use construction::Answer;
 use construction::Refusal;
 use lent_card::narrow::narrow;
 use lent_helping::access::step_access;
+use lent_machine::counting::put_counted;
 use loan::dictionaries::loan_words;
 use machine::announcement::returned;
 use machine::places::access_of;
 use machine::places::is_idle;
 use requests::judging::judge_step;
 ghost use mathlib.Core.Path.{_≡_};
-ghost use Rattle.lent_machine.specs.Accesses.{counted};
 ghost use Rattle.lent_helping.specs.Steps.{accessLoan};
 ghost use Rattle.lent_steps.specs.Steps.{stepVerdict, accessAt, advanced, stepBlock, stepLoan, answerIn, answerTo};
 
@@ -47,16 +45,6 @@ pub(crate) fn access_at(b: &[u64], i: u8) -> Access
     let task = task(b, i);
     let place = task.place;
     access_of(place, exit(b, i))
-}
-
-// An accepted step of process i is counted.
-fn put_counted(b: &mut [u64], i: u8)
-    ensures { λ r. ⌜ now (b .exit) ≡ counted (now (b .entry)) i ⌝ }
-{
-    let all = std::num::wrapping_add_u64(steps(b), 1);
-    let own = std::num::wrapping_add_u64(count(b, i), 1);
-    put_steps(b, all);
-    put_count(b, i, own);
 }
 
 // An accepted step.

@@ -1,0 +1,55 @@
+use borrow.Author.Needs.{needs}
+use Rattle.lent_machine.proofs.counting.put_counted.Statement.{statement}
+use Rattle.lent_machine.proofs.counting.put_counted.Tie as tie
+use Rattle.lent_machine.proofs.counting.put_counted.Reads as reads
+use Rattle.lent_machine.proofs.counting.put_counted.Lts as lts
+use Rattle.block.proofs.cells.put_steps.Reads as put-steps-reads
+use Rattle.block.proofs.cells.steps.Reads as steps-reads
+use Rattle.block.proofs.own.count.Reads as count-reads
+use Rattle.block.proofs.own.put_count.Reads as put-count-reads
+use Rattle.std.proofs.num.wrapping_add_u64.Reads as wrapping-add-u64-reads
+
+-- src/counting.rt:14:44
+steps-requires : tie.Need-steps-requires
+steps-requires c κs = search needs
+
+-- src/counting.rt:14:9
+wrapping-add-u64-requires : tie.Need-wrapping-add-u64-requires
+wrapping-add-u64-requires c κs = search needs
+
+-- src/counting.rt:15:42
+count-requires : tie.Need-count-requires
+count-requires c κs = search needs
+
+-- src/counting.rt:15:9
+wrapping-add-u64-requires-2 : tie.Need-wrapping-add-u64-requires-2
+wrapping-add-u64-requires-2 c κs = search needs
+
+-- src/counting.rt:16:5
+put-steps-requires : tie.Need-put-steps-requires
+put-steps-requires c κs = search needs
+
+-- src/counting.rt:17:5
+put-count-requires : tie.Need-put-count-requires
+put-count-requires c κs = search needs
+
+-- src/counting.rt:11:1
+same-length : tie.Need-same-length
+same-length c = search needs
+
+-- src/counting.rt:11:1
+returns : tie.Need-returns
+returns c = rw ((c .before .before .before .before .before .before .put-steps .ensures), (c .before .before .before .before .before .before .before .before .before .before .before .wrapping-add-u64 .ensures), (c .before .before .before .before .before .before .before .before .before .before .before .before .steps .ensures), (c .before .before .before .before .before .before .before .before .wrapping-add-u642 .ensures), (c .before .before .before .before .before .before .before .before .before .count .ensures)) at (c .before .before .put-count .ensures)
+
+pub put-counted-spec : {M : Type 1} → statement M
+put-counted-spec =
+    tie.close
+    (tie.spec
+    steps-requires
+    wrapping-add-u64-requires
+    count-requires
+    wrapping-add-u64-requires-2
+    put-steps-requires
+    put-count-requires
+    same-length
+    returns)

@@ -1,0 +1,3 @@
+-- Laws that proofs cite
+pub mod Judging
+pub mod Stepped

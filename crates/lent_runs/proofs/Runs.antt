@@ -1,17 +1,19 @@
 -- THE THEOREM OF ORDER 10: block and loan go through every list of entries as the card by value does, if the loan is handed back unaltered at each step.
 use Prim.Native.Nat.{ℕ, suc, _<_, _≤_, min}
 use mathlib.Core.Path.{_≡_, refl, sym, _∙_, ap}
+use mathlib.Core.Bool.{Bool, true, false, cond, not, _&&_, true≢false}
 use mathlib.Core.List.{List, [], _∷_}
 use native.Mathlib.Omega.{arith}
 use native.Mathlib.Nat.{max-le}
 use lib.ListN.{length, getD, replicate}
-use Rattle.construction.specs.declared.{Card.Card, Contents.Contents, Program.Program, Dictionary.Dictionary}
+use Rattle.construction.specs.declared.{Announcement.Announcement, Answer.Answer, Card.Card, Contents.Contents, Program.Program, Dictionary.Dictionary}
 use Rattle.construction.specs.Weight.{weight, heaviest, cardWeight}
 use Rattle.construction.specs.Instructions.{noProgram}
 use Rattle.construction.specs.Dictionary.{empty}
 use Rattle.construction.specs.Parts.{contentsOf, localAt, textsOf, programOf}
 use Rattle.construction.specs.Opening.{fresh, readCard, opened}
-use Rattle.construction.specs.History.{Entry, act, Observation, opening, observe, observeAll, run}
+use Rattle.construction.specs.Cells.{isDone}
+use Rattle.construction.specs.History.{Entry, act, Event, eventOf, History, turned, finishing, withFinishes, withEntry, Observation, opening, observe, observeAll, run}
 use Rattle.construction.proofs.Basics.{getD-replicate-same}
 use Rattle.construction.proofs.Text.Bounds.{opened-bounded}
 use Rattle.construction.proofs.Observing.Runs.{opened-consistent}
@@ -21,7 +23,7 @@ use Rattle.block.specs.Cards.{dictionaryAt, dictionaryIn, cardOf}
 use Rattle.block.proofs.Gets.{dictionary-is}
 use Rattle.lent_text.specs.Opened.{openedBlock}
 use Rattle.lent_text.proofs.Theorems.{opened-card, opened-room, opened-length}
-use Rattle.lent_runs.specs.Runs.{Handed, Memory, Reply, replyIn, replyOf, memoryAfter, remember, isShort, entriesOf, repliesIn, repliesOf, HandedBack, AllFit, openedMemory, AsByValue}
+use Rattle.lent_runs.specs.Runs.{Handed, Memory, Reply, replyIn, replyOf, memoryAfter, remember, isEleven, isShort, standingIn, historyAfter, historyOf, entriesOf, repliesIn, repliesOf, HandedBack, AllFit, openedMemory, AsByValue}
 use Rattle.lent_runs.proofs.Entries.{Roomy, Stands, Passed, passes}
 
 -- a card of a run has room where H21 reads one record more (the theorem of limits): its text weighs at most 32
@@ -55,17 +57,65 @@ opened-stands t b l long =
           ∙ (ap (λ (c : Card). localAt c i .dictionary .length) card ∙ ap (λ (d : Dictionary). d .length) (getD-replicate-same 8 i empty));
     }
 
+-- a step that is refused with 11 leaves nothing to note
+none-turned : (l : List Announcement) (k : ℕ) → turned k l l ≡ []
+unfolding turned
+none-turned [] k = refl
+none-turned (a ∷ l) k = still (isDone (a .flag)) (none-turned l (suc k))
+  where
+    still : (d : Bool) {xs : List ℕ} → xs ≡ [] → cond (not d && d) (k ∷ xs) xs ≡ []
+    still true e = e
+    still false e = e
+
+eleven-none : (x : Answer) → isEleven x ≡ true → eventOf x ≡ Event.none
+eleven-none (Answer.Refused r) e = refl
+eleven-none Answer.Taken e = absurd (true≢false (sym e))
+eleven-none Answer.Run e = refl
+eleven-none (Answer.Done number y steps) e = absurd (true≢false (sym e))
+eleven-none (Answer.Exited steps) e = absurd (true≢false (sym e))
+eleven-none (Answer.Value x) e = refl
+eleven-none (Answer.RefusedAt r line) e = refl
+
+entry-none : (o : Card) (s : History) (e : Entry) → withEntry o s e Event.none ≡ s
+entry-none o s (Entry.Call i k inputs) = refl
+entry-none o s (Entry.Exit i) = refl
+entry-none o s (Entry.Step i) = refl
+entry-none o s (Entry.Trace i) = refl
+entry-none o s (Entry.Read v) = refl
+entry-none o s (Entry.Change k from t) = refl
+
 -- what a list of entries leaves, from any memory and observation on
 record Follows (o : Card) (a : Observation) (m : Memory) (xs : List Handed) : Type 0 where
-  card : cardOf (remember m xs .block) (remember m xs .loan) ≡ observeAll o a (entriesOf m xs) .card
+  card : standingIn (remember m xs) ≡ observeAll o a (entriesOf m xs) .card
+  history : historyOf o m (a .history) xs ≡ observeAll o a (entriesOf m xs) .history
   replies : repliesIn m xs ≡ repliesOf (a .card) (entriesOf m xs)
+
+module _ (o : Card) (a : Observation) (m : Memory) (x : Handed) (s : Stands m (a .card)) where
+  history-skipped : isShort m x ≡ true → Stands (memoryAfter m x) (a .card) → historyAfter o m (a .history) x ≡ a .history
+  unfolding withFinishes
+  history-skipped short z =
+      let e = eleven-none (replyIn (m .block) (x .loan) (x .entry) .answer) short in
+      let p = s .card in
+      let q = z .card in
+      let n = none-turned (a .card .announcements) 0 in
+      (λ j. withEntry o (withFinishes o (p j .gate .seq) (finishing (p j) (q j)) (a .history)) (x .entry) (e j))
+      ∙ ((λ j. withEntry o (withFinishes o (a .card .gate .seq) (n j) (a .history)) (x .entry) Event.none) ∙ entry-none o (a .history) (x .entry))
+
+  history-went :
+      replyIn (m .block) (x .loan) (x .entry) ≡ replyOf (a .card) (x .entry) → Stands (memoryAfter m x) (act (a .card) (x .entry) .card) →
+      historyAfter o m (a .history) x ≡ observe o a (x .entry) .history
+  unfolding observe
+  history-went reply z =
+      let p = s .card in
+      let q = z .card in
+      λ j. withEntry o (withFinishes o (p j .gate .seq) (finishing (p j) (q j)) (a .history)) (x .entry) (eventOf (reply j .answer))
 
 module _ (o : Card) where
   follows :
       (a : Observation) (m : Memory) → ((es : List Entry) → Roomy (observeAll o a es .card)) → Stands m (a .card) → (xs : List Handed) →
       AllFit xs → HandedBack m xs → Follows o a m xs
-  unfolding observeAll remember entriesOf repliesIn repliesOf HandedBack AllFit observe
-  follows a m rooms s [] f h = record { card = s .card; replies = refl }
+  unfolding observeAll remember entriesOf repliesIn repliesOf HandedBack AllFit historyOf observe
+  follows a m rooms s [] f h = record { card = s .card; history = refl; replies = refl }
   follows a m rooms s (x ∷ xs) f h =
       by (λ d r z. follows d (memoryAfter m x) r z xs (f .1) (h .1)) (passes m (a .card) s (rooms []) x (f .0) (h .0))
     where
@@ -74,15 +124,27 @@ module _ (o : Card) where
           Passed (a .card) m x → Follows o a m (x ∷ xs)
       by rest (Passed.skipped short z) =
           let r = rest a rooms z in
-          record { card = rw short (r .card); replies = rw short (r .replies) }
+          let n = history-skipped o a m x s short z in
+          record {
+            card = rw short (r .card);
+            history = ap (λ (y : History). historyOf o (memoryAfter m x) y xs) n ∙ rw short (r .history);
+            replies = rw short (r .replies);
+          }
       by rest (Passed.went goes reply z) =
           let r = rest (observe o a (x .entry)) (λ es. rooms (x .entry ∷ es)) z in
           let e = r .replies in
-          record { card = rw goes (r .card); replies = rw goes (λ j. reply j ∷ e j) }
+          let n = history-went o a m x s reply z in
+          record {
+            card = rw goes (r .card);
+            history = ap (λ (y : History). historyOf o (memoryAfter m x) y xs) n ∙ rw goes (r .history);
+            replies = rw goes (λ j. reply j ∷ e j);
+          }
 
 pub as-by-value :
     (t b l : List ℕ) → 1456 ≤ length b → (xs : List Handed) → AllFit xs → HandedBack (openedMemory t b l) xs → AsByValue t b l xs
 as-by-value t b l long xs fits handed =
     let o = opened t .card in
     let r = follows o (opening o) (openedMemory t b l) (roomy t) (opened-stands t b l long) xs fits handed in
-    record { card = r .card; replies = r .replies }
+    let card = r .card in
+    let history = r .history in
+    record { observed = λ j. record { card = card j; history = history j }; replies = r .replies }

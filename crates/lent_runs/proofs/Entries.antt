@@ -33,10 +33,12 @@ use Rattle.lent_card.specs.Requests.{callAnswer, callBlock, exitAnswer, exitBlo
 use Rattle.lent_card.proofs.Cards.{call-is, exit-is, read-is, change-is}
 use Rattle.lent_card.proofs.Rooms.{call-room-kept, exit-room-kept, change-room-kept}
 use Rattle.lent_steps.specs.Steps.{stepVerdict, stepBlock, stepLoan, answerTo, reportTo}
+use Rattle.lent_steps.proofs.Stepped.{step-is}
 use Rattle.lent_runs.specs.Runs.{Handed, Memory, Reply, replyIn, replyOf, reportFor, untraced, isEleven, isShort, isAccepted, memoryAfter, Fits}
 use Rattle.lent_runs.proofs.Loans.{NoneNoted, same-card}
 use Rattle.lent_runs.proofs.Requested.{Counts, call-counts, exit-counts, change-counts, call-within, exit-within, change-within, call-numbers, exit-numbers, read-numbers, change-numbers}
-use Rattle.lent_runs.proofs.Stepped.{step-is, report-is, step-kept, step-others}
+use Rattle.lent_runs.proofs.Others.{step-kept, step-others}
+use Rattle.lent_runs.proofs.Stepped.{report-is}
 use Rattle.lent_runs.proofs.Judged.{ownJudged, own-numbers, step-judged, step-refused, step-short, step-taken, taken-numbers, Stays}
 
 -- a card on which H21 finds room

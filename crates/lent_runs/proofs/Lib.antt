@@ -3,5 +3,7 @@ pub mod Loans
 pub mod Judged
 pub mod Requested
 pub mod Stepped
+pub mod Others
 pub mod Entries
 pub mod Runs
+pub mod Statements

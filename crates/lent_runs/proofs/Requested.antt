@@ -78,7 +78,7 @@ module _ (b : List ℕ) where
       (within-row 920 1456 (putFrom (keepLater b k) k from) 1192 8 k (programWords y) (omega arith) (omega arith))))
 
 -- so p, w and what is noted stay
-same-number :
+pub same-number :
     (b c : List ℕ) (base n i : ℕ) → length c ≡ length b → (i < n → wordAt c (base + i) ≡ wordAt b (base + i)) → numberAt c base n i ≡ numberAt b base n i
 unfolding numberAt isRoom
 same-number b c base n i e w = go (ltb i n) refl

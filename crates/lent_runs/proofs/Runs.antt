@@ -23,7 +23,7 @@ use Rattle.block.specs.Cards.{dictionaryAt, dictionaryIn, cardOf}
 use Rattle.block.proofs.Gets.{dictionary-is}
 use Rattle.lent_text.specs.Opened.{openedBlock}
 use Rattle.lent_text.proofs.Theorems.{opened-card, opened-room, opened-length}
-use Rattle.lent_runs.specs.Runs.{Handed, Memory, Reply, replyIn, replyOf, memoryAfter, remember, isEleven, isShort, standingIn, historyAfter, historyOf, entriesOf, repliesIn, repliesOf, HandedBack, AllFit, openedMemory, AsByValue}
+use Rattle.lent_runs.specs.Runs.{Handed, Memory, Reply, replyIn, replyOf, memoryAfter, remember, isEleven, isShort, standingIn, historyAfter, historyOf, entriesOf, repliesIn, repliesOf, HandedBack, AllFit, openedMemory, memoryOf, takenOf, AsByValue}
 use Rattle.lent_runs.proofs.Entries.{Roomy, Stands, Passed, passes}
 
 -- a card of a run has room where H21 reads one record more (the theorem of limits): its text weighs at most 32
@@ -86,7 +86,7 @@ entry-none o s (Entry.Change k from t) = refl
 
 -- what a list of entries leaves, from any memory and observation on
 record Follows (o : Card) (a : Observation) (m : Memory) (xs : List Handed) : Type 0 where
-  card : standingIn (remember m xs) ≡ observeAll o a (entriesOf m xs) .card
+  stands : Stands (remember m xs) (observeAll o a (entriesOf m xs) .card)
   history : historyOf o m (a .history) xs ≡ observeAll o a (entriesOf m xs) .history
   replies : repliesIn m xs ≡ repliesOf (a .card) (entriesOf m xs)
 
@@ -115,7 +115,7 @@ module _ (o : Card) where
       (a : Observation) (m : Memory) → ((es : List Entry) → Roomy (observeAll o a es .card)) → Stands m (a .card) → (xs : List Handed) →
       AllFit xs → HandedBack m xs → Follows o a m xs
   unfolding observeAll remember entriesOf repliesIn repliesOf HandedBack AllFit historyOf observe
-  follows a m rooms s [] f h = record { card = s .card; history = refl; replies = refl }
+  follows a m rooms s [] f h = record { stands = s; history = refl; replies = refl }
   follows a m rooms s (x ∷ xs) f h =
       by (λ d r z. follows d (memoryAfter m x) r z xs (f .1) (h .1)) (passes m (a .card) s (rooms []) x (f .0) (h .0))
     where
@@ -126,7 +126,7 @@ module _ (o : Card) where
           let r = rest a rooms z in
           let n = history-skipped o a m x s short z in
           record {
-            card = rw short (r .card);
+            stands = rw short (r .stands);
             history = ap (λ (y : History). historyOf o (memoryAfter m x) y xs) n ∙ rw short (r .history);
             replies = rw short (r .replies);
           }
@@ -135,16 +135,22 @@ module _ (o : Card) where
           let e = r .replies in
           let n = history-went o a m x s reply z in
           record {
-            card = rw goes (r .card);
+            stands = rw goes (r .stands);
             history = ap (λ (y : History). historyOf o (memoryAfter m x) y xs) n ∙ rw goes (r .history);
             replies = rw goes (λ j. reply j ∷ e j);
           }
 
-pub as-by-value :
-    (t b l : List ℕ) → 1456 ≤ length b → (xs : List Handed) → AllFit xs → HandedBack (openedMemory t b l) xs → AsByValue t b l xs
-as-by-value t b l long xs fits handed =
-    let o = opened t .card in
-    let r = follows o (opening o) (openedMemory t b l) (roomy t) (opened-stands t b l long) xs fits handed in
-    let card = r .card in
-    let history = r .history in
-    record { observed = λ j. record { card = card j; history = history j }; replies = r .replies }
+module _ (t b l : List ℕ) (long : 1456 ≤ length b) (xs : List Handed) (fits : AllFit xs) (handed : HandedBack (openedMemory t b l) xs) where
+  whole : Follows (opened t .card) (opening (opened t .card)) (openedMemory t b l) xs
+  whole =
+      let o = opened t .card in
+      follows o (opening o) (openedMemory t b l) (roomy t) (opened-stands t b l long) xs fits handed
+
+  pub as-by-value : AsByValue t b l xs
+  as-by-value =
+      let card = whole .stands .card in
+      let history = whole .history in
+      record { observed = λ j. record { card = card j; history = history j }; replies = whole .replies }
+
+  pub stands-after : Stands (memoryOf t b l xs) (run (opened t .card) (takenOf t b l xs) .card)
+  stands-after = whole .stands

@@ -23,15 +23,3 @@ pub report-is :
     (b l : List ℕ) (i : ℕ) → loanWords b ≤ length l → (taskIn b i .place ≡ H21 → notedIn b i < roomIn b) →
     reportTo b l i ≡ trace (cardOf b l) i .report
 report-is = ?
-
-pub step-kept : (b l : List ℕ) (i : ℕ) → Kept b (stepBlock b l i)
-step-kept = ?
-
-pub step-others : (b l : List ℕ) (i j : ℕ) → j ≢ i → notedIn (stepBlock b l i) j ≡ notedIn b j
-step-others = ?
-
-pub step-long : (b l : List ℕ) (i : ℕ) → length (stepLoan b l i) ≡ length l
-step-long = ?
-
-pub step-past : (b l : List ℕ) (i q : ℕ) → loanWords b ≤ q → wordAt (stepLoan b l i) q ≡ wordAt l q
-step-past = ?

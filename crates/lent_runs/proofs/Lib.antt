@@ -4,6 +4,8 @@ pub mod Judged
 pub mod Requested
 pub mod Stepped
 pub mod Others
+pub mod Untouched
+pub mod ShortLoans
 pub mod Entries
 pub mod Runs
 pub mod Statements

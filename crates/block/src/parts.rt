@@ -21,7 +21,30 @@ ghost use mathlib.Core.Path.{_≡_};
 ghost use Prim.Native.Nat.{_+_, _<_, _≤_};
 ghost use lib.ListN.{length};
 ghost use Rattle.codes.specs.Parts.{part, stores};
-ghost use Rattle.codes.specs.Codes.{gateOf, gateWords, taskOf, taskWords, announcementOf, announcementWords, recordOf, recordWords, operationOf, operationWords, simulationOf, simulationWords};
+ghost use Rattle.codes.specs.Codes.{halves, putHalves, gateOf, gateWords, taskOf, taskWords, announcementOf, announcementWords, recordOf, recordWords, operationOf, operationWords, simulationOf, simulationWords};
+
+// Four numbers of 32 bits each.
+fn words_at(b: &[u64], at: usize) -> Words
+    requires { ⌜ (at < 2000000) × (at + 4 ≤ length (now b)) ⌝ }
+    ensures { λ r. ⌜ r ≡ halves (now (b .entry)) at ⌝ }
+{
+    Words {
+        w0: half(b[at]),
+        w1: half(b[at + 1]),
+        w2: half(b[at + 2]),
+        w3: half(b[at + 3]),
+    }
+}
+
+fn put_words(b: &mut [u64], at: usize, words: Words)
+    requires { ⌜ (at < 2000000) × (at + 4 ≤ length (now b)) ⌝ }
+    ensures { λ r. ⌜ now (b .exit) ≡ putHalves (now (b .entry)) at words ⌝ }
+{
+    b[at] = words.w0 as u64;
+    b[at + 1] = words.w1 as u64;
+    b[at + 2] = words.w2 as u64;
+    b[at + 3] = words.w3 as u64;
+}
 
 pub(crate) fn gate_at(b: &[u64], at: usize) -> Gate
     requires { ⌜ (at < 1000000) × (at + 2 ≤ length (now b)) ⌝ }
@@ -65,17 +88,13 @@ pub(crate) fn announcement_at(b: &[u64], at: usize) -> Announcement
     requires { ⌜ (at < 1000000) × (at + 9 ≤ length (now b)) ⌝ }
     ensures { λ r. ⌜ r ≡ announcementOf (part (now (b .entry)) at 9) ⌝ }
 {
+    let words = words_at(b, at + 4);
     Announcement {
         program: byte(b[at]),
         flag: flag_from(b[at + 1]),
         seq: b[at + 2],
         number: b[at + 3],
-        words: Words {
-            w0: half(b[at + 4]),
-            w1: half(b[at + 5]),
-            w2: half(b[at + 6]),
-            w3: half(b[at + 7]),
-        },
+        words,
         fault: odd(b[at + 8]),
     }
 }
@@ -90,27 +109,8 @@ pub(crate) fn put_announcement(b: &mut [u64], at: usize, announcement: Announcem
     b[at + 1] = flag_word(flag);
     b[at + 2] = announcement.seq;
     b[at + 3] = announcement.number;
-    b[at + 4] = words.w0 as u64;
-    b[at + 5] = words.w1 as u64;
-    b[at + 6] = words.w2 as u64;
-    b[at + 7] = words.w3 as u64;
+    put_words(b, at + 4, words);
     b[at + 8] = bit(announcement.fault);
-}
-
-// What a simulation yields, of the ten words of a simulation.
-pub(crate) fn yields_at(b: &[u64], at: usize) -> Yield
-    requires { ⌜ (at < 1000000) × (at + 10 ≤ length (now b)) ⌝ }
-    ensures { λ r. ⌜ r ≡ simulationOf (part (now (b .entry)) at 10) .yields ⌝ }
-{
-    Yield {
-        outputs: Words {
-            w0: half(b[at + 5]),
-            w1: half(b[at + 6]),
-            w2: half(b[at + 7]),
-            w3: half(b[at + 8]),
-        },
-        fault: odd(b[at + 9]),
-    }
 }
 
 pub(crate) fn record_at(b: &[u64], at: usize) -> Record
@@ -139,51 +139,11 @@ pub(crate) fn operation_at(b: &[u64], at: usize) -> Operation
     requires { ⌜ (at < 1000000) × (at + 5 ≤ length (now b)) ⌝ }
     ensures { λ r. ⌜ r ≡ operationOf (part (now (b .entry)) at 5) ⌝ }
 {
+    let inputs = words_at(b, at + 1);
     Operation {
         program: byte(b[at]),
-        inputs: Words {
-            w0: half(b[at + 1]),
-            w1: half(b[at + 2]),
-            w2: half(b[at + 3]),
-            w3: half(b[at + 4]),
-        },
+        inputs,
     }
-}
-
-pub(crate) fn simulation_at(b: &[u64], at: usize) -> Simulation
-    requires { ⌜ (at < 1000000) × (at + 10 ≤ length (now b)) ⌝ }
-    ensures { λ r. ⌜ r ≡ simulationOf (part (now (b .entry)) at 10) ⌝ }
-{
-    let yields = yields_at(b, at);
-    Simulation {
-        counter: byte(b[at]),
-        registers: Words {
-            w0: half(b[at + 1]),
-            w1: half(b[at + 2]),
-            w2: half(b[at + 3]),
-            w3: half(b[at + 4]),
-        },
-        yields,
-    }
-}
-
-pub(crate) fn put_simulation(b: &mut [u64], at: usize, s: Simulation)
-    requires { ⌜ (at < 1000000) × (at + 10 ≤ length (now b)) ⌝ }
-    ensures { λ x. ⌜ now (b .exit) ≡ stores (now (b .entry)) at (simulationWords s) ⌝ }
-{
-    let r = s.registers;
-    let y = s.yields;
-    let o = y.outputs;
-    b[at] = s.counter as u64;
-    b[at + 1] = r.w0 as u64;
-    b[at + 2] = r.w1 as u64;
-    b[at + 3] = r.w2 as u64;
-    b[at + 4] = r.w3 as u64;
-    b[at + 5] = o.w0 as u64;
-    b[at + 6] = o.w1 as u64;
-    b[at + 7] = o.w2 as u64;
-    b[at + 8] = o.w3 as u64;
-    b[at + 9] = bit(y.fault);
 }
 
 pub(crate) fn put_operation(b: &mut [u64], at: usize, operation: Operation)
@@ -192,8 +152,32 @@ pub(crate) fn put_operation(b: &mut [u64], at: usize, operation: Operation)
 {
     let inputs = operation.inputs;
     b[at] = operation.program as u64;
-    b[at + 1] = inputs.w0 as u64;
-    b[at + 2] = inputs.w1 as u64;
-    b[at + 3] = inputs.w2 as u64;
-    b[at + 4] = inputs.w3 as u64;
+    put_words(b, at + 1, inputs);
+}
+
+pub(crate) fn simulation_at(b: &[u64], at: usize) -> Simulation
+    requires { ⌜ (at < 1000000) × (at + 10 ≤ length (now b)) ⌝ }
+    ensures { λ r. ⌜ r ≡ simulationOf (part (now (b .entry)) at 10) ⌝ }
+{
+    let registers = words_at(b, at + 1);
+    let outputs = words_at(b, at + 5);
+    let fault = odd(b[at + 9]);
+    Simulation {
+        counter: byte(b[at]),
+        registers,
+        yields: Yield { outputs, fault },
+    }
+}
+
+pub(crate) fn put_simulation(b: &mut [u64], at: usize, s: Simulation)
+    requires { ⌜ (at < 1000000) × (at + 10 ≤ length (now b)) ⌝ }
+    ensures { λ x. ⌜ now (b .exit) ≡ stores (now (b .entry)) at (simulationWords s) ⌝ }
+{
+    let registers = s.registers;
+    let yields = s.yields;
+    let outputs = yields.outputs;
+    b[at] = s.counter as u64;
+    put_words(b, at + 1, registers);
+    put_words(b, at + 5, outputs);
+    b[at + 9] = bit(yields.fault);
 }

@@ -3,7 +3,7 @@ use Prim.Native.Nat.{ℕ, suc, _+_, _-_, _*_, _/_, _%_}
 use mathlib.Core.Bool.{Bool, cond}
 use mathlib.Core.List.{List, [], _∷_}
 use lib.Dec.{eqb}
-use lib.ListN.{getD}
+use lib.ListN.{getD, set}
 use Rattle.construction.specs.Instructions.{encode, noLine}
 use Rattle.codes.specs.Types.{Encoded, Holder, Nobody, Process, Gate, Flag, Done, Active, Exit, Words, Announcement, Record, Place, Idle, P1, P3, P5, P7, P10, C2, C4, P13, P14, P16, H21, H36, P19, P20, P21, P22, F1, F3, Task, Operation, Simulation, Item, Instruction, Line, Program}
 use Rattle.codes.specs.Parts.{wordAt, table}
@@ -78,6 +78,14 @@ placeFrom w =
     (cond (eqb w 18) F3
     Idle)))))))))))))))))
 
+-- four numbers of 32 bits each, from word k on
+
+abbrev pub halves : List ℕ → ℕ → Words
+halves w k = record { w0 = half (wordAt w k); w1 = half (wordAt w (k + 1)); w2 = half (wordAt w (k + 2)); w3 = half (wordAt w (k + 3)) }
+
+abbrev pub putHalves : List ℕ → ℕ → Words → List ℕ
+putHalves w k x = set (set (set (set w k (x .w0)) (k + 1) (x .w1)) (k + 2) (x .w2)) (k + 3) (x .w3)
+
 -- a value of a part's words, and the words of a value
 
 abbrev pub gateOf : List ℕ → Gate
@@ -99,7 +107,7 @@ announcementOf w =
       flag = flagFrom (wordAt w 1);
       seq = wordAt w 2;
       number = wordAt w 3;
-      words = record { w0 = half (wordAt w 4); w1 = half (wordAt w 5); w2 = half (wordAt w 6); w3 = half (wordAt w 7) };
+      words = halves w 4;
       fault = odd (wordAt w 8);
     }
 
@@ -114,11 +122,7 @@ abbrev pub recordWords : Record → List ℕ
 recordWords r = r .val0 ∷ r .val1 ∷ bit (r .toggle) ∷ r .seq ∷ []
 
 abbrev pub operationOf : List ℕ → Operation
-operationOf w =
-    record {
-      program = byte (wordAt w 0);
-      inputs = record { w0 = half (wordAt w 1); w1 = half (wordAt w 2); w2 = half (wordAt w 3); w3 = half (wordAt w 4) };
-    }
+operationOf w = record { program = byte (wordAt w 0); inputs = halves w 1 }
 
 abbrev pub operationWords : Operation → List ℕ
 operationWords o = o .program ∷ o .inputs .w0 ∷ o .inputs .w1 ∷ o .inputs .w2 ∷ o .inputs .w3 ∷ []
@@ -127,11 +131,8 @@ abbrev pub simulationOf : List ℕ → Simulation
 simulationOf w =
     record {
       counter = byte (wordAt w 0);
-      registers = record { w0 = half (wordAt w 1); w1 = half (wordAt w 2); w2 = half (wordAt w 3); w3 = half (wordAt w 4) };
-      yields = record {
-        outputs = record { w0 = half (wordAt w 5); w1 = half (wordAt w 6); w2 = half (wordAt w 7); w3 = half (wordAt w 8) };
-        fault = odd (wordAt w 9);
-      };
+      registers = halves w 1;
+      yields = record { outputs = halves w 5; fault = odd (wordAt w 9) };
     }
 
 abbrev pub simulationWords : Simulation → List ℕ

@@ -1,12 +1,13 @@
 -- A step by what code takes out of the block: a number that does not fit a byte is that of no process, and a step that is accepted has a small one.
 use Prim.Native.Nat.{ℕ, min, _≤_, _<_}
 use mathlib.Core.Path.{_≡_, refl, sym, _∙_, ap}
-use mathlib.Core.Bool.{Bool, true, false, cond, not, _&&_, true≢false}
+use mathlib.Core.Bool.{Bool, true, false, not, _&&_, true≢false}
 use mathlib.Core.List.{List}
 use native.Mathlib.Omega.{arith}
-use lib.Dec.{leb, ltb}
+use lib.Dec.{ltb}
 use lib.ListN.{length}
-use Rattle.construction.specs.declared.{Refusal.Refusal, Answer.Answer, Place.Place}
+use borrow.Author.Tests.{lt-ltb, le-ltb}
+use Rattle.construction.specs.declared.{Refusal.Refusal, Answer.Answer}
 use Rattle.construction.specs.declared.Refusal.the-variants.{ShortBuffer}
 use Rattle.construction.specs.Answers.{isRefused}
 use Rattle.construction.specs.Requests.{isIdle}
@@ -36,13 +37,15 @@ module _ (b l : List ℕ) (i : ℕ) where
   unfolding stepVerdict
   verdict-refused {x} e r = rw (← e, r)
 
-  pub verdict-short : {x y : Answer} → x ≡ judgedIn b i → isRefused x ≡ false → ltb (length l) (loanWords b) ≡ true → y ≡ Answer.Refused ShortBuffer → y ≡ stepVerdict b l i
+  pub verdict-short :
+      {x : Answer} {words : ℕ} → x ≡ judgedIn b i → isRefused x ≡ false → words ≡ loanWords b → length l < words → Answer.Refused ShortBuffer ≡ stepVerdict b l i
   unfolding stepVerdict
-  verdict-short e r s q = rw (← e, r, s) q
+  verdict-short e r ew h = let s : ltb (length l) (loanWords b) ≡ true = lt-ltb (length l) (loanWords b) (rw ew at h) in rw (← e, r, s)
 
-  pub verdict-taken : {x y : Answer} → x ≡ judgedIn b i → isRefused x ≡ false → ltb (length l) (loanWords b) ≡ false → y ≡ Answer.Taken → y ≡ stepVerdict b l i
+  pub verdict-taken :
+      {x : Answer} {words : ℕ} → x ≡ judgedIn b i → isRefused x ≡ false → words ≡ loanWords b → words ≤ length l → Answer.Taken ≡ stepVerdict b l i
   unfolding stepVerdict
-  verdict-taken e r s q = rw (← e, r, s) q
+  verdict-taken e r ew h = let s : ltb (length l) (loanWords b) ≡ false = le-ltb (length l) (loanWords b) (rw ew at h) in rw (← e, r, s)
 
   -- an accepted step is one of a process of the card
   accepted-below :

@@ -1,38 +1,36 @@
 -- A STEP ON BLOCK AND LOAN IS THE STEP ON THE CARD THAT STANDS THERE (document 02, order 10), for every block and every loan of p × w items: the block and the
 -- loan after it hold the card after it, and answer and report are the same. A process that is about to note a record has fewer than w items, which the
 -- theorem of limits (construction) says of every card of a run. A step with a shorter loan, or one that is refused, leaves block and loan as they were.
-use Prim.Native.Nat.{ℕ, suc, _+_, _*_, _<_, _≤_}
+use Prim.Native.Nat.{ℕ, _+_, _*_, _<_, _≤_}
 use mathlib.Core.Path.{_≡_, refl, sym, _∙_, ap}
 use mathlib.Core.Bool.{Bool, true, false, cond, not, _&&_, true≢false}
 use mathlib.Core.List.{List}
-use native.Mathlib.Nat.{mul-le-mul-left}
-use native.Mathlib.Omega.{arith}
-use lib.Dec.{leb, ltb}
+use lib.Dec.{ltb}
 use lib.ListN.{length, getD}
-use borrow.Author.Tests.{lt-ltb, le-ltb, le-leb, ltb-true}
-use Rattle.construction.specs.declared.{Access.Access, Refusal.Refusal, Answer.Answer, Answered.Answered, Card.Card, Cell.Cell, Gate.Gate, Item.Item, Place.Place, Report.Report, Swap.Swap}
+use borrow.Author.Tests.{lt-ltb, le-ltb, ltb-true}
+use Rattle.construction.specs.declared.{Access.Access, Answer.Answer, Answered.Answered, Card.Card, Cell.Cell, Gate.Gate, Place.Place}
 use Rattle.construction.specs.declared.Refusal.the-variants.{NoProcess, NotBusy, LimitReached, ShortBuffer}
 use Rattle.construction.specs.Dictionary.{noItem}
-use Rattle.construction.specs.Parts.{contentsOf, localAt, announcementAt, recordAt}
+use Rattle.construction.specs.Parts.{localAt, announcementAt, recordAt}
 use Rattle.construction.specs.Answers.{isRefused}
-use Rattle.construction.specs.Machine.{accessOf, accessIn, cellBy, writing, perform, advance, swapOf}
+use Rattle.construction.specs.Machine.{accessOf, accessIn, cellBy, writing, advance, swapOf}
 use Rattle.construction.specs.OneAccess.{touchedCell}
 use Rattle.construction.specs.Requests.{isIdle, refused, stepAnswer, answerOf, step}
 use Rattle.construction.specs.Tracing.{labelOf, reportWith, reportOf, noReport, trace}
-use Rattle.construction.proofs.Basics.{and-true, on-test}
+use Rattle.construction.proofs.Basics.{and-true}
 use Rattle.construction.proofs.Statements.Tracing.{answers}
 use Rattle.requests.specs.Judging.{judged}
 use Rattle.requests.proofs.Arrays.{in-room}
 use Rattle.reports.specs.Pieces.{swapBy}
 use Rattle.reports.specs.Pieces as pieces
 use Rattle.reports.proofs.Swaps.{swap-is}
-use Rattle.codes.specs.Types.{Dictionary}
-use Rattle.block.specs.Layout.{processCountIn, limitIn, stepsIn, roomIn, gateIn, announcementIn, recordIn, taskIn, exitIn, countIn, lastGateIn, lastIn, operationIn, simulationIn, maskIn, notedIn}
+use Rattle.block.specs.Layout.{processCountIn, limitIn, stepsIn, roomIn, announcementIn, recordIn, taskIn, exitIn, lastGateIn, maskIn, notedIn}
 use Rattle.block.specs.Cards.{cardOf}
 use Rattle.block.proofs.Gets.{process-count-is, limit-is, steps-is, gate-is, announcement-is, record-is, task-is, exit-is, count-is, last-gate-is, last-is, operation-is, simulation-is, mask-is, dictionary-is}
 use Rattle.loan.specs.Loans.{loanWords, hasItems, heldDictionary}
 use Rattle.loan.proofs.Kept.{held-is}
-use Rattle.lent_helping.specs.Steps.{accessBlock, accessLoan}
+use Rattle.lent_helping.specs.Steps.{accessLoan}
+use Rattle.lent_helping.proofs.Keeps.{has-items}
 use Rattle.lent_helping.proofs.Performs.{advance-is}
 use Rattle.lent_card.proofs.Cards.{there-long}
 use Rattle.lent_steps.specs.Steps.{lentJudged, stepVerdict, accessAt, advanced, stepBlock, stepLoan, answerIn, answerTo, itemTo, cellTo, swapTo, reportTo}
@@ -47,7 +45,7 @@ answer-is b l i d e =
     (λ j. stepAnswer (t j .place) (a j) (n j)) ∙ ap (λ (x : Card). answerOf (localAt x i)) e
 
 -- H21 alone is an access that notes
-isNote : Access → Bool
+abbrev isNote : Access → Bool
 isNote Access.None = false
 isNote (Access.Gate a) = false
 isNote (Access.Announcement a) = false
@@ -81,13 +79,6 @@ noting Place.P22 exit e = absurd (true≢false (sym (ap isNote e)))
 noting Place.F1 exit e = absurd (true≢false (sym (ap isNote e)))
 noting Place.F3 exit e = absurd (true≢false (sym (ap isNote e)))
 noting Place.P5 exit e = absurd (true≢false (sym (ap isNote e) ∙ at-top exit))
-
--- the items of a process of the card stand in a loan of p × w items
-pub has-items : (b l : List ℕ) (i : ℕ) → i < processCountIn b → loanWords b ≤ length l → hasItems b l i ≡ true
-unfolding hasItems
-has-items b l i p h =
-    let z : roomIn b * suc i ≤ roomIn b * processCountIn b = mul-le-mul-left (roomIn b) (omega arith) in
-    le-leb ((roomIn b * i + roomIn b) * 3) (length l) (omega arith)
 
 module _ (b l : List ℕ) (i : ℕ) where
   abbrev c : Card
@@ -251,7 +242,7 @@ module _ (b l : List ℕ) (i : ℕ) where
             (reportWith (labelOf (taskIn b i .place) (exitIn b i)) (cellTo b l i) (swapTo b l i) (lastGateIn (advanced b l i) i .seq) (maskIn (advanced b l i) i))
             ≡ cond (isRefused (step c i .answer)) noReport (reportOf c i)
         go true e = rw (e, e, sym (judged-is .0) ∙ e)
-        go false e = rw (e, sym (judged-is .0) ∙ e) (told-is (below (ltb i (processCountIn b) && ltb i 8) _ _ e))
+        go false e = rw (e, sym (judged-is .0) ∙ e) (told-is (below (ltb i (processCountIn b) && ltb i 8) (not (isIdle (taskIn b i .place))) (ltb (stepsIn b) (limitIn b)) e))
           where
             below : (t₁ t₂ t₃ : Bool) → isRefused (judged t₁ NoProcess t₂ NotBusy t₃ LimitReached) ≡ false → t₁ ≡ true
             below true t₂ t₃ h = refl

@@ -1,0 +1,27 @@
+use borrow.Author.Needs.{needs}
+use Rattle.lent_steps.proofs.stepping.access_at.Statement.{statement}
+use Rattle.lent_steps.proofs.stepping.access_at.Tie as tie
+use Rattle.lent_steps.proofs.stepping.access_at.Reads as reads
+use Rattle.lent_steps.proofs.stepping.access_at.Lts as lts
+use Rattle.block.proofs.own.exit.Reads as exit-reads
+use Rattle.block.proofs.own.task.Reads as task-reads
+use Rattle.machine.proofs.places.access_of.Reads as access-of-reads
+
+-- src/stepping.rt:45:9
+task-requires : tie.Need-task-requires
+task-requires c κs = search needs
+
+-- src/stepping.rt:47:22
+exit-requires : tie.Need-exit-requires
+exit-requires c κs = search needs
+
+-- src/stepping.rt:47:5
+access-of-requires : tie.Need-access-of-requires
+access-of-requires c κs = search needs
+
+-- src/stepping.rt:42:1
+returns : tie.Need-returns
+returns c = rw ((c .before .before .task .ensures), (c .before .exit .ensures)) at (c .access-of .ensures)
+
+pub access-at-spec : {M : Type 1} → statement M
+access-at-spec = tie.close (tie.spec task-requires exit-requires access-of-requires returns)

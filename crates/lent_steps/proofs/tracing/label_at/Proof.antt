@@ -1,0 +1,27 @@
+use borrow.Author.Needs.{needs}
+use Rattle.lent_steps.proofs.tracing.label_at.Statement.{statement}
+use Rattle.lent_steps.proofs.tracing.label_at.Tie as tie
+use Rattle.lent_steps.proofs.tracing.label_at.Reads as reads
+use Rattle.lent_steps.proofs.tracing.label_at.Lts as lts
+use Rattle.block.proofs.own.exit.Reads as exit-reads
+use Rattle.block.proofs.own.task.Reads as task-reads
+use Rattle.reports.proofs.label_of.Reads as label-of-reads
+
+-- src/tracing.rt:48:9
+task-requires : tie.Need-task-requires
+task-requires c κs = search needs
+
+-- src/tracing.rt:50:21
+exit-requires : tie.Need-exit-requires
+exit-requires c κs = search needs
+
+-- src/tracing.rt:50:5
+label-of-requires : tie.Need-label-of-requires
+label-of-requires c κs = search needs
+
+-- src/tracing.rt:45:1
+returns : tie.Need-returns
+returns c = rw ((c .before .before .task .ensures), (c .before .exit .ensures)) at (c .label-of .ensures)
+
+pub label-at-spec : {M : Type 1} → statement M
+label-at-spec = tie.close (tie.spec task-requires exit-requires label-of-requires returns)

@@ -33,13 +33,14 @@ use Rattle.lent_card.specs.Requests.{callAnswer, callBlock, exitAnswer, exitBlo
 use Rattle.lent_card.proofs.Cards.{call-is, exit-is, read-is, change-is}
 use Rattle.lent_card.proofs.Rooms.{call-room-kept, exit-room-kept, change-room-kept}
 use Rattle.lent_steps.specs.Steps.{stepVerdict, stepBlock, stepLoan, answerTo, reportTo}
-use Rattle.lent_steps.proofs.Stepped.{step-is}
+use Rattle.lent_steps.proofs.Judging.{judgedIn}
+use Rattle.lent_steps.proofs.Keeping.{step-block-kept}
+use Rattle.lent_steps.proofs.Stepped.{step-is, report-is}
 use Rattle.lent_runs.specs.Runs.{Handed, Memory, Reply, replyIn, replyOf, reportFor, untraced, isEleven, isShort, isAccepted, memoryAfter, Fits}
 use Rattle.lent_runs.proofs.Loans.{NoneNoted, same-card}
 use Rattle.lent_runs.proofs.Requested.{Counts, call-counts, exit-counts, change-counts, call-within, exit-within, change-within, call-numbers, exit-numbers, read-numbers, change-numbers}
-use Rattle.lent_runs.proofs.Others.{step-kept, step-others}
-use Rattle.lent_runs.proofs.Stepped.{report-is}
-use Rattle.lent_runs.proofs.Judged.{ownJudged, own-numbers, step-judged, step-refused, step-short, step-taken, taken-numbers, Stays}
+use Rattle.lent_runs.proofs.Others.{step-others}
+use Rattle.lent_runs.proofs.Judged.{own-numbers, step-judged, step-refused, step-short, step-taken, taken-numbers, Stays}
 
 -- a card on which H21 finds room
 abbrev pub Roomy : Card → Type 0
@@ -70,14 +71,14 @@ step-contents c i = on-step (λ (x : Answered). contentsOf (x .card) ≡ content
 -- a step, by the card that it goes by
 module _ (b l m : List ℕ) (c : Card) (s : Stands (record { block = b; loan = m }) c) (i : ℕ) where
   -- a refused one, with any loan
-  back-answer : isRefused (ownJudged b i) ≡ true → (answerTo b l i ≡ step c i .answer) × (step c i .card ≡ c)
+  back-answer : isRefused (judgedIn b i) ≡ true → (answerTo b l i ≡ step c i .answer) × (step c i .card ≡ c)
   back-answer r =
       let e = ap (λ (d : Card). step d i) (sym (s .card)) ∙ step-judged b i m in
       let stays = step-refused b l i r in
       (stays .answer ∙ sym (ap (λ (x : Answered). x .answer) e ∙ rw r), ap (λ (x : Answered). x .card) e ∙ rw r (s .card))
 
   -- an accepted one, with the loan as it was left
-  module _ (r : isRefused (ownJudged b i) ≡ false) (lent : loanWords b ≤ length l) (same : take (loanWords b) l ≡ take (loanWords b) m) (roomy : Roomy c) where
+  module _ (r : isRefused (judgedIn b i) ≡ false) (lent : loanWords b ≤ length l) (same : take (loanWords b) l ≡ take (loanWords b) m) (roomy : Roomy c) where
     here : cardOf b l ≡ c
     here = same-card b l m same (s .none) ∙ s .card
 
@@ -109,7 +110,7 @@ module _ (b l m : List ℕ) (c : Card) (s : Stands (record { block = b; loan = m
 
     went-stands : Stands (record { block = stepBlock b l i; loan = stepLoan b l i }) (step c i .card)
     went-stands =
-        let kept = step-kept b l i in
+        let kept = step-block-kept b l i in
         let card = ap (λ (x : Answered). x .card) went-answered in
         let text = step-contents c i in
         record {
@@ -120,7 +121,7 @@ module _ (b l m : List ℕ) (c : Card) (s : Stands (record { block = b; loan = m
         }
       where
         count-kept : processCountIn (stepBlock b l i) ≡ processCountIn b
-        count-kept = ap byte (number-same b (stepBlock b l i) 0 1 0 (step-kept b l i .size) (step-kept b l i .counts 0 (omega arith)))
+        count-kept = ap byte (number-same b (stepBlock b l i) 0 1 0 (step-block-kept b l i .size) (step-block-kept b l i .counts 0 (omega arith)))
 
 -- the memory after a step
 abbrev pub stepMemory : Memory → List ℕ → ℕ → Memory
@@ -152,9 +153,9 @@ module _ (m : Memory) (c : Card) (s : Stands m c) (roomy : Roomy c) (l : List �
 
   pub steps : Unaltered → Stepping c m l i
   unfolding trace
-  steps same = by (isRefused (ownJudged b i)) refl (ltb (length l) (loanWords b)) refl
+  steps same = by (isRefused (judgedIn b i)) refl (ltb (length l) (loanWords b)) refl
     where
-      by : (t : Bool) → isRefused (ownJudged b i) ≡ t → (u : Bool) → ltb (length l) (loanWords b) ≡ u → Stepping c m l i
+      by : (t : Bool) → isRefused (judgedIn b i) ≡ t → (u : Bool) → ltb (length l) (loanWords b) ≡ u → Stepping c m l i
       by true r u _ =
           let stays = step-refused b l i r in
           let x = back-answer b l (m .loan) c s i r in

@@ -21,11 +21,8 @@ use Rattle.block.specs.Cards.{cardOf}
 use Rattle.block.proofs.Gets.{process-count-is, limit-is, steps-is, task-is}
 use Rattle.loan.specs.Loans.{loanWords}
 use Rattle.lent_steps.specs.Steps.{lentJudged, stepVerdict, stepBlock, stepLoan, answerIn, advanced, answerTo, reportTo}
+use Rattle.lent_steps.proofs.Judging.{judgedIn}
 use Rattle.lent_runs.specs.Runs.{isEleven}
-
--- 'refused with 5, 8 or 10'
-abbrev pub ownJudged : List ℕ → ℕ → Answer
-ownJudged b i = stepJudged i (processCountIn b) (taskIn b i .place) (stepsIn b) (limitIn b)
 
 -- an answer to an accepted step refuses nothing
 accepts : (a : Announcement) (f : Flag) (k : ℕ) → (isRefused (returned a f k) ≡ false) × (isEleven (returned a f k) ≡ false)
@@ -58,14 +55,14 @@ tested c d x true true false = refl
 tested c d x true true true = refl
 
 module _ (b : List ℕ) (i : ℕ) where
-  pub own-numbers : isEleven (ownJudged b i) ≡ false
+  pub own-numbers : isEleven (judgedIn b i) ≡ false
   own-numbers = judged-numbers (ltb i (processCountIn b) && ltb i 8) (not (isIdle (taskIn b i .place))) (ltb (stepsIn b) (limitIn b))
 
   -- the step by value, with any loan
   pub step-judged :
       (l : List ℕ) →
       step (cardOf b l) i
-      ≡ cond (isRefused (ownJudged b i)) (record { card = cardOf b l; answer = ownJudged b i })
+      ≡ cond (isRefused (judgedIn b i)) (record { card = cardOf b l; answer = judgedIn b i })
       (record { card = advance (cardOf b l) i; answer = answerOf (localAt (advance (cardOf b l) i) i) })
   unfolding step
   step-judged l =
@@ -79,12 +76,12 @@ module _ (b : List ℕ) (i : ℕ) where
       (cond (not (ltb (steps j) (limit j))) (refused c LimitReached) (record { card = advance c i; answer = answerOf (localAt (advance c i) i) }))))
       ∙ tested c (advance c i) (answerOf (localAt (advance c i) i)) (ltb i (processCountIn b) && ltb i 8) (not (isIdle (taskIn b i .place))) (ltb (stepsIn b) (limitIn b))
 
-  pub step-refuses : (l : List ℕ) → isRefused (step (cardOf b l) i .answer) ≡ isRefused (ownJudged b i)
-  step-refuses l = ap (λ (x : Answered). isRefused (x .answer)) (step-judged l) ∙ go (isRefused (ownJudged b i)) refl
+  pub step-refuses : (l : List ℕ) → isRefused (step (cardOf b l) i .answer) ≡ isRefused (judgedIn b i)
+  step-refuses l = ap (λ (x : Answered). isRefused (x .answer)) (step-judged l) ∙ go (isRefused (judgedIn b i)) refl
     where
       go :
-          (t : Bool) → isRefused (ownJudged b i) ≡ t →
-          isRefused (cond {A = Answered} t (record { card = cardOf b l; answer = ownJudged b i }) (record { card = advance (cardOf b l) i; answer = answerOf (localAt (advance (cardOf b l) i) i) }) .answer) ≡ t
+          (t : Bool) → isRefused (judgedIn b i) ≡ t →
+          isRefused (cond {A = Answered} t (record { card = cardOf b l; answer = judgedIn b i }) (record { card = advance (cardOf b l) i; answer = answerOf (localAt (advance (cardOf b l) i) i) }) .answer) ≡ t
       go true e = e
       go false e = let x = localAt (advance (cardOf b l) i) i in answer-accepts (x .task .place) (x .announcement) (x .steps) .0
 
@@ -104,17 +101,17 @@ module _ (b l : List ℕ) (i : ℕ) where
       record { verdict = e; answer = rw z e; block = rw z; loan = rw z; report = rw z }
 
   -- 5, 8 and 10, whatever the loan
-  pub step-refused : isRefused (ownJudged b i) ≡ true → Stays b l i (ownJudged b i)
+  pub step-refused : isRefused (judgedIn b i) ≡ true → Stays b l i (judgedIn b i)
   unfolding stepVerdict
-  step-refused r = stays (ownJudged b i) (rw r) r
+  step-refused r = stays (judgedIn b i) (rw r) r
 
   -- then 11
-  pub step-short : isRefused (ownJudged b i) ≡ false → length l < loanWords b → Stays b l i (Answer.Refused ShortBuffer)
+  pub step-short : isRefused (judgedIn b i) ≡ false → length l < loanWords b → Stays b l i (Answer.Refused ShortBuffer)
   unfolding stepVerdict
   step-short r p = stays (Answer.Refused ShortBuffer) (rw (r, lt-ltb (length l) (loanWords b) p)) refl
 
   -- every other step is accepted
-  pub step-taken : isRefused (ownJudged b i) ≡ false → loanWords b ≤ length l → stepVerdict b l i ≡ Answer.Taken
+  pub step-taken : isRefused (judgedIn b i) ≡ false → loanWords b ≤ length l → stepVerdict b l i ≡ Answer.Taken
   unfolding stepVerdict
   step-taken r p = rw (r, le-ltb (length l) (loanWords b) p)
 

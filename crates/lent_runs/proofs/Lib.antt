@@ -2,10 +2,10 @@
 pub mod Loans
 pub mod Judged
 pub mod Requested
-pub mod Stepped
 pub mod Others
 pub mod Untouched
 pub mod ShortLoans
+pub mod ShortBlocks
 pub mod Entries
 pub mod Runs
 pub mod Statements

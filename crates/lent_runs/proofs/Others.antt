@@ -1,5 +1,4 @@
--- What a step leaves of other processes, for every block and every loan: what they have noted, in number and in the loan; and every word of the loan past
--- p × w items.
+-- A step leaves how many items the other processes have noted, for every block and every loan.
 use Prim.Native.Nat.{ℕ, _+_, _*_, _<_, _≤_, min}
 use mathlib.Core.Path.{_≡_, refl, _∙_, ap}
 use mathlib.Core.Logic.{_≢_, _⊎_, inl, inr, ⊎-elim}
@@ -7,31 +6,25 @@ use mathlib.Core.Bool.{Bool, true, false, cond}
 use mathlib.Core.List.{List}
 use native.Mathlib.Omega.{arith}
 use lib.Dec.{ltb}
-use lib.ListN.{length, set}
+use lib.ListN.{length}
 use lib.Seq.{getD-set-other}
-use borrow.Author.Tests.{ltb-true}
 use Rattle.construction.specs.declared.Swap.{Swap}
 use Rattle.construction.specs.Answers.{isRefused}
 use Rattle.construction.specs.Marks.{withBit}
 use Rattle.construction.specs.Machine.{goTo, holderOf, firstChoice, helps, afterPause, outcome, readHolder, readLast, nominate, release, announce, withdraw, readFlag, finish}
-use Rattle.construction.proofs.Basics.{and-true}
 use Rattle.codes.specs.Types.{Item, Access, GateAccess, GateAccessed, AnnouncementAccess, AnnouncementAccessed, Task, Announcement, Simulation, C4, P13, P19, P21}
 use Rattle.codes.specs.Parts.{wordAt}
 use Rattle.codes.specs.Codes.{byte, gateWords, taskWords, announcementWords, recordWords, simulationWords}
-use Rattle.codes.proofs.Blocks.{apart}
 use Rattle.block.specs.Layout.{isRoom, putRow, putNumber, processCountIn, stepsIn, roomIn, gateIn, putGate, announcementIn, putAnnouncement, recordIn, putRecord, taskIn, putTask, operationIn, countIn, putSteps, lastGateIn, putLastGate, lastIn, putLast, simulationIn, putSimulation, notedIn, putNoted, maskIn, putMask}
-use Rattle.lent_machine.proofs.Keeping.{Kept, kept-self, kept-twice, kept-room, counted-kept, only-row, only-number}
+use Rattle.lent_machine.proofs.Keeping.{kept-room, only-row, only-number}
 use Rattle.lent_machine.specs.Accesses.{ifWon, next, gateRead, gateSwapped, gateStep, announcementRead, announcementSwapped, announcementStep, counted}
-use Rattle.loan.specs.Loans.{loanWords, isInserted, insertBlock, insertLoan}
+use Rattle.loan.specs.Loans.{isInserted, insertBlock, insertLoan}
 use Rattle.loan.specs.Simulated.{begunIn, simulatedIn}
-use Rattle.loan.proofs.Kept.{Only}
 use Rattle.lent_helping.specs.Helps.{numberIn, helpedIn, helpStep, lackedIn, lackedItem, putMarked, goneOn, notedBlock, noteBlock, writingIn, writtenIn, recordSwapped, writeStep}
-use Rattle.lent_helping.specs.Steps.{accessBlock, accessLoan}
-use Rattle.lent_helping.proofs.Performs.{access-kept, access-only}
-use Rattle.lent_steps.specs.Steps.{stepVerdict, accessAt, advanced, stepBlock, stepLoan}
-use Rattle.lent_steps.proofs.Judging.{accepted-process}
+use Rattle.lent_helping.specs.Steps.{accessBlock}
+use Rattle.lent_steps.specs.Steps.{stepVerdict, accessAt, stepBlock}
+use Rattle.lent_steps.proofs.Keeping.{step-block-kept}
 use Rattle.lent_runs.proofs.Requested.{same-number}
-use Rattle.lent_runs.proofs.Loans.{own-words}
 
 -- the lengths of the other dictionaries
 pub record Others (i : ℕ) (b c : List ℕ) : Type 0 where
@@ -177,14 +170,6 @@ counted-others b i =
 
 -- A STEP
 module _ (b l : List ℕ) (i : ℕ) where
-  pub step-kept : Kept b (stepBlock b l i)
-  unfolding stepBlock
-  step-kept = either (isRefused (stepVerdict b l i)) (kept-twice (access-kept (accessAt b i) b l i) (counted-kept (accessBlock (accessAt b i) b l i) i))
-    where
-      either : (t : Bool) {c : List ℕ} → Kept b c → Kept b (cond t b c)
-      either true x = kept-self b
-      either false x = x
-
   block-others : Others i b (stepBlock b l i)
   unfolding stepBlock
   block-others =
@@ -193,27 +178,7 @@ module _ (b l : List ℕ) (i : ℕ) where
 
   pub step-others : (j : ℕ) → j ≢ i → notedIn (stepBlock b l i) j ≡ notedIn b j
   step-others j ne =
-      let count = same-number b (stepBlock b l i) 576 8 j (step-kept .size) (λ p. block-others .at j p ne) in
-      let room = kept-room step-kept in
+      let kept = step-block-kept b l i in
+      let count = same-number b (stepBlock b l i) 576 8 j (kept .size) (λ p. block-others .at j p ne) in
+      let room = kept-room kept in
       λ z. min (byte (count z)) (room z)
-
-  -- only items of its own process
-  pub step-only : Only b l (stepLoan b l i) i
-  unfolding stepLoan
-  step-only = either (isRefused (stepVerdict b l i)) (access-only (accessAt b i) b l i)
-    where
-      either : (t : Bool) {m : List ℕ} → Only b l m i → Only b l (cond t l m) i
-      either true x = record { long = refl; at = λ q h. refl }
-      either false x = x
-
-  -- and so none past the first p × w
-  pub step-past : (q : ℕ) → loanWords b ≤ q → wordAt (stepLoan b l i) q ≡ wordAt l q
-  unfolding stepLoan
-  step-past q p = go (isRefused (stepVerdict b l i)) refl
-    where
-      go : (t : Bool) → isRefused (stepVerdict b l i) ≡ t → wordAt (cond t l (accessLoan (accessAt b i) b l i)) q ≡ wordAt l q
-      go true e = refl
-      go false e =
-          let below = ltb-true i (processCountIn b) (and-true (ltb i (processCountIn b)) (ltb i 8) (accepted-process b l i e) .0) in
-          let end = own-words b i below in
-          access-only (accessAt b i) b l i .at q (inr (omega arith))

@@ -18,8 +18,9 @@ use Rattle.construction.proofs.Statements.AnswerFields.{answer-known, number-kn
 use Rattle.block.specs.Cards.{cardOf}
 use Rattle.loan.specs.Loans.{loanWords}
 use Rattle.lent_steps.specs.Steps.{stepBlock, stepLoan, answerTo}
+use Rattle.lent_steps.proofs.Judging.{judgedIn}
 use Rattle.lent_runs.specs.Runs.{replyIn, isEleven}
-use Rattle.lent_runs.proofs.Judged.{ownJudged, own-numbers, step-refuses, step-refused, step-short, step-taken, taken-numbers}
+use Rattle.lent_runs.proofs.Judged.{own-numbers, step-refuses, step-refused, step-short, step-taken, taken-numbers}
 use Rattle.lent_runs.proofs.Requested.{call-numbers, exit-numbers, read-numbers, change-numbers}
 
 -- 11 by the answer is 11 by its fields
@@ -46,13 +47,13 @@ module _ (b l : List ℕ) (i : ℕ) where
 
   pub loan-too-short-only :
       answerFields (answerTo b l i) ≡ refusedWith 11 → (isRefused (step (cardOf b l) i .answer) ≡ false) × (length l < loanWords b)
-  loan-too-short-only e = by (isRefused (ownJudged b i)) refl (ltb (length l) (loanWords b)) refl
+  loan-too-short-only e = by (isRefused (judgedIn b i)) refl (ltb (length l) (loanWords b)) refl
     where
       told : isEleven (answerTo b l i) ≡ true
       told = eleven-only (answerTo b l i) e
 
       by :
-          (t : Bool) → isRefused (ownJudged b i) ≡ t → (u : Bool) → ltb (length l) (loanWords b) ≡ u →
+          (t : Bool) → isRefused (judgedIn b i) ≡ t → (u : Bool) → ltb (length l) (loanWords b) ≡ u →
           (isRefused (step (cardOf b l) i .answer) ≡ false) × (length l < loanWords b)
       by true r u q = absurd (true≢false (sym told ∙ (ap isEleven (step-refused b l i r .answer) ∙ own-numbers b i)))
       by false r true q = (step-refuses b i l ∙ r, ltb-true (length l) (loanWords b) q)

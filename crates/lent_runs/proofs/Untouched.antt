@@ -11,13 +11,13 @@ use Rattle.codes.proofs.Blocks.{apart}
 use Rattle.block.specs.Layout.{roomIn, notedIn}
 use Rattle.block.proofs.Fitting.{noted-room}
 use Rattle.block.proofs.Standing.{number-same}
-use Rattle.loan.proofs.Kept.{Only}
 use Rattle.lent_machine.proofs.Keeping.{Kept}
 use Rattle.lent_steps.specs.Steps.{stepLoan}
+use Rattle.lent_steps.proofs.Keeping.{step-block-kept, step-loan-only, step-past}
 use Rattle.lent_runs.specs.Runs.{Handed, Memory, blockAfter, memoryAfter, remember}
 use Rattle.lent_runs.specs.Untouched.{BlockKept, Untouched}
 use Rattle.lent_runs.proofs.Requested.{Within, Counts, call-within, exit-within, change-within, call-counts, exit-counts, change-counts}
-use Rattle.lent_runs.proofs.Others.{step-kept, step-others, step-only, step-past}
+use Rattle.lent_runs.proofs.Others.{step-others}
 
 kept-all : (b : List ℕ) → BlockKept b b
 kept-all b = record { size = refl; counts = λ q p. refl; room = refl; texts = λ q p r. refl; past = λ q p. refl }
@@ -67,7 +67,7 @@ most-in {b} {c} x j = let e = kept-w x in let h = noted-room c j in omega arith
 apart-items : (b l : List ℕ) (i j : ℕ) → j ≢ i → (q : ℕ) → roomIn b * j * 3 ≤ q → q < (roomIn b * j + roomIn b) * 3 → wordAt (stepLoan b l i) q ≡ wordAt l q
 apart-items b l i j ne q p r =
     let w = roomIn b in
-    step-only b l i .at q (⊎-elim (λ (z : w * i + w ≤ w * j). inr (omega arith)) (λ (z : w * j + w ≤ w * i). inl (omega arith)) (apart w i j ne))
+    step-loan-only b l i .at q (⊎-elim (λ (z : w * i + w ≤ w * j). inr (omega arith)) (λ (z : w * j + w ≤ w * i). inl (omega arith)) (apart w i j ne))
 
 -- EVERY ENTRY
 pub untouched : (b l : List ℕ) (e : Entry) → Untouched b l e
@@ -85,22 +85,22 @@ untouched b l (Entry.Exit i) =
     let kept = lower (exit-within b i) in
     record { block = kept; size = refl; past = λ q p. refl; noted = λ j s. exit-counts b i .noted j; items = λ j s q p r. refl; most = most-in kept }
 untouched b l (Entry.Step i) =
-    let kept = stepped (step-kept b l i) in
+    let kept = stepped (step-block-kept b l i) in
     let another : (j : ℕ) → (Steps (Entry.Step i) j → ⊥) → j ≢ i = λ j s e. s (subst (Steps (Entry.Step i)) (sym e) Steps.by-step) in
     record {
       block = kept;
-      size = step-only b l i .long;
+      size = step-loan-only b l i .long;
       past = step-past b l i;
       noted = λ j s. step-others b l i j (another j s);
       items = λ j s. apart-items b l i j (another j s);
       most = most-in kept;
     }
 untouched b l (Entry.Trace i) =
-    let kept = stepped (step-kept b l i) in
+    let kept = stepped (step-block-kept b l i) in
     let another : (j : ℕ) → (Steps (Entry.Trace i) j → ⊥) → j ≢ i = λ j s e. s (subst (Steps (Entry.Trace i)) (sym e) Steps.by-trace) in
     record {
       block = kept;
-      size = step-only b l i .long;
+      size = step-loan-only b l i .long;
       past = step-past b l i;
       noted = λ j s. step-others b l i j (another j s);
       items = λ j s. apart-items b l i j (another j s);

@@ -9,3 +9,4 @@ pub mod ShortBlocks
 pub mod Entries
 pub mod Runs
 pub mod Statements
+pub mod Handing

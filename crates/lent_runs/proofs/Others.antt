@@ -1,24 +1,25 @@
--- A step leaves how many items the other processes have noted, for every block and every loan.
+-- A step leaves how many items the other processes have noted, for every block and every loan; and a full dictionary stays full.
 use Prim.Native.Nat.{ℕ, _+_, _*_, _<_, _≤_, min}
-use mathlib.Core.Path.{_≡_, refl, _∙_, ap}
+use mathlib.Core.Path.{_≡_, refl, sym, _∙_, subst}
 use mathlib.Core.Logic.{_≢_, _⊎_, inl, inr, ⊎-elim}
-use mathlib.Core.Bool.{Bool, true, false, cond}
+use mathlib.Core.Bool.{Bool, true, false, cond, _&&_}
 use mathlib.Core.List.{List}
 use native.Mathlib.Omega.{arith}
 use lib.Dec.{ltb}
 use lib.ListN.{length}
 use lib.Seq.{getD-set-other}
+use borrow.Author.Tests.{le-ltb}
 use Rattle.construction.specs.declared.Swap.{Swap}
 use Rattle.construction.specs.Answers.{isRefused}
 use Rattle.construction.specs.Marks.{withBit}
-use Rattle.construction.specs.Machine.{goTo, holderOf, firstChoice, helps, afterPause, outcome, readHolder, readLast, nominate, release, announce, withdraw, readFlag, finish}
-use Rattle.codes.specs.Types.{Item, Access, GateAccess, GateAccessed, AnnouncementAccess, AnnouncementAccessed, Task, Announcement, Simulation, C4, P13, P19, P21}
+use Rattle.construction.specs.Machine.{accessOf, goTo, holderOf, firstChoice, helps, afterPause, outcome, readHolder, readLast, nominate, release, announce, withdraw, readFlag, finish}
+use Rattle.codes.specs.Types.{Item, Access, GateAccess, GateAccessed, AnnouncementAccess, AnnouncementAccessed, Task, Announcement, Simulation, C4, H21, P13, P19, P21}
 use Rattle.codes.specs.Parts.{wordAt}
 use Rattle.codes.specs.Codes.{byte, gateWords, taskWords, announcementWords, recordWords, simulationWords}
 use Rattle.block.specs.Layout.{isRoom, putRow, putNumber, processCountIn, stepsIn, roomIn, gateIn, putGate, announcementIn, putAnnouncement, recordIn, putRecord, taskIn, putTask, operationIn, countIn, putSteps, lastGateIn, putLastGate, lastIn, putLast, simulationIn, putSimulation, notedIn, putNoted, maskIn, putMask}
-use Rattle.lent_machine.proofs.Keeping.{kept-room, only-row, only-number}
+use Rattle.lent_machine.proofs.Keeping.{kept-room, mask-kept, only-row, only-number}
 use Rattle.lent_machine.specs.Accesses.{ifWon, next, gateRead, gateSwapped, gateStep, announcementRead, announcementSwapped, announcementStep, counted}
-use Rattle.loan.specs.Loans.{isInserted, insertBlock, insertLoan}
+use Rattle.loan.specs.Loans.{hasItems, isInserted, insertBlock, insertLoan}
 use Rattle.loan.specs.Simulated.{begunIn, simulatedIn}
 use Rattle.lent_helping.specs.Helps.{numberIn, helpedIn, helpStep, lackedIn, lackedItem, putMarked, goneOn, notedBlock, noteBlock, writingIn, writtenIn, recordSwapped, writeStep}
 use Rattle.lent_helping.specs.Steps.{accessBlock}
@@ -61,35 +62,35 @@ module _ (i : ℕ) (b : List ℕ) where
   unfolding putNumber
   others-noted n = others-either (isRoom b i 8) (record { at = λ j p q. getD-set-other b (576 + i) (576 + j) n 0 (λ e. q (omega arith)) }) (others-self i b)
 
-  others-task : (t : Task) → Others i b (putTask b i t)
-  others-task t = others-row 336 8 i (taskWords t) (omega arith)
+  others-task : (k : ℕ) (t : Task) → Others i b (putTask b k t)
+  others-task k t = others-row 336 8 k (taskWords t) (omega arith)
 
   others-last : (a : Announcement) → Others i b (putLast b i a)
   others-last a = others-row 424 8 i (announcementWords a) (omega arith)
 
-  others-simulation : (s : Simulation) → Others i b (putSimulation b i s)
-  others-simulation s = others-row 496 8 i (simulationWords s) (omega arith)
+  others-simulation : (k : ℕ) (s : Simulation) → Others i b (putSimulation b k s)
+  others-simulation k s = others-row 496 8 k (simulationWords s) (omega arith)
 
   others-announcement : (m : ℕ) (a : Announcement) → Others i b (putAnnouncement b m a)
   others-announcement m a = others-row 8 8 m (announcementWords a) (omega arith)
 
-  others-mask : (x : ℕ) → Others i b (putMask b i x)
-  others-mask x = others-number 584 8 i x (inr (omega arith))
+  others-mask : (k x : ℕ) → Others i b (putMask b k x)
+  others-mask k x = others-number 584 8 k x (inr (omega arith))
 
 module _ (i : ℕ) (b : List ℕ) where
   gate-read : (x : GateAccessed) → Others i b (gateRead b i x)
-  gate-read x = others-twice (others-row i b 408 8 i (gateWords (x .read)) (omega arith)) (others-task i (putLastGate b i (x .read)) (x .task))
+  gate-read x = others-twice (others-row i b 408 8 i (gateWords (x .read)) (omega arith)) (others-task i (putLastGate b i (x .read)) i (x .task))
 
   gate-swapped : (x : GateAccessed) → Others i b (gateSwapped b i x)
   gate-swapped x =
-      others-twice (others-if (x .swap) (others-row i b 5 1 0 (gateWords (x .cell)) (omega arith))) (others-task i (ifWon (x .swap) (putGate b (x .cell)) b) (x .task))
+      others-twice (others-if (x .swap) (others-row i b 5 1 0 (gateWords (x .cell)) (omega arith))) (others-task i (ifWon (x .swap) (putGate b (x .cell)) b) i (x .task))
 
   announcement-read : (x : AnnouncementAccessed) → Others i b (announcementRead b i x)
-  announcement-read x = others-twice (others-last i b (x .read)) (others-task i (putLast b i (x .read)) (x .task))
+  announcement-read x = others-twice (others-last i b (x .read)) (others-task i (putLast b i (x .read)) i (x .task))
 
   announcement-swapped : (m : ℕ) (x : AnnouncementAccessed) → Others i b (announcementSwapped b i m x)
   announcement-swapped m x =
-      others-twice (others-if (x .swap) (others-announcement i b m (x .cell))) (others-task i (ifWon (x .swap) (putAnnouncement b m (x .cell)) b) (x .task))
+      others-twice (others-if (x .swap) (others-announcement i b m (x .cell))) (others-task i (ifWon (x .swap) (putAnnouncement b m (x .cell)) b) i (x .task))
 
 gate-others : (a : GateAccess) (b : List ℕ) (i : ℕ) → Others i b (gateStep a b i)
 unfolding gateStep
@@ -123,14 +124,14 @@ help-others b i =
     let d = putNoted c i 0 in
     let e = putMask d i 0 in
     others-either (helps cell number)
-    (others-twice (others-simulation i b (x .simulation)) (others-twice (others-noted i c 0) (others-twice (others-mask i d 0)
-    (others-twice (others-last i e cell) (others-task i (putLast e i cell) (afterPause number (x .dictionary) (x .pause)))))))
-    (others-twice (others-last i b cell) (others-task i (putLast b i cell) (goTo (taskIn b i) P21)))
+    (others-twice (others-simulation i b i (x .simulation)) (others-twice (others-noted i c 0) (others-twice (others-mask i d i 0)
+    (others-twice (others-last i e cell) (others-task i (putLast e i cell) i (afterPause number (x .dictionary) (x .pause)))))))
+    (others-twice (others-last i b cell) (others-task i (putLast b i cell) i (goTo (taskIn b i) P21)))
 
-gone-on-others : (b l : List ℕ) (i number : ℕ) → Others i b (goneOn b l i number)
-gone-on-others b l i number =
+gone-on-others : (n : ℕ) (b l : List ℕ) (i number : ℕ) → Others n b (goneOn b l i number)
+gone-on-others n b l i number =
     let x = simulatedIn b l i number in
-    others-twice (others-simulation i b (x .simulation)) (others-task i (putSimulation b i (x .simulation)) (afterPause number (x .dictionary) (x .pause)))
+    others-twice (others-simulation n b i (x .simulation)) (others-task n (putSimulation b i (x .simulation)) i (afterPause number (x .dictionary) (x .pause)))
 
 insert-others : (b l : List ℕ) (i : ℕ) → Others i b (insertBlock b l i)
 unfolding insertBlock
@@ -139,20 +140,20 @@ insert-others b l i = others-either (isInserted b l i) (others-noted i b (notedI
 noted-others : (b l : List ℕ) (i number : ℕ) (e : Item) → Others i b (notedBlock b l i number e)
 noted-others b l i number e =
     let c = putMarked b i (e .variable) in
-    others-twice (others-mask i b (withBit (maskIn b i) (e .variable)))
-    (others-twice (insert-others c l i) (gone-on-others (insertBlock c l i) (insertLoan c l i e) i number))
+    others-twice (others-mask i b i (withBit (maskIn b i) (e .variable)))
+    (others-twice (insert-others c l i) (gone-on-others i (insertBlock c l i) (insertLoan c l i e) i number))
 
 note-others : (b l : List ℕ) (i : ℕ) → Others i b (noteBlock b l i)
 unfolding noteBlock
 note-others b l i =
-    others-either (ltb (numberIn b i) (lackedIn b i .seq)) (others-task i b (goTo (taskIn b i) P19)) (noted-others b l i (numberIn b i) (lackedItem b i))
+    others-either (ltb (numberIn b i) (lackedIn b i .seq)) (others-task i b i (goTo (taskIn b i) P19)) (noted-others b l i (numberIn b i) (lackedItem b i))
 
 write-others : (b l : List ℕ) (i : ℕ) → Others i b (writeStep b l i)
 unfolding writeStep
 write-others b l i =
     let v = writingIn b l i .item .variable in
     let x = writtenIn b l i in
-    others-twice (others-if (outcome (x .won)) (others-row i b 80 64 v (recordWords (x .cell)) (omega arith))) (others-task i (recordSwapped b v x) (writingIn b l i .task))
+    others-twice (others-if (outcome (x .won)) (others-row i b 80 64 v (recordWords (x .cell)) (omega arith))) (others-task i (recordSwapped b v x) i (writingIn b l i .task))
 
 access-others : (a : Access) (b l : List ℕ) (i : ℕ) → Others i b (accessBlock a b l i)
 unfolding accessBlock
@@ -163,10 +164,10 @@ access-others Access.Help b l i = help-others b i
 access-others Access.Note b l i = note-others b l i
 access-others Access.Write b l i = write-others b l i
 
-counted-others : (b : List ℕ) (i : ℕ) → Others i b (counted b i)
-counted-others b i =
-    others-twice (others-number i b 4 1 0 (next (stepsIn b)) (inl (omega arith)))
-    (others-number i (putSteps b (next (stepsIn b))) 400 8 i (next (countIn b i)) (inl (omega arith)))
+counted-others : (n : ℕ) (b : List ℕ) (i : ℕ) → Others n b (counted b i)
+counted-others n b i =
+    others-twice (others-number n b 4 1 0 (next (stepsIn b)) (inl (omega arith)))
+    (others-number n (putSteps b (next (stepsIn b))) 400 8 i (next (countIn b i)) (inl (omega arith)))
 
 -- A STEP
 module _ (b l : List ℕ) (i : ℕ) where
@@ -174,7 +175,7 @@ module _ (b l : List ℕ) (i : ℕ) where
   unfolding stepBlock
   block-others =
       others-either (isRefused (stepVerdict b l i)) (others-self i b)
-      (others-twice (access-others (accessAt b i) b l i) (counted-others (accessBlock (accessAt b i) b l i) i))
+      (others-twice (access-others (accessAt b i) b l i) (counted-others i (accessBlock (accessAt b i) b l i) i))
 
   pub step-others : (j : ℕ) → j ≢ i → notedIn (stepBlock b l i) j ≡ notedIn b j
   step-others j ne =
@@ -182,3 +183,39 @@ module _ (b l : List ℕ) (i : ℕ) where
       let count = same-number b (stepBlock b l i) 576 8 j (kept .size) (λ p. block-others .at j p ne) in
       let room = kept-room kept in
       λ z. min (byte (count z)) (room z)
+
+-- A FULL DICTIONARY STAYS FULL: line H21 of a process with w items notes none, and takes none away
+module _ (b l : List ℕ) (i : ℕ) (full : notedIn b i ≡ roomIn b) where
+  none-inserted : (v : ℕ) → insertBlock (putMarked b i v) l i ≡ putMarked b i v
+  unfolding insertBlock isInserted
+  none-inserted v =
+      let c = putMarked b i v in
+      let kept = mask-kept b i (withBit (maskIn b i) v) in
+      let room = kept-room kept in
+      let count = same-number b c 576 8 i (kept .size) (λ p. others-mask 8 b i (withBit (maskIn b i) v) .at i p (λ e. omega arith)) in
+      let still : notedIn c i ≡ notedIn b i = λ z. min (byte (count z)) (room z) in
+      rw (le-ltb (notedIn c i) (roomIn c) (omega arith)) (none (hasItems c l i) _ c)
+    where
+      none : (t : Bool) (x y : List ℕ) → cond (t && false) x y ≡ y
+      none true x y = refl
+      none false x y = refl
+
+  full-noted : Others 8 b (noteBlock b l i)
+  unfolding noteBlock
+  full-noted =
+      let e = lackedItem b i in
+      let c = putMarked b i (e .variable) in
+      let d = insertBlock c l i in
+      others-either (ltb (numberIn b i) (lackedIn b i .seq)) (others-task 8 b i (goTo (taskIn b i) P19))
+      (others-twice (subst (Others 8 b) (sym (none-inserted (e .variable))) (others-mask 8 b i (withBit (maskIn b i) (e .variable))))
+      (gone-on-others 8 d (insertLoan c l i e) i (numberIn b i)))
+
+  pub full-stays : taskIn b i .place ≡ H21 → notedIn (stepBlock b l i) i ≡ roomIn b
+  unfolding stepBlock accessBlock accessOf
+  full-stays at =
+      let kept = step-block-kept b l i in
+      let room = kept-room kept in
+      let same : Others 8 b (stepBlock b l i) =
+      others-either (isRefused (stepVerdict b l i)) (others-self 8 b) (rw at (others-twice full-noted (counted-others 8 (noteBlock b l i) i))) in
+      let count = same-number b (stepBlock b l i) 576 8 i (kept .size) (λ p. same .at i p (λ e. omega arith)) in
+      (λ z. min (byte (count z)) (room z)) ∙ full

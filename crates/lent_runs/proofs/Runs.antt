@@ -32,7 +32,7 @@ unfolding heaviest
 heaviest-most [] h = omega arith
 heaviest-most (x ∷ l) h = max-le (h 0) (heaviest-most l (λ k. h (suc k)))
 
-roomy : (t : List ℕ) (es : List Entry) → Roomy (run (opened t .card) es .card)
+pub roomy : (t : List ℕ) (es : List Entry) → Roomy (run (opened t .card) es .card)
 unfolding opened fresh
 roomy t es i p at =
     let c = run (opened t .card) es .card in

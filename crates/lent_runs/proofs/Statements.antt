@@ -2,9 +2,9 @@
 -- stands in block and loan and of what is noted beside them, if the loan is handed back unaltered at each step. Each corollary has the name of its theorem.
 use Prim.Native.Nat.{ℕ, _<_, _≤_}
 use mathlib.Core.Path.{_≡_, refl, sym, _∙_, ap, subst}
-use mathlib.Core.Bool.{Bool, true, false, cond}
+use mathlib.Core.Bool.{Bool, true, false, cond, true≢false}
 use mathlib.Core.List.{List, [], _∷_, _++_}
-use lib.ListN.{length, getD}
+use lib.ListN.{length, getD, take}
 use Rattle.construction.specs.declared.{Answer.Answer, Answered.Answered, Card.Card, Verdict.Verdict}
 use Rattle.construction.specs.Parts.{localAt}
 use Rattle.construction.specs.Requests.{read}
@@ -39,10 +39,12 @@ use Rattle.construction.proofs.Statements.TextKept.{given-back-after}
 use Rattle.construction.proofs.Statements.Numbers.{numbers-kept}
 use Rattle.construction.proofs.Statements.Faults.{marked-done, unmarked-reading, yields-kept}
 use Rattle.construction.proofs.Statements.Changes.{runs-its-text, runs-by-number, switches}
+use Rattle.loan.specs.Loans.{loanWords}
 use Rattle.lent_card.specs.Requests.{readAnswer, changeAnswer}
 use Rattle.lent_card.proofs.Cards.{read-is, change-is}
-use Rattle.lent_runs.specs.Runs.{Handed, Memory, memoryAfter, remember, isShort, entriesOf, AllFit, HandedBack, openedMemory, memoryOf, lentRun, takenOf, AsByValue, Speaks}
-use Rattle.lent_runs.proofs.Runs.{as-by-value, stands-after}
+use Rattle.lent_runs.specs.Runs.{Handed, Memory, replyIn, replyOf, isAccepted, memoryAfter, remember, isShort, entriesOf, Fits, AllFit, HandedBack, openedMemory, memoryOf, lentRun, takenOf, AsByValue, Speaks}
+use Rattle.lent_runs.proofs.Entries.{Passed, passes}
+use Rattle.lent_runs.proofs.Runs.{roomy, as-by-value, stands-after}
 use Rattle.lent_runs.proofs.Requested.{change-numbers}
 
 module _
@@ -54,6 +56,23 @@ module _
 
     pub holds : (P : Observation → Type 0) → ((es : List Entry) → P (run (opened t .card) es)) → P (lentRun t b l xs)
     holds P theorem = subst P (sym (as-by-value t b l long xs fits handed .observed)) (theorem (takenOf t b l xs))
+
+    -- the next entry, whatever it is, has the reply that the card by value gives, unless 11 refuses it: what a theorem says of the next step on the card it
+    -- says of the next step on block and loan
+    pub next-reply :
+        (x : Handed) → Fits (x .entry) →
+        (isAccepted (memoryOf t b l xs .block) (x .loan) (x .entry) ≡ true →
+        take (loanWords (memoryOf t b l xs .block)) (x .loan) ≡ take (loanWords (memoryOf t b l xs .block)) (memoryOf t b l xs .loan)) →
+        isShort (memoryOf t b l xs) x ≡ false →
+        replyIn (memoryOf t b l xs .block) (x .loan) (x .entry) ≡ replyOf (run (opened t .card) (takenOf t b l xs) .card) (x .entry)
+    next-reply x f same long-enough =
+        by (passes (memoryOf t b l xs) (run (opened t .card) (takenOf t b l xs) .card) (stands-after t b l long xs fits handed) (roomy t (takenOf t b l xs)) x f same)
+      where
+        by :
+            Passed (run (opened t .card) (takenOf t b l xs) .card) (memoryOf t b l xs) x →
+            replyIn (memoryOf t b l xs .block) (x .loan) (x .entry) ≡ replyOf (run (opened t .card) (takenOf t b l xs) .card) (x .entry)
+        by (Passed.skipped short z) = absurd (true≢false (sym short ∙ long-enough))
+        by (Passed.went goes reply z) = reply
 
     -- demand 3; a read on the block gives the bench's word
     pub linearizability-lent : Speaks (Linearizable (opened t .card)) t b l xs

@@ -57,7 +57,7 @@ stepped : {b c : List ℕ} → Kept b c → BlockKept b c
 stepped x =
     record { size = x .size; counts = x .counts; room = x .room; texts = λ q p r. x .texts q p; past = λ q p. x .texts q (omega arith) }
 
-kept-w : {b c : List ℕ} → BlockKept b c → roomIn c ≡ roomIn b
+pub kept-w : {b c : List ℕ} → BlockKept b c → roomIn c ≡ roomIn b
 kept-w {b} {c} x = ap (λ (k : ℕ). min k 32) (number-same b c 7 1 0 (x .size) (x .room))
 
 most-in : {b c : List ℕ} → BlockKept b c → (j : ℕ) → notedIn c j ≤ roomIn b

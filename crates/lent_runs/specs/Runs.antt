@@ -183,3 +183,11 @@ pub record AsByValue (t b l : List ℕ) (xs : List Handed) : Type 0 where
 pub record Speaks (Q : List Entry → Type 0) (t b l : List ℕ) (xs : List Handed) : Type 0 where
   pub same : AsByValue t b l xs
   pub holds : Q (takenOf t b l xs)
+
+-- an owner who hands in the loan each time as it was left
+abbrev pub asLeft : Memory → Entry → Handed
+asLeft m e = record { entry = e; loan = m .loan }
+
+unfoldable pub handing : Memory → List Entry → List Handed
+handing m [] = []
+handing m (e ∷ es) = asLeft m e ∷ handing (memoryAfter m (asLeft m e)) es

@@ -1,2 +1,3 @@
 -- A block and a loan over lists of entries
 pub mod Runs
+pub mod Untouched

@@ -1,5 +1,5 @@
 -- A block and a loan over a list of entries (document 02, order 10): 'If the owner hands them back unaltered at each step, every answer, cell and count equals
--- that with the full books'.
+-- that with the full books'. Beside them stands the observer of demand 3, so that what is said of every run of the card is said of block and loan.
 use Prim.Native.Nat.{ℕ, _<_}
 use mathlib.Core.Path.{_≡_}
 use mathlib.Core.Bool.{Bool, true, false, cond, not}
@@ -9,7 +9,7 @@ use lib.ListN.{take}
 use Rattle.construction.specs.declared.{Answer.Answer, Card.Card, Report.Report, Words.Words}
 use Rattle.construction.specs.Answers.{numberOf, isRefused}
 use Rattle.construction.specs.Tracing.{trace, noReport}
-use Rattle.construction.specs.History.{Entry, act, run}
+use Rattle.construction.specs.History.{Entry, act, eventOf, History, finishing, withFinishes, withEntry, Observation, opening, run}
 use Rattle.construction.specs.Opening.{opened}
 use Rattle.codes.proofs.Values.{FitsWords}
 use Rattle.block.specs.Cards.{cardOf}
@@ -148,8 +148,46 @@ openedMemory t b l = record { block = openedBlock t b; loan = l }
 abbrev pub memoryOf : List ℕ → List ℕ → List ℕ → List Handed → Memory
 memoryOf t b l xs = remember (openedMemory t b l) xs
 
--- ORDER 10 for the text t opened into the block b, after the entries xs: block and loan hold the card of demand 3's run over the entries, and the replies
--- are the same
+-- the card that stands in a memory
+abbrev pub standingIn : Memory → Card
+standingIn m = cardOf (m .block) (m .loan)
+
+-- the observer of demand 3 (`observe` of construction's specs/History) beside block and loan: by the cells before and after an entry it notes which
+-- operations finish, and then by the answer what begins and ends. It sees the steps that 11 refuses, too.
+abbrev pub historyAfter : Card → Memory → History → Handed → History
+historyAfter o m s x =
+    withEntry o (withFinishes o (standingIn m .gate .seq) (finishing (standingIn m) (standingIn (memoryAfter m x))) s) (x .entry)
+    (eventOf (replyIn (m .block) (x .loan) (x .entry) .answer))
+
+unfoldable pub historyOf : Card → Memory → History → List Handed → History
+historyOf o m s [] = s
+historyOf o m s (x ∷ xs) = historyOf o (memoryAfter m x) (historyAfter o m s x) xs
+
+-- the card that stands in block and loan after the entries xs, and the notes
+abbrev pub lentRun : List ℕ → List ℕ → List ℕ → List Handed → Observation
+lentRun t b l xs =
+    let o = opened t .card in
+    record { card = standingIn (memoryOf t b l xs); history = historyOf o (openedMemory t b l) (opening o .history) xs }
+
+-- the entries that the run of the card by value has
+abbrev pub takenOf : List ℕ → List ℕ → List ℕ → List Handed → List Entry
+takenOf t b l xs = entriesOf (openedMemory t b l) xs
+
+-- ORDER 10 for the text t opened into the block b, after the entries xs: block and loan hold the card of demand 3's run over the entries, what is noted
+-- beside them is what is noted there, and the replies are the same
 pub record AsByValue (t b l : List ℕ) (xs : List Handed) : Type 0 where
-  pub card : cardOf (memoryOf t b l xs .block) (memoryOf t b l xs .loan) ≡ run (opened t .card) (entriesOf (openedMemory t b l) xs) .card
-  pub replies : repliesIn (openedMemory t b l) xs ≡ repliesOf (opened t .card) (entriesOf (openedMemory t b l) xs)
+  pub observed : lentRun t b l xs ≡ run (opened t .card) (takenOf t b l xs)
+  pub replies : repliesIn (openedMemory t b l) xs ≡ repliesOf (opened t .card) (takenOf t b l xs)
+
+-- a statement Q on every run of the card speaks of block and loan: it holds of the run that is theirs
+pub record Speaks (Q : List Entry → Type 0) (t b l : List ℕ) (xs : List Handed) : Type 0 where
+  pub same : AsByValue t b l xs
+  pub holds : Q (takenOf t b l xs)
+
+-- an owner who hands in the loan each time as it was left
+abbrev pub asLeft : Memory → Entry → Handed
+asLeft m e = record { entry = e; loan = m .loan }
+
+unfoldable pub handing : Memory → List Entry → List Handed
+handing m [] = []
+handing m (e ∷ es) = asLeft m e ∷ handing (memoryAfter m (asLeft m e)) es

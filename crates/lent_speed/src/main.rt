@@ -1,6 +1,6 @@
 // Speed of call and step on a card in lent words (document 02, order 10): card K's program with eight processes, each called again as soon as its
-// operation returned. Standard input holds how many steps are made and, after a comma, 0 for a schedule of pseudo-random numbers or 1 for one process
-// after the other; the shared cells are printed at the end. tests/speed/run.sh times it against tests/speed/steps/steps.rs, which ends with the same
+// operation returned. Standard input holds how many steps are made, by a schedule of pseudo-random numbers or, with `,1` behind that, one process after the
+// other; the shared cells are printed at the end. tests/speed/run.sh times it against tests/speed/steps/steps.rs, which ends with the same
 // cells. Nothing is allocated: the block and the loan stand in two arrays of this program.
 use answers::kinds::is_run;
 use block::cells::announcement;
@@ -8,7 +8,7 @@ use block::cells::gate;
 use block::cells::record;
 use construction::Words;
 use grammar::Number;
-use grammar::reading::has_byte;
+use grammar::reading::has_word;
 use grammar::reading::number_at;
 use lent_card::requesting::call;
 use lent_steps::stepping::step;
@@ -17,9 +17,13 @@ use report::random::next_random;
 use report::show_announcement;
 use report::show_gate;
 use report::show_record;
+ghost use mathlib.Core.Path.{_≡_};
+ghost use Rattle.lent_speed.specs.Runs.{Holds, inputsOf, calledFrom, first, next, turn, runFrom};
 
 // The next number of the schedule, whose remainder by 8 is the process of a step.
-fn draw(turns: bool, x: u64) -> u64 {
+fn draw(turns: bool, x: u64) -> u64
+    ensures { λ r. ⌜ r ≡ next turns x ⌝ }
+{
     if turns {
         std::num::wrapping_add_u64(x, 1)
     } else {
@@ -28,12 +32,16 @@ fn draw(turns: bool, x: u64) -> u64 {
 }
 
 // The number before the first: before a process after the other, or the seed of the pseudo-random numbers.
-fn first(turns: bool) -> u64 {
+fn first(turns: bool) -> u64
+    ensures { λ r. ⌜ r ≡ first turns ⌝ }
+{
     if turns { 7 } else { 88_172_645_463_325_252 }
 }
 
 // The inputs of a call.
-fn inputs(input: u32) -> Words {
+fn inputs(input: u32) -> Words
+    ensures { λ r. ⌜ r ≡ inputsOf input ⌝ }
+{
     Words {
         w0: input,
         w1: 0,
@@ -44,7 +52,9 @@ fn inputs(input: u32) -> Words {
 
 // The first call of every process, with its own number as input. A process that was not called yet is refused a step: it is asked here so that
 // step has two callers, and is compiled as one function as in a larger program.
-fn call_all(b: &mut [u64], l: &mut [u64]) {
+fn call_all(b: &mut [u64], l: &mut [u64])
+    ensures { λ r. ⌜ Holds (calledFrom 8 0 (record { block = now (b .entry); loan = now (l .entry) })) (now (b .exit)) (now (l .exit)) ⌝ }
+{
     let mut process: u32 = 0;
     while process < 8 {
         step(b, l, process);
@@ -53,17 +63,25 @@ fn call_all(b: &mut [u64], l: &mut [u64]) {
     }
 }
 
-// So many steps, each with the next call of its process where the operation returned. The input of a call is the number of the step before it.
-fn run(b: &mut [u64], l: &mut [u64], turns: bool, count: u64) {
+// A step, and the next call of its process where the operation returned.
+fn turn(b: &mut [u64], l: &mut [u64], process: u32, input: u32)
+    ensures { λ r. ⌜ Holds (turn (record { block = now (b .entry); loan = now (l .entry) }) process input) (now (b .exit)) (now (l .exit)) ⌝ }
+{
+    let answer = step(b, l, process);
+    if !is_run(answer) {
+        call(b, process, 0, inputs(input));
+    }
+}
+
+// So many steps. The input of a call is the number of the step before it.
+fn run(b: &mut [u64], l: &mut [u64], turns: bool, count: u64)
+    ensures { λ r. ⌜ Holds (runFrom turns count 0 (first turns) (record { block = now (b .entry); loan = now (l .entry) })) (now (b .exit)) (now (l .exit)) ⌝ }
+{
     let mut x = first(turns);
     let mut k: u64 = 0;
     while k < count {
         x = draw(turns, x);
-        let process = (x % 8) as u32;
-        let answer = step(b, l, process);
-        if !is_run(answer) {
-            call(b, process, 0, inputs((k % 4_294_967_296) as u32));
-        }
+        turn(b, l, (x % 8) as u32, (k % 4_294_967_296) as u32);
         k = k + 1;
     }
 }
@@ -83,7 +101,7 @@ fn main() {
     let Number::Value { value, next } = number_at(&text, 0) else {
         return;
     };
-    let turns = has_byte(&text, next + 1, b'1');
+    let turns = has_word(&text, next, b",1");
     let mut b = [0u64; 1456];
     let mut l = [0u64; 48];
     lent_text::open(

@@ -51,8 +51,8 @@ pub runs-on :
 unfolding runFrom
 runs-on turns n k x y i input b l c m h ey ei en p =
     let e : n - k ≡ suc (n - (k + 1)) = omega arith in
-    let q : held c m ≡ turn (held b l) (y % 8) (k % 4294967296) = rw (ei, en) at (is-held p) in
-    rw (e, ← ey, q)
+    let q : held c m ≡ turn (held b l) (next turns x % 8) (k % 4294967296) = rw (ei, en, ey) at (is-held p) in
+    rw (e, q, ey)
 
 pub runs-done : (turns : Bool) (n k x : ℕ) (h : Held) → n ≤ k → runFrom turns (n - k) k x h ≡ h
 unfolding runFrom

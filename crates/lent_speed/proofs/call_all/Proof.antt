@@ -1,56 +1,33 @@
+use Rattle.lent_speed.proofs.Laws as laws
+use Rattle.lent_speed.specs.Runs.{calledFrom}
+use lib.ListN.{length}
+use borrow.Author.Needs.{needs}
+use native.Mathlib.Omega.{arith}
+use mathlib.Core.Path.{_≡_, refl, sym, _∙_}
+use Prim.Native.Nat.{_-_, _≤_}
 use Rattle.lent_speed.proofs.call_all.Statement.{statement}
 use Rattle.lent_speed.proofs.call_all.Tie as tie
-use Rattle.lent_speed.proofs.call_all.Reads as reads
-use Rattle.lent_speed.proofs.call_all.Lts as lts
-use Rattle.lent_card.proofs.requesting.call.Reads as call-reads
-use Rattle.lent_speed.proofs.inputs.Reads as inputs-reads
-use Rattle.lent_steps.proofs.stepping.step.Reads as step-reads
 
 abbrev Inv-loop : tie.InvT-loop
-Inv-loop b₀ l₀ process₀ b l process = ?
+Inv-loop b₀ l₀ process₀ b l process = (calledFrom 8 0 (laws.held b₀ l₀) ≡ calledFrom (8 - process) process (laws.held b l)) × (length b ≡ length b₀) × (length l ≡ length l₀) × (process ≤ 8)
 
 abbrev μ-loop : tie.MeasureT-loop
-μ-loop b₀ l₀ process₀ b l process = ?
+μ-loop b₀ l₀ process₀ b l process = 8 - process
 
--- src/main.rt:59:5
 loop-holds : tie.Need-loop-holds Inv-loop μ-loop
-loop-holds c = ?
+loop-holds c = (refl, refl, refl, omega arith)
 
--- src/main.rt:60:9
-step-requires : tie.Need-step-requires Inv-loop μ-loop
-step-requires c κs = ?
-
--- src/main.rt:61:29
-inputs-requires : tie.Need-inputs-requires Inv-loop μ-loop
-inputs-requires c κs = ?
-
--- src/main.rt:61:9
-call-requires : tie.Need-call-requires Inv-loop μ-loop
-call-requires c κs = ?
-
--- src/main.rt:62:19
-add-process : tie.Need-add-process Inv-loop μ-loop
-add-process c = ?
-
--- src/main.rt:59:5
-loop-less : tie.Need-loop-less Inv-loop μ-loop
-loop-less c = ?
-
--- src/main.rt:59:5
 loop-again : tie.Need-loop-again Inv-loop μ-loop
-loop-again c = ?
+loop-again c = ((c .before .before .before .before .before .before .before .before .before .before .before .before .before .loop .inv) .0 ∙ laws.calls-on 8 ((c .before .before .before .before .before .before .before .before .before .before .before .before .before .loop .process)) _ _ _ _ _ _ (c .before .before .before .before .before .before .before .before .before .before .before .before .loop-test .taken) ((c .before .before .before .before .before .before .before .before .before .step .ensures) .1) ((c .before .before .before .before .before .before .before .before .before .step .ensures) .2) (c .before .before .before .inputs .ensures) ((c .before .before .call .ensures) .1), (c .before .b2 .given) ∙ (c .before .before .before .before .before .before .before .before .b .given) ∙ ((c .before .before .before .before .before .before .before .before .before .before .before .before .before .loop .inv) .1), (c .before .before .before .before .before .before .l .given) ∙ ((c .before .before .before .before .before .before .before .before .before .before .before .before .before .loop .inv) .2), omega arith)
 
--- src/main.rt:55:1
 same-length : tie.Need-same-length Inv-loop μ-loop
-same-length c = ?
+same-length c = (c .before .loop .inv) .1
 
--- src/main.rt:55:1
 same-length-2 : tie.Need-same-length-2 Inv-loop μ-loop
-same-length-2 c = ?
+same-length-2 c = (c .before .loop .inv) .2
 
--- src/main.rt:55:1
 returns : tie.Need-returns Inv-loop μ-loop
-returns c = ?
+returns c = laws.holds (sym ((c .before .loop .inv) .0 ∙ laws.calls-done 8 ((c .before .loop .process)) _ (c .loop-test .left)))
 
 pub call-all-spec : {M : Type 1} → statement M
 call-all-spec =
@@ -59,11 +36,11 @@ call-all-spec =
     Inv-loop
     μ-loop
     loop-holds
-    step-requires
-    inputs-requires
-    call-requires
-    add-process
-    loop-less
+    (λ c κs. search needs)
+    (λ c κs. search needs)
+    (λ c κs. search needs)
+    (λ c. search needs)
+    (λ c. search needs)
     loop-again
     same-length
     same-length-2

@@ -1,64 +1,33 @@
+use Rattle.lent_speed.proofs.Laws as laws
+use Rattle.lent_speed.specs.Runs.{first, runFrom}
+use lib.ListN.{length}
+use borrow.Author.Needs.{needs}
+use native.Mathlib.Omega.{arith}
+use mathlib.Core.Path.{_≡_, refl, sym, _∙_}
+use Prim.Native.Nat.{_-_, _≤_}
 use Rattle.lent_speed.proofs.run.Statement.{statement}
 use Rattle.lent_speed.proofs.run.Tie as tie
-use Rattle.lent_speed.proofs.run.Reads as reads
-use Rattle.lent_speed.proofs.run.Lts as lts
-use Rattle.lent_speed.proofs.draw.Reads as draw-reads
-use Rattle.lent_speed.proofs.first.Reads as first-reads
-use Rattle.lent_speed.proofs.turn.Reads as turn-reads
 
 abbrev Inv-loop : tie.InvT-loop
-Inv-loop b₀ l₀ turns count x₀ k₀ b l x k = ?
+Inv-loop b₀ l₀ turns count x₀ k₀ b l x k = (runFrom turns count 0 (first turns) (laws.held b₀ l₀) ≡ runFrom turns (count - k) k x (laws.held b l)) × (length b ≡ length b₀) × (length l ≡ length l₀) × (k ≤ count)
 
 abbrev μ-loop : tie.MeasureT-loop
-μ-loop b₀ l₀ turns count x₀ k₀ b l x k = ?
+μ-loop b₀ l₀ turns count x₀ k₀ b l x k = count - k
 
--- src/main.rt:80:9
-first-requires : tie.Need-first-requires Inv-loop μ-loop
-first-requires c κs = ?
-
--- src/main.rt:82:5
 loop-holds : tie.Need-loop-holds Inv-loop μ-loop
-loop-holds c = ?
+loop-holds c = (laws.runs-whole _ _ _ _ _ (c .first .ensures), refl, refl, omega arith)
 
--- src/main.rt:83:9
-draw-requires : tie.Need-draw-requires Inv-loop μ-loop
-draw-requires c κs = ?
-
--- src/main.rt:84:20
-cast-turn : tie.Need-cast-turn Inv-loop μ-loop
-cast-turn c = ?
-
--- src/main.rt:84:36
-cast-turn-2 : tie.Need-cast-turn-2 Inv-loop μ-loop
-cast-turn-2 c = ?
-
--- src/main.rt:84:9
-turn-requires : tie.Need-turn-requires Inv-loop μ-loop
-turn-requires c κs = ?
-
--- src/main.rt:85:13
-add-k : tie.Need-add-k Inv-loop μ-loop
-add-k c = ?
-
--- src/main.rt:82:5
-loop-less : tie.Need-loop-less Inv-loop μ-loop
-loop-less c = ?
-
--- src/main.rt:82:5
 loop-again : tie.Need-loop-again Inv-loop μ-loop
-loop-again c = ?
+loop-again c = ((c .before .before .before .before .before .before .before .before .before .loop .inv) .0 ∙ laws.runs-on _ _ ((c .before .before .before .before .before .before .before .before .before .loop .k)) _ _ _ _ _ _ _ _ (c .before .before .before .before .before .before .before .before .loop-test .taken) (c .before .before .before .before .before .before .before .draw .ensures) refl refl (c .before .before .before .before .turn .ensures), (c .before .before .before .b .given) ∙ ((c .before .before .before .before .before .before .before .before .before .loop .inv) .1), (c .before .l .given) ∙ ((c .before .before .before .before .before .before .before .before .before .loop .inv) .2), omega arith)
 
--- src/main.rt:77:1
 same-length : tie.Need-same-length Inv-loop μ-loop
-same-length c = ?
+same-length c = (c .before .loop .inv) .1
 
--- src/main.rt:77:1
 same-length-2 : tie.Need-same-length-2 Inv-loop μ-loop
-same-length-2 c = ?
+same-length-2 c = (c .before .loop .inv) .2
 
--- src/main.rt:77:1
 returns : tie.Need-returns Inv-loop μ-loop
-returns c = ?
+returns c = laws.holds (sym ((c .before .loop .inv) .0 ∙ laws.runs-done _ _ ((c .before .loop .k)) _ _ (c .loop-test .left)))
 
 pub run-spec : {M : Type 1} → statement M
 run-spec =
@@ -66,14 +35,14 @@ run-spec =
     (tie.spec
     Inv-loop
     μ-loop
-    first-requires
+    (λ c κs. search needs)
     loop-holds
-    draw-requires
-    cast-turn
-    cast-turn-2
-    turn-requires
-    add-k
-    loop-less
+    (λ c κs. search needs)
+    (λ c. search needs)
+    (λ c. search needs)
+    (λ c κs. search needs)
+    (λ c. search needs)
+    (λ c. search needs)
     loop-again
     same-length
     same-length-2

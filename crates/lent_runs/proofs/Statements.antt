@@ -42,7 +42,7 @@ use Rattle.construction.proofs.Statements.Changes.{runs-its-text, runs-by-numbe
 use Rattle.loan.specs.Loans.{loanWords}
 use Rattle.lent_card.specs.Requests.{readAnswer, changeAnswer}
 use Rattle.lent_card.proofs.Cards.{read-is, change-is}
-use Rattle.lent_runs.specs.Runs.{Handed, Memory, replyIn, replyOf, isAccepted, memoryAfter, remember, isShort, entriesOf, Fits, AllFit, HandedBack, openedMemory, memoryOf, lentRun, takenOf, AsByValue, Speaks}
+use Rattle.lent_runs.specs.Runs.{Handed, Memory, replyIn, replyOf, isAccepted, memoryAfter, remember, isShort, entriesOf, Fits, AllFit, HandedBack, openedMemory, memoryOf, lentRun, takenOf, Speaks}
 use Rattle.lent_runs.proofs.Entries.{Passed, passes}
 use Rattle.lent_runs.proofs.Runs.{roomy, as-by-value, stands-after}
 use Rattle.lent_runs.proofs.Requested.{change-numbers}

@@ -1,12 +1,12 @@
 -- A block and a loan over a list of entries (document 02, order 10): 'If the owner hands them back unaltered at each step, every answer, cell and count equals
 -- that with the full books'. Beside them stands the observer of demand 3, so that what is said of every run of the card is said of block and loan.
-use Prim.Native.Nat.{ℕ, _<_}
+use Prim.Native.Nat.{ℕ}
 use mathlib.Core.Path.{_≡_}
 use mathlib.Core.Bool.{Bool, true, false, cond, not}
 use mathlib.Core.List.{List, [], _∷_}
 use lib.Dec.{eqb}
 use lib.ListN.{take}
-use Rattle.construction.specs.declared.{Answer.Answer, Card.Card, Report.Report, Words.Words}
+use Rattle.construction.specs.declared.{Answer.Answer, Card.Card, Report.Report}
 use Rattle.construction.specs.Answers.{numberOf, isRefused}
 use Rattle.construction.specs.Tracing.{trace, noReport}
 use Rattle.construction.specs.History.{Entry, act, eventOf, History, finishing, withFinishes, withEntry, Observation, opening, run}

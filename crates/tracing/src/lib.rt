@@ -1,15 +1,15 @@
 // The line behind each step (document 02, order 1): a step of the card with its report. It rests on the crates construction (types and
 // definitions), card, helping, machine, reports and requests.
+use construction::Card;
+use construction::Traced;
+use helping::writing;
+use machine::places::access_of;
 use reports::announcement_in;
 use reports::cell_of;
 use reports::label_of;
 use reports::record_in;
 use reports::swap_of;
 use reports::told;
-use construction::Card;
-use construction::Traced;
-use helping::writing;
-use machine::places::access_of;
 use requests::rooms::announcement_at;
 use requests::rooms::record_at;
 ghost use mathlib.Core.Path.{_≡_};

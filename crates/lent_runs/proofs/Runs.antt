@@ -22,7 +22,7 @@ use Rattle.block.specs.Cards.{dictionaryAt}
 use Rattle.block.proofs.Gets.{dictionary-is}
 use Rattle.lent_text.specs.Opened.{openedBlock}
 use Rattle.lent_text.proofs.Theorems.{opened-card, opened-room, opened-length}
-use Rattle.lent_runs.specs.Runs.{Handed, Memory, replyIn, replyOf, memoryAfter, remember, isEleven, isShort, historyAfter, historyOf, entriesOf, repliesIn, repliesOf, HandedBack, AllFit, openedMemory, memoryOf, takenOf, AsByValue}
+use Rattle.lent_runs.specs.Runs.{Handed, Memory, replyIn, replyOf, memoryAfter, remember, isEleven, isShort, historyAfter, historyOf, entriesOf, repliesIn, repliesOf, HandedBack, AllFit, openedMemory, memoryOf, entriesByValue, AsByValue}
 use Rattle.lent_runs.proofs.Entries.{Roomy, Stands, Passed, passes}
 
 -- a card of a run has room where H21 reads one record more (the theorem of limits): its text weighs at most 32
@@ -151,5 +151,5 @@ module _ (t b l : List ℕ) (long : 1456 ≤ length b) (xs : List Handed) (fits 
       let history = whole .history in
       record { observed = λ j. record { card = card j; history = history j }; replies = whole .replies }
 
-  pub stands-after : Stands (memoryOf t b l xs) (run (opened t .card) (takenOf t b l xs) .card)
+  pub stands-after : Stands (memoryOf t b l xs) (run (opened t .card) (entriesByValue t b l xs) .card)
   stands-after = whole .stands

@@ -169,20 +169,20 @@ lentRun t b l xs =
     let o = opened t .card in
     record { card = standingIn (memoryOf t b l xs); history = historyOf o (openedMemory t b l) (opening o .history) xs }
 
--- the entries that the run of the card by value has
-abbrev pub takenOf : List ℕ → List ℕ → List ℕ → List Handed → List Entry
-takenOf t b l xs = entriesOf (openedMemory t b l) xs
+-- the entries that the run of the card by value has: all but the steps that 11 refuses
+abbrev pub entriesByValue : List ℕ → List ℕ → List ℕ → List Handed → List Entry
+entriesByValue t b l xs = entriesOf (openedMemory t b l) xs
 
 -- ORDER 10 for the text t opened into the block b, after the entries xs: block and loan hold the card of demand 3's run over the entries, what is noted
 -- beside them is what is noted there, and the replies are the same
 pub record AsByValue (t b l : List ℕ) (xs : List Handed) : Type 0 where
-  pub observed : lentRun t b l xs ≡ run (opened t .card) (takenOf t b l xs)
-  pub replies : repliesIn (openedMemory t b l) xs ≡ repliesOf (opened t .card) (takenOf t b l xs)
+  pub observed : lentRun t b l xs ≡ run (opened t .card) (entriesByValue t b l xs)
+  pub replies : repliesIn (openedMemory t b l) xs ≡ repliesOf (opened t .card) (entriesByValue t b l xs)
 
 -- a statement Q on every run of the card speaks of block and loan: it holds of the run that is theirs
 pub record Speaks (Q : List Entry → Type 0) (t b l : List ℕ) (xs : List Handed) : Type 0 where
   pub same : AsByValue t b l xs
-  pub holds : Q (takenOf t b l xs)
+  pub holds : Q (entriesByValue t b l xs)
 
 -- an owner who hands in the loan each time as it was left
 abbrev pub asLeft : Memory → Entry → Handed

@@ -84,7 +84,7 @@ judge closed-output "$work/output" "$work/first"
 
 # an output that cannot be written is told in one line on standard error
 (cd "$large" && "$program") >/dev/full 2>"$work/errors" </dev/null || true
-echo "bench: the session could not be written: No space left on device" >"$work/expected"
+echo "$(basename "$program"): the session could not be written: No space left on device" >"$work/expected"
 judge full-output "$work/errors" "$work/expected"
 
 # one line of 65,536 bytes without an end, and with one

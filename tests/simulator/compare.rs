@@ -20,19 +20,32 @@ const SHRINK_LIMIT: Duration = Duration::from_secs(60);
 /// So many cases that differ are printed; the others are only counted.
 const PRINTED_CASES: u64 = 3;
 
-/// The executable to judge, and the folder in which it runs.
-struct Executable {
-    program: PathBuf,
-    folder: PathBuf,
+/// The executable to judge, the words that it is called with, and the folder in which it runs.
+pub struct Executable {
+    pub program: PathBuf,
+    pub words: Vec<String>,
+    pub folder: PathBuf,
+}
+
+/// What a program wrote to standard output and standard error.
+#[derive(PartialEq, Eq)]
+pub struct Written {
+    pub printed: Vec<u8>,
+    pub told: Vec<u8>,
 }
 
 impl Executable {
-    /// What the program prints for a case, or why it failed.
-    fn run(&self, case: &Case) -> Result<Vec<u8>, String> {
+    /// What the program writes for a case, or why it failed.
+    pub fn run(&self, case: &Case) -> Result<Written, String> {
         let written = self.write(case);
         let result = written.map_err(|error| format!("cannot write the case: {error}")).and_then(|()| self.start());
         let _ = fs::remove_dir_all(&self.folder);
         result
+    }
+
+    /// What it prints.
+    fn prints(&self, case: &Case) -> Result<Vec<u8>, String> {
+        self.run(case).map(|written| written.printed)
     }
 
     fn write(&self, case: &Case) -> std::io::Result<()> {
@@ -45,9 +58,10 @@ impl Executable {
         Ok(())
     }
 
-    fn start(&self) -> Result<Vec<u8>, String> {
+    fn start(&self) -> Result<Written, String> {
         let mut command = Command::new(&self.program);
-        command.current_dir(&self.folder).stdin(Stdio::null()).stdout(Stdio::piped()).stderr(Stdio::null());
+        command.args(&self.words).current_dir(&self.folder);
+        command.stdin(Stdio::null()).stdout(Stdio::piped()).stderr(Stdio::piped());
         let mut child = command.spawn().map_err(|error| format!("cannot start {}: {error}", self.program.display()))?;
         let output = collect(&mut child);
         if output.is_err() {
@@ -61,29 +75,40 @@ impl Executable {
     }
 }
 
-/// Everything on the standard output of a process, within the time limit.
-fn collect(child: &mut Child) -> Result<Vec<u8>, String> {
+/// Everything that a process writes, within the time limit. Of standard error it writes a few lines at most.
+fn collect(child: &mut Child) -> Result<Written, String> {
     let mut stdout = child.stdout.take().expect("standard output is piped");
+    let mut stderr = child.stderr.take().expect("standard error is piped");
     let (sender, receiver) = mpsc::channel();
     thread::spawn(move || {
-        let mut bytes = Vec::new();
-        let read = stdout.read_to_end(&mut bytes);
-        let _ = sender.send(read.map(|_| bytes).map_err(|error| error.to_string()));
+        let (mut printed, mut told) = (Vec::new(), Vec::new());
+        let read = stdout.read_to_end(&mut printed).and_then(|_| stderr.read_to_end(&mut told));
+        let _ = sender.send(read.map(|_| Written { printed, told }).map_err(|error| error.to_string()));
     });
     receiver.recv_timeout(TIME_LIMIT).unwrap_or_else(|_| Err(format!("no end within {} s", TIME_LIMIT.as_secs())))
 }
 
+/// The program of a path.
+pub fn find(program: &str) -> Result<PathBuf, String> {
+    fs::canonicalize(program).map_err(|error| format!("cannot find {program}: {error}"))
+}
+
+/// The folder in which this process makes the folders of its cases.
+pub fn work_folder() -> PathBuf {
+    std::env::temp_dir().join(format!("card-simulator-{}", std::process::id()))
+}
+
 /// Compares on the cases of `count` seeds; true if none differs and everything was reached.
 pub fn compare(program: &str, first_seed: u64, count: u64) -> Result<bool, String> {
-    let program = fs::canonicalize(program).map_err(|error| format!("cannot find {program}: {error}"))?;
-    let root = std::env::temp_dir().join(format!("card-simulator-{}", std::process::id()));
+    let program = find(program)?;
+    let root = work_folder();
     let mut coverage = Coverage::default();
     let mut different = 0;
     for seed in first_seed..first_seed + count {
-        let executable = Executable { program: program.clone(), folder: root.join(seed.to_string()) };
+        let executable = Executable { program: program.clone(), words: vec![], folder: root.join(seed.to_string()) };
         let case = case(seed);
         let expected = expected(&case, &mut coverage);
-        if executable.run(&case).as_ref() != Ok(&expected) {
+        if executable.prints(&case).as_ref() != Ok(&expected) {
             different += 1;
             if different <= PRINTED_CASES {
                 print_difference(seed, &executable, &shrink(&executable, case));
@@ -106,12 +131,12 @@ pub fn cover(first_seed: u64, count: u64) -> bool {
 
 /// Writes a case's two files into a folder.
 pub fn write_case(seed: u64, folder: &str) -> Result<(), String> {
-    let executable = Executable { program: PathBuf::new(), folder: Path::new(folder).to_path_buf() };
+    let executable = Executable { program: PathBuf::new(), words: vec![], folder: Path::new(folder).to_path_buf() };
     executable.write(&case(seed)).map_err(|error| format!("cannot write into {folder}: {error}"))
 }
 
 /// A file that is not there counts as empty.
-fn expected(case: &Case, coverage: &mut Coverage) -> Vec<u8> {
+pub fn expected(case: &Case, coverage: &mut Coverage) -> Vec<u8> {
     session::run(case.card.as_deref().unwrap_or(&[]), case.calls.as_deref().unwrap_or(&[]), coverage)
 }
 
@@ -129,7 +154,7 @@ fn report(coverage: &Coverage) -> bool {
 fn shrink(executable: &Executable, mut case: Case) -> Case {
     let end = Instant::now() + SHRINK_LIMIT;
     let mut differs = |case: &Case| {
-        Instant::now() < end && executable.run(case).as_ref() != Ok(&expected(case, &mut Coverage::default()))
+        Instant::now() < end && executable.prints(case).as_ref() != Ok(&expected(case, &mut Coverage::default()))
     };
     let mut size = usize::MAX;
     while case_size(&case) < size {
@@ -206,7 +231,7 @@ fn drop_pieces(
 
 fn print_difference(seed: u64, executable: &Executable, case: &Case) {
     let right = expected(case, &mut Coverage::default());
-    let printed = executable.run(case).unwrap_or_else(|reason| format!("({reason})\n").into_bytes());
+    let printed = executable.prints(case).unwrap_or_else(|reason| format!("({reason})\n").into_bytes());
     println!("seed {seed} differs; made small:");
     println!("--- card.txt\n{}", shown(case.card.as_deref()));
     println!("--- calls.txt\n{}", shown(case.calls.as_deref()));

@@ -1,10 +1,12 @@
 //! An independent simulator of the card (document 01). It says what the bench program must print,
 //! compares a bench program with that on generated cases, and looks for long waits (document 02, order 3).
+//! A program that runs a session on a card in lent words (document 02, order 10) is compared in the same way.
 //! Standard library only.
 
 mod compare;
 mod coverage;
 mod generate;
+mod lent;
 mod machine;
 mod selftest;
 mod session;
@@ -17,6 +19,7 @@ use std::process::ExitCode;
 
 const USAGE: &str = "usage: simulator simulate DIR
        simulator compare PROGRAM FIRST_SEED COUNT
+       simulator lent PROGRAM FIRST_SEED COUNT SCHEDULES FOLDER
        simulator coverage FIRST_SEED COUNT
        simulator write SEED DIR
        simulator waits
@@ -39,6 +42,9 @@ fn perform(arguments: &[&str]) -> Result<bool, String> {
     match arguments {
         ["simulate", folder] => simulate(Path::new(folder)),
         ["compare", program, first, count] => compare::compare(program, seed(first)?, seed(count)?),
+        ["lent", program, first, count, schedules, folder] => {
+            lent::compare(program, seed(first)?, seed(count)?, Path::new(schedules), Path::new(folder))
+        }
         ["coverage", first, count] => Ok(compare::cover(seed(first)?, seed(count)?)),
         ["write", number, folder] => compare::write_case(seed(number)?, folder).map(|()| true),
         ["waits"] => Ok(waits::report()),

@@ -19,14 +19,16 @@ use machine::places::access_of;
 use machine::places::is_idle;
 use requests::judging::judge_step;
 ghost use mathlib.Core.Path.{_≡_};
+ghost use Prim.Native.Nat.{min};
 ghost use Rattle.lent_helping.specs.Steps.{accessLoan};
 ghost use Rattle.lent_steps.specs.Steps.{stepVerdict, accessAt, advanced, stepBlock, stepLoan, answerIn, answerTo};
 
-// Whether a step is accepted: refusals 5, 8, 10, and then 11.
-pub(crate) fn judge(b: &[u64], l: &[u64], process: u32) -> Answer
+// Whether a step is accepted: refusals 5, 8, 10, and then 11. The caller narrows the number of the process, so that the task is read once.
+pub(crate) fn judge(b: &[u64], l: &[u64], process: u32, i: u8) -> Answer
+    requires { ⌜ i ≡ min process 255 ⌝ }
     ensures { λ r. ⌜ r ≡ stepVerdict (now (b .entry)) (now (l .entry)) process ⌝ }
 {
-    let task = task(b, narrow(process));
+    let task = task(b, i);
     let place = task.place;
     let judged = judge_step(process, process_count(b), place, steps(b), limit(b));
     if is_refused(judged) {
@@ -73,11 +75,11 @@ pub(crate) fn answer_in(b: &[u64], i: u8) -> Answer
 pub fn step(b: &mut [u64], l: &mut [u64], process: u32) -> Answer
     ensures { λ r. ⌜ (r ≡ answerTo (now (b .entry)) (now (l .entry)) process) × (now (b .exit) ≡ stepBlock (now (b .entry)) (now (l .entry)) process) × (now (l .exit) ≡ stepLoan (now (b .entry)) (now (l .entry)) process) ⌝ }
 {
-    let judged = judge(b, l, process);
+    let i = narrow(process);
+    let judged = judge(b, l, process, i);
     if is_refused(judged) {
         return judged;
     }
-    let i = narrow(process);
     advance(b, l, i);
     answer_in(b, i)
 }

@@ -102,14 +102,14 @@ fn swap_to(b: &[u64], l: &[u64], i: u8) -> Swap
 pub fn trace(b: &mut [u64], l: &mut [u64], process: u32) -> Told
     ensures { λ r. ⌜ (r .answer ≡ answerTo (now (b .entry)) (now (l .entry)) process) × (r .report ≡ reportTo (now (b .entry)) (now (l .entry)) process) × (now (b .exit) ≡ stepBlock (now (b .entry)) (now (l .entry)) process) × (now (l .exit) ≡ stepLoan (now (b .entry)) (now (l .entry)) process) ⌝ }
 {
-    let judged = judge(b, l, process);
+    let i = narrow(process);
+    let judged = judge(b, l, process, i);
     if is_refused(judged) {
         return Told {
             answer: judged,
             report: no_report(),
         };
     }
-    let i = narrow(process);
     let label = label_at(b, i);
     let cell = cell_to(b, l, i);
     let swap = swap_to(b, l, i);

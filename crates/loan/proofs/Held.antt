@@ -19,7 +19,7 @@ use Rattle.codes.specs.Codes.{byte, half, odd, bit, pair, upper, itemOf}
 use Rattle.codes.proofs.Blocks.{length-table, table-same, getD-table}
 use Rattle.codes.proofs.Values.{lower-pair, upper-pair, bit-small}
 use Rattle.block.specs.Cards.{itemAt, dictionaryAt}
-use Rattle.loan.specs.Items.{numbersAt, putValue, putValues}
+use Rattle.loan.specs.Items.{keysAt, valuesAt, putValue, putValues}
 use Rattle.loan.proofs.Tables.{table-past, table-taken, table-mapped}
 
 pub bit-result : (r : ℕ) (t : Bool) → r ≡ bit t → r < 2
@@ -42,7 +42,7 @@ module _ (l : List ℕ) (base n : ℕ) where
   unfolding dictionaryAt
   item-past k p = sym (table-past noItem n (λ k. itemAt l base k) (32 - n) k p)
 
-  pub numbered : n ≤ 32 → Numbered (numbersAt l base n .keys) (numbersAt l base n .values) n (dictionaryAt l base n)
+  pub numbered : n ≤ 32 → Numbered (keysAt l base n) (valuesAt l base n) n (dictionaryAt l base n)
   unfolding dictionaryAt
   numbered p =
       record {

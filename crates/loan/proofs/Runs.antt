@@ -19,9 +19,8 @@ use Rattle.codes.specs.Types.{Announcement, Instruction, Program, Dictionary, S
 use Rattle.codes.proofs.Blocks.{getD-table}
 use Rattle.block.specs.Layout.{variableCountIn, lastIn, simulationIn, fromIn, earlierText, laterText, putSimulation}
 use Rattle.block.specs.Cards.{dictionaryAt}
-use Rattle.loan.specs.declared.items.Numbers.{Numbers}
 use Rattle.loan.specs.declared.dictionaries.Span.{Span}
-use Rattle.loan.specs.Items.{numbersAt, putValues}
+use Rattle.loan.specs.Items.{keysAt, valuesAt, putValues}
 use Rattle.loan.specs.Loans.{spanIn}
 use Rattle.loan.specs.Simulated.{begunIn, simulatedIn, simulatedLoan, valuesOf, Simulates}
 use Rattle.loan.proofs.Held.{numbered, values-same, values-are}
@@ -60,7 +59,7 @@ begins b c i number a s ks before after pause task es ran et =
 module _ (b c l m : List ℕ) (i number : ℕ) (after : List ℕ) (pause : Pause) where
   gone :
       (s : Span) → s ≡ spanIn b l i → Fits l s →
-      Simulates b c i number (lastIn b i) (simulationIn b i) (numbersAt l (s .base) (s .end) .keys) (s .end) (numbersAt l (s .base) (s .end) .values) after pause →
+      Simulates b c i number (lastIn b i) (simulationIn b i) (keysAt l (s .base) (s .end)) (s .end) (valuesAt l (s .base) (s .end)) after pause →
       m ≡ putValues l (s .base) (s .end) after → ((k : ℕ) → k < s .end → getD after k 0 < 4294967296) →
       (next : ℕ) → next ≡ nextWrite number (dictionaryAt m (s .base) (s .end)) 0 → (task : Task) → task ≡ pauseTask pause next (s .end) →
       (c ≡ putSimulation b i (simulatedIn b l i number .simulation)) × (m ≡ simulatedLoan b l i number)
@@ -85,10 +84,10 @@ module _ (b c l m : List ℕ) (i number : ℕ) (after : List ℕ) (pause : Pause
 
   pub gone-on :
       (s : Span) → s ≡ spanIn b l i → Fits l s → (a : Announcement) → a ≡ lastIn b i → (state : Simulation) → state ≡ simulationIn b i →
-      (numbers : Numbers) → numbers ≡ numbersAt l (s .base) (s .end) →
-      Simulates b c i number a state (numbers .keys) (s .end) (numbers .values) after pause →
+      (ks before : List ℕ) → ks ≡ keysAt l (s .base) (s .end) → before ≡ valuesAt l (s .base) (s .end) →
+      Simulates b c i number a state ks (s .end) before after pause →
       m ≡ putValues l (s .base) (s .end) after → ((k : ℕ) → k < s .end → getD after k 0 < 4294967296) →
       (next : ℕ) → next ≡ nextWrite number (dictionaryAt m (s .base) (s .end)) 0 → (task : Task) → task ≡ pauseTask pause next (s .end) →
       (c ≡ putSimulation b i (simulatedIn b l i number .simulation)) × (m ≡ simulatedLoan b l i number)
       × (task ≡ afterPause number (simulatedIn b l i number .dictionary) (simulatedIn b l i number .pause))
-  gone-on s es fits a ea state est numbers en ran = gone s es fits (rw (ea, est, en) at ran)
+  gone-on s es fits a ea state est ks before ek ev ran = gone s es fits (rw (ea, est, ek, ev) at ran)

@@ -5,15 +5,17 @@ use lib.ListN.{getD, set, replicate}
 use Rattle.codes.specs.Parts.{wordAt, table}
 use Rattle.codes.specs.Codes.{pair, upper}
 use Rattle.block.specs.Cards.{itemAt}
-use Rattle.loan.specs.declared.items.Numbers.{Numbers}
 
 -- the first n numbers of an array of 32, and 0 behind them
 abbrev pub padded : ℕ → (ℕ → ℕ) → List ℕ
 padded n f = table n f ++ replicate (32 - n) 0
 
--- the keys and values of the first n items
-abbrev pub numbersAt : List ℕ → ℕ → ℕ → Numbers
-numbersAt l base n = record { keys = padded n (λ k. itemAt l base k .variable); values = padded n (λ k. itemAt l base k .value) }
+-- the keys and the values of the first n items
+abbrev pub keysAt : List ℕ → ℕ → ℕ → List ℕ
+keysAt l base n = padded n (λ k. itemAt l base k .variable)
+
+abbrev pub valuesAt : List ℕ → ℕ → ℕ → List ℕ
+valuesAt l base n = padded n (λ k. itemAt l base k .value)
 
 -- item k with another value
 abbrev pub putValue : List ℕ → ℕ → ℕ → List ℕ

@@ -9,19 +9,13 @@ use construction::Task;
 use helping::write_from;
 ghost use mathlib.Core.Path.{_≡_};
 ghost use Prim.Native.Nat.{ℕ, suc, _+_, _*_, _<_, _≤_};
-ghost use lib.ListN.{length, getD};
+ghost use lib.ListN.{length, getD, replicate};
 ghost use Rattle.construction.specs.Dictionary.{noItem, nextWrite};
 ghost use Rattle.construction.specs.Machine.{writeFrom};
 ghost use Rattle.codes.specs.Parts.{part, stores};
 ghost use Rattle.codes.specs.Codes.{pair, upper, itemOf, itemWords};
 ghost use Rattle.block.specs.Cards.{dictionaryAt};
-ghost use Rattle.loan.specs.Items.{numbersAt, putValue, putValues};
-
-// The keys and values of items, 0 behind them.
-pub(crate) struct Numbers {
-    pub keys: [u8; 32],
-    pub values: [u32; 32],
-}
+ghost use Rattle.loan.specs.Items.{keysAt, valuesAt, putValue, putValues};
 
 // Two numbers in a word, and the second of them.
 fn pair(low: u32, high: u32) -> u64
@@ -84,13 +78,17 @@ pub(crate) fn item_or(l: &[u64], base: usize, end: u8, k: u8) -> Item
     opening::no_item()
 }
 
-// The variables and values of the first items.
-pub(crate) fn numbers_of(l: &[u64], base: usize, end: u8) -> Numbers
-    requires { ⌜ (base < 10000) × (end ≤ 32) × ((base + end) * 3 ≤ length (now l)) ⌝ }
-    ensures { λ r. ⌜ r ≡ numbersAt (now (l .entry)) base end ⌝ }
+// The variables and values of the first items, put into zeros. The caller lends both arrays: given back by value they would be copied.
+pub(crate) fn get_numbers(
+    l: &[u64],
+    base: usize,
+    end: u8,
+    keys: &mut [u8; 32],
+    values: &mut [u32; 32],
+)
+    requires { ⌜ (base < 10000) × (end ≤ 32) × ((base + end) * 3 ≤ length (now l)) × (now keys ≡ replicate 32 0) × (now values ≡ replicate 32 0) ⌝ }
+    ensures { λ r. ⌜ (now (keys .exit) ≡ keysAt (now (l .entry)) base end) × (now (values .exit) ≡ valuesAt (now (l .entry)) base end) ⌝ }
 {
-    let mut keys = [0u8; 32];
-    let mut values = [0u32; 32];
     let mut k: u8 = 0;
     while k < end {
         let at = k as usize;
@@ -99,7 +97,6 @@ pub(crate) fn numbers_of(l: &[u64], base: usize, end: u8) -> Numbers
         values[at] = half(own);
         k = k + 1;
     }
-    Numbers { keys, values }
 }
 
 // The first items with other values.

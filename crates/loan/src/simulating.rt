@@ -115,9 +115,9 @@ pub fn go_on(b: &mut [u64], l: &mut [u64], i: u8, number: u64) -> Task
     let end = s.end;
     let a = last(b, i);
     let state = simulation(b, i);
-    let numbers = items::numbers_of(l, base, end);
-    let keys = numbers.keys;
-    let mut values = numbers.values;
+    let mut keys = [0u8; 32];
+    let mut values = [0u32; 32];
+    items::get_numbers(l, base, end, &mut keys, &mut values);
     let pause = simulate(b, i, number, a, state, &keys, end, &mut values);
     items::put_values(l, base, end, &values);
     let next = items::next_write(l, base, end, number, 0);

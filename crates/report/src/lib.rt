@@ -1,6 +1,7 @@
 // What test programs share: lines that they write to standard output (an answer with the verb and first number of its entry and whether the card
-// changed, and the shared cells), and the comparison of cards. It rests on the crates construction, answers, cells, writer, io and libc.
+// changed, and the shared cells), the comparison of cards, and pseudo-random numbers. It rests on the crates construction, answers, cells, writer, io and libc.
 // What is computed equals its definition in specs/; no contract can say what is written, so whatever writes gives nothing back.
+pub mod random; // random.rt: pseudo-random numbers
 pub mod same; // same.rt: whether two cards are the same in every part
 
 use answers::put_answer;
@@ -77,7 +78,7 @@ pub fn show_refused_text(refusal: Refusal, line: u64) {
     write(b"\n");
 }
 
-fn show_gate(gate: Gate) {
+pub fn show_gate(gate: Gate) {
     let holder = gate.holder;
     match holder {
         Holder::Nobody => write(b"gate,none"),
@@ -95,7 +96,7 @@ fn write_flag(flag: Flag) {
     }
 }
 
-fn show_announcement(process: u64, announcement: Announcement) {
+pub fn show_announcement(process: u64, announcement: Announcement) {
     let flag = announcement.flag;
     let words = announcement.words;
     write_field(b"announcement,", process);
@@ -108,7 +109,7 @@ fn show_announcement(process: u64, announcement: Announcement) {
     write(b"\n");
 }
 
-fn show_record(variable: u64, record: Record) {
+pub fn show_record(variable: u64, record: Record) {
     write_field(b"record,", variable);
     write_field(b",", record.val0 as u64);
     write_field(b",", record.val1 as u64);

@@ -66,7 +66,7 @@ pub(crate) fn execute(calls: &[u8], card: Card, command: Command) -> Traced
 }
 
 // The number of the line so many lines on.
-fn next_line(line: u64, lines: u64) -> u64
+pub fn next_line(line: u64, lines: u64) -> u64
     ensures { λ r. ⌜ r ≡ placeAfter line lines ⌝ }
 {
     if LARGEST - line < lines {

@@ -1,17 +1,10 @@
 -- The calls and steps that steps_speed makes, as one run of the requests of document 01.
-use Prim.Native.Nat.{ℕ, zero, suc, _+_, _*_, _/_, _%_}
+use Prim.Native.Nat.{ℕ, zero, suc, _+_, _%_}
 use mathlib.Core.Bool.{cond}
-use lib.Bits.{bitXor}
 use Rattle.construction.specs.declared.{Words.Words, Card.Card, Answer.Answer, Answered.Answered}
 use Rattle.construction.specs.Answers.{isRun}
 use Rattle.construction.specs.Requests.{call, step}
-
--- Marsaglia's xorshift on 64 bits: left by 13, right by 7, left by 17
-unfoldable pub nextRandom : ℕ → ℕ
-nextRandom x =
-    let a = bitXor x (x * 8192 % 18446744073709551616) in
-    let b = bitXor a (a / 128) in
-    bitXor b (b * 131072 % 18446744073709551616)
+use Rattle.report.specs.Random.{nextRandom}
 
 abbrev pub seed : ℕ
 seed = 88172645463325252

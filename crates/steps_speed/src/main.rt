@@ -10,17 +10,9 @@ use construction::Words;
 use grammar::Number;
 use grammar::reading::number_at;
 use libc::STDIN_FILENO;
+use report::random::next_random;
 ghost use mathlib.Core.Path.{_≡_};
-ghost use Rattle.steps_speed.specs.Runs.{nextRandom, seed, inputsOf, calledFrom, runFrom, opened};
-
-// Marsaglia's xorshift with shifts 13, 7 and 17.
-fn next_random(x: u64) -> u64
-    ensures { λ r. ⌜ r ≡ nextRandom x ⌝ }
-{
-    let a = x ^ (x << 13);
-    let b = a ^ (a >> 7);
-    b ^ (b << 17)
-}
+ghost use Rattle.steps_speed.specs.Runs.{seed, inputsOf, calledFrom, runFrom, opened};
 
 // The inputs of a call.
 fn inputs(input: u32) -> Words

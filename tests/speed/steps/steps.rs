@@ -1,5 +1,5 @@
-//! The card of document 01 as straightforward Rust, changed in place: the lines, calls and schedule of the program `steps_speed`.
-//! Usage: steps COUNT, and the shared cells are printed at the end.
+//! The card of document 01 as straightforward Rust, changed in place: the lines, calls and schedules of the programs `steps_speed` and `lent_speed`.
+//! Usage: steps COUNT [turns], and the shared cells are printed at the end. The processes step by pseudo-random numbers, or one after the other.
 use std::hint::black_box;
 
 #[derive(Clone, Copy, PartialEq)]
@@ -501,7 +501,9 @@ fn next_random(x: u64) -> u64 {
 }
 
 fn main() {
-    let count: u64 = std::env::args().nth(1).and_then(|word| word.parse().ok()).expect("usage: steps COUNT");
+    let usage = "usage: steps COUNT [turns]";
+    let count: u64 = std::env::args().nth(1).and_then(|word| word.parse().ok()).expect(usage);
+    let turns = std::env::args().nth(2).map_or(false, |word| if word == "turns" { true } else { panic!("{usage}") });
     let program =
         vec![Instruction::Input(0, 0), Instruction::Load(1, 0), Instruction::Store(0, 0), Instruction::Output(0, 1)];
     let mut card = Card::open(black_box(8), black_box(&[7]), black_box(vec![program]), 1_000_000_000_000_000_000);
@@ -509,10 +511,10 @@ fn main() {
         card.step(process); // refused
         card.call(process, 0, [process as u32, 0, 0, 0]);
     }
-    let mut random: u64 = 88_172_645_463_325_252;
+    let mut x: u64 = if turns { 7 } else { 88_172_645_463_325_252 };
     for k in 0..count {
-        random = next_random(random);
-        let process = (random % 8) as usize;
+        x = if turns { x.wrapping_add(1) } else { next_random(x) };
+        let process = (x % 8) as usize;
         match card.step(process) {
             Answer::Run => (),
             _ => {

@@ -1,5 +1,5 @@
-use Rattle.lent_steps.proofs.Telling as telling
 use mathlib.Core.Path.{sym, _∙_}
+use Rattle.lent_steps.proofs.Telling as telling
 use borrow.Author.Needs.{needs}
 use Rattle.lent_steps.proofs.tracing.trace.Statement.{statement}
 use Rattle.lent_steps.proofs.tracing.trace.Tie as tie
@@ -19,32 +19,32 @@ use Rattle.reports.proofs.no_report.Reads as no-report-reads
 use Rattle.reports.proofs.report_with.Reads as report-with-reads
 
 -- src/tracing.rt:105:9
+narrow-requires : tie.Need-narrow-requires
+narrow-requires c κs = search needs
+
+-- src/tracing.rt:106:9
 judge-requires : tie.Need-judge-requires
 judge-requires c κs = search needs
 
--- src/tracing.rt:106:8
+-- src/tracing.rt:107:8
 is-refused-requires : tie.Need-is-refused-requires
 is-refused-requires c κs = search needs
 
--- src/tracing.rt:109:21
+-- src/tracing.rt:110:21
 no-report-requires : tie.Need-no-report-requires
 no-report-requires c κs = search needs
 
--- src/tracing.rt:107:9
+-- src/tracing.rt:108:9
 same-length : tie.Need-same-length
 same-length c = search needs
 
--- src/tracing.rt:107:9
+-- src/tracing.rt:108:9
 same-length-2 : tie.Need-same-length-2
 same-length-2 c = search needs
 
--- src/tracing.rt:107:9
+-- src/tracing.rt:108:9
 returns : tie.Need-returns
 returns c = telling.trace-refused _ _ _ (c .before .before .before .judge .ensures) (sym (c .before .before .is-refused .ensures) ∙ (c .before .if1 .taken)) (c .no-report .ensures)
-
--- src/tracing.rt:112:9
-narrow-requires : tie.Need-narrow-requires
-narrow-requires c κs = search needs
 
 -- src/tracing.rt:113:9
 label-at-requires : tie.Need-label-at-requires
@@ -88,19 +88,19 @@ same-length-4 c = search needs
 
 -- src/tracing.rt:102:1
 returns-2 : tie.Need-returns-2
-returns-2 c = telling.trace-taken _ _ _ (c .before .before .before .before .before .before .before .before .before .before .before .before .before .before .before .before .before .before .before .before .before .before .before .before .before .judge .ensures) (sym (c .before .before .before .before .before .before .before .before .before .before .before .before .before .before .before .before .before .before .before .before .before .before .before .before .is-refused .ensures) ∙ (c .before .before .before .before .before .before .before .before .before .before .before .before .before .before .before .before .before .before .before .before .before .before .before .if1 .left)) (c .before .before .before .before .before .before .before .before .before .before .before .before .before .before .before .before .before .before .before .before .before .before .narrow .ensures) (c .before .before .before .before .before .before .before .before .before .before .before .before .before .before .before .before .before .before .before .before .label-at .ensures) (c .before .before .before .before .before .before .before .before .before .before .before .before .before .before .before .before .before .cell-to .ensures) (c .before .before .before .before .before .before .before .before .before .before .before .before .before .before .swap-to .ensures) (c .before .before .before .before .before .before .before .before .before .before .before .advance .ensures .0) (c .before .before .before .before .before .before .before .before .before .before .before .advance .ensures .1) (c .before .before .before .before .before .last-gate .ensures) (c .before .before .before .mask .ensures) (c .before .before .report-with .ensures) (c .answer-in .ensures)
+returns-2 c = telling.trace-taken _ _ _ (c .before .before .before .before .before .before .before .before .before .before .before .before .before .before .before .before .before .before .before .before .before .before .before .before .judge .ensures) (sym (c .before .before .before .before .before .before .before .before .before .before .before .before .before .before .before .before .before .before .before .before .before .before .before .is-refused .ensures) ∙ (c .before .before .before .before .before .before .before .before .before .before .before .before .before .before .before .before .before .before .before .before .before .before .if1 .left)) (c .before .before .before .before .before .before .before .before .before .before .before .before .before .before .before .before .before .before .before .before .before .before .before .before .before .before .before .narrow .ensures) (c .before .before .before .before .before .before .before .before .before .before .before .before .before .before .before .before .before .before .before .before .label-at .ensures) (c .before .before .before .before .before .before .before .before .before .before .before .before .before .before .before .before .before .cell-to .ensures) (c .before .before .before .before .before .before .before .before .before .before .before .before .before .before .swap-to .ensures) ((c .before .before .before .before .before .before .before .before .before .before .before .advance .ensures) .0) ((c .before .before .before .before .before .before .before .before .before .before .before .advance .ensures) .1) (c .before .before .before .before .before .last-gate .ensures) (c .before .before .before .mask .ensures) (c .before .before .report-with .ensures) (c .answer-in .ensures)
 
 pub trace-spec : {M : Type 1} → statement M
 trace-spec =
     tie.close
     (tie.spec
+    narrow-requires
     judge-requires
     is-refused-requires
     no-report-requires
     same-length
     same-length-2
     returns
-    narrow-requires
     label-at-requires
     cell-to-requires
     swap-to-requires

@@ -1,3 +1,4 @@
+use mathlib.Core.Path.{refl}
 use native.Mathlib.Omega.{arith}
 use borrow.Author.Needs.{needs}
 use Rattle.loan.proofs.Spans as spans
@@ -11,8 +12,8 @@ fits c =
     let a = c .before .before .before .before .before .args in
     spans.span-fits (a .b .now) (a .l .now) (a .i) (omega arith) _ (c .items-of .ensures)
 
-numbers-of-requires : tie.Need-numbers-of-requires
-numbers-of-requires c κs = let f = fits (c .before .before .before .before .before) in (f .base, f .end, omega (arith, f .long))
+get-numbers-requires : tie.Need-get-numbers-requires
+get-numbers-requires c κs = let f = fits (c .before .before .before .before .before .before .before) in (f .base, f .end, omega (arith, f .long), refl, refl)
 
 put-values-requires : tie.Need-put-values-requires
 put-values-requires c κs = let f = fits (c .before .before .before .before .before .before .before .before .before .before .before .before .before .before .before .before) in (f .base, f .end, omega (arith, f .long))
@@ -23,11 +24,11 @@ next-write-requires c κs = let f = fits (c .before .before .before .before .bef
 returns : tie.Need-returns
 returns c =
     let read = c .before .before .before .before .before .before .before .before .before .before .before .before .before .before .before .before .before .before .before .before .before .before in
-    let ran = c .before .before .before .before .before .before .before .before .before .before in
-    let put = c .before .before .before .before .before .put-values in
     let a = read .before .before .before .before .before .args in
-    runs.gone-on (a .b .now) _ (a .l .now) _ (a .i) (a .number) _ _ _ (read .items-of .ensures) (fits read) _ (c .before .before .before .before .before .before .before .before .before .before .before .before .before .before .before .before .before .before .before .before .last .ensures) _ (c .before .before .before .before .before .before .before .before .before .before .before .before .before .before .before .before .before .before .simulation .ensures) _ (c .before .before .before .before .before .before .before .before .before .before .before .before .before .before .before .before .numbers-of .ensures)
-    (ran .simulate .ensures) (put .ensures .0) (put .ensures .1) _ (c .before .next-write .ensures) _ (c .after-pause .ensures)
+    let got = c .before .before .before .before .before .before .before .before .before .before .before .before .before .before .get-numbers in
+    let put = c .before .before .before .before .before .put-values in
+    runs.gone-on (a .b .now) _ (a .l .now) _ (a .i) (a .number) _ _ _ (read .items-of .ensures) (fits read) _ (c .before .before .before .before .before .before .before .before .before .before .before .before .before .before .before .before .before .before .before .before .last .ensures) _ (c .before .before .before .before .before .before .before .before .before .before .before .before .before .before .before .before .before .before .simulation .ensures) _ _ (got .ensures .0) (got .ensures .1)
+    (c .before .before .before .before .before .before .before .before .before .before .simulate .ensures) (put .ensures .0) (put .ensures .1) _ (c .before .next-write .ensures) _ (c .after-pause .ensures)
 
 pub go-on-spec : {M : Type 1} → statement M
 go-on-spec =
@@ -36,7 +37,7 @@ go-on-spec =
     (λ c κs. search needs)
     (λ c κs. search needs)
     (λ c κs. search needs)
-    numbers-of-requires
+    get-numbers-requires
     (λ c κs. fits (c .before .before .before .before .before .before .before .before .before .before .before) .end)
     put-values-requires
     next-write-requires

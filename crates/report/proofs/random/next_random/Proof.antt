@@ -1,7 +1,7 @@
 use borrow.Author.Needs.{needs}
-use Rattle.steps_speed.specs.Runs.{nextRandom}
-use Rattle.steps_speed.proofs.next_random.Statement.{statement}
-use Rattle.steps_speed.proofs.next_random.Tie as tie
+use Rattle.report.specs.Random.{nextRandom}
+use Rattle.report.proofs.random.next_random.Statement.{statement}
+use Rattle.report.proofs.random.next_random.Tie as tie
 
 returns : tie.Need-returns
 unfolding nextRandom

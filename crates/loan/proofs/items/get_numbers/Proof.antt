@@ -1,13 +1,13 @@
 use Prim.Native.Nat.{_-_, _≤_}
-use mathlib.Core.Path.{_≡_}
+use mathlib.Core.Path.{_≡_, _∙_}
 use native.Mathlib.Omega.{arith}
 use borrow.Author.Needs.{needs}
 use lib.ListN.{length}
 use Rattle.block.specs.Cards.{itemAt}
 use Rattle.loan.specs.Items.{padded}
 use Rattle.loan.proofs.Tables as tables
-use Rattle.loan.proofs.items.numbers_of.Statement.{statement}
-use Rattle.loan.proofs.items.numbers_of.Tie as tie
+use Rattle.loan.proofs.items.get_numbers.Statement.{statement}
+use Rattle.loan.proofs.items.get_numbers.Tie as tie
 
 abbrev Inv-loop : tie.InvT-loop
 Inv-loop l base end keys₀ values₀ k₀ keys values k =
@@ -19,7 +19,8 @@ abbrev μ-loop : tie.MeasureT-loop
 loop-holds : tie.Need-loop-holds Inv-loop μ-loop
 loop-holds c =
     let a = c .before .args in
-    (tables.padded-start (λ j. itemAt (a .l .now) (a .base) j .variable), tables.padded-start (λ j. itemAt (a .l .now) (a .base) j .value), omega arith)
+    let p = c .before .pre in
+    (p .3 ∙ tables.padded-start (λ j. itemAt (a .l .now) (a .base) j .variable), p .4 ∙ tables.padded-start (λ j. itemAt (a .l .now) (a .base) j .value), omega arith)
 
 loop-again : tie.Need-loop-again Inv-loop μ-loop
 loop-again c =
@@ -33,12 +34,10 @@ returns : tie.Need-returns Inv-loop μ-loop
 returns c =
     let inv = c .before .loop .inv in
     let e : c .before .loop .k ≡ c .before .before .before .args .end = omega arith in
-    let keys = rw e at (inv .0) in
-    let values = rw e at (inv .1) in
-    λ j. record { keys = keys j; values = values j }
+    (rw e at (inv .0), rw e at (inv .1))
 
-pub numbers-of-spec : {M : Type 1} → statement M
-numbers-of-spec =
+pub get-numbers-spec : {M : Type 1} → statement M
+get-numbers-spec =
     tie.close
     (tie.spec
     Inv-loop

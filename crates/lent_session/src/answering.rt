@@ -1,0 +1,77 @@
+// The answer of the card to a command.
+use answers::kinds::is_refused;
+use commands::Command;
+use construction::Answer;
+use construction::Refusal;
+use lent_card::changing::change;
+use lent_card::requesting::call;
+use lent_card::requesting::read;
+use lent_card::requesting::request_exit;
+use lent_steps::stepping::step;
+use lent_steps::tracing::Told;
+use lent_steps::tracing::trace;
+use loan::dictionaries::loan_words;
+ghost use mathlib.Core.Path.{_≡_};
+ghost use Rattle.construction.specs.Tracing.{noReport};
+ghost use Rattle.commands.specs.Commands.{Inside};
+ghost use Rattle.lent_session.specs.Answering.{Executes, lentExecuted, askedShort, shortRefused, shortBlock};
+
+// An answer with nothing told.
+fn untold(answer: Answer) -> Told
+    ensures { λ r. ⌜ r ≡ record { answer = answer; report = noReport } ⌝ }
+{
+    Told {
+        answer,
+        report: reports::no_report(),
+    }
+}
+
+// The answer to a command, and what is told of a traced step.
+pub(crate) fn execute(calls: &[u8], b: &mut [u64], l: &mut [u64], command: Command) -> Told
+    requires { ⌜ Inside (now calls) command ⌝ }
+    ensures { λ r. ⌜ Executes (lentExecuted (now (calls .entry)) (now (b .entry)) (now (l .entry)) command) r (now (b .exit)) (now (l .exit)) ⌝ }
+{
+    match command {
+        Command::Call {
+            process,
+            program,
+            inputs,
+        } => untold(call(b, process, program, inputs)),
+        Command::Exit { process } => untold(request_exit(b, process)),
+        Command::Step { process } => untold(step(b, l, process)),
+        Command::Trace { process } => trace(b, l, process),
+        Command::Read { variable } => untold(read(b, variable)),
+        Command::Change {
+            program,
+            from,
+            count: _,
+            start,
+            end,
+        } => untold(change(b, program, from as u64, &calls[start..end])),
+        Command::Malformed => untold(Answer::Refused(Refusal::Malformed)),
+    }
+}
+
+// Whether a step with a loan of two words is refused: no card whose loan takes words takes fewer than three.
+fn refuses(b: &mut [u64], process: u32) -> bool
+    ensures { λ r. ⌜ (r ≡ shortRefused (now (b .entry)) process) × (now (b .exit) ≡ shortBlock (now (b .entry)) process) ⌝ }
+{
+    let mut short = [0u64; 2];
+    is_refused(step(b, &mut short, process))
+}
+
+// With `short` a step is asked for with a loan too short: whether that is refused.
+pub(crate) fn refuses_short(short: bool, b: &mut [u64], command: Command) -> bool
+    ensures { λ r. ⌜ (r ≡ askedShort short (now (b .entry)) command .refused) × (now (b .exit) ≡ askedShort short (now (b .entry)) command .block) ⌝ }
+{
+    if short {
+        if 2 < loan_words(b) {
+            match command {
+                Command::Step { process } => return refuses(b, process),
+                Command::Trace { process } => return refuses(b, process),
+                _ => {}
+            }
+        }
+    }
+    true
+}

@@ -14,7 +14,7 @@ use loan::dictionaries::loan_words;
 ghost use mathlib.Core.Path.{_≡_};
 ghost use Rattle.construction.specs.Tracing.{noReport};
 ghost use Rattle.commands.specs.Commands.{Inside};
-ghost use Rattle.lent_session.specs.Answering.{Executes, lentExecuted, askedShort, shortRefused, shortBlock};
+ghost use Rattle.lent_session.specs.Answering.{Executes, lentExecuted, askedFor, askedShort, shortRefused, shortBlock};
 
 // An answer with nothing told.
 fn untold(answer: Answer) -> Told
@@ -60,17 +60,38 @@ fn refuses(b: &mut [u64], process: u32) -> bool
     is_refused(step(b, &mut short, process))
 }
 
-// With `short` a step is asked for with a loan too short: whether that is refused.
+// A step is asked for in that way: whether it is refused.
+fn asks(b: &mut [u64], command: Command) -> bool
+    ensures { λ r. ⌜ (r ≡ askedFor (now (b .entry)) command .refused) × (now (b .exit) ≡ askedFor (now (b .entry)) command .block) ⌝ }
+{
+    match command {
+        Command::Call {
+            process: _,
+            program: _,
+            inputs: _,
+        } => true,
+        Command::Exit { process: _ } => true,
+        Command::Step { process } => refuses(b, process),
+        Command::Trace { process } => refuses(b, process),
+        Command::Read { variable: _ } => true,
+        Command::Change {
+            program: _,
+            from: _,
+            count: _,
+            start: _,
+            end: _,
+        } => true,
+        Command::Malformed => true,
+    }
+}
+
+// The same where `short` says so and the loan takes words.
 pub(crate) fn refuses_short(short: bool, b: &mut [u64], command: Command) -> bool
     ensures { λ r. ⌜ (r ≡ askedShort short (now (b .entry)) command .refused) × (now (b .exit) ≡ askedShort short (now (b .entry)) command .block) ⌝ }
 {
     if short {
         if 2 < loan_words(b) {
-            match command {
-                Command::Step { process } => return refuses(b, process),
-                Command::Trace { process } => return refuses(b, process),
-                _ => {}
-            }
+            return asks(b, command);
         }
     }
     true

@@ -1,42 +1,42 @@
 -- One entry on block and loan is that entry on the card that stands there.
-use Prim.Native.Nat.{ℕ, suc, _<_, _≤_, min}
+use Prim.Native.Nat.{ℕ, _<_, _≤_, min}
 use mathlib.Core.Path.{_≡_, refl, sym, _∙_, ap, subst}
 use mathlib.Core.Logic.{_≢_}
-use mathlib.Core.Bool.{Bool, true, false, cond, not, _&&_, _||_, true≢false}
+use mathlib.Core.Bool.{Bool, true, false, cond, not, _&&_, true≢false}
 use mathlib.Core.List.{List}
 use native.Mathlib.Omega.{arith}
 use lib.Dec.{ltb}
 use lib.ListN.{length, take}
 use borrow.Author.Tests.{ltb-true, ltb-false}
-use Rattle.construction.specs.declared.{Words.Words, Answer.Answer, Answered.Answered, Contents.Contents, Report.Report, Verdict.Verdict}
-use Rattle.construction.specs.declared.Refusal.the-variants.{NoProcess, NoProgram, Busy, NotBusy, NoPlace, LimitReached, ShortBuffer, NotAhead, Unsettled}
+use Rattle.construction.specs.declared.{Answer.Answer, Answered.Answered, Contents.Contents}
+use Rattle.construction.specs.declared.Refusal.the-variants.{NoProcess, NotBusy, LimitReached}
 use Rattle.construction.specs.Parts.{contentsOf, localAt}
 use Rattle.construction.specs.Weight.{cardWeight}
 use Rattle.construction.specs.Answers.{isRefused}
 use Rattle.construction.specs.Requests.{isIdle, call, requestExit, step, read}
 use Rattle.construction.specs.Changes.{change}
-use Rattle.construction.specs.Tracing.{trace, noReport}
+use Rattle.construction.specs.Tracing.{trace}
 use Rattle.construction.specs.History.{Entry, act}
-use Rattle.construction.proofs.Basics.{and-true, true-or-false, clash, on-test}
+use Rattle.construction.proofs.Basics.{and-true}
 use Rattle.construction.proofs.Observing.Entries.{on-step}
 use Rattle.construction.proofs.Statements.OneAccess.{one-access}
-use Rattle.requests.specs.Judging.{ifTextAccepted, judged}
+use Rattle.requests.specs.Judging.{judged}
 use Rattle.codes.specs.Codes.{byte}
 use Rattle.codes.specs.Types.{Card, Dictionary, Task, H21}
-use Rattle.block.specs.Layout.{processCountIn, variableCountIn, programCountIn, stepsIn, limitIn, roomIn, notedIn, taskIn}
-use Rattle.block.specs.Cards.{dictionaryAt, dictionaryIn, cardOf}
+use Rattle.block.specs.Layout.{processCountIn, stepsIn, limitIn, roomIn, notedIn, taskIn}
+use Rattle.block.specs.Cards.{dictionaryAt, cardOf}
 use Rattle.block.proofs.Standing.{number-same}
 use Rattle.block.proofs.Gets.{process-count-is, task-is, dictionary-is}
 use Rattle.loan.specs.Loans.{loanWords}
 use Rattle.lent_machine.proofs.Keeping.{kept-room}
-use Rattle.lent_card.specs.Requests.{callAnswer, callBlock, exitAnswer, exitBlock, readAnswer, changeAnswer, changeBlock, RoomKept}
+use Rattle.lent_card.specs.Requests.{callBlock, exitBlock, changeBlock, RoomKept}
 use Rattle.lent_card.proofs.Cards.{call-is, exit-is, read-is, change-is}
 use Rattle.lent_card.proofs.Rooms.{call-room-kept, exit-room-kept, change-room-kept}
 use Rattle.lent_steps.specs.Steps.{stepVerdict, stepBlock, stepLoan, answerTo, reportTo}
 use Rattle.lent_steps.proofs.Judging.{judgedIn}
 use Rattle.lent_steps.proofs.Keeping.{step-block-kept}
 use Rattle.lent_steps.proofs.Stepped.{step-is, report-is}
-use Rattle.lent_runs.specs.Runs.{Handed, Memory, Reply, replyIn, replyOf, reportFor, untraced, isEleven, isShort, isAccepted, memoryAfter, Fits}
+use Rattle.lent_runs.specs.Runs.{Handed, Memory, replyIn, replyOf, untraced, isEleven, isShort, isAccepted, memoryAfter, Fits}
 use Rattle.lent_runs.proofs.Loans.{NoneNoted, same-card}
 use Rattle.lent_runs.proofs.Requested.{Counts, call-counts, exit-counts, change-counts, call-within, exit-within, change-within, call-numbers, exit-numbers, read-numbers, change-numbers}
 use Rattle.lent_runs.proofs.Others.{step-others}

@@ -3,24 +3,24 @@ use Prim.Native.Nat.{ℕ, _<_, _≤_}
 use mathlib.Core.Path.{_≡_, refl, sym, _∙_, ap}
 use mathlib.Core.Bool.{Bool, true, false, cond, not, _&&_}
 use mathlib.Core.List.{List}
-use lib.Dec.{ltb, eqb}
+use lib.Dec.{ltb}
 use lib.ListN.{length}
 use borrow.Author.Tests.{lt-ltb, le-ltb}
-use Rattle.construction.specs.declared.{Refusal.Refusal, Answer.Answer, Answered.Answered, Announcement.Announcement, Flag.Flag}
+use Rattle.construction.specs.declared.{Answer.Answer, Answered.Answered, Announcement.Announcement, Flag.Flag}
 use Rattle.construction.specs.declared.Refusal.the-variants.{NoProcess, NotBusy, LimitReached, ShortBuffer}
 use Rattle.construction.specs.declared.Flag.the-variants.{Done, Active, Exit}
 use Rattle.construction.specs.Parts.{localAt}
 use Rattle.construction.specs.Machine.{advance}
 use Rattle.construction.specs.Answers.{isRefused}
 use Rattle.construction.specs.Requests.{isIdle, refused, returned, answerOf, stepAnswer, step}
-use Rattle.construction.specs.Tracing.{noReport, trace}
-use Rattle.requests.specs.Judging.{judged, stepJudged}
+use Rattle.construction.specs.Tracing.{noReport}
+use Rattle.requests.specs.Judging.{judged}
 use Rattle.codes.specs.Types.{Card, Place}
 use Rattle.block.specs.Layout.{processCountIn, limitIn, stepsIn, taskIn, countIn, lastIn}
 use Rattle.block.specs.Cards.{cardOf}
 use Rattle.block.proofs.Gets.{process-count-is, limit-is, steps-is, task-is}
 use Rattle.loan.specs.Loans.{loanWords}
-use Rattle.lent_steps.specs.Steps.{lentJudged, stepVerdict, stepBlock, stepLoan, answerIn, advanced, answerTo, reportTo}
+use Rattle.lent_steps.specs.Steps.{stepVerdict, stepBlock, stepLoan, answerIn, advanced, answerTo, reportTo}
 use Rattle.lent_steps.proofs.Judging.{judgedIn}
 use Rattle.lent_runs.specs.Runs.{isEleven}
 

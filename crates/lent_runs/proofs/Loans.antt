@@ -1,6 +1,6 @@
 -- Two loans that agree on the first p × w items hold the same card, with a block in which nothing is noted past the last process: 'What stands behind them,
 -- and its length, may differ from step to step'.
-use Prim.Native.Nat.{ℕ, suc, _+_, _-_, _*_, _<_, _≤_}
+use Prim.Native.Nat.{ℕ, _+_, _-_, _*_, _<_, _≤_}
 use mathlib.Core.Path.{_≡_, refl, sym, _∙_, ap}
 use mathlib.Core.Bool.{Bool, true, false, cond}
 use mathlib.Core.List.{List, _++_}
@@ -13,8 +13,8 @@ use borrow.Author.Tests.{ltb-true, ltb-false}
 use Rattle.construction.specs.Dictionary.{noItem}
 use Rattle.construction.specs.Opening.{fresh, noContents}
 use Rattle.construction.specs.Parts.{withOwn}
-use Rattle.codes.specs.Types.{Dictionary, Card}
-use Rattle.codes.specs.Parts.{wordAt, table}
+use Rattle.codes.specs.Types.{Card}
+use Rattle.codes.specs.Parts.{wordAt}
 use Rattle.codes.specs.Codes.{itemOf}
 use Rattle.codes.proofs.Blocks.{table-same, part-same}
 use Rattle.block.specs.Layout.{processCountIn, roomIn, notedIn}

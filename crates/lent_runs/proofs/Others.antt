@@ -16,7 +16,7 @@ use Rattle.construction.specs.Machine.{accessOf, goTo, holderOf, firstChoice, h
 use Rattle.codes.specs.Types.{Item, Access, GateAccess, GateAccessed, AnnouncementAccess, AnnouncementAccessed, Task, Announcement, Simulation, C4, H21, P13, P19, P21}
 use Rattle.codes.specs.Parts.{wordAt}
 use Rattle.codes.specs.Codes.{byte, gateWords, taskWords, announcementWords, recordWords, simulationWords}
-use Rattle.block.specs.Layout.{isRoom, putRow, putNumber, processCountIn, stepsIn, roomIn, gateIn, putGate, announcementIn, putAnnouncement, recordIn, putRecord, taskIn, putTask, operationIn, countIn, putSteps, lastGateIn, putLastGate, lastIn, putLast, simulationIn, putSimulation, notedIn, putNoted, maskIn, putMask}
+use Rattle.block.specs.Layout.{isRoom, putRow, putNumber, processCountIn, stepsIn, roomIn, gateIn, putGate, announcementIn, putAnnouncement, taskIn, putTask, operationIn, countIn, putSteps, lastGateIn, putLastGate, lastIn, putLast, simulationIn, putSimulation, notedIn, putNoted, maskIn, putMask}
 use Rattle.lent_machine.proofs.Keeping.{kept-room, mask-kept, only-row, only-number}
 use Rattle.lent_machine.specs.Accesses.{ifWon, next, gateRead, gateSwapped, gateStep, announcementRead, announcementSwapped, announcementStep, counted}
 use Rattle.loan.specs.Loans.{hasItems, isInserted, insertBlock, insertLoan}

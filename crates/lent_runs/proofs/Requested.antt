@@ -1,7 +1,7 @@
 -- What a call, an exit request and a change leave of a block: every word but those of the parts that they put. None of them, and no read, answers 11.
 use Prim.Native.Nat.{ℕ, _+_, _*_, _<_, _≤_, min}
 use mathlib.Core.Path.{_≡_, refl, _∙_, ap}
-use mathlib.Core.Logic.{_⊎_, inl, inr, ⊎-elim}
+use mathlib.Core.Logic.{_⊎_, inl, inr}
 use mathlib.Core.Bool.{Bool, true, false, cond, not, _&&_, _||_}
 use mathlib.Core.List.{List}
 use native.Mathlib.Omega.{arith}
@@ -13,14 +13,14 @@ use Rattle.construction.specs.declared.Refusal.the-variants.{NoProcess, NoProgr
 use Rattle.construction.specs.Answers.{isRefused}
 use Rattle.construction.specs.Requests.{isIdle}
 use Rattle.requests.specs.Judging.{judged, ifTextAccepted}
-use Rattle.codes.specs.Types.{Words, Task, Operation, Program, P1}
+use Rattle.codes.specs.Types.{Words, Task, Operation, P1}
 use Rattle.codes.specs.Parts.{wordAt, part, table}
 use Rattle.codes.specs.Codes.{byte, bit, taskWords, operationWords, programWords}
 use Rattle.block.specs.Layout.{isRoom, numberAt, putRow, putNumber, processCountIn, variableCountIn, programCountIn, gateIn, taskIn, fromIn, roomIn, notedIn, putTask, putOperation, putExit, putFrom, keepLater}
 use Rattle.block.proofs.Standing.{Only, number-same}
 use Rattle.block.proofs.Puts.{put-row-length, put-number-length}
 use Rattle.lent_machine.proofs.Keeping.{only-row, only-number}
-use Rattle.lent_card.specs.Requests.{callAnswer, putCall, callBlock, exitAnswer, exitBlock, valueIn, readAnswer, behindIn, changeText, changeAnswer, putChange, changeBlock}
+use Rattle.lent_card.specs.Requests.{callAnswer, callBlock, exitAnswer, exitBlock, valueIn, readAnswer, behindIn, changeText, changeAnswer, changeBlock}
 use Rattle.lent_runs.specs.Runs.{isEleven}
 
 -- two blocks of the same length that differ only from word `low` to below word `high`

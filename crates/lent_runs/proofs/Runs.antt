@@ -1,16 +1,16 @@
 -- THE THEOREM OF ORDER 10: block and loan go through every list of entries as the card by value does, if the loan is handed back unaltered at each step.
-use Prim.Native.Nat.{ℕ, suc, _<_, _≤_, min}
+use Prim.Native.Nat.{ℕ, suc, _≤_, min}
 use mathlib.Core.Path.{_≡_, refl, sym, _∙_, ap}
 use mathlib.Core.Bool.{Bool, true, false, cond, not, _&&_, true≢false}
 use mathlib.Core.List.{List, [], _∷_}
 use native.Mathlib.Omega.{arith}
 use native.Mathlib.Nat.{max-le}
-use lib.ListN.{length, getD, replicate}
+use lib.ListN.{length, getD}
 use Rattle.construction.specs.declared.{Announcement.Announcement, Answer.Answer, Card.Card, Contents.Contents, Program.Program, Dictionary.Dictionary}
 use Rattle.construction.specs.Weight.{weight, heaviest, cardWeight}
 use Rattle.construction.specs.Instructions.{noProgram}
 use Rattle.construction.specs.Dictionary.{empty}
-use Rattle.construction.specs.Parts.{contentsOf, localAt, textsOf, programOf}
+use Rattle.construction.specs.Parts.{contentsOf, localAt}
 use Rattle.construction.specs.Opening.{fresh, readCard, opened}
 use Rattle.construction.specs.Cells.{isDone}
 use Rattle.construction.specs.History.{Entry, act, Event, eventOf, History, turned, finishing, withFinishes, withEntry, Observation, opening, observe, observeAll, run}
@@ -18,12 +18,11 @@ use Rattle.construction.proofs.Basics.{getD-replicate-same}
 use Rattle.construction.proofs.Text.Bounds.{opened-bounded}
 use Rattle.construction.proofs.Observing.Runs.{opened-consistent}
 use Rattle.construction.proofs.Statements.Limits.{limits}
-use Rattle.block.specs.Layout.{notedIn}
-use Rattle.block.specs.Cards.{dictionaryAt, dictionaryIn, cardOf}
+use Rattle.block.specs.Cards.{dictionaryAt}
 use Rattle.block.proofs.Gets.{dictionary-is}
 use Rattle.lent_text.specs.Opened.{openedBlock}
 use Rattle.lent_text.proofs.Theorems.{opened-card, opened-room, opened-length}
-use Rattle.lent_runs.specs.Runs.{Handed, Memory, Reply, replyIn, replyOf, memoryAfter, remember, isEleven, isShort, standingIn, historyAfter, historyOf, entriesOf, repliesIn, repliesOf, HandedBack, AllFit, openedMemory, memoryOf, takenOf, AsByValue}
+use Rattle.lent_runs.specs.Runs.{Handed, Memory, replyIn, replyOf, memoryAfter, remember, isEleven, isShort, historyAfter, historyOf, entriesOf, repliesIn, repliesOf, HandedBack, AllFit, openedMemory, memoryOf, entriesByValue, AsByValue}
 use Rattle.lent_runs.proofs.Entries.{Roomy, Stands, Passed, passes}
 
 -- a card of a run has room where H21 reads one record more (the theorem of limits): its text weighs at most 32
@@ -152,5 +151,5 @@ module _ (t b l : List ℕ) (long : 1456 ≤ length b) (xs : List Handed) (fits 
       let history = whole .history in
       record { observed = λ j. record { card = card j; history = history j }; replies = whole .replies }
 
-  pub stands-after : Stands (memoryOf t b l xs) (run (opened t .card) (takenOf t b l xs) .card)
+  pub stands-after : Stands (memoryOf t b l xs) (run (opened t .card) (entriesByValue t b l xs) .card)
   stands-after = whole .stands

@@ -1,21 +1,20 @@
 -- 11 of `open`, by its number: a text is refused with 11 exactly if it is accepted and the block has fewer than 1456 words, which then stay as they were. A
 -- text's own refusals come first, and none of them is 11.
-use Prim.Native.Nat.{ℕ, _+_, _<_, _≤_}
+use Prim.Native.Nat.{ℕ, _+_, _<_}
 use mathlib.Core.Path.{_≡_, refl, sym, _∙_, ap}
-use mathlib.Core.Bool.{Bool, true, false, cond, not}
-use mathlib.Core.List.{List, [], _∷_}
+use mathlib.Core.Bool.{Bool, true, false, not}
+use mathlib.Core.List.{List}
 use native.Mathlib.Omega.{arith}
 use lib.Dec.{leb, ltb}
 use lib.ListN.{length, getD}
-use borrow.Author.Tests.{lt-leb, leb-true, leb-false}
+use borrow.Author.Tests.{lt-leb, leb-false}
 use Rattle.grammar.specs.declared.{Number.Number, Numbers.Numbers}
 use Rattle.grammar.specs.Reading.{hasWord, four, field}
-use Rattle.construction.specs.declared.{Refusal.Refusal, Verdict.Verdict, CardLine.CardLine, VarLine.VarLine, SheetLine.SheetLine, InsLine.InsLine, Decoded.Decoded, Encoded.Encoded, Format.Format}
-use Rattle.construction.specs.declared.Refusal.the-variants.{Malformed, OutOfRange, UnknownCode, OperandOutOfRange, UnusedOperand, ShortBuffer}
-use Rattle.construction.specs.Answers.{Fields, fields, refusedWith, verdictFields, cardLineFields, varLineFields, sheetLineFields, insLineFields, decodedFields}
+use Rattle.construction.specs.declared.{Verdict.Verdict, CardLine.CardLine, VarLine.VarLine, SheetLine.SheetLine, InsLine.InsLine, Decoded.Decoded, Encoded.Encoded, Format.Format}
+use Rattle.construction.specs.Answers.{Fields, refusedWith, verdictFields, cardLineFields, varLineFields, sheetLineFields, insLineFields, decodedFields}
 use Rattle.construction.specs.Instructions.{inRange, ranged, unusedZero, eachOperand, decodeAs, decode, rowOf, encoded}
 use Rattle.construction.specs.Lines.{cardWord, varWord, sheetWord, insWord, cardFits, judgeCard, cardLine, judgeVar, varLine, judgeSheet, sheetLine, insOf, judgeIns, insLine}
-use Rattle.construction.specs.Opening.{readCard, opened}
+use Rattle.construction.specs.Opening.{opened}
 use Rattle.construction.specs.TextJudging.{refusedIn, Judged}
 use Rattle.construction.proofs.Basics.{on-test}
 use Rattle.construction.proofs.Statements.TextRefusals.{text-judged}

@@ -1,20 +1,19 @@
 -- 11 BY ITS NUMBER (document 02, order 10: 'A step with a loan too short is turned back with 11, after 10'): a step on block and loan is refused with 11, with
 -- both as they were, exactly if 5, 8 and 10 leave it, as they leave the step by value, and the loan has fewer words than p × w items take. No other
 -- request answers 11.
-use Prim.Native.Nat.{ℕ, _<_, _≤_}
+use Prim.Native.Nat.{ℕ, _<_}
 use mathlib.Core.Path.{_≡_, refl, sym, _∙_, ap}
 use mathlib.Core.Bool.{Bool, true, false, true≢false}
 use mathlib.Core.List.{List}
-use native.Mathlib.Omega.{arith}
-use lib.Dec.{ltb, eqb}
+use lib.Dec.{ltb}
 use lib.ListN.{length}
 use borrow.Author.Tests.{ltb-true, ltb-false, eqb-true}
-use Rattle.construction.specs.declared.{Refusal.Refusal, Answer.Answer}
+use Rattle.construction.specs.declared.{Answer.Answer}
 use Rattle.construction.specs.declared.Refusal.the-variants.{ShortBuffer}
 use Rattle.construction.specs.Answers.{numberOf, refusedWith, answerFields, isRefused}
 use Rattle.construction.specs.Requests.{step}
 use Rattle.construction.specs.History.{Entry, Steps}
-use Rattle.construction.proofs.Statements.AnswerFields.{answer-known, number-known}
+use Rattle.construction.proofs.Statements.AnswerFields.{answer-known}
 use Rattle.block.specs.Cards.{cardOf}
 use Rattle.loan.specs.Loans.{loanWords}
 use Rattle.lent_steps.specs.Steps.{stepBlock, stepLoan, answerTo}

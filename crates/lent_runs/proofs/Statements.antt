@@ -42,7 +42,7 @@ use Rattle.construction.proofs.Statements.Changes.{runs-its-text, runs-by-numbe
 use Rattle.loan.specs.Loans.{loanWords}
 use Rattle.lent_card.specs.Requests.{readAnswer, changeAnswer}
 use Rattle.lent_card.proofs.Cards.{read-is, change-is}
-use Rattle.lent_runs.specs.Runs.{Handed, Memory, replyIn, replyOf, isAccepted, memoryAfter, remember, isShort, entriesOf, Fits, AllFit, HandedBack, openedMemory, memoryOf, lentRun, takenOf, AsByValue, Speaks}
+use Rattle.lent_runs.specs.Runs.{Handed, Memory, replyIn, replyOf, isAccepted, memoryAfter, remember, isShort, entriesOf, Fits, AllFit, HandedBack, openedMemory, memoryOf, lentRun, entriesByValue, Speaks}
 use Rattle.lent_runs.proofs.Entries.{Passed, passes}
 use Rattle.lent_runs.proofs.Runs.{roomy, as-by-value, stands-after}
 use Rattle.lent_runs.proofs.Requested.{change-numbers}
@@ -52,10 +52,10 @@ module _
   where
     -- THE FORM: a statement on the entries of every run, and one on every observation of a run
     pub speaks : {Q : List Entry → Type 0} → ((es : List Entry) → Q es) → Speaks Q t b l xs
-    speaks theorem = record { same = as-by-value t b l long xs fits handed; holds = theorem (takenOf t b l xs) }
+    speaks theorem = record { same = as-by-value t b l long xs fits handed; holds = theorem (entriesByValue t b l xs) }
 
     pub holds : (P : Observation → Type 0) → ((es : List Entry) → P (run (opened t .card) es)) → P (lentRun t b l xs)
-    holds P theorem = subst P (sym (as-by-value t b l long xs fits handed .observed)) (theorem (takenOf t b l xs))
+    holds P theorem = subst P (sym (as-by-value t b l long xs fits handed .observed)) (theorem (entriesByValue t b l xs))
 
     -- the next entry, whatever it is, has the reply that the card by value gives, unless 11 refuses it: what a theorem says of the next step on the card it
     -- says of the next step on block and loan
@@ -64,13 +64,13 @@ module _
         (isAccepted (memoryOf t b l xs .block) (x .loan) (x .entry) ≡ true →
         take (loanWords (memoryOf t b l xs .block)) (x .loan) ≡ take (loanWords (memoryOf t b l xs .block)) (memoryOf t b l xs .loan)) →
         isShort (memoryOf t b l xs) x ≡ false →
-        replyIn (memoryOf t b l xs .block) (x .loan) (x .entry) ≡ replyOf (run (opened t .card) (takenOf t b l xs) .card) (x .entry)
+        replyIn (memoryOf t b l xs .block) (x .loan) (x .entry) ≡ replyOf (run (opened t .card) (entriesByValue t b l xs) .card) (x .entry)
     next-reply x f same long-enough =
-        by (passes (memoryOf t b l xs) (run (opened t .card) (takenOf t b l xs) .card) (stands-after t b l long xs fits handed) (roomy t (takenOf t b l xs)) x f same)
+        by (passes (memoryOf t b l xs) (run (opened t .card) (entriesByValue t b l xs) .card) (stands-after t b l long xs fits handed) (roomy t (entriesByValue t b l xs)) x f same)
       where
         by :
-            Passed (run (opened t .card) (takenOf t b l xs) .card) (memoryOf t b l xs) x →
-            replyIn (memoryOf t b l xs .block) (x .loan) (x .entry) ≡ replyOf (run (opened t .card) (takenOf t b l xs) .card) (x .entry)
+            Passed (run (opened t .card) (entriesByValue t b l xs) .card) (memoryOf t b l xs) x →
+            replyIn (memoryOf t b l xs .block) (x .loan) (x .entry) ≡ replyOf (run (opened t .card) (entriesByValue t b l xs) .card) (x .entry)
         by (Passed.skipped short z) = absurd (true≢false (sym short ∙ long-enough))
         by (Passed.went goes reply z) = reply
 
@@ -182,12 +182,12 @@ module _ (t b l : List ℕ) (long : 1456 ≤ length b) (xs ys : List Handed) (k 
   pub switches-lent :
       AllFit (xs ++ (changing ∷ ys)) → HandedBack (openedMemory t b l) (xs ++ (changing ∷ ys)) →
       changeAnswer (memoryOf t b l xs .block) k from text ≡ Answer.Taken →
-      (takenOf t b l (xs ++ (changing ∷ ys)) ≡ takenOf t b l xs ++ (Entry.Change k from text ∷ following))
-      × Switches (opened t .card) (takenOf t b l xs) following k from text
+      (entriesByValue t b l (xs ++ (changing ∷ ys)) ≡ entriesByValue t b l xs ++ (Entry.Change k from text ∷ following))
+      × Switches (opened t .card) (entriesByValue t b l xs) following k from text
   unfolding entriesOf
   switches-lent fits handed taken =
       let s = stands-after t b l long xs (fits-before xs (changing ∷ ys) fits) (handed-before xs (changing ∷ ys) (openedMemory t b l) handed) in
       let m = memoryOf t b l xs in
       let answer = ap (λ (x : Answered). x .answer) (change-is (m .block) (m .loan) (s .room) k from text ∙ ap (λ (c : Card). change c k from text) (s .card)) in
       let none = change-numbers (m .block) k from text in
-      (entries-append xs (changing ∷ ys) (openedMemory t b l) ∙ rw none, switches t (takenOf t b l xs) following k from text (sym answer ∙ taken))
+      (entries-append xs (changing ∷ ys) (openedMemory t b l) ∙ rw none, switches t (entriesByValue t b l xs) following k from text (sym answer ∙ taken))

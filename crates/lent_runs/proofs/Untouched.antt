@@ -4,7 +4,6 @@ use mathlib.Core.Path.{_≡_, refl, sym, _∙_, ap, subst}
 use mathlib.Core.Logic.{_≢_, _⊎_, inl, inr, ⊎-elim}
 use mathlib.Core.List.{List, [], _∷_}
 use native.Mathlib.Omega.{arith}
-use lib.ListN.{length}
 use Rattle.construction.specs.History.{Entry, Steps}
 use Rattle.codes.specs.Parts.{wordAt}
 use Rattle.codes.proofs.Blocks.{apart}
@@ -14,9 +13,9 @@ use Rattle.block.proofs.Standing.{number-same}
 use Rattle.lent_machine.proofs.Keeping.{Kept}
 use Rattle.lent_steps.specs.Steps.{stepLoan}
 use Rattle.lent_steps.proofs.Keeping.{step-block-kept, step-loan-only, step-past}
-use Rattle.lent_runs.specs.Runs.{Handed, Memory, blockAfter, memoryAfter, remember}
+use Rattle.lent_runs.specs.Runs.{Handed, Memory, memoryAfter, remember}
 use Rattle.lent_runs.specs.Untouched.{BlockKept, Untouched}
-use Rattle.lent_runs.proofs.Requested.{Within, Counts, call-within, exit-within, change-within, call-counts, exit-counts, change-counts}
+use Rattle.lent_runs.proofs.Requested.{Within, call-within, exit-within, change-within, call-counts, exit-counts, change-counts}
 use Rattle.lent_runs.proofs.Others.{step-others}
 
 kept-all : (b : List ℕ) → BlockKept b b

@@ -1,12 +1,12 @@
 -- A block and a loan over a list of entries (document 02, order 10): 'If the owner hands them back unaltered at each step, every answer, cell and count equals
 -- that with the full books'. Beside them stands the observer of demand 3, so that what is said of every run of the card is said of block and loan.
-use Prim.Native.Nat.{ℕ, _<_}
+use Prim.Native.Nat.{ℕ}
 use mathlib.Core.Path.{_≡_}
 use mathlib.Core.Bool.{Bool, true, false, cond, not}
 use mathlib.Core.List.{List, [], _∷_}
 use lib.Dec.{eqb}
 use lib.ListN.{take}
-use Rattle.construction.specs.declared.{Answer.Answer, Card.Card, Report.Report, Words.Words}
+use Rattle.construction.specs.declared.{Answer.Answer, Card.Card, Report.Report}
 use Rattle.construction.specs.Answers.{numberOf, isRefused}
 use Rattle.construction.specs.Tracing.{trace, noReport}
 use Rattle.construction.specs.History.{Entry, act, eventOf, History, finishing, withFinishes, withEntry, Observation, opening, run}
@@ -169,20 +169,20 @@ lentRun t b l xs =
     let o = opened t .card in
     record { card = standingIn (memoryOf t b l xs); history = historyOf o (openedMemory t b l) (opening o .history) xs }
 
--- the entries that the run of the card by value has
-abbrev pub takenOf : List ℕ → List ℕ → List ℕ → List Handed → List Entry
-takenOf t b l xs = entriesOf (openedMemory t b l) xs
+-- the entries that the run of the card by value has: all but the steps that 11 refuses
+abbrev pub entriesByValue : List ℕ → List ℕ → List ℕ → List Handed → List Entry
+entriesByValue t b l xs = entriesOf (openedMemory t b l) xs
 
 -- ORDER 10 for the text t opened into the block b, after the entries xs: block and loan hold the card of demand 3's run over the entries, what is noted
 -- beside them is what is noted there, and the replies are the same
 pub record AsByValue (t b l : List ℕ) (xs : List Handed) : Type 0 where
-  pub observed : lentRun t b l xs ≡ run (opened t .card) (takenOf t b l xs)
-  pub replies : repliesIn (openedMemory t b l) xs ≡ repliesOf (opened t .card) (takenOf t b l xs)
+  pub observed : lentRun t b l xs ≡ run (opened t .card) (entriesByValue t b l xs)
+  pub replies : repliesIn (openedMemory t b l) xs ≡ repliesOf (opened t .card) (entriesByValue t b l xs)
 
 -- a statement Q on every run of the card speaks of block and loan: it holds of the run that is theirs
 pub record Speaks (Q : List Entry → Type 0) (t b l : List ℕ) (xs : List Handed) : Type 0 where
   pub same : AsByValue t b l xs
-  pub holds : Q (takenOf t b l xs)
+  pub holds : Q (entriesByValue t b l xs)
 
 -- an owner who hands in the loan each time as it was left
 abbrev pub asLeft : Memory → Entry → Handed

@@ -1,2 +1,2 @@
--- Definitions of the program lent_speed: the run that it times
+-- The run that is timed
 pub mod Runs

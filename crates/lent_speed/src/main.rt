@@ -1,5 +1,5 @@
 // Speed of call and step on a card in lent words (document 02, order 10): card K's program with eight processes, each called again as soon as its
-// operation returned. Standard input holds how many steps are made, by a schedule of pseudo-random numbers or, with `,1` behind that, one process after the
+// operation returned. Standard input holds how many steps are made; the processes step by pseudo-random numbers or, where a comma follows, one after the
 // other; the shared cells are printed at the end. tests/speed/run.sh times it against tests/speed/steps/steps.rs, which ends with the same
 // cells. Nothing is allocated: the block and the loan stand in two arrays of this program.
 use answers::kinds::is_run;
@@ -8,7 +8,7 @@ use block::cells::gate;
 use block::cells::record;
 use construction::Words;
 use grammar::Number;
-use grammar::reading::has_word;
+use grammar::reading::has_byte;
 use grammar::reading::number_at;
 use lent_card::requesting::call;
 use lent_steps::stepping::step;
@@ -18,11 +18,12 @@ use report::show_announcement;
 use report::show_gate;
 use report::show_record;
 ghost use mathlib.Core.Path.{_≡_};
-ghost use Rattle.lent_speed.specs.Runs.{Holds, inputsOf, calledFrom, first, next, turn, runFrom};
+ghost use Rattle.lent_speed.specs.Runs.{lent, inputsOf, drawn, seed, firstCalled, calledFrom, again, runFrom};
+ghost use Rattle.lent_steps.specs.Steps.{stepLoan};
 
 // The next number of the schedule, whose remainder by 8 is the process of a step.
 fn draw(turns: bool, x: u64) -> u64
-    ensures { λ r. ⌜ r ≡ next turns x ⌝ }
+    ensures { λ r. ⌜ r ≡ drawn turns x ⌝ }
 {
     if turns {
         std::num::wrapping_add_u64(x, 1)
@@ -33,7 +34,7 @@ fn draw(turns: bool, x: u64) -> u64
 
 // The number before the first: before a process after the other, or the seed of the pseudo-random numbers.
 fn first(turns: bool) -> u64
-    ensures { λ r. ⌜ r ≡ first turns ⌝ }
+    ensures { λ r. ⌜ r ≡ seed turns ⌝ }
 {
     if turns { 7 } else { 88_172_645_463_325_252 }
 }
@@ -50,22 +51,28 @@ fn inputs(input: u32) -> Words
     }
 }
 
-// The first call of every process, with its own number as input. A process that was not called yet is refused a step: it is asked here so that
-// step has two callers, and is compiled as one function as in a larger program.
+// A step of a process that was not called yet, which is refused, and its first call, with its own number as input. The step is asked for so that step
+// has two callers, and is compiled as one function as in a larger program.
+fn call_first(b: &mut [u64], l: &mut [u64], process: u32)
+    ensures { λ r. ⌜ (now (b .exit) ≡ firstCalled (lent (now (b .entry)) (now (l .entry))) process) × (now (l .exit) ≡ stepLoan (now (b .entry)) (now (l .entry)) process) ⌝ }
+{
+    step(b, l, process);
+    call(b, process, 0, inputs(process));
+}
+
 fn call_all(b: &mut [u64], l: &mut [u64])
-    ensures { λ r. ⌜ Holds (calledFrom 8 0 (record { block = now (b .entry); loan = now (l .entry) })) (now (b .exit)) (now (l .exit)) ⌝ }
+    ensures { λ r. ⌜ lent (now (b .exit)) (now (l .exit)) ≡ calledFrom 8 0 (lent (now (b .entry)) (now (l .entry))) ⌝ }
 {
     let mut process: u32 = 0;
     while process < 8 {
-        step(b, l, process);
-        call(b, process, 0, inputs(process));
+        call_first(b, l, process);
         process = process + 1;
     }
 }
 
-// A step, and the next call of its process where the operation returned.
-fn turn(b: &mut [u64], l: &mut [u64], process: u32, input: u32)
-    ensures { λ r. ⌜ Holds (turn (record { block = now (b .entry); loan = now (l .entry) }) process input) (now (b .exit)) (now (l .exit)) ⌝ }
+// A step, with the next call of its process where the operation returned.
+fn step_again(b: &mut [u64], l: &mut [u64], process: u32, input: u32)
+    ensures { λ r. ⌜ (now (b .exit) ≡ again (lent (now (b .entry)) (now (l .entry))) process input) × (now (l .exit) ≡ stepLoan (now (b .entry)) (now (l .entry)) process) ⌝ }
 {
     let answer = step(b, l, process);
     if !is_run(answer) {
@@ -75,13 +82,13 @@ fn turn(b: &mut [u64], l: &mut [u64], process: u32, input: u32)
 
 // So many steps. The input of a call is the number of the step before it.
 fn run(b: &mut [u64], l: &mut [u64], turns: bool, count: u64)
-    ensures { λ r. ⌜ Holds (runFrom turns count 0 (first turns) (record { block = now (b .entry); loan = now (l .entry) })) (now (b .exit)) (now (l .exit)) ⌝ }
+    ensures { λ r. ⌜ lent (now (b .exit)) (now (l .exit)) ≡ runFrom turns count 0 (seed turns) (lent (now (b .entry)) (now (l .entry))) ⌝ }
 {
     let mut x = first(turns);
     let mut k: u64 = 0;
     while k < count {
         x = draw(turns, x);
-        turn(b, l, (x % 8) as u32, (k % 4_294_967_296) as u32);
+        step_again(b, l, (x % 8) as u32, (k % 4_294_967_296) as u32);
         k = k + 1;
     }
 }
@@ -101,7 +108,7 @@ fn main() {
     let Number::Value { value, next } = number_at(&text, 0) else {
         return;
     };
-    let turns = has_word(&text, next, b",1");
+    let turns = has_byte(&text, next, b',');
     let mut b = [0u64; 1456];
     let mut l = [0u64; 48];
     lent_text::open(

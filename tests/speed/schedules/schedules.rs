@@ -14,10 +14,8 @@ use card::{Answer, Card, Instruction, Words};
 /// Bytes of output are written out when so many have gathered.
 const PIECE: usize = 1 << 16;
 
-/// The line of a refusal, or the listing.
-fn list(length: &str) -> Result<(), String> {
-    let length = text::number(length.as_bytes()).filter(|&length| length < text::WORD_END);
-    let length = length.expect("usage: schedules L");
+/// The listing, or the line of a refusal.
+fn list(length: u64) -> Result<(), String> {
     let file = |name| fs::read(name).unwrap_or_default();
     let opened =
         text::open(&file("card.txt")).map_err(|refusal| format!("card,refused,{},{}", refusal.number, refusal.line))?;
@@ -40,7 +38,10 @@ fn list(length: &str) -> Result<(), String> {
     let processes = opened.processes;
     let listing =
         Listing { processes, numbers: Vec::new(), answers: Vec::new(), output: Vec::with_capacity(2 * PIECE) };
-    listing.run(card, length as usize).map_err(|error| error.to_string())
+    if let Err(error) = listing.run(card, length as usize) {
+        eprintln!("schedules: the listing could not be written: {error}");
+    }
+    Ok(())
 }
 
 /// Program and inputs of the call of each process; else the number of the first line that is not as it should be.
@@ -147,8 +148,13 @@ impl Listing {
 
 fn main() {
     let arguments: Vec<String> = std::env::args().skip(1).collect();
-    let [length] = arguments.as_slice() else { panic!("usage: schedules L") };
-    if let Err(refusal) = list(length) {
-        println!("{refusal}");
+    let length = match arguments.as_slice() {
+        [length] => text::number(length.as_bytes()).filter(|&length| length < text::WORD_END),
+        _ => None,
+    };
+    match length.map(list) {
+        None => eprintln!("usage: schedules L"),
+        Some(Err(refusal)) => println!("{refusal}"),
+        Some(Ok(())) => (),
     }
 }

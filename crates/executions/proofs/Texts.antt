@@ -1,0 +1,90 @@
+-- The text of a listing by its own recursion, as code makes it, is the text of its executions, line by line.
+use Prim.Native.Nat.{ℕ, zero, suc}
+use mathlib.Core.Path.{_≡_, refl, sym, _∙_}
+use mathlib.Core.Bool.{Bool, true, false}
+use mathlib.Core.List.{List, [], _∷_, _++_, map, append-assoc, append-nil}
+use Rattle.grammar.specs.Writing.{decimal}
+use Rattle.construction.specs.declared.{Card.Card, Answer.Answer}
+use Rattle.construction.specs.Answers.{isRefused}
+use Rattle.construction.specs.Requests.{step}
+use Rattle.executions.specs.Schedules.{Execution, emptyExecution, preceded, isQuiet, branch, branches, listing, joined, after, continued}
+use Rattle.executions.specs.Listings.{numbersTogether, answerText, answersText, lineAfter, linesAfter, branchText, branchesText, textAfter, piecesText}
+
+-- lines
+lines-append : (x y : List ℕ) (l m : List Execution) → linesAfter x y (l ++ m) ≡ linesAfter x y l ++ linesAfter x y m
+unfolding linesAfter
+lines-append x y [] m = refl
+lines-append x y (e ∷ l) m = rw (lines-append x y l m) (sym (append-assoc (lineAfter x y e) (linesAfter x y l) (linesAfter x y m)))
+
+line-preceded : (x y : List ℕ) (i : ℕ) (a : Answer) (e : Execution) → lineAfter x y (preceded i a e) ≡ lineAfter (x ++ decimal i) (y ++ answerText a) e
+unfolding numbersTogether answersText
+line-preceded x y i a e =
+    rw (append-assoc x (decimal i) (numbersTogether (e .schedule)), append-assoc y (answerText a) (answersText (e .answers))) refl
+
+lines-preceded : (x y : List ℕ) (i : ℕ) (a : Answer) (l : List Execution) → linesAfter x y (map (preceded i a) l) ≡ linesAfter (x ++ decimal i) (y ++ answerText a) l
+unfolding linesAfter
+lines-preceded x y i a [] = refl
+lines-preceded x y i a (e ∷ l) = rw (line-preceded x y i a e, lines-preceded x y i a l)
+
+line-empty : (x y : List ℕ) → lineAfter x y emptyExecution ≡ x ++ (y ++ (10 ∷ []))
+unfolding numbersTogether answersText
+line-empty x y = rw (append-nil x, append-nil y)
+
+lines-empty : (x y : List ℕ) → linesAfter x y (emptyExecution ∷ []) ≡ x ++ (y ++ (10 ∷ []))
+unfolding linesAfter
+lines-empty x y = append-nil (lineAfter x y emptyExecution) ∙ line-empty x y
+
+module _ (c : Card) (x y : List ℕ) (rest : Card → List Execution) (text : Card → List ℕ → List ℕ → List ℕ)
+    (same : (d : Card) (z w : List ℕ) → text d z w ≡ linesAfter z w (rest d)) where
+  branch-text : (k : ℕ) (b : Bool) → isRefused (step c k .answer) ≡ b → branchText k (step c k) x y text ≡ linesAfter x y (branch k (step c k) rest)
+  unfolding linesAfter
+  branch-text k true e = rw e
+  branch-text k false e =
+      rw e (same (step c k .card) (x ++ decimal k) (y ++ answerText (step c k .answer))
+      ∙ sym (lines-preceded x y k (step c k .answer) (rest (step c k .card))))
+
+  branches-text : (m k : ℕ) → branchesText c x y text m k ≡ linesAfter x y (branches c rest m k)
+  unfolding branchesText branches linesAfter
+  branches-text zero k = refl
+  branches-text (suc m) k =
+      rw (branch-text k (isRefused (step c k .answer)) refl, branches-text m (suc k))
+      (sym (lines-append x y (branch k (step c k) rest) (branches c rest m (suc k))))
+
+text-step :
+    (n : ℕ) (c : Card) (x y : List ℕ) → ((d : Card) (z w : List ℕ) → textAfter n d z w ≡ linesAfter z w (listing n d)) →
+    (b : Bool) → isQuiet c (c .processCount) ≡ b → textAfter (suc n) c x y ≡ linesAfter x y (listing (suc n) c)
+unfolding textAfter listing
+text-step n c x y h true q = rw q (sym (lines-empty x y))
+text-step n c x y h false q = rw q (branches-text c x y (λ d. listing n d) (λ d z w. textAfter n d z w) h (c .processCount) 0)
+
+pub text-after : (n : ℕ) (c : Card) (x y : List ℕ) → textAfter n c x y ≡ linesAfter x y (listing n c)
+unfolding textAfter listing
+text-after zero c x y = sym (lines-empty x y)
+text-after (suc n) c x y = text-step n c x y (λ d z w. text-after n d z w) (isQuiet c (c .processCount)) refl
+
+-- in pieces: the lines after each execution of the first steps
+numbers-append : (s t : List ℕ) → numbersTogether (s ++ t) ≡ numbersTogether s ++ numbersTogether t
+unfolding numbersTogether
+numbers-append [] t = refl
+numbers-append (i ∷ s) t = rw (numbers-append s t) (sym (append-assoc (decimal i) (numbersTogether s) (numbersTogether t)))
+
+answers-append : (l m : List Answer) → answersText (l ++ m) ≡ answersText l ++ answersText m
+unfolding answersText
+answers-append [] m = refl
+answers-append (a ∷ l) m = rw (answers-append l m) (sym (append-assoc (answerText a) (answersText l) (answersText m)))
+
+lines-joined : (e : Execution) (l : List Execution) → linesAfter [] [] (map (joined e) l) ≡ linesAfter (numbersTogether (e .schedule)) (answersText (e .answers)) l
+unfolding linesAfter
+lines-joined e [] = refl
+lines-joined e (f ∷ l) = rw (numbers-append (e .schedule) (f .schedule), answers-append (e .answers) (f .answers), lines-joined e l)
+
+pub continued-text : (n : ℕ) (c : Card) (l : List Execution) → linesAfter [] [] (continued n c l) ≡ piecesText n c l
+unfolding linesAfter continued piecesText
+continued-text n c [] = refl
+continued-text n c (e ∷ l) =
+    lines-append [] [] (map (joined e) (listing n (after c (e .schedule)))) (continued n c l)
+    ∙ rw (
+      lines-joined e (listing n (after c (e .schedule))),
+      continued-text n c l,
+      text-after n (after c (e .schedule)) (numbersTogether (e .schedule)) (answersText (e .answers)),
+    )

@@ -10,16 +10,18 @@ use std::time::{Duration, Instant};
 
 use crate::coverage::Coverage;
 use crate::generate::{self, card_text, case, Case};
-use crate::machine::{open, Card};
+use crate::machine::{length_of_lines, open, Card};
 use crate::schedules::{self, Reached};
 use crate::session;
 
 /// A run that takes longer counts as failed.
-const TIME_LIMIT: Duration = Duration::from_secs(20);
+const TIME_LIMIT: Duration = Duration::from_secs(60);
 /// No case is made smaller for longer than this.
 const SHRINK_LIMIT: Duration = Duration::from_secs(60);
 /// So many cases that differ are printed; the others are only counted.
 const PRINTED_CASES: u64 = 3;
+/// So many lines of an output that differs are printed.
+const PRINTED_LINES: usize = 1000;
 
 /// The executable to judge, the folder in which it runs, and its argument if it has one.
 struct Executable {
@@ -264,9 +266,14 @@ fn print_difference(seed: u64, executable: &Executable, case: &Case) {
     println!("seed {seed} differs; made small:");
     println!("--- card.txt\n{}", shown(case.card.as_deref()));
     println!("--- calls.txt\n{}", shown(case.calls.as_deref()));
-    println!("--- expected\n{}", shown(Some(&right)));
-    println!("--- printed\n{}", shown(Some(&printed)));
+    println!("--- expected\n{}", shown(Some(front(&right))));
+    println!("--- printed\n{}", shown(Some(front(&printed))));
     println!("--- first differing line\n{}", first_difference(&right, &printed));
+}
+
+/// The first lines of an output; a listing may have millions.
+fn front(text: &[u8]) -> &[u8] {
+    &text[..length_of_lines(text, PRINTED_LINES)]
 }
 
 /// A text as it can be printed: bytes that are not plain ASCII are escaped, and an unended line is marked.

@@ -9,9 +9,9 @@ use lib.ListN.{length, getD, take}
 use Rattle.executions.specs.declared.Request.{Request}
 use Rattle.construction.specs.declared.{Card.Card, Answer.Answer, Answered.Answered}
 use Rattle.construction.specs.Answers.{isRefused}
-use Rattle.construction.specs.Requests.{isBusy, step}
+use Rattle.construction.specs.Requests.{isBusy, call, step}
 use Rattle.construction.specs.History.{Entry, Observation, opening, observe, observeAll, run}
-use Rattle.executions.specs.Schedules.{callsOf, callsFrom, stepsOf, scheduled, stepAt, IsSchedule, after}
+use Rattle.executions.specs.Schedules.{noRequest, callsOf, callsFrom, stepsOf, scheduled, stepAt, IsSchedule, after}
 use Rattle.construction.proofs.Observing.Entries.{on-call}
 use Rattle.construction.proofs.Observing.Growth.{observe-append}
 use Rattle.executions.proofs.Branches.{told, Accepts, Ends, quiet-idle, idle-quiet, after-processes}
@@ -27,6 +27,22 @@ calls-processes o m calls zero k = refl
 calls-processes o m calls (suc n) k =
     calls-processes o (observe o m (Entry.Call k (getD calls k _ .program) (getD calls k _ .inputs))) calls n (suc k)
     ∙ on-call (λ r. r .card .processCount ≡ m .card .processCount) (m .card) (λ why. refl) k _ _ (λ _ _ _. refl)
+
+-- the card after m calls from process k on, call by call
+unfoldable pub calledFrom : Card → List Request → ℕ → ℕ → Card
+calledFrom c calls zero k = c
+calledFrom c calls (suc m) k =
+    let x = getD calls k noRequest in
+    calledFrom (call c k (x .program) (x .inputs) .card) calls m (suc k)
+
+called-card : (o : Card) (m : Observation) (calls : List Request) (n k : ℕ) → observeAll o m (callsFrom calls n k) .card ≡ calledFrom (m .card) calls n k
+unfolding observeAll observe callsFrom calledFrom
+called-card o m calls zero k = refl
+called-card o m calls (suc n) k =
+    called-card o (observe o m (Entry.Call k (getD calls k noRequest .program) (getD calls k noRequest .inputs))) calls n (suc k)
+
+pub called-run : (o : Card) (calls : List Request) → run o (callsOf o calls) .card ≡ calledFrom o calls (o .processCount) 0
+called-run o calls = called-card o (opening o) calls (o .processCount) 0
 
 module _ (o : Card) (calls : List Request) where
   -- the card after the calls

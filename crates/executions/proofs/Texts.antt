@@ -1,12 +1,16 @@
 -- The text of a listing by its own recursion, as code makes it, is the text of its executions, line by line.
-use Prim.Native.Nat.{ℕ, zero, suc}
-use mathlib.Core.Path.{_≡_, refl, sym, _∙_}
-use mathlib.Core.Bool.{Bool, true, false}
+use Prim.Native.Nat.{ℕ, zero, suc, _-_, _<_}
+use mathlib.Core.Path.{_≡_, refl, sym, subst, _∙_}
+use mathlib.Core.Bool.{Bool, true, false, _||_}
 use mathlib.Core.List.{List, [], _∷_, _++_, map, append-assoc, append-nil}
+use native.Mathlib.Omega.{arith}
+use lib.Dec.{eqb}
+use borrow.Author.Tests.{eq-eqb, ne-eqb}
 use Rattle.grammar.specs.Writing.{decimal}
 use Rattle.construction.specs.declared.{Card.Card, Answer.Answer}
 use Rattle.construction.specs.Answers.{isRefused}
 use Rattle.construction.specs.Requests.{step}
+use Rattle.construction.proofs.Basics.{true-false}
 use Rattle.executions.specs.Schedules.{Execution, emptyExecution, preceded, isQuiet, branch, branches, listing, joined, after, continued}
 use Rattle.executions.specs.Listings.{numbersTogether, answerText, answersText, lineAfter, linesAfter, branchText, branchesText, textAfter, piecesText}
 
@@ -61,6 +65,28 @@ pub text-after : (n : ℕ) (c : Card) (x y : List ℕ) → textAfter n c x y ≡
 unfolding textAfter listing
 text-after zero c x y = sym (lines-empty x y)
 text-after (suc n) c x y = text-step n c x y (λ d z w. text-after n d z w) (isQuiet c (c .processCount)) refl
+
+past-zero : (n : ℕ) (b : Bool) {t : Bool} → (eqb (suc n) 0 || b) ≡ t → b ≡ t
+past-zero n b {t} q = subst (λ (a : Bool). (a || b) ≡ t) (ne-eqb (suc n) 0 (λ z. omega arith)) q
+
+or-false : (a b : Bool) → (a || b) ≡ false → a ≡ false
+or-false false b q = refl
+or-false true b q = q
+
+-- the text by cases: it ends here, or each process goes on
+pub text-ended : (n : ℕ) (c : Card) (x y : List ℕ) → (eqb n 0 || isQuiet c (c .processCount)) ≡ true → textAfter n c x y ≡ x ++ (y ++ (10 ∷ []))
+unfolding textAfter
+text-ended zero c x y q = refl
+text-ended (suc n) c x y q = rw (past-zero n (isQuiet c (c .processCount)) q)
+
+pub text-more :
+    (n : ℕ) (c : Card) (x y : List ℕ) → (eqb n 0 || isQuiet c (c .processCount)) ≡ false →
+    (0 < n) × (textAfter n c x y ≡ branchesText c x y (λ d z w. textAfter (n - 1) d z w) (c .processCount) 0)
+unfolding textAfter
+text-more zero c x y q = absurd (true-false (eqb 0 0) (eq-eqb 0 0 refl) (or-false (eqb 0 0) (isQuiet c (c .processCount)) q))
+text-more (suc n) c x y q =
+    let e : suc n - 1 ≡ n = omega arith in
+    (omega arith, rw (past-zero n (isQuiet c (c .processCount)) q, e))
 
 -- in pieces: the lines after each execution of the first steps
 numbers-append : (s t : List ℕ) → numbersTogether (s ++ t) ≡ numbersTogether s ++ numbersTogether t

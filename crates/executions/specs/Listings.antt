@@ -74,6 +74,13 @@ isCallable o calls = areCallable o calls (o .processCount) 0
 abbrev pub isListable : Card → ℕ → Bool
 isListable o L = leb (o .processCount) 3 && (leb L 16 && leb L (o .limit))
 
+-- the length of the listing, which no buffer is needed for; or 6, then 17
+unfoldable pub measured : Card → List Request → ℕ → Written
+measured c calls L =
+    let o = reopened c in
+    cond (not (isCallable o calls)) (Written.Refused NoProgram)
+    (cond (not (isListable o L)) (Written.Refused TooLarge) (Written.Bytes (length (listingText o calls L))))
+
 -- 6, then 17, then 11; and the length else
 unfoldable pub listed : Card → List Request → ℕ → List ℕ → Written
 listed c calls L b =

@@ -18,9 +18,15 @@ use Rattle.executions.specs.Schedules.{callsOf}
 use Rattle.executions.specs.Listings.{reopened, listingText, textAfter, isCallable, isListable, measured, listed, listedInto}
 use Rattle.executions.proofs.Runs.{end-processes}
 use Rattle.executions.proofs.Statements.Listings.{listing-text, listable-true}
-use Rattle.listing.specs.Prefixes.{capacity}
+use Rattle.listing.specs.Prefixes.{longest, capacity, Lines}
 use Rattle.listing.specs.Listed.{Lists}
-use Rattle.listing.proofs.Recursion.{capacity-most}
+use Rattle.listing.proofs.Recursion.{capacity-up, capacity-most}
+
+-- the listing from its first step on
+pub listing-whole :
+    (L : ℕ) → L ≤ 16 → {b : List ℕ} {t : List ℕ} {r : ℕ} {z numbers numbers′ answers answers′ : List ℕ} →
+    Lines b 0 t (capacity L (longest L 0 0)) r z numbers 0 numbers′ answers 0 answers′ → Put b 0 t r z × (r ≤ capacity L 2129)
+listing-whole L few H = (H .put, omega (arith, H .within, capacity-up L (longest L 0 0) 2129 (omega arith)))
 
 -- a listing that is made: its processes and steps are few, and it begins with the calls
 module _ (c : Card) (calls : List Request) (L : ℕ) {o s : Card} (opens : o ≡ reopened c) (starts : s ≡ run o (callsOf o calls) .card) where
@@ -82,6 +88,11 @@ judged-refused false b f n r t l e = (e, refl)
 judged-refused true false f n r t l e = (e, refl)
 judged-refused true true f n r t l e = clash (cc)
 
+module _ (c : Card) (calls : List Request) (L : ℕ) {w : Written} {size : ℕ} (m : w ≡ measured c calls L) (e : w ≡ Written.Bytes size) where
+  pub said : (isCallable (reopened c) calls ≡ true) × (isListable (reopened c) L ≡ true) × (size ≡ length (listingText (reopened c) calls L))
+  unfolding measured
+  said = judged-bytes (isCallable (reopened c) calls) (isListable (reopened c) L) (length (listingText (reopened c) calls L)) size (sym e ∙ m)
+
 module _ (c : Card) (calls : List Request) (L : ℕ) (l : List ℕ) where
   pub listed-refused : {w : Written} {r : Refusal} → w ≡ measured c calls L → w ≡ Written.Refused r → Lists c calls L l w l
   unfolding measured listed listedInto
@@ -92,26 +103,22 @@ module _ (c : Card) (calls : List Request) (L : ℕ) (l : List ℕ) where
       record { answer = e ∙ h .0; bytes = h .1 }
 
   module _ {w : Written} {size : ℕ} (m : w ≡ measured c calls L) (e : w ≡ Written.Bytes size) where
-    pub said : (isCallable (reopened c) calls ≡ true) × (isListable (reopened c) L ≡ true) × (size ≡ length (listingText (reopened c) calls L))
-    unfolding measured
-    said = judged-bytes (isCallable (reopened c) calls) (isListable (reopened c) L) (length (listingText (reopened c) calls L)) size (sym e ∙ m)
-
     pub listed-short : length l < size → Lists c calls L l (Written.Refused ShortBuffer) l
     unfolding listed listedInto
     listed-short h =
-        let s = said in
+        let s = said c calls L m e in
         let f : leb (length (listingText (reopened c) calls L)) (length l) ≡ false = lt-leb (length (listingText (reopened c) calls L)) (length l) (omega (arith, s .2)) in
         record { answer = rw (s .0, s .1, f); bytes = rw (s .0, s .1, f) }
 
     pub listed-fits :
         {o d : Card} → o ≡ reopened c → d ≡ run o (callsOf o calls) .card → {z : List ℕ} {n : ℕ} → size ≤ length l → Put l 0 (textAfter L d [] []) n z →
-        Lists c calls L l w z
+        Lists c calls L l (Written.Bytes size) z
     unfolding listed listedInto
     listed-fits {o} {d} opens starts {z} {n} h p =
-        let s = said in
+        let s = said c calls L m e in
         let f : leb (length (listingText (reopened c) calls L)) (length l) ≡ true = le-leb (length (listingText (reopened c) calls L)) (length l) (omega (arith, s .2)) in
         let x = text-from c calls L opens starts in
         record {
-          answer = rw (s .0, s .1, f) (e ∙ ap Written.Bytes (s .2));
+          answer = rw (s .0, s .1, f) (ap Written.Bytes (s .2));
           bytes = rw (s .0, s .1, f) (put-front (omega (arith, s .2)) (subst (λ (t : List ℕ). Put l 0 t n z) x p));
         }

@@ -1,3 +1,7 @@
+use native.Mathlib.Omega.{arith}
+use mathlib.Core.Path.{_∙_}
+use borrow.Author.Tests.{not-true, not-false}
+use Rattle.listing.proofs.Answers as laws
 use borrow.Author.Needs.{needs}
 use Rattle.listing.proofs.measure.Statement.{statement}
 use Rattle.listing.proofs.measure.Tie as tie
@@ -19,7 +23,7 @@ are-callable-requires c κs = search needs
 
 -- src/lib.rt:42:9
 returns : tie.Need-returns
-returns c = ?
+returns c = laws.measured-six (c .before .before .before .args .card) (c .before .before .before .args .calls) (c .before .before .before .args .length) (c .before .before .reopen .ensures) (c .before .are-callable .ensures) (not-true _ (c .if1 .taken))
 
 -- src/lib.rt:44:9
 is-listable-requires : tie.Need-is-listable-requires
@@ -27,7 +31,7 @@ is-listable-requires c κs = search needs
 
 -- src/lib.rt:45:9
 returns-2 : tie.Need-returns-2
-returns-2 c = ?
+returns-2 c = laws.measured-seventeen (c .before .before .before .before .before .args .card) (c .before .before .before .before .before .args .calls) (c .before .before .before .before .before .args .length) (c .before .before .before .before .reopen .ensures) (c .before .before .before .are-callable .ensures) (not-false _ (c .before .before .if1 .left)) (c .before .is-listable .ensures) (not-true _ (c .if2 .taken))
 
 -- src/lib.rt:48:9
 call-all-requires : tie.Need-call-all-requires
@@ -43,15 +47,15 @@ slice-aggregate-put-listing c = search needs
 
 -- src/lib.rt:49:55
 cast-put-listing : tie.Need-cast-put-listing
-cast-put-listing c = ?
+cast-put-listing c = let F = laws.few-processes (c .before .before .before .before .before .before .before .args .card) (c .before .before .before .before .before .before .before .args .calls) (c .before .before .before .before .before .before .before .args .length) (c .before .before .before .before .before .before .reopen .ensures) (c .before .call-all .ensures) (laws.listable (c .before .before .before .before .before .before .before .args .card) (c .before .before .before .before .before .before .before .args .calls) (c .before .before .before .before .before .before .before .args .length) (c .before .before .before .before .before .before .reopen .ensures) (c .before .before .before .before .before .are-callable .ensures) (not-false _ (c .before .before .before .before .if1 .left)) (c .before .before .before .is-listable .ensures) ∙ not-false _ (c .before .before .if2 .left)) in omega (arith, F .1)
 
 -- src/lib.rt:49:20
 put-listing-requires : tie.Need-put-listing-requires
-put-listing-requires c κs = ?
+put-listing-requires c κs = laws.few-processes (c .before .before .before .before .before .before .before .args .card) (c .before .before .before .before .before .before .before .args .calls) (c .before .before .before .before .before .before .before .args .length) (c .before .before .before .before .before .before .reopen .ensures) (c .before .call-all .ensures) (laws.listable (c .before .before .before .before .before .before .before .args .card) (c .before .before .before .before .before .before .before .args .calls) (c .before .before .before .before .before .before .before .args .length) (c .before .before .before .before .before .before .reopen .ensures) (c .before .before .before .before .before .are-callable .ensures) (not-false _ (c .before .before .before .before .if1 .left)) (c .before .before .before .is-listable .ensures) ∙ not-false _ (c .before .before .if2 .left))
 
 -- src/lib.rt:37:1
 returns-3 : tie.Need-returns-3
-returns-3 c = ?
+returns-3 c = laws.measured-length (c .before .before .before .before .before .before .before .before .before .args .card) (c .before .before .before .before .before .before .before .before .before .args .calls) (c .before .before .before .before .before .before .before .before .before .args .length) (c .before .before .before .before .before .before .before .before .reopen .ensures) (c .before .before .before .before .before .before .before .are-callable .ensures) (not-false _ (c .before .before .before .before .before .before .if1 .left)) (c .before .before .before .before .before .is-listable .ensures) (not-false _ (c .before .before .before .before .if2 .left)) (c .before .before .before .call-all .ensures) (c .before .put-listing .ensures .0) (c .before .put-listing .ensures .1)
 
 pub measure-spec : {M : Type 1} → statement M
 measure-spec =

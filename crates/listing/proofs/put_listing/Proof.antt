@@ -1,3 +1,5 @@
+use native.Mathlib.Omega.{arith}
+use Rattle.listing.proofs.Answers as laws
 use borrow.Author.Needs.{needs}
 use Rattle.listing.proofs.put_listing.Statement.{statement}
 use Rattle.listing.proofs.put_listing.Tie as tie
@@ -15,7 +17,7 @@ slice-aggregate-put-after-2 c = search needs
 
 -- src/lib.rt:33:5
 put-after-requires : tie.Need-put-after-requires
-put-after-requires c κs = search needs
+put-after-requires c κs = record { few = c .before .before .before .before .pre .0; digits = omega (arith, c .before .before .before .before .pre .1); fields = omega (arith, c .before .before .before .before .pre .1); digitsEnd = omega arith; fieldsEnd = omega arith }
 
 -- src/lib.rt:27:1
 same-length : tie.Need-same-length
@@ -23,7 +25,7 @@ same-length c = search needs
 
 -- src/lib.rt:27:1
 returns : tie.Need-returns
-returns c = ?
+returns c = laws.listing-whole (c .before .before .before .before .before .before .before .before .before .args .length) (c .before .before .before .before .before .before .before .before .before .pre .1) (c .before .before .before .before .put-after .ensures)
 
 pub put-listing-spec : {M : Type 1} → statement M
 put-listing-spec =

@@ -11,8 +11,8 @@ use Rattle.construction.specs.declared.{Card.Card, Answer.Answer}
 use Rattle.construction.specs.Answers.{isRefused}
 use Rattle.construction.specs.Requests.{step}
 use Rattle.construction.proofs.Basics.{true-false}
-use Rattle.executions.specs.Schedules.{Execution, emptyExecution, preceded, isQuiet, branch, branches, listing, joined, after, continued}
-use Rattle.executions.specs.Listings.{numbersTogether, answerText, answersText, lineAfter, linesAfter, branchText, branchesText, textAfter, piecesText}
+use Rattle.executions.specs.Schedules.{Execution, emptyExecution, preceded, isQuiet, branch, branches, listing}
+use Rattle.executions.specs.Listings.{numbersTogether, answerText, answersText, lineAfter, linesAfter, branchText, branchesText, textAfter}
 
 -- lines
 lines-append : (x y : List ℕ) (l m : List Execution) → linesAfter x y (l ++ m) ≡ linesAfter x y l ++ linesAfter x y m
@@ -87,30 +87,3 @@ text-more zero c x y q = absurd (true-false (eqb 0 0) (eq-eqb 0 0 refl) (or-fals
 text-more (suc n) c x y q =
     let e : suc n - 1 ≡ n = omega arith in
     (omega arith, rw (past-zero n (isQuiet c (c .processCount)) q, e))
-
--- in pieces: the lines after each execution of the first steps
-numbers-append : (s t : List ℕ) → numbersTogether (s ++ t) ≡ numbersTogether s ++ numbersTogether t
-unfolding numbersTogether
-numbers-append [] t = refl
-numbers-append (i ∷ s) t = rw (numbers-append s t) (sym (append-assoc (decimal i) (numbersTogether s) (numbersTogether t)))
-
-answers-append : (l m : List Answer) → answersText (l ++ m) ≡ answersText l ++ answersText m
-unfolding answersText
-answers-append [] m = refl
-answers-append (a ∷ l) m = rw (answers-append l m) (sym (append-assoc (answerText a) (answersText l) (answersText m)))
-
-lines-joined : (e : Execution) (l : List Execution) → linesAfter [] [] (map (joined e) l) ≡ linesAfter (numbersTogether (e .schedule)) (answersText (e .answers)) l
-unfolding linesAfter
-lines-joined e [] = refl
-lines-joined e (f ∷ l) = rw (numbers-append (e .schedule) (f .schedule), answers-append (e .answers) (f .answers), lines-joined e l)
-
-pub continued-text : (n : ℕ) (c : Card) (l : List Execution) → linesAfter [] [] (continued n c l) ≡ piecesText n c l
-unfolding linesAfter continued piecesText
-continued-text n c [] = refl
-continued-text n c (e ∷ l) =
-    lines-append [] [] (map (joined e) (listing n (after c (e .schedule)))) (continued n c l)
-    ∙ rw (
-      lines-joined e (listing n (after c (e .schedule))),
-      continued-text n c l,
-      text-after n (after c (e .schedule)) (numbersTogether (e .schedule)) (answersText (e .answers)),
-    )

@@ -1,10 +1,10 @@
 -- The text of a listing (document 02, order 13), its refusals, and what is put into a lent buffer.
-use Prim.Native.Nat.{ℕ, zero, suc, _≤_, _<_}
+use Prim.Native.Nat.{ℕ, zero, suc, _/_, _%_, _^_, _≤_, _<_}
 use mathlib.Core.Path.{_≡_}
 use mathlib.Core.Bool.{Bool, true, cond, not, _&&_}
 use mathlib.Core.List.{List, [], _∷_, _++_}
 use lib.ListN.{length, getD, drop}
-use lib.Dec.{leb}
+use lib.Dec.{eqb, leb}
 use Rattle.grammar.specs.Writing.{decimal}
 use Rattle.executions.specs.declared.Request.{Request}
 use Rattle.construction.specs.declared.{Card.Card, Answer.Answer, Answered.Answered, Written.Written}
@@ -13,7 +13,7 @@ use Rattle.construction.specs.Parts.{contentsOf}
 use Rattle.construction.specs.Answers.{answerFields, fieldsText, isRefused}
 use Rattle.construction.specs.Requests.{isProgram, step}
 use Rattle.construction.specs.Opening.{fresh}
-use Rattle.executions.specs.Schedules.{noRequest, Execution, isQuiet, schedules, after}
+use Rattle.executions.specs.Schedules.{noRequest, Execution, isQuiet, schedules}
 
 -- 'a line holds the process numbers run together, then each step's answer fields after commas'
 unfoldable pub numbersTogether : List ℕ → List ℕ
@@ -56,11 +56,19 @@ textAfter (suc n) c x y =
     cond (isQuiet c (c .processCount)) (x ++ (y ++ (10 ∷ [])))
     (branchesText c x y (λ d z w. textAfter n d z w) (c .processCount) 0)
 
--- In pieces: for each of the first executions, the text that goes on from there
-unfoldable pub piecesText : ℕ → Card → List Execution → List ℕ
-piecesText n c [] = []
-piecesText n c (e ∷ l) =
-    textAfter n (after c (e .schedule)) (numbersTogether (e .schedule)) (answersText (e .answers)) ++ piecesText n c l
+-- In pieces, by the first m of m + n steps: with p processes there are p ^ m pieces, and piece j has the executions whose first steps are the m digits of j
+-- in base p. An execution that ends among the first steps stands in the first of its pieces.
+unfoldable pub pieceAfter : ℕ → ℕ → ℕ → Card → List ℕ → List ℕ → List ℕ
+pieceAfter zero n j c x y = textAfter n c x y
+pieceAfter (suc m) n j c x y =
+    let block = c .processCount ^ m in
+    cond (isQuiet c (c .processCount)) (cond (eqb j 0) (x ++ (y ++ (10 ∷ []))) [])
+    (branchText (j / block) (step c (j / block)) x y (λ d z w. pieceAfter m n (j % block) d z w))
+
+-- m texts one after the other, from number k on
+unfoldable pub together : (ℕ → List ℕ) → ℕ → ℕ → List ℕ
+together f zero k = []
+together f (suc m) k = f k ++ together f m (suc k)
 
 -- 6: 'a call whose sheet is not there', of m calls from process k on
 unfoldable pub areCallable : Card → List Request → ℕ → ℕ → Bool

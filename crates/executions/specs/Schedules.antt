@@ -114,14 +114,7 @@ pub record Lists (o : Card) (calls : List Request) (L : ℕ) (l : List Execution
       (k j : ℕ) → k < length l → j < length (executionAt l k .schedule) →
       getD (executionAt l k .answers) j Answer.Run ≡ stepAt o calls (executionAt l k .schedule) j .answer
 
--- In pieces: an execution and one that goes on from there; and each of some executions from a card on, followed by all that go on for n steps
-abbrev pub joined : Execution → Execution → Execution
-joined e f = record { schedule = e .schedule ++ f .schedule; answers = e .answers ++ f .answers }
-
+-- the card after a schedule
 abbrev pub after : Card → List ℕ → Card
 after c [] = c
 after c (i ∷ s) = after (step c i .card) s
-
-unfoldable pub continued : ℕ → Card → List Execution → List Execution
-continued n c [] = []
-continued n c (e ∷ l) = map (joined e) (listing n (after c (e .schedule))) ++ continued n c l

@@ -17,14 +17,14 @@ use Rattle.construction.specs.Requests.{isProgram}
 use Rattle.construction.specs.Opening.{fresh, opened}
 use Rattle.construction.specs.History.{Entry, run}
 use Rattle.executions.specs.Schedules.{noRequest, Execution, callsOf, listing, schedules}
-use Rattle.executions.specs.Listings.{reopened, linesAfter, listingText, textAfter, piecesText, areCallable, isCallable, isListable, listed, listedInto, Callable, Listable}
+use Rattle.executions.specs.Listings.{reopened, listingText, textAfter, pieceAfter, together, areCallable, isCallable, isListable, listed, listedInto, Callable, Listable}
 use Rattle.construction.proofs.Basics.{and-true, clash}
 use Rattle.construction.proofs.Statements.AnswerFields.{written-known}
 use Rattle.construction.proofs.Observing.Runs.{opened-consistent}
 use Rattle.executions.proofs.Runs.{end-processes}
 use Rattle.executions.proofs.Lengths.{listing-count}
-use Rattle.executions.proofs.Pieces.{listing-pieces}
-use Rattle.executions.proofs.Texts.{text-after, continued-text}
+use Rattle.executions.proofs.Pieces.{pieces-after}
+use Rattle.executions.proofs.Texts.{text-after}
 
 -- the text by the recursion of the listing, and in pieces of m first steps
 module _ (o : Card) (calls : List Request) where
@@ -32,11 +32,14 @@ module _ (o : Card) (calls : List Request) where
   unfolding listingText schedules
   listing-text L = sym (text-after L (run o (callsOf o calls) .card) [] [])
 
-  pub text-pieces : (m n : ℕ) → listingText o calls (m + n) ≡ piecesText n (run o (callsOf o calls) .card) (schedules o calls m)
-  unfolding listingText schedules
-  text-pieces m n =
-      ap (λ (l : List Execution). linesAfter [] [] l) (listing-pieces m n (run o (callsOf o calls) .card))
-      ∙ continued-text n (run o (callsOf o calls) .card) (listing m (run o (callsOf o calls) .card))
+  pub text-pieces :
+      (m n : ℕ) → 0 < o .processCount →
+      listingText o calls (m + n) ≡ together (λ j. pieceAfter m n j (run o (callsOf o calls) .card) [] []) (o .processCount ^ m) 0
+  text-pieces m n some =
+      let e : run o (callsOf o calls) .card .processCount ≡ o .processCount = end-processes o calls [] in
+      listing-text (m + n)
+      ∙ sym (pieces-after m n (run o (callsOf o calls) .card) [] [] (omega arith))
+      ∙ ap (λ (p : ℕ). together (λ j. pieceAfter m n j (run o (callsOf o calls) .card) [] []) (p ^ m) 0) e
 
   -- 'L = 0 gives the one empty schedule, an empty line'
   pub empty-line : listingText o calls 0 ≡ 10 ∷ []

@@ -3,7 +3,7 @@
 use std::fs;
 use std::path::{Path, PathBuf};
 
-use crate::compare::{expected, find, work_folder, Executable};
+use crate::compare::{expected, find, work_folder, Executable, Right};
 use crate::coverage::Coverage;
 use crate::generate::{case, Case};
 
@@ -54,7 +54,8 @@ fn failures(program: &Path, case: &Named, runs: &mut u64) -> Vec<String> {
 
 /// What is wrong with one run. With an altered loan it prints as many lines, whatever their answers are.
 fn failure(program: &Path, words: &[String], case: &Case, right: &[u8]) -> Option<String> {
-    let executable = Executable { program: PathBuf::from(program), words: words.to_vec(), folder: work_folder() };
+    let program = PathBuf::from(program);
+    let executable = Executable { program, words: words.to_vec(), folder: work_folder(), right: Right::Session };
     let written = match executable.run(case) {
         Ok(written) => written,
         Err(why) => return Some(why),

@@ -42,6 +42,7 @@ pub fn number_of(refusal: Refusal) -> u64
         Refusal::TooHeavy => 14,
         Refusal::NotAhead => 15,
         Refusal::Unsettled => 16,
+        Refusal::TooLarge => 17,
     }
 }
 

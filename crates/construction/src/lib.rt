@@ -320,7 +320,8 @@ pub struct Card {
     pub masks: [u64; 8],
 }
 
-// Why something is refused: rows 1 to 11 of document 01's table, 12 and 13 of document 02, order 8, 14 of its order 9, 15 and 16 of its order 11.
+// Why something is refused: rows 1 to 11 of document 01's table, 12 and 13 of document 02, order 8, 14 of its order 9, 15 and 16 of its order 11, and
+// 17 of its order 13.
 pub enum Refusal {
     TooLong,
     Malformed,
@@ -338,6 +339,7 @@ pub enum Refusal {
     TooHeavy,
     NotAhead,
     Unsettled,
+    TooLarge,
 }
 
 // The answer to a call, an exit request, a step, a read or a change. Done covers document 02's `fault` (order 6): what it yields tells which. A change is

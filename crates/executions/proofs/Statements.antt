@@ -1,0 +1,4 @@
+-- The theorems of order 13.
+pub mod Listings
+pub mod Schedules
+pub mod Examples

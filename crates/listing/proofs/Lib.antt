@@ -1,0 +1,5 @@
+-- Laws that the proofs of the functions cite: what a buffer holds after a text was put, tests and calls in loops, the branches of the listing, its answers.
+pub mod Buffers
+pub mod Tests
+pub mod Recursion
+pub mod Answers

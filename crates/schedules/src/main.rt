@@ -11,6 +11,7 @@ use libc::STDOUT_FILENO;
 use listing::pieces::count_pieces;
 use listing::pieces::put_piece;
 use schedule_files::prepare;
+ghost use mathlib.Core.Path.{_≡_};
 ghost use Prim.Native.Nat.{_≤_};
 ghost use lib.ListN.{length};
 ghost use Rattle.io.specs.Counts.{Counts};
@@ -49,7 +50,7 @@ fn decimal_of(text: &[u8]) -> Argument {
 }
 
 // The one argument.
-fn argument() -> Argument {
+fn read_argument() -> Argument {
     let mut text = io::buffer();
     let length = os::arg(1, &mut text);
     if os::arg_count() != 2 {
@@ -78,25 +79,34 @@ fn read_file(path: &[u8], buffer: &mut [u8]) -> usize
 fn seconds() -> u64 {
     let mut clock: i64 = 0;
     let now = libc::time(&mut clock);
-    if now < 0 {
-        return 0;
+    if now > 0 {
+        return now as u64;
     }
-    now as u64
+    0
+}
+
+// How many of the pieces are done, and in which time, as a line in a buffer; its length, or 0 where it does not fit.
+fn put_progress(buffer: &mut [u8], done: u32, pieces: u32, elapsed: u64) -> usize
+    ensures { λ r. ⌜ Counts r (now (buffer .exit)) ⌝ }
+{
+    let i = put_word(buffer, 0, b"listed ");
+    let j = put_decimal(buffer, i, done as u64);
+    let k = put_word(buffer, j, b" of ");
+    let l = put_decimal(buffer, k, pieces as u64);
+    let m = put_word(buffer, l, b" beginnings of schedules, ");
+    let n = put_decimal(buffer, m, elapsed);
+    let end = put_word(buffer, n, b" s\n");
+    if end <= buffer.len() {
+        return end;
+    }
+    0
 }
 
 // Tells how many of the pieces are done, and in which time.
 fn tell(done: u32, pieces: u32, elapsed: u64) {
     let mut text = io::buffer();
-    let i = put_word(&mut text, 0, b"listed ");
-    let j = put_decimal(&mut text, i, done as u64);
-    let k = put_word(&mut text, j, b" of ");
-    let l = put_decimal(&mut text, k, pieces as u64);
-    let m = put_word(&mut text, l, b" beginnings of schedules, ");
-    let n = put_decimal(&mut text, m, elapsed);
-    let end = put_word(&mut text, n, b" s\n");
-    if end <= 4096 {
-        io::write_all(STDERR_FILENO, &text[..end]);
-    }
+    let length = put_progress(&mut text, done, pieces, elapsed);
+    io::write_all(STDERR_FILENO, &text[..length]);
 }
 
 // Tells how far it is where two seconds have passed since that was last told; when it was last told.
@@ -133,9 +143,16 @@ fn print_pieces(card: Card, first: u8, left: u8, buffer: &mut [u8]) -> bool
     true
 }
 
+// Room for a piece.
+fn piece_buffer() -> [u8; 524288]
+    ensures { λ r. ⌜ 524288 ≡ length r ⌝ }
+{
+    [0; 524288]
+}
+
 // Prints a listing in pieces: the first steps, and all that go on from there for the last ones.
 fn print_listing(card: Card, length: u32) -> bool {
-    let mut buffer = [0u8; 524288];
+    let mut buffer = piece_buffer();
     if length <= LAST as u32 {
         return print_pieces(card, 0, length as u8, &mut buffer);
     }
@@ -160,8 +177,8 @@ fn print_files(card: &[u8], calls: &[u8], length: u32) -> bool {
 // The argument is judged before any file, of each of which at most one byte more than its limit is read. A program has no exit status, so what cannot be
 // written is told on standard error.
 fn main() {
-    let given = argument();
-    if !given.given {
+    let length = read_argument();
+    if !length.given {
         io::write_all(STDERR_FILENO, b"usage: schedules L (the number of steps, a decimal below 4294967296)\n");
         return;
     }
@@ -169,7 +186,7 @@ fn main() {
     let mut calls = [0u8; 65537];
     let card_length = read_file(b"card.txt", &mut card);
     let calls_length = read_file(b"calls.txt", &mut calls);
-    if !print_files(&card[..card_length], &calls[..calls_length], given.value) {
+    if !print_files(&card[..card_length], &calls[..calls_length], length.value) {
         os::fail(b"schedules: the listing could not be written");
     }
 }

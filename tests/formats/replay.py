@@ -1,8 +1,8 @@
 #!/usr/bin/env python3
 """Replays docs/FORMATS.md through the proved programs in target/bin and through the commands at the top of the repository, which find nothing to prove.
 
-- A block marked `text FILE` is a file; one marked `text ./COMMAND ..` is what that command prints, without arguments on a folder with the files last
-  shown. Lines that begin with the command's name and a colon are its standard error.
+- A block marked `text FILE` is a file; one marked `text ./COMMAND ..` is what that command prints, with FOLDER for one with the files last shown, and so
+  without arguments. Lines that begin with the command's name and a colon are its standard error.
 - A line in backquotes followed by `in [NAME](../examples/NAME)` is one that this example prints.
 - The tables are complete (refusals, codes, labels and commands by the definitions, programs by the scripts), and the program judges every range, weight and refusal.
 
@@ -46,12 +46,21 @@ def quoted(cell):
     return re.findall(r"`([^`]*)`", cell)
 
 
-def ask(card, calls):
-    """What the bench program prints, line by line."""
+def ask(card, calls, command="./bench FOLDER"):
+    """What a program prints, line by line."""
+    program, _, *arguments = command.split()
     with tempfile.TemporaryDirectory() as room:
         for name, lines in (("card.txt", card), ("calls.txt", calls)):
             (pathlib.Path(room) / name).write_text("".join(line + "\n" for line in lines))
-        return subprocess.run([ROOT / "target/bin/bench"], cwd=room, capture_output=True, text=True).stdout.splitlines()
+        call = [ROOT / "target/bin" / program[2:], *arguments]
+        return subprocess.run(call, cwd=room, capture_output=True, text=True).stdout.splitlines()
+
+
+def ask_quoted(card, commands):
+    """The same; a command of the repository may stand first, and the lines of the calls follow."""
+    if commands and commands[0].startswith("./"):
+        return ask(card, commands[1:], commands[0])
+    return ask(card, commands)
 
 
 def blocks(path):
@@ -62,6 +71,7 @@ def blocks(path):
             if not words[0].startswith("./"):
                 (pathlib.Path(room) / words[0]).write_text(text)
                 continue
+            words = [room if word == "FOLDER" else word for word in words]
             if words == ["./bench"]:
                 words.append(room)
             ran = subprocess.run(words, cwd=ROOT, capture_output=True, text=True, env={**os.environ, "PATH": path})
@@ -137,7 +147,7 @@ def refusals():
             card = ["x" * (int(long[1].replace(",", "")) - 1)]
         elif heavy:
             card[2:] = [f"sheet,{heavy[1]}", *[heavy[2]] * int(heavy[1])]
-        holds(f"example of refusal {number}", ask(card, commands)[-1:], quoted(answer))
+        holds(f"example of refusal {number}", ask_quoted(card, commands)[-1:], quoted(answer))
 
 
 def refusals_of_changes():
@@ -150,6 +160,17 @@ def refusals_of_changes():
         long = re.search(r"([\d,]+) bytes", example)
         commands = ["change,0,2,1", "x" * (int(long[1].replace(",", "")) - 1)] if long else quoted(example)
         holds(f"example of refusal {number} of a change", ask(CARD_K, commands), quoted(answer))
+
+
+def refusals_of_listings():
+    """Each row's example on card K, which has one process; or calls that are too long."""
+    table = rows("Refusals", "no. | of a listing")
+    told = re.findall(r"`(?:calls|line,N|schedules),refused,(\d+)`", section("Every short schedule"))
+    holds("a row for each refusal of a listing", [row[0] for row in table] + ["17"], told)
+    for number, _, example, answer, _ in table:
+        long = re.search(r"([\d,]+) bytes", example)
+        commands = ["./schedules FOLDER 3", "x" * (int(long[1].replace(",", "")) - 1)] if long else quoted(example)
+        holds(f"example of refusal {number} of a listing", ask_quoted(CARD_K, commands), quoted(answer))
 
 
 def others():
@@ -171,6 +192,7 @@ lines_of_examples()
 codes()
 refusals()
 refusals_of_changes()
+refusals_of_listings()
 others()
 print(f"page of formats: {checks} checks, {failures} failed")
 sys.exit(failures != 0)

@@ -79,14 +79,15 @@ cp -R "$top/tools" "$top/check" "$repository/"
 cp "$top/docs/FORMATS.md" "$repository/docs/" || true
 sed 's/prove-and-run" bench/prove-and-run" program/' "$top/bench" >"$repository/program"
 chmod +x "$repository/program"
+cp "$top/schedules" "$repository/"
 launcher listing 'DIR L [M]' ''
 launcher reading 'DUMP [STEP]' ''
-printf '# layers\nbelow:\nbeside: below  # with a comment\nprogram: beside io\nlisting: below\nreading: below\n' >"$repository/crates.txt"
-for name in below beside program listing reading; do
+printf '# layers\nbelow:\nbeside: below  # with a comment\nprogram: beside io\nlisting: below\nreading: below\nschedules: below\n' >"$repository/crates.txt"
+for name in below beside program listing reading schedules; do
     mkdir -p "$repository/crates/$name/src"
     echo "$name" >"$repository/crates/$name/src/lib.rt"
 done
-for name in program listing reading; do
+for name in program listing reading schedules; do
     mv "$repository/crates/$name/src/lib.rt" "$repository/crates/$name/src/main.rt"
 done
 
@@ -251,6 +252,40 @@ call "$repository/listing" "$folder" x
 holds "a usage line of the program is a wrong call" ends 2 "" "usage: listing L
 usage: ./listing DIR L [M]
 Does this."
+
+# ./schedules: the length goes to the program, which runs in the folder; how far it is may be told, a refused card too, and a wrong length is a wrong call
+program_is 'pwd; echo "$#: $@"; echo "9 of 27, 3 s" >&2' schedules
+call "$repository/schedules" "$folder" 16
+call "$repository/schedules" "$folder" 16
+holds "a listing is told its length and tells how far it is" ends 0 "$(readlink -f "$folder")
+1: 16" "9 of 27, 3 s"
+explained="usage: ./schedules DIR L
+$(sed -n '2,$s/^# \{0,1\}//p' "$top/schedules")"
+call "$repository/schedules" --help
+holds "help is given on listings" ends 0 "$explained" ""
+for arguments in '' "$folder" "$folder 1 2"; do
+    # shellcheck disable=SC2086
+    call "$repository/schedules" $arguments
+    holds "a listing takes a folder and a length" ends 2 "" "$explained"
+done
+program_is 'echo "usage: schedules L" >&2' schedules
+call "$repository/schedules" "$folder" 016
+holds "a wrong length is a wrong call" ends 2 "" "usage: schedules L
+$explained"
+program_is '[ -e calls.txt ] || { echo line,1,refused,2; exit; }
+echo schedules,refused,17' schedules
+call "$repository/schedules" "$folder" 17
+holds "a refused listing is an answer, and calls that are missing when it looks for a refused card are not spoken of" ends 0 schedules,refused,17 ""
+rm "$folder/calls.txt"
+call "$repository/schedules" "$folder" 3
+holds "missing calls are told of a listing" ends 0 line,1,refused,2 "schedules: there is no $folder/calls.txt; it counts as empty"
+files 'card\nins,99,0,0,0\n' 'calls\n'
+program_is 'echo card,refused,4,2' schedules
+call "$repository/schedules" "$folder" 3
+holds "a refused card is told of a listing" ends 0 card,refused,4,2 \
+    "schedules: card.txt, line 2, 'ins,99,0,0,0', is refused with 4: there is no such code; docs/FORMATS.md tells what to do"
+files 'card\n' 'calls\n'
+
 program_is 'cat "$1"; echo "$2"' reading
 call "$repository/reading" "$folder/card.txt"
 cd "$folder"

@@ -1,4 +1,4 @@
-//! Runs the bench program on cases and compares what it prints; a case that differs is made small.
+//! Runs the bench program, or the program `schedules`, on cases and compares what it prints; a case that differs is made small.
 
 use std::fs;
 use std::io::Read;
@@ -9,24 +9,40 @@ use std::thread;
 use std::time::{Duration, Instant};
 
 use crate::coverage::Coverage;
-use crate::generate::{card_text, case, Case};
-use crate::machine::{open, Card};
+use crate::generate::{self, card_text, case, Case};
+use crate::machine::{length_of_lines, open, Card};
+use crate::schedules::{self, Reached};
 use crate::session;
 
 /// A run that takes longer counts as failed.
-const TIME_LIMIT: Duration = Duration::from_secs(20);
+const TIME_LIMIT: Duration = Duration::from_secs(60);
 /// No case is made smaller for longer than this.
 const SHRINK_LIMIT: Duration = Duration::from_secs(60);
 /// So many cases that differ are printed; the others are only counted.
 const PRINTED_CASES: u64 = 3;
+/// So many lines of an output that differs are printed.
+const PRINTED_LINES: usize = 1000;
 
-/// The executable to judge, and the folder in which it runs.
+/// The executable to judge, the folder in which it runs, and its argument if it has one.
 struct Executable {
     program: PathBuf,
     folder: PathBuf,
+    length: Option<u32>,
 }
 
 impl Executable {
+    /// What the program must print for a case: a session, or the listing of this length.
+    fn expected(&self, case: &Case) -> Vec<u8> {
+        match self.length {
+            None => expected(case, &mut Coverage::default()),
+            Some(length) => listed(case, length, &mut Reached::default()),
+        }
+    }
+
+    fn differs(&self, case: &Case) -> bool {
+        self.run(case).as_ref() != Ok(&self.expected(case))
+    }
+
     /// What the program prints for a case, or why it failed.
     fn run(&self, case: &Case) -> Result<Vec<u8>, String> {
         let written = self.write(case);
@@ -47,6 +63,7 @@ impl Executable {
 
     fn start(&self) -> Result<Vec<u8>, String> {
         let mut command = Command::new(&self.program);
+        command.args(self.length.map(|length| length.to_string()));
         command.current_dir(&self.folder).stdin(Stdio::null()).stdout(Stdio::piped()).stderr(Stdio::null());
         let mut child = command.spawn().map_err(|error| format!("cannot start {}: {error}", self.program.display()))?;
         let output = collect(&mut child);
@@ -80,7 +97,7 @@ pub fn compare(program: &str, first_seed: u64, count: u64) -> Result<bool, Strin
     let mut coverage = Coverage::default();
     let mut different = 0;
     for seed in first_seed..first_seed + count {
-        let executable = Executable { program: program.clone(), folder: root.join(seed.to_string()) };
+        let executable = Executable { program: program.clone(), folder: root.join(seed.to_string()), length: None };
         let case = case(seed);
         let expected = expected(&case, &mut coverage);
         if executable.run(&case).as_ref() != Ok(&expected) {
@@ -95,6 +112,32 @@ pub fn compare(program: &str, first_seed: u64, count: u64) -> Result<bool, Strin
     Ok(report(&coverage) && different == 0)
 }
 
+/// Compares the listings of `count` seeds; true if none differs and everything was reached.
+pub fn compare_schedules(program: &str, first_seed: u64, count: u64) -> Result<bool, String> {
+    let program = fs::canonicalize(program).map_err(|error| format!("cannot find {program}: {error}"))?;
+    let root = std::env::temp_dir().join(format!("schedule-simulator-{}", std::process::id()));
+    let mut reached = Reached::default();
+    let mut different = 0;
+    for seed in first_seed..first_seed + count {
+        let (case, length) = generate::schedules::case(seed);
+        let folder = root.join(seed.to_string());
+        let executable = Executable { program: program.clone(), folder, length: Some(length) };
+        let expected = listed(&case, length, &mut reached);
+        if executable.run(&case).as_ref() != Ok(&expected) {
+            different += 1;
+            if different <= PRINTED_CASES {
+                println!("length {length}");
+                print_difference(seed, &executable, &shrink(&executable, case));
+            }
+        }
+    }
+    let _ = fs::remove_dir_all(&root);
+    println!("different cases {different}\n{}", reached.summary());
+    let never = reached.never_reached();
+    println!("never reached: {}", if never.is_empty() { "nothing".to_string() } else { never.join(", ") });
+    Ok(never.is_empty() && different == 0)
+}
+
 /// Simulates only.
 pub fn cover(first_seed: u64, count: u64) -> bool {
     let mut coverage = Coverage::default();
@@ -106,8 +149,23 @@ pub fn cover(first_seed: u64, count: u64) -> bool {
 
 /// Writes a case's two files into a folder.
 pub fn write_case(seed: u64, folder: &str) -> Result<(), String> {
-    let executable = Executable { program: PathBuf::new(), folder: Path::new(folder).to_path_buf() };
-    executable.write(&case(seed)).map_err(|error| format!("cannot write into {folder}: {error}"))
+    write_files(&case(seed), folder)
+}
+
+/// The same of a listing; its length is printed.
+pub fn write_schedules(seed: u64, folder: &str) -> Result<(), String> {
+    let (case, length) = generate::schedules::case(seed);
+    println!("{length}");
+    write_files(&case, folder)
+}
+
+fn write_files(case: &Case, folder: &str) -> Result<(), String> {
+    let executable = Executable { program: PathBuf::new(), folder: Path::new(folder).to_path_buf(), length: None };
+    executable.write(case).map_err(|error| format!("cannot write into {folder}: {error}"))
+}
+
+fn listed(case: &Case, length: u32, reached: &mut Reached) -> Vec<u8> {
+    schedules::run(case.card.as_deref().unwrap_or(&[]), case.calls.as_deref().unwrap_or(&[]), length, reached)
 }
 
 /// A file that is not there counts as empty.
@@ -128,9 +186,7 @@ fn report(coverage: &Coverage) -> bool {
 /// A smaller case on which the program still differs: first fewer commands, then a shorter card.
 fn shrink(executable: &Executable, mut case: Case) -> Case {
     let end = Instant::now() + SHRINK_LIMIT;
-    let mut differs = |case: &Case| {
-        Instant::now() < end && executable.run(case).as_ref() != Ok(&expected(case, &mut Coverage::default()))
-    };
+    let mut differs = |case: &Case| Instant::now() < end && executable.differs(case);
     let mut size = usize::MAX;
     while case_size(&case) < size {
         size = case_size(&case);
@@ -205,14 +261,19 @@ fn drop_pieces(
 }
 
 fn print_difference(seed: u64, executable: &Executable, case: &Case) {
-    let right = expected(case, &mut Coverage::default());
+    let right = executable.expected(case);
     let printed = executable.run(case).unwrap_or_else(|reason| format!("({reason})\n").into_bytes());
     println!("seed {seed} differs; made small:");
     println!("--- card.txt\n{}", shown(case.card.as_deref()));
     println!("--- calls.txt\n{}", shown(case.calls.as_deref()));
-    println!("--- expected\n{}", shown(Some(&right)));
-    println!("--- printed\n{}", shown(Some(&printed)));
+    println!("--- expected\n{}", shown(Some(front(&right))));
+    println!("--- printed\n{}", shown(Some(front(&printed))));
     println!("--- first differing line\n{}", first_difference(&right, &printed));
+}
+
+/// The first lines of an output; a listing may have millions.
+fn front(text: &[u8]) -> &[u8] {
+    &text[..length_of_lines(text, PRINTED_LINES)]
 }
 
 /// A text as it can be printed: bytes that are not plain ASCII are escaped, and an unended line is marked.

@@ -1,5 +1,7 @@
 //! Cases from a seed: the two files of the bench program, valid and damaged.
 
+pub mod schedules;
+
 use crate::machine::{weight, Card, Instruction, Machine, GREATEST_LIMIT, TEXT_LIMIT, WORD_END};
 use crate::session::CALLS_LIMIT;
 

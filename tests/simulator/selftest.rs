@@ -1,8 +1,10 @@
 //! The simulator against document 01: the listing of card K, the proving pieces, the rows of 'Turned back',
-//! schedules that show the faults met in drafts, changes of programs (document 02, order 11), and the sequential run side by side.
+//! schedules that show the faults met in drafts, changes of programs (document 02, order 11), the sequential run side by side, and listings of
+//! every short schedule (order 13).
 
-use crate::generate::{card_text, case, longest_card};
+use crate::generate::{self, card_text, case, longest_card};
 use crate::machine::{open, read_change, Announcement, Answer, Flag, Instruction, Machine, Record};
+use crate::schedules;
 use crate::session::{expected, Command, Commands};
 
 /// Card K's program: store the input, output the old value.
@@ -55,6 +57,11 @@ pub fn selftest() -> bool {
     for seed in 1..=600 {
         let found = side_by_side(seed);
         checks.equal(&format!("sequential run, seed {seed}"), found, Ok(()));
+    }
+    listings(&mut checks);
+    listing_refusals(&mut checks);
+    for seed in 1..=200 {
+        checks.equal(&format!("listing, seed {seed}"), replayed(seed), Ok(()));
     }
     println!("{} checks, {} failed", checks.made, checks.failed);
     checks.failed == 0
@@ -616,4 +623,92 @@ fn enter(
             None
         }
     }
+}
+
+// ---------------------------------------------------------------- every short schedule (document 02, order 13)
+
+/// One call of program 0 for each process.
+fn calls_of(inputs: &[u32]) -> String {
+    inputs.iter().enumerate().map(|(process, input)| format!("call,{process},0,{input},0,0,0\n")).collect()
+}
+
+fn listed(card: &str, calls: &str, length: u32) -> String {
+    String::from_utf8(schedules::expected(card.as_bytes(), calls.as_bytes(), length)).expect("ASCII")
+}
+
+fn listings(checks: &mut Checks) {
+    let k = card_of(1, 100, 7, EXCHANGE);
+    let whole = format!("{}{},done,1,7,0,0,0,14\n", "0".repeat(14), ",run".repeat(13));
+    checks.equal("K cut", listed(&k, &calls_of(&[9]), 13), format!("{}{}\n", "0".repeat(13), ",run".repeat(13)));
+    checks.equal("K over at the length", listed(&k, &calls_of(&[9]), 14), whole.clone());
+    checks.equal("K over before the length", listed(&k, &calls_of(&[9]), 16), whole.clone());
+    checks.equal("a limit equal to the length", listed(&card_of(1, 14, 7, EXCHANGE), &calls_of(&[9]), 14), whole);
+    let fault = card_of(1, 100, 7, "sheet,2\nins,2,0,1,0\nins,5,0,0,0\n");
+    let wanted = format!("{}{},fault,1,0,0,0,0,12\n", "0".repeat(12), ",run".repeat(11));
+    checks.equal("a fault", listed(&fault, &calls_of(&[0]), 15), wanted);
+    for inputs in [&[1][..], &[1, 2], &[1, 2, 3]] {
+        let card = card_of(inputs.len(), 1, 7, EXCHANGE);
+        checks.equal("the empty schedule", listed(&card, &calls_of(inputs), 0), "\n".to_string());
+    }
+    let pairs = "00,run,run\n01,run,run\n10,run,run\n11,run,run\n".to_string();
+    checks.equal("two steps of two", listed(&card_of(2, 2, 7, EXCHANGE), &calls_of(&[5, 9]), 2), pairs);
+    let triples = listed(&card_of(3, 100, 7, EXCHANGE), &calls_of(&[5, 9, 7]), 5);
+    checks.equal("five steps of three", triples.lines().count(), 243);
+    // Process 1 has the first turn and is back after 12 steps if nothing is touched; then only 0 goes on.
+    let all = listed(&card_of(2, 100, 7, FIXED), &calls_of(&[0, 0]), 14);
+    let back: Vec<&str> = all.lines().filter(|line| line.starts_with("111111111111")).collect();
+    let wanted = format!("11111111111100{},done,1,77,0,0,0,12,run,run", ",run".repeat(11));
+    checks.equal("one back", back, vec![wanted.as_str()]);
+}
+
+/// The card, the size of the calls, their first bad line, 6, 17, in that sequence.
+fn listing_refusals(checks: &mut Checks) {
+    let two = card_of(2, 5, 7, EXCHANGE);
+    let mut refused = |card: &str, calls: &str, length: u32, wanted: &str| {
+        checks.equal(&format!("{calls:.60} with {length}"), listed(card, calls, length), format!("{wanted}\n"));
+    };
+    let long = "\n".repeat(65_537);
+    refused("card,9,1,1,5\n", &long, 17, "card,refused,3,1");
+    refused(&two, &long, 17, "calls,refused,1");
+    refused(&two, &long[1..], 17, "line,1,refused,2");
+    refused(&two, "", 17, "line,1,refused,2");
+    refused(&two, "call,0,1,0,0,0,0\n", 17, "line,2,refused,2");
+    refused(&two, "call,1,0,0,0,0,0\ncall,0,0,0,0,0,0\n", 2, "line,1,refused,2");
+    refused(&two, "call,0,0,0,0,0,0\nstep,0\n", 2, "line,2,refused,2");
+    refused(&two, "call,0,0,0,0,0,0\ncall,1,0,0,0,0\n", 2, "line,2,refused,2");
+    refused(&two, "call,0,0,0,0,0,0\ncall,1,0,0,0,0,0", 2, "line,2,refused,2");
+    refused(&two, "call,0,0,0,0,0,0\ncall,1,0,0,0,0,0\n\n", 2, "line,3,refused,2");
+    refused(&two, "call,0,0,0,0,0,0\ncall,1,0,0,0,0,0\nx", 2, "line,3,refused,2");
+    refused(&two, "call,0,0,0,0,0,0\ncall,1,1,0,0,0,0\n", 17, "schedules,refused,6");
+    refused(&two, &calls_of(&[0, 0]), 6, "schedules,refused,17");
+    refused(&card_of(2, 100, 7, EXCHANGE), &calls_of(&[0, 0]), 17, "schedules,refused,17");
+    refused(&card_of(4, 100, 7, EXCHANGE), &calls_of(&[0; 4]), 0, "schedules,refused,17");
+    refused(&card_of(4, 100, 7, EXCHANGE), &calls_of(&[0; 3]), 0, "line,4,refused,2");
+    let missing = calls_of(&[0; 7]) + "call,7,256,0,0,0,0\n";
+    refused(&card_of(8, 100, 7, EXCHANGE), &missing, 17, "schedules,refused,6");
+}
+
+/// A listing's lines stand in strict dictionary order, and the bench program answers the calls and steps of each as the line says.
+fn replayed(seed: u64) -> Result<(), String> {
+    let (case, length) = generate::schedules::case(seed);
+    let (card, calls) = (case.card.unwrap_or_default(), case.calls.unwrap_or_default());
+    let text = String::from_utf8(schedules::expected(&card, &calls, length)).expect("ASCII");
+    if text.contains("refused") {
+        return Ok(());
+    }
+    let mut before = None;
+    for line in text.lines().take(300) {
+        let numbers = line.split(',').next().unwrap_or_default();
+        if before.is_some_and(|before| before >= numbers) {
+            return Err(format!("{numbers} out of order"));
+        }
+        before = Some(numbers);
+        let steps: String = numbers.chars().map(|process| format!("step,{process}\n")).collect();
+        let printed = String::from_utf8(expected(&card, &[&calls, steps.as_bytes()].concat())).expect("ASCII");
+        let answers = printed.lines().filter_map(|line| line.strip_prefix("step,")).map(|line| &line[1..]);
+        if numbers.to_string() + &answers.collect::<String>() != line {
+            return Err(format!("{line} is answered {printed}"));
+        }
+    }
+    Ok(())
 }

@@ -106,7 +106,7 @@ fn words(line: &Line, verb: &str, count: usize) -> Option<Vec<u32>> {
 }
 
 /// A command of one line; none if it is misformed.
-fn parse(line: &Line) -> Option<Command<'static>> {
+pub fn parse(line: &Line) -> Option<Command<'static>> {
     let words = |verb, count| words(line, verb, count);
     if let Some(w) = words("call", 6) {
         return Some(Command::Call { process: w[0], program: w[1], inputs: [w[2], w[3], w[4], w[5]] });

@@ -3,3 +3,4 @@ pub mod Buffers
 pub mod Tests
 pub mod Recursion
 pub mod Answers
+pub mod LastSteps

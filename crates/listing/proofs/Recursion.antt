@@ -243,6 +243,24 @@ has-ended c left e = rw (quiet-tasks c (c .processCount)) (sym e)
 pub steps-left : (c : Card) (left : ℕ) {t : Bool} → t ≡ (eqb left 0 || areIdle (c .tasks) (c .processCount)) → t ≡ false → 0 < left
 steps-left c left e f = text-more left c [] [] (has-ended c left e ∙ f) .0
 
+-- one step is left
+pub not-quiet : (c : Card) (left : ℕ) {t : Bool} → t ≡ (eqb left 0 || areIdle (c .tasks) (c .processCount)) → t ≡ false → isQuiet c (c .processCount) ≡ false
+not-quiet c left {t} e f = go (eqb left 0) (isQuiet c (c .processCount)) (has-ended c left e ∙ f)
+  where
+    go : (a b : Bool) → (a || b) ≡ false → b ≡ false
+    go false b h = h
+    go true b h = absurd (false≢true (sym h))
+
+pub one-holds : (left : ℕ) {p : ℕ} {numbers : List ℕ} {x : ℕ} {answers : List ℕ} {y : ℕ} → left ≡ 1 → Holds p left numbers x answers y → Holds p 1 numbers x answers y
+one-holds left {p} {numbers} {x} {answers} {y} e H = subst (λ (n : ℕ). Holds p n numbers x answers y) e H
+
+pub one-lines :
+    (left : ℕ) (c : Card) {b : List ℕ} {at r : ℕ} {z numbers : List ℕ} {x : ℕ} {numbers′ answers : List ℕ} {y : ℕ} {answers′ : List ℕ} → left ≡ 1 →
+    Lines b at (textAfter 1 c (take x numbers) (take y answers)) (capacity 1 (longest 1 x y)) r z numbers x numbers′ answers y answers′ →
+    Lines b at (textAfter left c (take x numbers) (take y answers)) (capacity left (longest left x y)) r z numbers x numbers′ answers y answers′
+one-lines left c {b} {at} {r} {z} {numbers} {x} {numbers′} {answers} {y} {answers′} e L =
+    subst (λ (n : ℕ). Lines b at (textAfter n c (take x numbers) (take y answers)) (capacity n (longest n x y)) r z numbers x numbers′ answers y answers′) (sym e) L
+
 module _ (c : Card) (left : ℕ) {numbers : List ℕ} {x : ℕ} {answers : List ℕ} {y : ℕ} {t : Bool} (ended : t ≡ (eqb left 0 || areIdle (c .tasks) (c .processCount))) where
   pub ended-lines :
       {b : List ℕ} {at r : ℕ} {z : List ℕ} → t ≡ true → Put b at (take x numbers ++ (take y answers ++ (10 ∷ []))) r z →

@@ -1,6 +1,7 @@
 // 'The listing recurs on the steps still to choose' (document 02, order 13): the text of all executions that go on from a card. What was printed of the
 // steps chosen so far stands in two small buffers, process numbers and answers, as in a line the numbers come before all answers; a branch
 // writes past them, and leaves what stood before. The card is handed on by value, once for each chosen process.
+use crate::lasts::put_lasts;
 use answers::kinds::is_refused;
 use answers::put_answer;
 use card::step;
@@ -119,6 +120,9 @@ pub(crate) fn put_after(
     let count = card.processCount;
     if has_ended(left, tasks, count) {
         return put_line(buffer, at, &numbers[..x], &answers[..y]);
+    }
+    if left == 1 {
+        return put_lasts(buffer, at, card, numbers, x, answers, y);
     }
     let mut i = at;
     let mut k: u8 = 0;

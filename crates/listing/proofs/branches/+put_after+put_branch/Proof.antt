@@ -1,3 +1,5 @@
+use mathlib.Core.Path.{sym, _∙_}
+use Rattle.listing.proofs.Tests as tests
 use Rattle.executions.specs.Listings.{textAfter}
 use lib.ListN.{length-take}
 use borrow.Author.Needs.{needs}
@@ -20,6 +22,7 @@ use Rattle.card.proofs.step.Reads as step-reads
 use Rattle.grammar.proofs.writing.put_decimal.Reads as put-decimal-reads
 use Rattle.listing.proofs.branches.has_ended.Reads as has-ended-reads
 use Rattle.listing.proofs.branches.put_line.Reads as put-line-reads
+use Rattle.listing.proofs.lasts.put_lasts.Reads as put-lasts-reads
 use Rattle.listing.proofs.branches.+put_after+put_branch.{statement}
 use Rattle.listing.proofs.branches.+put_after+put_branch.Tie.{close}
 
@@ -58,6 +61,8 @@ put-after-has-ended-requires : (t : ℕ) → put-after-lts.Need-has-ended-requir
   has-ended-reads.Learnt,
   put-line-reads.Asked,
   put-line-reads.Learnt,
+  put-lasts-reads.Asked,
+  put-lasts-reads.Learnt,
   put-branch-below t,
   put-branch.Post,
 ) (put-after-at t) put-after.Post put-after-Inv-loop put-after-μ-loop
@@ -70,6 +75,8 @@ put-after-slice-reshare-prefix-put-line :
       has-ended-reads.Learnt,
       put-line-reads.Asked,
       put-line-reads.Learnt,
+      put-lasts-reads.Asked,
+      put-lasts-reads.Learnt,
       put-branch-below t,
       put-branch.Post,
     ) (put-after-at t) put-after.Post put-after-Inv-loop put-after-μ-loop
@@ -81,6 +88,8 @@ put-after-slice-aggregate-put-line : (t : ℕ) → put-after-lts.Need-slice-aggr
   has-ended-reads.Learnt,
   put-line-reads.Asked,
   put-line-reads.Learnt,
+  put-lasts-reads.Asked,
+  put-lasts-reads.Learnt,
   put-branch-below t,
   put-branch.Post,
 ) (put-after-at t) put-after.Post put-after-Inv-loop put-after-μ-loop
@@ -93,6 +102,8 @@ put-after-slice-reshare-prefix-put-line-2 :
       has-ended-reads.Learnt,
       put-line-reads.Asked,
       put-line-reads.Learnt,
+      put-lasts-reads.Asked,
+      put-lasts-reads.Learnt,
       put-branch-below t,
       put-branch.Post,
     ) (put-after-at t) put-after.Post put-after-Inv-loop put-after-μ-loop
@@ -104,6 +115,8 @@ put-after-slice-aggregate-put-line-2 : (t : ℕ) → put-after-lts.Need-slice-ag
   has-ended-reads.Learnt,
   put-line-reads.Asked,
   put-line-reads.Learnt,
+  put-lasts-reads.Asked,
+  put-lasts-reads.Learnt,
   put-branch-below t,
   put-branch.Post,
 ) (put-after-at t) put-after.Post put-after-Inv-loop put-after-μ-loop
@@ -115,6 +128,8 @@ put-after-put-line-requires : (t : ℕ) → put-after-lts.Need-put-line-requires
   has-ended-reads.Learnt,
   put-line-reads.Asked,
   put-line-reads.Learnt,
+  put-lasts-reads.Asked,
+  put-lasts-reads.Learnt,
   put-branch-below t,
   put-branch.Post,
 ) (put-after-at t) put-after.Post put-after-Inv-loop put-after-μ-loop
@@ -126,6 +141,8 @@ put-after-same-length : (t : ℕ) → put-after-lts.Need-same-length (
   has-ended-reads.Learnt,
   put-line-reads.Asked,
   put-line-reads.Learnt,
+  put-lasts-reads.Asked,
+  put-lasts-reads.Learnt,
   put-branch-below t,
   put-branch.Post,
 ) (put-after-at t) put-after.Post put-after-Inv-loop put-after-μ-loop
@@ -137,6 +154,8 @@ put-after-same-length-2 : (t : ℕ) → put-after-lts.Need-same-length-2 (
   has-ended-reads.Learnt,
   put-line-reads.Asked,
   put-line-reads.Learnt,
+  put-lasts-reads.Asked,
+  put-lasts-reads.Learnt,
   put-branch-below t,
   put-branch.Post,
 ) (put-after-at t) put-after.Post put-after-Inv-loop put-after-μ-loop
@@ -148,6 +167,8 @@ put-after-same-length-3 : (t : ℕ) → put-after-lts.Need-same-length-3 (
   has-ended-reads.Learnt,
   put-line-reads.Asked,
   put-line-reads.Learnt,
+  put-lasts-reads.Asked,
+  put-lasts-reads.Learnt,
   put-branch-below t,
   put-branch.Post,
 ) (put-after-at t) put-after.Post put-after-Inv-loop put-after-μ-loop
@@ -159,10 +180,72 @@ put-after-returns : (t : ℕ) → put-after-lts.Need-returns (
   has-ended-reads.Learnt,
   put-line-reads.Asked,
   put-line-reads.Learnt,
+  put-lasts-reads.Asked,
+  put-lasts-reads.Learnt,
   put-branch-below t,
   put-branch.Post,
 ) (put-after-at t) put-after.Post put-after-Inv-loop put-after-μ-loop
 put-after-returns t c = laws.ended-lines (c .before .before .before .before .before .before .before .before .before .before .before .before .args .card) (c .before .before .before .before .before .before .before .before .before .before .before .before .args .left) (c .before .before .before .before .before .before .before .has-ended .ensures) (c .before .before .before .before .before .before .if1 .taken) (c .before .before .put-line .ensures)
+
+put-after-put-lasts-requires : (t : ℕ) → put-after-lts.Need-put-lasts-requires (
+  has-ended-reads.Asked,
+  has-ended-reads.Learnt,
+  put-line-reads.Asked,
+  put-line-reads.Learnt,
+  put-lasts-reads.Asked,
+  put-lasts-reads.Learnt,
+  put-branch-below t,
+  put-branch.Post,
+) (put-after-at t) put-after.Post put-after-Inv-loop put-after-μ-loop
+put-after-put-lasts-requires t c κs = (laws.not-quiet (c .before .before .before .before .before .before .before .before .before .before .args .card) (c .before .before .before .before .before .before .before .before .before .before .args .left) (c .before .before .before .before .before .has-ended .ensures) (c .before .before .before .before .if1 .left), laws.one-holds (c .before .before .before .before .before .before .before .before .before .before .args .left) (c .before .before .before .if2 .taken) (c .before .before .before .before .before .before .before .before .before .before .pre .1))
+
+put-after-same-length-4 : (t : ℕ) → put-after-lts.Need-same-length-4 (
+  has-ended-reads.Asked,
+  has-ended-reads.Learnt,
+  put-line-reads.Asked,
+  put-line-reads.Learnt,
+  put-lasts-reads.Asked,
+  put-lasts-reads.Learnt,
+  put-branch-below t,
+  put-branch.Post,
+) (put-after-at t) put-after.Post put-after-Inv-loop put-after-μ-loop
+put-after-same-length-4 t c = search needs
+
+put-after-same-length-5 : (t : ℕ) → put-after-lts.Need-same-length-5 (
+  has-ended-reads.Asked,
+  has-ended-reads.Learnt,
+  put-line-reads.Asked,
+  put-line-reads.Learnt,
+  put-lasts-reads.Asked,
+  put-lasts-reads.Learnt,
+  put-branch-below t,
+  put-branch.Post,
+) (put-after-at t) put-after.Post put-after-Inv-loop put-after-μ-loop
+put-after-same-length-5 t c = search needs
+
+put-after-same-length-6 : (t : ℕ) → put-after-lts.Need-same-length-6 (
+  has-ended-reads.Asked,
+  has-ended-reads.Learnt,
+  put-line-reads.Asked,
+  put-line-reads.Learnt,
+  put-lasts-reads.Asked,
+  put-lasts-reads.Learnt,
+  put-branch-below t,
+  put-branch.Post,
+) (put-after-at t) put-after.Post put-after-Inv-loop put-after-μ-loop
+put-after-same-length-6 t c = search needs
+
+put-after-returns-2 : (t : ℕ) → put-after-lts.Need-returns-2 (
+  has-ended-reads.Asked,
+  has-ended-reads.Learnt,
+  put-line-reads.Asked,
+  put-line-reads.Learnt,
+  put-lasts-reads.Asked,
+  put-lasts-reads.Learnt,
+  put-branch-below t,
+  put-branch.Post,
+) (put-after-at t) put-after.Post put-after-Inv-loop put-after-μ-loop
+put-after-returns-2 t c = laws.one-lines (c .before .before .before .before .before .before .before .before .before .before .before .before .before .before .before .before .before .args .left) (c .before .before .before .before .before .before .before .before .before .before .before .before .before .before .before .before .before .args .card) (c .before .before .before .before .before .before .before .before .before .before .if2 .taken) (c .before .before .before .before .before .before .put-lasts .ensures)
 
 -- src/branches.rt:125:5
 put-after-loop-holds : (t : ℕ) → put-after-lts.Need-loop-holds (
@@ -170,10 +253,12 @@ put-after-loop-holds : (t : ℕ) → put-after-lts.Need-loop-holds (
   has-ended-reads.Learnt,
   put-line-reads.Asked,
   put-line-reads.Learnt,
+  put-lasts-reads.Asked,
+  put-lasts-reads.Learnt,
   put-branch-below t,
   put-branch.Post,
 ) (put-after-at t) put-after.Post put-after-Inv-loop put-after-μ-loop
-put-after-loop-holds t c = laws.turning-begin (c .before .before .before .before .before .before .args .card) (c .before .before .before .before .before .before .args .left) _ _ _ _ _ _ (omega arith)
+put-after-loop-holds t c = laws.turning-begin (c .before .before .before .before .before .before .before .args .card) (c .before .before .before .before .before .before .before .args .left) _ _ _ _ _ _ (omega arith)
 
 -- src/branches.rt:126:9
 put-after-put-branch-requires : (t : ℕ) → put-after-lts.Need-put-branch-requires (
@@ -181,10 +266,12 @@ put-after-put-branch-requires : (t : ℕ) → put-after-lts.Need-put-branch-requ
   has-ended-reads.Learnt,
   put-line-reads.Asked,
   put-line-reads.Learnt,
+  put-lasts-reads.Asked,
+  put-lasts-reads.Learnt,
   put-branch-below t,
   put-branch.Post,
 ) (put-after-at t) put-after.Post put-after-Inv-loop put-after-μ-loop
-put-after-put-branch-requires t c κs = (omega (arith, c .before .before .before .before .before .before .before .before .before .before .before .pre .0), (laws.steps-left (c .before .before .before .before .before .before .before .before .before .before .before .args .card) (c .before .before .before .before .before .before .before .before .before .before .before .args .left) (c .before .before .before .before .before .before .has-ended .ensures) (c .before .before .before .before .before .if1 .left), laws.turning-holds (c .before .before .before .before .before .before .before .before .before .before .before .args .card) (c .before .before .before .before .before .before .before .before .before .before .before .args .left) _ _ _ _ _ _ (c .before .before .before .before .loop .inv) (c .before .before .before .before .before .before .before .before .before .before .before .pre .1)))
+put-after-put-branch-requires t c κs = (omega (arith, c .before .before .before .before .before .before .before .before .before .before .before .before .pre .0), (laws.steps-left (c .before .before .before .before .before .before .before .before .before .before .before .before .args .card) (c .before .before .before .before .before .before .before .before .before .before .before .before .args .left) (c .before .before .before .before .before .before .before .has-ended .ensures) (c .before .before .before .before .before .before .if1 .left), laws.turning-holds (c .before .before .before .before .before .before .before .before .before .before .before .before .args .card) (c .before .before .before .before .before .before .before .before .before .before .before .before .args .left) _ _ _ _ _ _ (c .before .before .before .before .loop .inv) (c .before .before .before .before .before .before .before .before .before .before .before .before .pre .1)))
 
 -- src/branches.rt:127:13
 put-after-add-k : (t : ℕ) → put-after-lts.Need-add-k (
@@ -192,6 +279,8 @@ put-after-add-k : (t : ℕ) → put-after-lts.Need-add-k (
   has-ended-reads.Learnt,
   put-line-reads.Asked,
   put-line-reads.Learnt,
+  put-lasts-reads.Asked,
+  put-lasts-reads.Learnt,
   put-branch-below t,
   put-branch.Post,
 ) (put-after-at t) put-after.Post put-after-Inv-loop put-after-μ-loop
@@ -203,6 +292,8 @@ put-after-loop-less : (t : ℕ) → put-after-lts.Need-loop-less (
   has-ended-reads.Learnt,
   put-line-reads.Asked,
   put-line-reads.Learnt,
+  put-lasts-reads.Asked,
+  put-lasts-reads.Learnt,
   put-branch-below t,
   put-branch.Post,
 ) (put-after-at t) put-after.Post put-after-Inv-loop put-after-μ-loop
@@ -214,54 +305,64 @@ put-after-loop-again : (t : ℕ) → put-after-lts.Need-loop-again (
   has-ended-reads.Learnt,
   put-line-reads.Asked,
   put-line-reads.Learnt,
+  put-lasts-reads.Asked,
+  put-lasts-reads.Learnt,
   put-branch-below t,
   put-branch.Post,
 ) (put-after-at t) put-after.Post put-after-Inv-loop put-after-μ-loop
-put-after-loop-again t c = laws.turning-turn (c .before .before .before .before .before .before .before .before .before .before .before .before .before .before .before .before .before .before .args .card) (c .before .before .before .before .before .before .before .before .before .before .before .before .before .before .before .before .before .before .args .left) _ _ _ _ _ _ (c .before .before .before .before .before .before .before .before .before .before .before .loop .inv) (c .before .before .before .before .before .before .before .before .before .before .loop-test .taken) (c .before .before .before .before .before .before .put-branch .ensures) (search needs) (search needs)
+put-after-loop-again t c = laws.turning-turn (c .before .before .before .before .before .before .before .before .before .before .before .before .before .before .before .before .before .before .before .args .card) (c .before .before .before .before .before .before .before .before .before .before .before .before .before .before .before .before .before .before .before .args .left) _ _ _ _ _ _ (c .before .before .before .before .before .before .before .before .before .before .before .loop .inv) (c .before .before .before .before .before .before .before .before .before .before .loop-test .taken) (c .before .before .before .before .before .before .put-branch .ensures) (search needs) (search needs)
 
 -- src/branches.rt:102:1
-put-after-same-length-4 : (t : ℕ) → put-after-lts.Need-same-length-4 (
+put-after-same-length-7 : (t : ℕ) → put-after-lts.Need-same-length-7 (
   has-ended-reads.Asked,
   has-ended-reads.Learnt,
   put-line-reads.Asked,
   put-line-reads.Learnt,
+  put-lasts-reads.Asked,
+  put-lasts-reads.Learnt,
   put-branch-below t,
   put-branch.Post,
 ) (put-after-at t) put-after.Post put-after-Inv-loop put-after-μ-loop
-put-after-same-length-4 t c = rest-length (c .before .loop .inv .rest)
+put-after-same-length-7 t c = rest-length (c .before .loop .inv .rest)
 
 -- src/branches.rt:102:1
-put-after-same-length-5 : (t : ℕ) → put-after-lts.Need-same-length-5 (
+put-after-same-length-8 : (t : ℕ) → put-after-lts.Need-same-length-8 (
   has-ended-reads.Asked,
   has-ended-reads.Learnt,
   put-line-reads.Asked,
   put-line-reads.Learnt,
+  put-lasts-reads.Asked,
+  put-lasts-reads.Learnt,
   put-branch-below t,
   put-branch.Post,
 ) (put-after-at t) put-after.Post put-after-Inv-loop put-after-μ-loop
-put-after-same-length-5 t c = c .before .loop .inv .digitsSize
+put-after-same-length-8 t c = c .before .loop .inv .digitsSize
 
 -- src/branches.rt:102:1
-put-after-same-length-6 : (t : ℕ) → put-after-lts.Need-same-length-6 (
+put-after-same-length-9 : (t : ℕ) → put-after-lts.Need-same-length-9 (
   has-ended-reads.Asked,
   has-ended-reads.Learnt,
   put-line-reads.Asked,
   put-line-reads.Learnt,
+  put-lasts-reads.Asked,
+  put-lasts-reads.Learnt,
   put-branch-below t,
   put-branch.Post,
 ) (put-after-at t) put-after.Post put-after-Inv-loop put-after-μ-loop
-put-after-same-length-6 t c = c .before .loop .inv .fieldsSize
+put-after-same-length-9 t c = c .before .loop .inv .fieldsSize
 
 -- src/branches.rt:102:1
-put-after-returns-2 : (t : ℕ) → put-after-lts.Need-returns-2 (
+put-after-returns-3 : (t : ℕ) → put-after-lts.Need-returns-3 (
   has-ended-reads.Asked,
   has-ended-reads.Learnt,
   put-line-reads.Asked,
   put-line-reads.Learnt,
+  put-lasts-reads.Asked,
+  put-lasts-reads.Learnt,
   put-branch-below t,
   put-branch.Post,
 ) (put-after-at t) put-after.Post put-after-Inv-loop put-after-μ-loop
-put-after-returns-2 t c = laws.turning-end (c .before .before .before .before .before .before .before .before .args .card) (c .before .before .before .before .before .before .before .before .args .left) _ _ _ _ _ _ (c .before .loop .inv) (c .before .before .before .has-ended .ensures) (c .before .before .if1 .left) (c .before .before .before .before .before .before .before .before .pre .1 .few) (c .loop-test .left)
+put-after-returns-3 t c = laws.turning-end (c .before .before .before .before .before .before .before .before .before .args .card) (c .before .before .before .before .before .before .before .before .before .args .left) _ _ _ _ _ _ (c .before .loop .inv) (c .before .before .before .before .has-ended .ensures) (c .before .before .before .if1 .left) (c .before .before .before .before .before .before .before .before .before .pre .1 .few) (c .loop-test .left)
 
 -- src/branches.rt:90:9
 put-branch-step-requires : (t : ℕ) → put-branch-lts.Need-step-requires (
@@ -434,6 +535,8 @@ pub +put-after+put-branch-spec : {M : Type 1} → statement M
   has-ended-reads.Learnt,
   put-line-reads.Asked,
   put-line-reads.Learnt,
+  put-lasts-reads.Asked,
+  put-lasts-reads.Learnt,
   put-branch-below t,
   put-branch.Post,
 )
@@ -451,15 +554,20 @@ pub +put-after+put-branch-spec : {M : Type 1} → statement M
     (put-after-same-length-2 t)
     (put-after-same-length-3 t)
     (put-after-returns t)
+    (put-after-put-lasts-requires t)
+    (put-after-same-length-4 t)
+    (put-after-same-length-5 t)
+    (put-after-same-length-6 t)
+    (put-after-returns-2 t)
     (put-after-loop-holds t)
     (put-after-put-branch-requires t)
     (put-after-add-k t)
     (put-after-loop-less t)
     (put-after-loop-again t)
-    (put-after-same-length-4 t)
-    (put-after-same-length-5 t)
-    (put-after-same-length-6 t)
-    (put-after-returns-2 t))
+    (put-after-same-length-7 t)
+    (put-after-same-length-8 t)
+    (put-after-same-length-9 t)
+    (put-after-returns-3 t))
     λ t. put-branch-lts.spec (
       step-reads.Asked,
       step-reads.Learnt,

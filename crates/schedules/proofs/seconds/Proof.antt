@@ -1,0 +1,22 @@
+use mathlib.Core.Path.{_≡_, sym, subst}
+use mathlib.Core.Bool.{true}
+use lib.IntN.{ℤ, pos, negsuc}
+use lib.Dec.{T}
+use lib.Signed.{ltZ, nonNeg}
+use mir.Syntax.{w64}
+use mir.Val.{toZ, ofZ}
+use mir.Facts.{fits-natAbs, sfits-toZ, fits-ofZ}
+use borrow.Author.Needs.{needs}
+use Rattle.schedules.proofs.seconds.Statement.{statement}
+use Rattle.schedules.proofs.seconds.Tie as tie
+
+-- the test `now > 0`, on the number that the machine reads back from its bits
+positive : (z : ℤ) → ltZ (pos 0) z ≡ true → T (nonNeg z)
+positive (pos n) e = tt
+positive (negsuc n) e = subst T (sym e) tt
+
+cast-result : tie.Need-cast-result
+cast-result c = (positive (toZ w64 (ofZ w64 (c .before .time .result))) (c .if1 .taken), fits-natAbs {w = w64} {w′ = w64} tt (sfits-toZ (fits-ofZ {w = w64} {z = c .before .time .result} (record { sfits = c .before .time .ok }))))
+
+pub seconds-spec : {M : Type 1} → statement M
+seconds-spec = tie.close (tie.spec (λ c κs. search needs) cast-result (λ c. search needs) (λ c. search needs))

@@ -1,16 +1,16 @@
 // Where a listing begins: the card as it was opened, whatever it has done since, and one call per process made then.
+use crate::judging::request_at;
 use card::call;
 use construction::Card;
 use construction::Contents;
 use executions::Request;
-use crate::judging::request_at;
 use opening::fresh;
 ghost use mathlib.Core.Path.{_≡_};
 ghost use Rattle.construction.specs.History.{run};
 ghost use Rattle.executions.specs.Schedules.{callsOf};
 ghost use Rattle.executions.specs.Listings.{reopened};
 
-pub fn reopen(card: Card) -> Card
+pub(crate) fn reopen(card: Card) -> Card
     ensures { λ r. ⌜ r ≡ reopened card ⌝ }
 {
     let starts = card.starts;

@@ -83,10 +83,10 @@ fn put_branch(
 ) -> usize
     requires { ⌜ (0 < left) × Holds (card .processCount) left (now numbers) x (now answers) y ⌝ }
     ensures { λ r. ⌜
-      Lines (now (buffer .entry)) at
-      (branchText k (step card k) (take x (now (numbers .entry))) (take y (now (answers .entry))) (λ d z w. textAfter (left - 1) d z w))
-      (capacity (left - 1) (longest left x y)) r (now (buffer .exit))
-      (now (numbers .entry)) x (now (numbers .exit)) (now (answers .entry)) y (now (answers .exit)) ⌝ }
+        Lines (now (buffer .entry)) at
+        (branchText k (step card k) (take x (now (numbers .entry))) (take y (now (answers .entry))) (λ d z w. textAfter (left - 1) d z w))
+        (capacity (left - 1) (longest left x y)) r (now (buffer .exit))
+        (now (numbers .entry)) x (now (numbers .exit)) (now (answers .entry)) y (now (answers .exit)) ⌝ }
 {
     let stepped = step(card, k as u32);
     let answer = stepped.answer;
@@ -112,9 +112,9 @@ pub(crate) fn put_after(
 ) -> usize
     requires { ⌜ Holds (card .processCount) left (now numbers) x (now answers) y ⌝ }
     ensures { λ r. ⌜
-      Lines (now (buffer .entry)) at (textAfter left card (take x (now (numbers .entry))) (take y (now (answers .entry))))
-      (capacity left (longest left x y)) r (now (buffer .exit))
-      (now (numbers .entry)) x (now (numbers .exit)) (now (answers .entry)) y (now (answers .exit)) ⌝ }
+        Lines (now (buffer .entry)) at (textAfter left card (take x (now (numbers .entry))) (take y (now (answers .entry))))
+        (capacity left (longest left x y)) r (now (buffer .exit))
+        (now (numbers .entry)) x (now (numbers .exit)) (now (answers .entry)) y (now (answers .exit)) ⌝ }
 {
     let tasks = card.tasks;
     let count = card.processCount;

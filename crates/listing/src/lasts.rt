@@ -76,8 +76,8 @@ fn put_last(
 ) -> usize
     requires { ⌜ Holds k 1 (now numbers) x (now answers) y ⌝ }
     ensures { λ r. ⌜
-      Lines (now (buffer .entry)) at (lastText k answer (take x (now (numbers .entry))) (take y (now (answers .entry)))) (longest 1 x y) r (now (buffer .exit))
-      (now (numbers .entry)) x (now (numbers .exit)) (now (answers .entry)) y (now (answers .exit)) ⌝ }
+        Lines (now (buffer .entry)) at (lastText k answer (take x (now (numbers .entry))) (take y (now (answers .entry)))) (longest 1 x y) r (now (buffer .exit))
+        (now (numbers .entry)) x (now (numbers .exit)) (now (answers .entry)) y (now (answers .exit)) ⌝ }
 {
     if is_refused(answer) {
         return at;
@@ -99,8 +99,8 @@ pub(crate) fn put_lasts(
 ) -> usize
     requires { ⌜ (isQuiet card (card .processCount) ≡ false) × Holds (card .processCount) 1 (now numbers) x (now answers) y ⌝ }
     ensures { λ r. ⌜
-      Lines (now (buffer .entry)) at (textAfter 1 card (take x (now (numbers .entry))) (take y (now (answers .entry)))) (capacity 1 (longest 1 x y)) r (now (buffer .exit))
-      (now (numbers .entry)) x (now (numbers .exit)) (now (answers .entry)) y (now (answers .exit)) ⌝ }
+        Lines (now (buffer .entry)) at (textAfter 1 card (take x (now (numbers .entry))) (take y (now (answers .entry)))) (capacity 1 (longest 1 x y)) r (now (buffer .exit))
+        (now (numbers .entry)) x (now (numbers .exit)) (now (answers .entry)) y (now (answers .exit)) ⌝ }
 {
     let count = card.processCount;
     let mut i = at;

@@ -8,14 +8,14 @@ pub mod judging; // judging.rt: refusals 6 and 17
 pub mod starting; // starting.rt: the card as it was opened, with its calls made
 
 use crate::branches::put_after;
-use construction::Card;
-use construction::Refusal;
-use construction::Written;
-use executions::Request;
 use crate::judging::are_callable;
 use crate::judging::is_listable;
 use crate::starting::call_all;
 use crate::starting::reopen;
+use construction::Card;
+use construction::Refusal;
+use construction::Written;
+use executions::Request;
 ghost use mathlib.Core.Path.{_≡_};
 ghost use mathlib.Core.List.{[]};
 ghost use Prim.Native.Nat.{_≤_};

@@ -57,9 +57,9 @@ fn put_from(
 ) -> usize
     requires { ⌜ (first ≤ 16) × Holds (card .processCount) (first + left) (now numbers) x (now answers) y ⌝ }
     ensures { λ r. ⌜
-      Lines (now (buffer .entry)) at (pieceAfter first left j card (take x (now (numbers .entry))) (take y (now (answers .entry))))
-      (capacity left (longest (first + left) x y)) r (now (buffer .exit))
-      (now (numbers .entry)) x (now (numbers .exit)) (now (answers .entry)) y (now (answers .exit)) ⌝ }
+        Lines (now (buffer .entry)) at (pieceAfter first left j card (take x (now (numbers .entry))) (take y (now (answers .entry))))
+        (capacity left (longest (first + left) x y)) r (now (buffer .exit))
+        (now (numbers .entry)) x (now (numbers .exit)) (now (answers .entry)) y (now (answers .exit)) ⌝ }
 {
     if first == 0 {
         return put_after(buffer, at, left, card, numbers, x, answers, y);
@@ -82,7 +82,18 @@ fn put_from(
     let i = put_decimal(numbers, x, k as u64);
     let l = put_answer(answers, y, answer);
     let next = stepped.card;
-    put_from(buffer, at, first - 1, left, j % block, next, numbers, i, answers, l)
+    put_from(
+        buffer,
+        at,
+        first - 1,
+        left,
+        j % block,
+        next,
+        numbers,
+        i,
+        answers,
+        l,
+    )
 }
 
 // Piece j of a card with its calls made, at the front of a buffer, as far as it fits; the place told is its length.
@@ -100,5 +111,16 @@ pub fn put_piece(card: Card, first: u8, left: u8, j: u32, buffer: &mut [u8]) -> 
     }
     let mut numbers = [0u8; 16];
     let mut answers = [0u8; 2112];
-    put_from(buffer, 0, first, left, j, card, &mut numbers, 0, &mut answers, 0)
+    put_from(
+        buffer,
+        0,
+        first,
+        left,
+        j,
+        card,
+        &mut numbers,
+        0,
+        &mut answers,
+        0,
+    )
 }

@@ -1,9 +1,9 @@
 // Where a listing begins: the card as it was opened, whatever it has done since, and one call per process made then.
+use crate::judging::request_at;
 use card::call;
 use construction::Card;
 use construction::Contents;
 use executions::Request;
-use crate::judging::request_at;
 use opening::fresh;
 ghost use mathlib.Core.Path.{_≡_};
 ghost use Rattle.construction.specs.History.{run};

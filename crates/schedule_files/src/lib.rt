@@ -4,13 +4,13 @@
 pub mod calls; // calls.rt: the calls text
 
 use crate::calls::read_calls;
+use answers::put_number;
+use answers::put_refusal;
 use commands::printing::put_calls_refusal;
 use commands::printing::put_card_refusal;
 use construction::Card;
 use construction::Refusal;
 use construction::Verdict;
-use answers::put_number;
-use answers::put_refusal;
 use executions::Request;
 use grammar::writing::put_byte;
 use grammar::writing::put_word;

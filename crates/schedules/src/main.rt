@@ -179,7 +179,10 @@ fn print_files(card: &[u8], calls: &[u8], length: u32) -> bool {
 fn main() {
     let length = read_argument();
     if !length.given {
-        io::write_all(STDERR_FILENO, b"usage: schedules L (the number of steps, a decimal below 4294967296)\n");
+        io::write_all(
+            STDERR_FILENO,
+            b"usage: schedules L (the number of steps, a decimal below 4294967296)\n",
+        );
         return;
     }
     let mut card = [0u8; 16385];

@@ -94,8 +94,7 @@ unfoldable pub listed : Card → List Request → ℕ → List ℕ → Written
 listed c calls L b =
     let o = reopened c in
     let t = listingText o calls L in
-    cond (not (isCallable o calls)) (Written.Refused NoProgram)
-    (cond (not (isListable o L)) (Written.Refused TooLarge)
+    cond (not (isCallable o calls)) (Written.Refused NoProgram) (cond (not (isListable o L)) (Written.Refused TooLarge)
     (cond (leb (length t) (length b)) (Written.Bytes (length t)) (Written.Refused ShortBuffer)))
 
 -- the buffer then: the text and the bytes past it as they were; or all of them

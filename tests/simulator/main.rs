@@ -12,6 +12,7 @@ mod selftest;
 mod session;
 mod waits;
 mod waves;
+mod wavetest;
 
 use std::fs;
 use std::io::Write;

@@ -13,7 +13,6 @@ enum Event {
 }
 
 struct Dump {
-    variables: usize,
     opening: Vec<u32>,
     events: Vec<Event>,
 }
@@ -30,7 +29,7 @@ fn time_of(line: &[u8]) -> Option<u64> {
 }
 
 fn value_of(line: &[u8]) -> Option<(usize, u32)> {
-    let [bits @ .., b' ', code @ 33..] = line.strip_prefix(b"b")? else { return None };
+    let [bits @ .., b' ', code @ 33..=255] = line.strip_prefix(b"b")? else { return None };
     if bits.is_empty() || bits.len() > 32 || bits.len() > 1 && bits[0] == b'0' {
         return None;
     }
@@ -58,7 +57,9 @@ fn read(text: &[u8]) -> Result<Dump, usize> {
     expect(next(&mut number)?, "$scope module card $end", number)?;
     let mut variables = 0;
     let mut line = next(&mut number)?;
-    while variables < 64 && line == format!("$var wire 32 {} v{variables} $end", char::from(33 + variables as u8)).as_bytes() {
+    while variables < 64
+        && line == format!("$var wire 32 {} v{variables} $end", char::from(33 + variables as u8)).as_bytes()
+    {
         variables += 1;
         line = next(&mut number)?;
     }
@@ -76,8 +77,7 @@ fn read(text: &[u8]) -> Result<Dump, usize> {
         number += 1;
         let line = line.ok_or(number)?;
         if let Some((variable, value)) = value_of(line) {
-            let opened = events.is_empty();
-            if opened || variable < first || variable >= variables || values[variable] == value {
+            if variable < first || variable >= variables || values[variable] == value {
                 return Err(number);
             }
             values[variable] = value;
@@ -90,7 +90,7 @@ fn read(text: &[u8]) -> Result<Dump, usize> {
             events.push(Event::Time(time));
         }
     }
-    Ok(Dump { variables, opening, events })
+    Ok(Dump { opening, events })
 }
 
 fn print_row(time: u64, values: &[u32], out: &mut impl Write) -> io::Result<()> {
@@ -103,7 +103,6 @@ fn print_row(time: u64, values: &[u32], out: &mut impl Write) -> io::Result<()> 
 
 fn print_all(dump: &Dump, out: &mut impl Write) -> io::Result<()> {
     let (mut time, mut values) = (0, dump.opening.clone());
-    debug_assert_eq!(values.len(), dump.variables);
     for event in &dump.events {
         match *event {
             Event::Time(next) => {
@@ -156,7 +155,10 @@ fn main() -> ExitCode {
         None => eprintln!("usage: readings DUMP [STEP]"),
         Some(step) => {
             if let Err(error) = print(name, step) {
-                eprintln!("readings: the values could not be written: {}", error.to_string().split(" (os error").next().unwrap_or(""));
+                eprintln!(
+                    "readings: the values could not be written: {}",
+                    error.to_string().split(" (os error").next().unwrap_or("")
+                );
             }
         }
     }

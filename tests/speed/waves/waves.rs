@@ -32,18 +32,19 @@ fn write_dump(mut machine: Machine, calls: &[u8], out: &mut impl Write) -> io::R
     for (variable, value) in row.iter().enumerate() {
         writeln!(out, "b{value:b} {}", code(variable))?;
     }
-    let mut told = 0;
+    let (mut looked, mut told) = (0, 0);
     for command in Commands::new(calls).filter_map(|numbered| numbered.command.ok()) {
-        let stepped = match command {
-            Command::Step { process } | Command::Trace { process } => machine.step(process).is_ok(),
-            Command::Call { process, program, inputs } => machine.call(process, program, inputs).is_err() && false,
-            Command::RequestExit { process } => machine.request_exit(process).is_err() && false,
-            Command::Change { program, from, text, .. } => machine.change(program, from.into(), text).is_err() && false,
-            Command::Read { .. } => false,
-        };
-        if !stepped {
+        match command {
+            Command::Step { process } | Command::Trace { process } => drop(machine.step(process)),
+            Command::Call { process, program, inputs } => drop(machine.call(process, program, inputs)),
+            Command::RequestExit { process } => drop(machine.request_exit(process)),
+            Command::Change { program, from, text, .. } => drop(machine.change(program, from.into(), text)),
+            Command::Read { .. } => (),
+        }
+        if machine.steps == looked {
             continue;
         }
+        looked = machine.steps;
         for (variable, old) in row.iter_mut().enumerate() {
             let value = machine.read(variable as u32).expect("it is there");
             if value == *old {
@@ -84,7 +85,10 @@ fn main() -> ExitCode {
     if std::env::args_os().len() > 1 {
         eprintln!("usage: waves");
     } else if let Err(error) = print() {
-        eprintln!("waves: the dump could not be written: {}", error.to_string().split(" (os error").next().unwrap_or(""));
+        eprintln!(
+            "waves: the dump could not be written: {}",
+            error.to_string().split(" (os error").next().unwrap_or("")
+        );
     }
     ExitCode::SUCCESS
 }

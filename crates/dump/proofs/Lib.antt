@@ -1,0 +1,3 @@
+pub mod Binaries
+pub mod DumpLines
+pub mod Headers

@@ -1,0 +1,6 @@
+pub mod Binaries
+pub mod DumpLines
+pub mod Headers
+pub mod Trails
+pub mod Starts
+pub mod Shapes

@@ -1,0 +1,4 @@
+pub mod Binary
+pub mod Dump
+pub mod Reading
+pub mod Histories

@@ -7,8 +7,8 @@ use std::path::{Path, PathBuf};
 
 use crate::compare::{first_difference, output_of, shown, write_files};
 use crate::generate::{case, split_lines, Case, Random};
-use crate::machine::{number, GREATEST_LIMIT};
-use crate::waves::{printed, read, readings, write, Dump, MOST_VARIABLES};
+use crate::machine::{length_of_lines, number, GREATEST_LIMIT};
+use crate::waves::{play, printed, read, readings, write, Dump, MOST_VARIABLES};
 
 /// So many differences are printed; the others are only counted.
 const PRINTED_DIFFERENCES: usize = 3;
@@ -83,22 +83,73 @@ fn found(program: &str) -> Result<PathBuf, String> {
 
 // ---------------------------------------------------------------- dumps of sessions
 
+/// What sessions come to; the summary counts each of these.
+const SESSIONS: [&str; 6] = [
+    "no dump",
+    "no step",
+    "nothing changed at the last step",
+    "a change at the last step",
+    "several changes at a step",
+    "64 variables",
+];
+
+fn forms(dump: Option<&Dump>) -> Vec<&'static str> {
+    let Some(Dump { variables, times }) = dump else { return vec![SESSIONS[0]] };
+    let changes = |at: &[(u64, Vec<u32>)]| at[0].1.iter().zip(&at[1].1).filter(|(old, new)| old != new).count();
+    let changes: Vec<usize> = times.windows(2).map(changes).collect();
+    let holds = [
+        false,
+        changes.is_empty(),
+        changes.last() == Some(&0),
+        changes.last().is_some_and(|&count| count > 0),
+        changes.iter().any(|&count| count > 1),
+        *variables == MOST_VARIABLES,
+    ];
+    (0..SESSIONS.len()).filter(|&at| holds[at]).map(|at| SESSIONS[at]).collect()
+}
+
+/// How often each of some kinds occurred, as a line, and a line of those that did not; true if all did.
+fn report(name: &str, kinds: &[&'static str], counts: &BTreeMap<&str, usize>) -> bool {
+    let counted = kinds.iter().map(|kind| format!("{kind} {}", counts.get(kind).unwrap_or(&0)));
+    println!("{name}: {}", counted.collect::<Vec<_>>().join(", "));
+    let never: Vec<&str> = kinds.iter().filter(|kind| !counts.contains_key(*kind)).copied().collect();
+    println!("{name} never: {}", if never.is_empty() { "none".to_string() } else { never.join(", ") });
+    never.is_empty()
+}
+
+/// The case of a seed; one of three ends with the last step that changes a value, if there is one.
+fn session(seed: u64) -> Case {
+    let mut case = case(seed);
+    if let (2, Some(card), Some(calls)) = (seed % 3, &case.card, &case.calls) {
+        if let Ok(played) = play(card, calls) {
+            let changed = played.history.times.windows(2).rposition(|at| at[0].1 != at[1].1);
+            let end = changed.map(|place| length_of_lines(calls, played.lines[place]));
+            case.calls = Some(calls[..end.unwrap_or(calls.len())].to_vec());
+        }
+    }
+    case
+}
+
 /// Compares `waves` byte for byte on the sessions of `count` seeds, and `readings` on their dumps.
 pub fn compare(waves: &str, reader: &str, first_seed: u64, count: u64) -> Result<bool, String> {
     let (waves, reader) = (found(waves)?, found(reader)?);
     let (mut written, mut read_back) = (Trials::new("waves")?, Trials::new("readings")?);
+    let mut counts = BTreeMap::new();
     for seed in first_seed..first_seed + count {
-        let case = case(seed);
+        let case = session(seed);
         let dump = printed(case.card.as_deref().unwrap_or(&[]), case.calls.as_deref().unwrap_or(&[]));
         written.put_case(&case)?;
         written.judge(&format!("seed {seed}"), &waves, &[], &dump);
-        if let Ok(history) = read(&dump) {
+        let history = read(&dump).ok();
+        forms(history.as_ref()).into_iter().for_each(|form| *counts.entry(form).or_insert(0) += 1);
+        if let Some(history) = history {
             let steps = [some_step(&mut Random::new(seed), &history)];
             read_back.judge_reading(&format!("the dump of seed {seed}"), &reader, &dump, &steps)?;
         }
     }
+    let complete = report("sessions", &SESSIONS, &counts);
     let written = written.end("dumps of sessions");
-    Ok(read_back.end("dumps of sessions read back") && written)
+    Ok(read_back.end("dumps of sessions read back") && written && complete)
 }
 
 /// A step at, before or after one of the times, or past the last.
@@ -309,23 +360,20 @@ fn kind(text: &[u8]) -> &'static str {
 /// Has `readings` judge every damage of the small dump, and `count` dumps of any history, whole and damaged.
 pub fn damaged(reader: &str, first_seed: u64, count: u64) -> Result<bool, String> {
     let reader = found(reader)?;
-    let (mut trials, mut kinds) = (Trials::new("damaged")?, BTreeMap::new());
+    let (mut trials, mut counts) = (Trials::new("damaged")?, BTreeMap::new());
     for (place, dump) in damaged_everywhere(&small_dump()).iter().enumerate() {
-        *kinds.entry(kind(dump)).or_insert(0) += 1;
+        *counts.entry(kind(dump)).or_insert(0) += 1;
         trials.judge_reading(&format!("damage {place} of the small dump"), &reader, dump, &[])?;
     }
     for seed in first_seed..first_seed + count {
         let random = &mut Random::new(seed);
         let dump = any_dump(random);
-        *kinds.entry(kind(&dump)).or_insert(0) += 1;
+        *counts.entry(kind(&dump)).or_insert(0) += 1;
         let step = read(&dump).map_or(random.next() % GREATEST_LIMIT, |dump| some_step(random, &dump));
         trials.judge_reading(&format!("dump of seed {seed}"), &reader, &dump, &[step])?;
     }
-    let counts = KINDS.iter().map(|kind| format!("{kind} {}", kinds.get(kind).unwrap_or(&0)));
-    println!("dumps: {}", counts.collect::<Vec<_>>().join(", "));
-    let never: Vec<&str> = KINDS.into_iter().filter(|kind| !kinds.contains_key(kind)).collect();
-    println!("dumps never made: {}", if never.is_empty() { "none".to_string() } else { never.join(", ") });
-    Ok(trials.end("whole and damaged dumps") && never.is_empty())
+    let complete = report("dumps", &KINDS, &counts);
+    Ok(trials.end("whole and damaged dumps") && complete)
 }
 
 /// A dump of any history, one in three whole, the others damaged once or more, or with a 65th variable.

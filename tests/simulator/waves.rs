@@ -1,7 +1,7 @@
 //! Value change dumps (document 02, order 7): a session's dump, and a reader of that subset. Both are written from the order's text.
 
 use crate::machine::{lines, number, open, Line, Machine, GREATEST_LIMIT};
-use crate::session::{Command, Commands, CALLS_LIMIT};
+use crate::session::{Command, Commands, Numbered, CALLS_LIMIT};
 
 /// A dump has at most so many variables.
 pub const MOST_VARIABLES: usize = 64;
@@ -53,8 +53,14 @@ pub fn write(dump: &Dump) -> Vec<u8> {
     lines.iter().flat_map(|line| [line.as_bytes(), b"\n"]).flatten().copied().collect()
 }
 
-/// The looked values at opening and after each accepted step of a session; or the line that the card or the calls are refused with.
-pub fn history(card: &[u8], calls: &[u8]) -> Result<Dump, String> {
+/// A session as it was played: the looked values at opening and after each accepted step, and the line of the command of each such step.
+pub struct Played {
+    pub history: Dump,
+    pub lines: Vec<usize>,
+}
+
+/// Plays a session; or the line that the card or the calls are refused with.
+pub fn play(card: &[u8], calls: &[u8]) -> Result<Played, String> {
     let card = open(card).map_err(|refusal| format!("card,refused,{},{}\n", refusal.number, refusal.line))?;
     if calls.len() > CALLS_LIMIT {
         return Err("calls,refused,1\n".to_string());
@@ -62,14 +68,16 @@ pub fn history(card: &[u8], calls: &[u8]) -> Result<Dump, String> {
     let variables = card.starting.len();
     let mut machine = Machine::new(card);
     let looked = |machine: &Machine| (0..variables as u32).map(|at| machine.read(at).expect("it is there")).collect();
-    let mut times = vec![(0, looked(&machine))];
-    for command in Commands::new(calls).filter_map(|numbered| numbered.command.ok()) {
+    let (mut times, mut lines) = (vec![(0, looked(&machine))], Vec::new());
+    for Numbered { line, command } in Commands::new(calls) {
+        let Ok(command) = command else { continue };
         enter(&mut machine, command);
         if machine.steps == times.len() as u64 {
             times.push((machine.steps, looked(&machine)));
+            lines.push(line);
         }
     }
-    Ok(Dump { variables, times })
+    Ok(Played { history: Dump { variables, times }, lines })
 }
 
 /// A command that is refused alters nothing, and a read never does.
@@ -85,7 +93,7 @@ fn enter(machine: &mut Machine, command: Command) {
 
 /// Everything that the program `waves` prints for these two files.
 pub fn printed(card: &[u8], calls: &[u8]) -> Vec<u8> {
-    history(card, calls).map_or_else(String::into_bytes, |history| write(&history))
+    play(card, calls).map_or_else(String::into_bytes, |played| write(&played.history))
 }
 
 // ---------------------------------------------------------------- the reader

@@ -4,7 +4,7 @@
 use crate::dumps::{any_dump, damaged_everywhere, small_dump};
 use crate::generate::{case, split_lines, Random};
 use crate::selftest::Checks;
-use crate::waves::{history, printed, read, readings, write, Dump};
+use crate::waves::{play, printed, read, readings, write, Dump};
 
 const HEADER: &str =
     "$timescale 1 us $end\n$scope module card $end\n$var wire 32 ! v0 $end\n$upscope $end\n$enddefinitions $end\n";
@@ -16,9 +16,8 @@ pub fn dumps(checks: &mut Checks) {
     edges(checks);
     for seed in 1..=400 {
         let case = case(seed);
-        let played = history(case.card.as_deref().unwrap_or(&[]), case.calls.as_deref().unwrap_or(&[]));
-        if let Ok(played) = played {
-            checks.equal(&format!("session of seed {seed} read back"), read_back(&played), Ok(()));
+        if let Ok(played) = play(case.card.as_deref().unwrap_or(&[]), case.calls.as_deref().unwrap_or(&[])) {
+            checks.equal(&format!("session of seed {seed} read back"), read_back(&played.history), Ok(()));
         }
     }
     for text in damaged_everywhere(&small_dump()) {

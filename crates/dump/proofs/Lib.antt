@@ -4,3 +4,5 @@ pub mod Headers
 pub mod Trails
 pub mod Starts
 pub mod Shapes
+pub mod Rows
+pub mod Inverse

@@ -1,4 +1,5 @@
 pub mod Binary
 pub mod Dump
 pub mod Reading
+pub mod Inverse
 pub mod Histories

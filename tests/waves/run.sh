@@ -105,6 +105,18 @@ run "$large" "$readings" nowhere.vcd
 judge no-dump "$work/output" "$work/expected"
 run "$large" "$readings" nowhere.vcd 5
 judge no-dump-with-step "$work/output" "$work/expected"
+run "$large" "$readings" .
+judge folder-as-dump "$work/output" "$work/expected"
+run "$large" "$readings" ''
+judge no-name "$work/output" "$work/expected"
+
+# a dump whose path has more than 800 bytes
+part="$(printf 'x%.0s' {1..200})"
+far="$large/$part/$part/$part/$part"
+mkdir -p "$far"
+cp "$here/dumps/good/dump.vcd" "$far/a long way off.vcd"
+run "$work" "$readings" "$far/a long way off.vcd"
+judge far-away "$work/output" "$here/dumps/good/expected.txt"
 
 # calls of 65,536 bytes are played, one byte more is refusal 1, and a refused card comes before
 card_k="$here/sessions/card-k/card.txt"
@@ -168,8 +180,8 @@ read_off far-line "$large" "$work/expected"
 usage_line "waves with an argument" "$waves" x
 usage_line "readings without one" "$readings"
 usage_line "readings with three" "$readings" dump.vcd 1 2
-for step in '' 07 00 +7 -1 ' 7' '7 ' 7.0 x 1000000000000000001 18446744073709551616 18446744073709551617 99999999999999999999999999; do
-    usage_line "readings with step '$step'" "$readings" "$large/dump.vcd" "$step"
+for step in '' 07 00 +7 -1 ' 7' '7 ' 7.0 x 1000000000000000001 18446744073709551616 18446744073709551617 "$(repeat 5000 1 | tr -d '\n')"; do
+    usage_line "readings with step '${step:0:30}'" "$readings" "$large/dump.vcd" "$step"
 done
 
 # an output that is closed early ends the program; one that cannot be written is told in one line on standard error

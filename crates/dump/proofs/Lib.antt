@@ -6,3 +6,5 @@ pub mod Starts
 pub mod Shapes
 pub mod Rows
 pub mod Inverse
+pub mod Narrow
+pub mod Runs

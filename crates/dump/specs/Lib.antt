@@ -3,3 +3,4 @@ pub mod Dump
 pub mod Reading
 pub mod Inverse
 pub mod Histories
+pub mod Runs

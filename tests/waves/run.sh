@@ -27,11 +27,11 @@ judge() {
     fi
 }
 
-# run FOLDER PROGRAM [ARGUMENT..]: runs a program in a folder; its output and what it says are kept
+# run FOLDER PROGRAM [ARGUMENT..]: runs a program in a folder, for two minutes at most; its output and what it says are kept
 run() {
     local folder="$1"
     shift
-    (cd "$folder" && "$@") >"$work/output" 2>"$work/errors" </dev/null || echo "ended with status $?" >>"$work/output"
+    (cd "$folder" && timeout 120 "$@") >"$work/output" 2>"$work/errors" </dev/null || echo "ended with status $?" >>"$work/output"
 }
 
 # write NAME FOLDER [EXPECTED]: the dump of the card and calls of a folder

@@ -1,0 +1,6 @@
+pub mod Binary
+pub mod Dump
+pub mod Reading
+pub mod Inverse
+pub mod Histories
+pub mod Runs

@@ -13,8 +13,9 @@ import sys
 
 ROOT = pathlib.Path(__file__).resolve().parents[2]
 
-# The requests, and the session of the bench program, whose card is that of `run` on its commands (theorem `session-run`).
-ALLOWED = {"card::call", "card::request_exit", "card::step", "tracing::trace", "card::read", "changing::change", "session::put_lines"}
+# The requests; the session of the bench program, whose card is that of `run` on its commands (theorem `session-run`); and the calls of a listing, whose
+# card is that of `run` on one call for each process (its contract).
+ALLOWED = {"card::call", "card::request_exit", "card::step", "tracing::trace", "card::read", "changing::change", "session::put_lines", "listing::call_all"}
 
 COMMENT = re.compile(r"//[^\n]*")
 TYPE = re.compile(r"\b(?:struct|enum)\s+(\w+)[^{;]*\{")

@@ -97,16 +97,16 @@ module _ (m n : ℕ) (c : Card) (x y : List ℕ) (some : 0 < c .processCount)
       (λ j lt. rw (quiet, ne-eqb j 0 (λ z. omega arith)))
       ∙ rw quiet
 
-pub pieces-after : (m n : ℕ) (c : Card) (x y : List ℕ) → 0 < c .processCount → together (λ j. pieceAfter m n j c x y) (c .processCount ^ m) 0 ≡ textAfter (m + n) c x y
+pub pieces-after : (m n : ℕ) (c : Card) (x y : List ℕ) → (0 < m → 0 < c .processCount) → together (λ j. pieceAfter m n j c x y) (c .processCount ^ m) 0 ≡ textAfter (m + n) c x y
 unfolding together pieceAfter
 pieces-after zero n c x y some = rw (pow-zero (c .processCount), zero-add n) (append-nil (textAfter n c x y))
 pieces-after (suc m) n c x y some =
     rw (suc-add m n)
     (by (isQuiet c (c .processCount)) refl
-    (λ d z w e. ap (λ (p : ℕ). together (λ j. pieceAfter m n j d z w) (p ^ m) 0) (sym e) ∙ pieces-after m n d z w (omega (arith, e))))
+    (λ d z w e. ap (λ (p : ℕ). together (λ j. pieceAfter m n j d z w) (p ^ m) 0) (sym e) ∙ pieces-after m n d z w (λ _. omega (arith, e, some (omega arith)))))
   where
     by : (b : Bool) → isQuiet c (c .processCount) ≡ b →
         ((d : Card) (z w : List ℕ) → d .processCount ≡ c .processCount → together (λ j. pieceAfter m n j d z w) (c .processCount ^ m) 0 ≡ textAfter (m + n) d z w) →
         together (λ j. pieceAfter (suc m) n j c x y) (c .processCount ^ suc m) 0 ≡ textAfter (suc (m + n)) c x y
-    by true e known = quiet-pieces m n c x y some known e
-    by false e known = busy-pieces m n c x y some known e
+    by true e known = quiet-pieces m n c x y (some (omega arith)) known e
+    by false e known = busy-pieces m n c x y (some (omega arith)) known e

@@ -1,5 +1,5 @@
 -- What the listing answers and leaves, from its length and its text by the recursion of code.
-use Prim.Native.Nat.{ℕ, _≤_, _<_}
+use Prim.Native.Nat.{ℕ, _+_, _≤_, _<_}
 use mathlib.Core.Path.{_≡_, refl, sym, subst, ap, _∙_}
 use mathlib.Core.Bool.{Bool, true, false, cond, not, _&&_}
 use mathlib.Core.List.{List, [], _++_}
@@ -15,11 +15,13 @@ use Rattle.construction.specs.History.{run}
 use Rattle.construction.proofs.Basics.{clash}
 use Rattle.executions.specs.declared.{Request.Request}
 use Rattle.executions.specs.Schedules.{callsOf}
-use Rattle.executions.specs.Listings.{reopened, listingText, textAfter, isCallable, isListable, measured, listed, listedInto}
+use Rattle.executions.specs.Listings.{reopened, listingText, textAfter, pieceAfter, isCallable, isListable, measured, listed, listedInto}
 use Rattle.executions.proofs.Runs.{end-processes}
 use Rattle.executions.proofs.Statements.Listings.{listing-text, listable-true}
 use Rattle.listing.specs.Prefixes.{longest, capacity, Lines}
 use Rattle.listing.specs.Listed.{Lists}
+use Rattle.listing.specs.Pieces.{pieceText}
+use Rattle.listing.proofs.Buffers.{put-none}
 use Rattle.listing.proofs.Recursion.{capacity-up, capacity-most}
 
 -- the listing from its first step on
@@ -27,6 +29,26 @@ pub listing-whole :
     (L : ℕ) → L ≤ 16 → {b : List ℕ} {t : List ℕ} {r : ℕ} {z numbers numbers′ answers answers′ : List ℕ} →
     Lines b 0 t (capacity L (longest L 0 0)) r z numbers 0 numbers′ answers 0 answers′ → Put b 0 t r z × (r ≤ capacity L 2129)
 listing-whole L few H = (H .put, omega (arith, H .within, capacity-up L (longest L 0 0) 2129 (omega arith)))
+
+-- a piece from its first step on, and the pieces that there are not
+module _ (first left j : ℕ) (c : Card) {b : List ℕ} where
+  pub piece-many : 3 < c .processCount → Put b 0 (pieceText first left j c) 0 b × (0 ≤ capacity left 2129)
+  unfolding pieceText
+  piece-many h = (subst (λ (t : List ℕ). Put b 0 t 0 b) (sym (rw (lt-leb (c .processCount) 3 h))) (put-none b 0 (omega arith)), omega arith)
+
+  pub piece-long : c .processCount ≤ 3 → 16 < first + left → Put b 0 (pieceText first left j c) 0 b × (0 ≤ capacity left 2129)
+  unfolding pieceText
+  piece-long p h = (subst (λ (t : List ℕ). Put b 0 t 0 b) (sym (rw (le-leb (c .processCount) 3 p, lt-leb (first + left) 16 h))) (put-none b 0 (omega arith)), omega arith)
+
+  pub piece-whole :
+      c .processCount ≤ 3 → first + left ≤ 16 → {r : ℕ} {z numbers numbers′ answers answers′ : List ℕ} →
+      Lines b 0 (pieceAfter first left j c [] []) (capacity left (longest (first + left) 0 0)) r z numbers 0 numbers′ answers 0 answers′ →
+      Put b 0 (pieceText first left j c) r z × (r ≤ capacity left 2129)
+  unfolding pieceText
+  piece-whole p h {r} {z} H = (
+    subst (λ (t : List ℕ). Put b 0 t r z) (sym (rw (le-leb (c .processCount) 3 p, le-leb (first + left) 16 h))) (H .put),
+    omega (arith, H .within, capacity-up left (longest (first + left) 0 0) 2129 (omega arith)),
+  )
 
 -- a listing that is made: its processes and steps are few, and it begins with the calls
 module _ (c : Card) (calls : List Request) (L : ℕ) {o s : Card} (opens : o ≡ reopened c) (starts : s ≡ run o (callsOf o calls) .card) where

@@ -1,13 +1,14 @@
 -- The branches of the listing: room for the steps still to choose, one branch, the processes in turn, and a line that ends.
-use Prim.Native.Nat.{ℕ, zero, suc, _+_, _*_, _-_, _<_, _≤_}
+use Prim.Native.Nat.{ℕ, zero, suc, _+_, _*_, _-_, _/_, _%_, _^_, _<_, _≤_}
 use mathlib.Core.Path.{_≡_, refl, sym, subst, ap, _∙_}
-use mathlib.Core.Bool.{Bool, true, false, _||_}
+use mathlib.Core.Bool.{Bool, true, false, cond, _||_, false≢true}
 use mathlib.Core.List.{List, [], _∷_, _++_}
 use native.Mathlib.Omega.{arith}
-use native.Mathlib.Nat.{suc-mul}
+use native.Mathlib.Nat.{zero-add, suc-mul, pow-suc, pow-le-pow-left, pow-le-pow-right, one-le-pow}
 use native.Mathlib.Numerals.{add-one}
 use lib.ListN.{length, take, length-take, length-append}
 use lib.Dec.{eqb}
+use borrow.Author.Tests.{eq-eqb, ne-eqb}
 use Rattle.grammar.specs.Writing.{decimal, largest, placeAfter, Put}
 use Rattle.grammar.proofs.Decimals.{decimal-one}
 use Rattle.grammar.proofs.Puts.{Room, Rest}
@@ -16,7 +17,7 @@ use Rattle.construction.specs.Answers.{isRefused}
 use Rattle.construction.specs.Requests.{step}
 use Rattle.construction.proofs.Text.Writing.{Series, series-begin, series-turn, series-end}
 use Rattle.executions.specs.Schedules.{isQuiet}
-use Rattle.executions.specs.Listings.{answerText, branchText, branchesText, textAfter}
+use Rattle.executions.specs.Listings.{answerText, branchText, branchesText, textAfter, pieceAfter}
 use Rattle.executions.proofs.Branches.{accepted-busy, step-processes}
 use Rattle.executions.proofs.Texts.{text-ended, text-more}
 use Rattle.listing.specs.Prefixes.{areIdle, Holds, longest, capacity, Lines}
@@ -61,10 +62,10 @@ module _ (c : Card) (k : ℕ) {s : Answered} (e : s ≡ step c k) {t : Bool} (a 
   refusal : isRefused (step c k .answer) ≡ t
   refusal = ap (λ (r : Answered). isRefused (r .answer)) (sym e) ∙ sym a
 
-  module _ (left : ℕ) (numbers : List ℕ) (x : ℕ) (answers : List ℕ) (y : ℕ) where
+  module _ (rest : Card → List ℕ → List ℕ → List ℕ) (n left : ℕ) (numbers : List ℕ) (x : ℕ) (answers : List ℕ) (y : ℕ) where
     pub branch-refused :
         {b : List ℕ} {at : ℕ} → t ≡ true → at ≤ largest →
-        Lines b at (branchText k (step c k) (take x numbers) (take y answers) (λ d z w. textAfter (left - 1) d z w)) (capacity (left - 1) (longest left x y)) at b
+        Lines b at (branchText k (step c k) (take x numbers) (take y answers) rest) (capacity n (longest left x y)) at b
         numbers x numbers answers y answers
     branch-refused {b} {at} f h =
         record {
@@ -74,7 +75,7 @@ module _ (c : Card) (k : ℕ) {s : Answered} (e : s ≡ step c k) {t : Bool} (a 
           fields = refl;
         }
       where
-        none : branchText k (step c k) (take x numbers) (take y answers) (λ d z w. textAfter (left - 1) d z w) ≡ []
+        none : branchText k (step c k) (take x numbers) (take y answers) rest ≡ []
         none = rw (refusal ∙ f)
 
     module _ (H : Holds (c .processCount) left numbers x answers y) (more : 0 < left) (f : t ≡ false)
@@ -107,13 +108,13 @@ module _ (c : Card) (k : ℕ) {s : Answered} (e : s ≡ step c k) {t : Bool} (a 
 
       pub branch-accepted :
           {b : List ℕ} {at r : ℕ} {z numbers₂ answers₂ : List ℕ} →
-          Lines b at (textAfter (left - 1) (s .card) (take i numbers₁) (take j answers₁)) (capacity (left - 1) (longest (left - 1) i j)) r z numbers₁ i numbers₂ answers₁ j answers₂ →
-          Lines b at (branchText k (step c k) (take x numbers) (take y answers) (λ d z w. textAfter (left - 1) d z w)) (capacity (left - 1) (longest left x y)) r z
+          Lines b at (rest (s .card) (take i numbers₁) (take j answers₁)) (capacity n (longest (left - 1) i j)) r z numbers₁ i numbers₂ answers₁ j answers₂ →
+          Lines b at (branchText k (step c k) (take x numbers) (take y answers) rest) (capacity n (longest left x y)) r z
           numbers x numbers₂ answers y answers₂
       branch-accepted {b} {at} {r} {z} {numbers₂} {answers₂} L =
           record {
             put = subst (λ (u : List ℕ). Put b at u r z) (sym text) (L .put);
-            within = omega (arith, L .within, capacity-up (left - 1) (longest (left - 1) i j) (longest left x y) (omega (arith, m .place, digit, short)));
+            within = omega (arith, L .within, capacity-up n (longest (left - 1) i j) (longest left x y) (omega (arith, m .place, digit, short)));
             digits = kept-less x i numbers₁ numbers₂ (omega (arith, m .place)) (L .digits) ∙ m .kept;
             fields = kept-less y j answers₁ answers₂ (omega (arith, o .place)) (L .fields) ∙ o .kept;
           }
@@ -124,10 +125,116 @@ module _ (c : Card) (k : ℕ) {s : Answered} (e : s ≡ step c k) {t : Bool} (a 
           o : Extended answers y (answerText (s .answer)) j answers₁
           o = answers-more
 
-          text : branchText k (step c k) (take x numbers) (take y answers) (λ d z w. textAfter (left - 1) d z w) ≡ textAfter (left - 1) (s .card) (take i numbers₁) (take j answers₁)
+          text : branchText k (step c k) (take x numbers) (take y answers) rest ≡ rest (s .card) (take i numbers₁) (take j answers₁)
           text =
-              subst (λ (u : Answered). branchText k u (take x numbers) (take y answers) (λ d z w. textAfter (left - 1) d z w) ≡ textAfter (left - 1) (s .card) (take i numbers₁) (take j answers₁)) e
+              subst (λ (u : Answered). branchText k u (take x numbers) (take y answers) rest ≡ rest (s .card) (take i numbers₁) (take j answers₁)) e
               (rw (sym a ∙ f) (sym (rw (m .whole, o .whole))))
+
+-- a piece by cases
+pub piece-ended : (m n j : ℕ) (c : Card) (x y : List ℕ) → 0 < m → {t : Bool} → t ≡ areIdle (c .tasks) (c .processCount) → t ≡ true → pieceAfter m n j c x y ≡ cond (eqb j 0) (x ++ (y ++ (10 ∷ []))) []
+unfolding pieceAfter
+piece-ended zero n j c x y h e f = absurd (omega arith)
+piece-ended (suc m) n j c x y h e f = rw (quiet-tasks c (c .processCount) ∙ sym e ∙ f)
+
+pub piece-more :
+    (m n j : ℕ) (c : Card) (x y : List ℕ) → 0 < m → {t : Bool} → t ≡ areIdle (c .tasks) (c .processCount) → t ≡ false → {block : ℕ} → block ≡ c .processCount ^ (m - 1) →
+    pieceAfter m n j c x y ≡ branchText (j / block) (step c (j / block)) x y (λ d z w. pieceAfter (m - 1) n (j % block) d z w)
+unfolding pieceAfter
+piece-more zero n j c x y h e f b = absurd (omega arith)
+piece-more (suc m) n j c x y h e f b = let d : suc m - 1 ≡ m = omega arith in rw (quiet-tasks c (c .processCount) ∙ sym e ∙ f, b, d)
+
+-- a process goes on, so there is one
+pub some-process : (c : Card) {t : Bool} → t ≡ areIdle (c .tasks) (c .processCount) → t ≡ false → 0 < c .processCount
+unfolding areIdle
+some-process c {t} e f = go (c .processCount) (sym e ∙ f)
+  where
+    go : (n : ℕ) → areIdle (c .tasks) n ≡ false → 0 < n
+    go zero h = absurd (false≢true (sym h))
+    go (suc n) h = omega arith
+
+module _ (first left j : ℕ) (c : Card) (numbers : List ℕ) (x : ℕ) (answers : List ℕ) (y : ℕ) (more : 0 < first) {t : Bool} (idle : t ≡ areIdle (c .tasks) (c .processCount)) where
+  abbrev Piece : List ℕ → ℕ → ℕ → List ℕ → List ℕ → List ℕ → Type 0
+  Piece b at r z numbers′ answers′ =
+      Lines b at (pieceAfter first left j c (take x numbers) (take y answers)) (capacity left (longest (first + left) x y)) r z numbers x numbers′ answers y answers′
+
+  pub piece-line : {b : List ℕ} {at r : ℕ} {z : List ℕ} → t ≡ true → j ≡ 0 → Put b at (take x numbers ++ (take y answers ++ (10 ∷ []))) r z → Piece b at r z numbers answers
+  piece-line {b} {at} {r} {z} f e p =
+      record {
+        put = subst (λ (u : List ℕ). Put b at u r z) (sym (piece-ended first left j c (take x numbers) (take y answers) more idle f ∙ rw (eq-eqb j 0 e))) p;
+        within = omega (
+          arith,
+          p .place,
+          length-append (take x numbers) (take y answers ++ (10 ∷ [])),
+          length-append (take y answers) (10 ∷ []),
+          length-take x numbers,
+          length-take y answers,
+          capacity-line left (longest (first + left) x y),
+        );
+        digits = refl;
+        fields = refl;
+      }
+
+  pub piece-none : {b : List ℕ} {at : ℕ} → t ≡ true → (j ≡ 0 → ⊥) → at ≤ largest → Piece b at at b numbers answers
+  piece-none {b} {at} f e h =
+      record {
+        put = subst (λ (u : List ℕ). Put b at u at b) (sym (piece-ended first left j c (take x numbers) (take y answers) more idle f ∙ rw (ne-eqb j 0 e))) (put-none b at h);
+        within = omega arith;
+        digits = refl;
+        fields = refl;
+      }
+
+  pub piece-begun :
+      {block : ℕ} → t ≡ false → block ≡ c .processCount ^ (first - 1) → {b : List ℕ} {at r : ℕ} {z numbers′ answers′ : List ℕ} →
+      Lines b at (branchText (j / block) (step c (j / block)) (take x numbers) (take y answers) (λ d z w. pieceAfter (first - 1) left (j % block) d z w))
+      (capacity left (longest (first + left) x y)) r z numbers x numbers′ answers y answers′ →
+      Piece b at r z numbers′ answers′
+  piece-begun f q {b} {at} {r} {z} {numbers′} {answers′} L =
+      record {
+        put = subst (λ (u : List ℕ). Put b at u r z) (sym (piece-more first left j c (take x numbers) (take y answers) more idle f q)) (L .put);
+        within = L .within;
+        digits = L .digits;
+        fields = L .fields;
+      }
+
+-- one step fewer
+pub fewer-holds : (first left : ℕ) {p : ℕ} {numbers : List ℕ} {x : ℕ} {answers : List ℕ} {y : ℕ} → 0 < first → Holds p (first + left - 1) numbers x answers y → Holds p (first - 1 + left) numbers x answers y
+fewer-holds first left {p} {numbers} {x} {answers} {y} h H = let e : first + left - 1 ≡ first - 1 + left = omega arith in subst (λ (n : ℕ). Holds p n numbers x answers y) e H
+
+pub fewer-lines :
+    (first left n : ℕ) {b : List ℕ} {at : ℕ} {text : List ℕ} {r : ℕ} {z numbers : List ℕ} {x : ℕ} {numbers′ answers : List ℕ} {y : ℕ} {answers′ : List ℕ} → 0 < first →
+    Lines b at text (capacity n (longest (first - 1 + left) x y)) r z numbers x numbers′ answers y answers′ →
+    Lines b at text (capacity n (longest (first + left - 1) x y)) r z numbers x numbers′ answers y answers′
+fewer-lines first left n {b} {at} {text} {r} {z} {numbers} {x} {numbers′} {answers} {y} {answers′} h L =
+    let e : first - 1 + left ≡ first + left - 1 = omega arith in
+    subst (λ (m : ℕ). Lines b at text (capacity n (longest m x y)) r z numbers x numbers′ answers y answers′) e L
+
+-- no first step
+pub first-holds : (first left : ℕ) {p : ℕ} {numbers : List ℕ} {x : ℕ} {answers : List ℕ} {y : ℕ} → first ≡ 0 → Holds p (first + left) numbers x answers y → Holds p left numbers x answers y
+first-holds first left {p} {numbers} {x} {answers} {y} e H = let d : first + left ≡ left = omega arith in subst (λ (n : ℕ). Holds p n numbers x answers y) d H
+
+pub first-lines :
+    (first left j : ℕ) (c : Card) {b : List ℕ} {at r : ℕ} {z numbers : List ℕ} {x : ℕ} {numbers′ answers : List ℕ} {y : ℕ} {answers′ : List ℕ} → first ≡ 0 →
+    Lines b at (textAfter left c (take x numbers) (take y answers)) (capacity left (longest left x y)) r z numbers x numbers′ answers y answers′ →
+    Lines b at (pieceAfter first left j c (take x numbers) (take y answers)) (capacity left (longest (first + left) x y)) r z numbers x numbers′ answers y answers′
+unfolding pieceAfter
+first-lines zero left j c {b} {at} {r} {z} {numbers} {x} {numbers′} {answers} {y} {answers′} e L =
+    subst (λ (n : ℕ). Lines b at (textAfter left c (take x numbers) (take y answers)) (capacity left (longest n x y)) r z numbers x numbers′ answers y answers′) (sym (zero-add left)) L
+first-lines (suc first) left j c e L = absurd (omega arith)
+
+-- powers that code can hold
+pub power-more : (b k : ℕ) {r : ℕ} → r ≡ b ^ k → r * b ≡ b ^ (k + 1)
+power-more b k e = ap (λ (n : ℕ). n * b) e ∙ sym (pow-suc b k) ∙ ap (λ (n : ℕ). b ^ n) (sym (add-one k))
+
+pub power-fits : (b k : ℕ) {r : ℕ} → b ≤ 3 → k < 16 → r ≡ b ^ k → r * b < 4294967296
+power-fits b k {r} few h e =
+    let p : r * b ≡ b ^ (k + 1) = power-more b k e in
+    let q : b ^ (k + 1) ≤ 3 ^ (k + 1) = pow-le-pow-left few (k + 1) in
+    let l : k + 1 ≤ 16 = omega arith in
+    let s : 3 ^ (k + 1) ≤ 3 ^ 16 = pow-le-pow-right (omega arith) l in
+    omega arith
+
+pub power-some : (b k : ℕ) {r : ℕ} → 0 < b → r ≡ b ^ k → 0 < r
+power-some b k h e = omega (arith, e, one-le-pow k b h)
 
 -- a schedule that ends
 pub has-ended : (c : Card) (left : ℕ) {b : Bool} → b ≡ (eqb left 0 || areIdle (c .tasks) (c .processCount)) → (eqb left 0 || isQuiet c (c .processCount)) ≡ b

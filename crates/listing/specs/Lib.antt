@@ -1,2 +1,3 @@
 pub mod Prefixes
 pub mod Listed
+pub mod Pieces

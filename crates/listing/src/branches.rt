@@ -36,7 +36,7 @@ fn is_idle_at(tasks: [Task; 8], k: u8) -> bool
 }
 
 // Whether none of the first processes has an operation under way.
-fn are_idle(tasks: [Task; 8], count: u8) -> bool
+pub(crate) fn are_idle(tasks: [Task; 8], count: u8) -> bool
     ensures { λ r. ⌜ r ≡ areIdle tasks count ⌝ }
 {
     let mut n = count;
@@ -60,7 +60,7 @@ fn has_ended(left: u8, tasks: [Task; 8], count: u8) -> bool
 }
 
 // A line: the process numbers, the answers, byte 10.
-fn put_line(buffer: &mut [u8], at: usize, numbers: &[u8], answers: &[u8]) -> usize
+pub(crate) fn put_line(buffer: &mut [u8], at: usize, numbers: &[u8], answers: &[u8]) -> usize
     ensures { λ r. ⌜ Put (now (buffer .entry)) at (now (numbers .entry) ++ (now (answers .entry) ++ (10 ∷ []))) r (now (buffer .exit)) ⌝ }
 {
     let i = put_word(buffer, at, numbers);
@@ -99,7 +99,7 @@ fn put_branch(
 }
 
 // All executions that go on from a card for this many steps: the one that ends there where none is left or nothing is under way, else each process in turn.
-pub fn put_after(
+pub(crate) fn put_after(
     buffer: &mut [u8],
     at: usize,
     left: u8,

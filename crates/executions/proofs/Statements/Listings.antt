@@ -33,12 +33,12 @@ module _ (o : Card) (calls : List Request) where
   listing-text L = sym (text-after L (run o (callsOf o calls) .card) [] [])
 
   pub text-pieces :
-      (m n : ℕ) → 0 < o .processCount →
+      (m n : ℕ) → (0 < m → 0 < o .processCount) →
       listingText o calls (m + n) ≡ together (λ j. pieceAfter m n j (run o (callsOf o calls) .card) [] []) (o .processCount ^ m) 0
   text-pieces m n some =
       let e : run o (callsOf o calls) .card .processCount ≡ o .processCount = end-processes o calls [] in
       listing-text (m + n)
-      ∙ sym (pieces-after m n (run o (callsOf o calls) .card) [] [] (omega arith))
+      ∙ sym (pieces-after m n (run o (callsOf o calls) .card) [] [] (λ h. omega (arith, e, some h)))
       ∙ ap (λ (p : ℕ). together (λ j. pieceAfter m n j (run o (callsOf o calls) .card) [] []) (p ^ m) 0) e
 
   -- 'L = 0 gives the one empty schedule, an empty line'

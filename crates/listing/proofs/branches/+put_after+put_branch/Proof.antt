@@ -1,3 +1,4 @@
+use Rattle.executions.specs.Listings.{textAfter}
 use lib.ListN.{length-take}
 use borrow.Author.Needs.{needs}
 use native.Mathlib.Omega.{arith}
@@ -305,7 +306,7 @@ put-branch-returns : (t : ℕ) → put-branch-lts.Need-returns (
   put-after-below t,
   put-after.Post,
 ) (put-branch-at t) put-branch.Post
-put-branch-returns t c = laws.branch-refused (c .before .before .before .before .before .before .args .card) (c .before .before .before .before .before .before .args .k) (c .before .before .step .ensures) (c .before .is-refused .ensures) (c .before .before .before .before .before .before .args .left) _ _ _ _ (c .if1 .taken) (omega arith)
+put-branch-returns t c = laws.branch-refused (c .before .before .before .before .before .before .args .card) (c .before .before .before .before .before .before .args .k) (c .before .before .step .ensures) (c .before .is-refused .ensures) (λ d z w. textAfter (c .before .before .before .before .before .before .args .left - 1) d z w) (c .before .before .before .before .before .before .args .left - 1) (c .before .before .before .before .before .before .args .left) _ _ _ _ (c .if1 .taken) (omega arith)
 
 -- src/branches.rt:95:9
 put-branch-put-decimal-requires : (t : ℕ) → put-branch-lts.Need-put-decimal-requires (
@@ -365,7 +366,7 @@ put-branch-put-after-requires : (t : ℕ) → put-branch-lts.Need-put-after-requ
   put-after-below t,
   put-after.Post,
 ) (put-branch-at t) put-branch.Post
-put-branch-put-after-requires t c κs = (omega (arith, c .before .before .before .before .before .before .before .before .before .before .before .before .before .before .before .before .before .before .pre .0, c .before .before .before .before .before .before .before .before .before .before .before .before .before .before .before .before .before .before .pre .1 .0), laws.branch-holds (c .before .before .before .before .before .before .before .before .before .before .before .before .before .before .before .before .before .before .args .card) (c .before .before .before .before .before .before .before .before .before .before .before .before .before .before .before .before .before .before .args .k) (c .before .before .before .before .before .before .before .before .before .before .before .before .before .before .step .ensures) (c .before .before .before .before .before .before .before .before .before .before .before .before .before .is-refused .ensures) (c .before .before .before .before .before .before .before .before .before .before .before .before .before .before .before .before .before .before .args .left) _ _ _ _ (c .before .before .before .before .before .before .before .before .before .before .before .before .before .before .before .before .before .before .pre .1 .1) (c .before .before .before .before .before .before .before .before .before .before .before .before .before .before .before .before .before .before .pre .1 .0) (c .before .before .before .before .before .before .before .before .before .before .before .before .if1 .left) (c .before .before .before .before .before .before .before .before .before .before .put-decimal .ensures) (c .before .before .before .before .before .before .put-answer .ensures .0) (c .before .before .before .before .before .before .put-answer .ensures .1) refl)
+put-branch-put-after-requires t c κs = (omega (arith, c .before .before .before .before .before .before .before .before .before .before .before .before .before .before .before .before .before .before .pre .0, c .before .before .before .before .before .before .before .before .before .before .before .before .before .before .before .before .before .before .pre .1 .0), laws.branch-holds (c .before .before .before .before .before .before .before .before .before .before .before .before .before .before .before .before .before .before .args .card) (c .before .before .before .before .before .before .before .before .before .before .before .before .before .before .before .before .before .before .args .k) (c .before .before .before .before .before .before .before .before .before .before .before .before .before .before .step .ensures) (c .before .before .before .before .before .before .before .before .before .before .before .before .before .is-refused .ensures) (λ d z w. textAfter (c .before .before .before .before .before .before .before .before .before .before .before .before .before .before .before .before .before .before .args .left - 1) d z w) (c .before .before .before .before .before .before .before .before .before .before .before .before .before .before .before .before .before .before .args .left - 1) (c .before .before .before .before .before .before .before .before .before .before .before .before .before .before .before .before .before .before .args .left) _ _ _ _ (c .before .before .before .before .before .before .before .before .before .before .before .before .before .before .before .before .before .before .pre .1 .1) (c .before .before .before .before .before .before .before .before .before .before .before .before .before .before .before .before .before .before .pre .1 .0) (c .before .before .before .before .before .before .before .before .before .before .before .before .if1 .left) (c .before .before .before .before .before .before .before .before .before .before .put-decimal .ensures) (c .before .before .before .before .before .before .put-answer .ensures .0) (c .before .before .before .before .before .before .put-answer .ensures .1) refl)
 
 -- src/branches.rt:72:1
 put-branch-same-length : (t : ℕ) → put-branch-lts.Need-same-length (
@@ -425,7 +426,7 @@ put-branch-returns-2 : (t : ℕ) → put-branch-lts.Need-returns-2 (
   put-after-below t,
   put-after.Post,
 ) (put-branch-at t) put-branch.Post
-put-branch-returns-2 t c = laws.branch-accepted (c .before .before .before .before .before .before .before .before .before .before .before .before .before .before .before .before .before .before .before .before .before .before .before .before .before .args .card) (c .before .before .before .before .before .before .before .before .before .before .before .before .before .before .before .before .before .before .before .before .before .before .before .before .before .args .k) (c .before .before .before .before .before .before .before .before .before .before .before .before .before .before .before .before .before .before .before .before .before .step .ensures) (c .before .before .before .before .before .before .before .before .before .before .before .before .before .before .before .before .before .before .before .before .is-refused .ensures) (c .before .before .before .before .before .before .before .before .before .before .before .before .before .before .before .before .before .before .before .before .before .before .before .before .before .args .left) _ _ _ _ (c .before .before .before .before .before .before .before .before .before .before .before .before .before .before .before .before .before .before .before .before .before .before .before .before .before .pre .1 .1) (c .before .before .before .before .before .before .before .before .before .before .before .before .before .before .before .before .before .before .before .before .before .before .before .before .before .pre .1 .0) (c .before .before .before .before .before .before .before .before .before .before .before .before .before .before .before .before .before .before .before .if1 .left) (c .before .before .before .before .before .before .before .before .before .before .before .before .before .before .before .before .before .put-decimal .ensures) (c .before .before .before .before .before .before .before .before .before .before .before .before .before .put-answer .ensures .0) (c .before .before .before .before .before .before .before .before .before .before .before .before .before .put-answer .ensures .1) (c .before .before .before .before .before .before .put-after .ensures)
+put-branch-returns-2 t c = laws.branch-accepted (c .before .before .before .before .before .before .before .before .before .before .before .before .before .before .before .before .before .before .before .before .before .before .before .before .before .args .card) (c .before .before .before .before .before .before .before .before .before .before .before .before .before .before .before .before .before .before .before .before .before .before .before .before .before .args .k) (c .before .before .before .before .before .before .before .before .before .before .before .before .before .before .before .before .before .before .before .before .before .step .ensures) (c .before .before .before .before .before .before .before .before .before .before .before .before .before .before .before .before .before .before .before .before .is-refused .ensures) (λ d z w. textAfter (c .before .before .before .before .before .before .before .before .before .before .before .before .before .before .before .before .before .before .before .before .before .before .before .before .before .args .left - 1) d z w) (c .before .before .before .before .before .before .before .before .before .before .before .before .before .before .before .before .before .before .before .before .before .before .before .before .before .args .left - 1) (c .before .before .before .before .before .before .before .before .before .before .before .before .before .before .before .before .before .before .before .before .before .before .before .before .before .args .left) _ _ _ _ (c .before .before .before .before .before .before .before .before .before .before .before .before .before .before .before .before .before .before .before .before .before .before .before .before .before .pre .1 .1) (c .before .before .before .before .before .before .before .before .before .before .before .before .before .before .before .before .before .before .before .before .before .before .before .before .before .pre .1 .0) (c .before .before .before .before .before .before .before .before .before .before .before .before .before .before .before .before .before .before .before .if1 .left) (c .before .before .before .before .before .before .before .before .before .before .before .before .before .before .before .before .before .put-decimal .ensures) (c .before .before .before .before .before .before .before .before .before .before .before .before .before .put-answer .ensures .0) (c .before .before .before .before .before .before .before .before .before .before .before .before .before .put-answer .ensures .1) (c .before .before .before .before .before .before .put-after .ensures)
 
 pub +put-after+put-branch-spec : {M : Type 1} → statement M
 +put-after+put-branch-spec = close μ-put-after μ-put-branch (λ t. put-after-lts.spec (

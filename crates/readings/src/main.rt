@@ -11,7 +11,9 @@ use grammar::writing::put_decimal;
 use grammar::writing::put_word;
 use libc::STDERR_FILENO;
 use libc::STDOUT_FILENO;
+ghost use mathlib.Core.Path.{_≡_};
 ghost use Prim.Native.Nat.{_≤_};
+ghost use lib.ListN.{length};
 ghost use Rattle.io.specs.Counts.{Counts};
 
 // The most bytes of a dump that are read.
@@ -144,9 +146,16 @@ fn usage() {
     );
 }
 
+// Room for one byte more than the limit. The `ensures` gives only the length, which lending the array as a slice needs.
+fn space() -> [u8; 4194305]
+    ensures { λ r. ⌜ 4194305 ≡ length r ⌝ }
+{
+    [0; 4194305]
+}
+
 // One byte more than the limit is read. A program has no exit status, so what cannot be written is told on standard error.
 fn run(path: &[u8], all: bool, step: u64) {
-    let mut text = [0u8; 4194305];
+    let mut text = space();
     let length = read_file(path, &mut text);
     if !print_readings(&text[..length], all, step) {
         os::fail(b"readings: the values could not be written");

@@ -354,11 +354,11 @@ launch "$work/nowhere"
 holds "a folder that is not there is named" ends 2 "" "program: no such folder: $work/nowhere (./program --help tells what it should hold)"
 launch "$folder/card.txt"
 holds "a file in the place of a folder is named" ends 2 "" "program: $folder/card.txt is no folder (./program --help tells what belongs in one)"
-for usage in './bench DIR' './waits' './waves DIR' './readings DUMP [STEP]'; do
+for usage in './bench DIR' './waits' './schedules DIR L' './waves DIR' './readings DUMP [STEP]'; do
     call "$top/${usage%% *}" --help
     holds "$usage tells its usage" [ "$status: $(head -n 1 "$work/output")" = "0: usage: $usage" ]
 done
-for arguments in waves 'waves a b' readings 'readings a 1 2'; do
+for arguments in schedules 'schedules a' waves 'waves a b' readings 'readings a 1 2'; do
     # shellcheck disable=SC2086
     call "$top"/$arguments
     holds "$arguments is a wrong call" [ "$status: $(head -n 1 "$SAID" | cut -c 1-9)" = "2: usage: ./" ]

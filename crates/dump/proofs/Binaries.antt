@@ -9,7 +9,7 @@ use lib.Seq.{drop-cons, drop-nil, drop-drop, append-snoc}
 use native.Mathlib.Omega.{arith}
 use native.Mathlib.Decide.{decLt}
 use native.Mathlib.Numerals.{add-one}
-use borrow.Author.Tests.{lt-ltb, le-ltb, ltb-true, ltb-false, eq-eqb, ne-eqb, eqb-true, eqb-false, le-leb, leb-true}
+use borrow.Author.Tests.{lt-ltb, le-ltb, ltb-true, ltb-false, eq-eqb, ne-eqb, eqb-true, le-leb, leb-true}
 use Rattle.grammar.specs.declared.Number.{Number}
 use Rattle.grammar.specs.declared.Number.the-variants.{Value}
 use Rattle.grammar.proofs.Cases.{on-test, and-true, clash}

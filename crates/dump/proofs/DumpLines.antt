@@ -1,5 +1,5 @@
 -- The lines after the header: what is written reads back, and a line that was read stands there as it is written.
-use mathlib.Core.Bool.{Bool, true, false, _&&_}
+use mathlib.Core.Bool.{true, false, _&&_}
 use mathlib.Core.Path.{_≡_, refl, sym, _∙_, ap}
 use mathlib.Core.List.{List, [], _∷_, _++_, append-assoc}
 use Prim.Native.Nat.{ℕ, suc, _+_, _-_, _<_, _≤_, min}
@@ -12,7 +12,7 @@ use borrow.Author.Tests.{lt-ltb, ltb-true, le-leb, leb-true}
 use Rattle.grammar.specs.declared.Number.{Number}
 use Rattle.grammar.specs.declared.Number.the-variants.{Value, Malformed}
 use Rattle.grammar.specs.Reading.{most, hasByte, field}
-use Rattle.grammar.specs.Writing.{fieldText, decimal}
+use Rattle.grammar.specs.Writing.{fieldText}
 use Rattle.grammar.proofs.Cases.{on-test, and-true, clash}
 use Rattle.grammar.proofs.Bytes.{drop-head, drop-past, byte-reads, byte-text, byte-true}
 use Rattle.grammar.proofs.Fields.{field-within}

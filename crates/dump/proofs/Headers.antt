@@ -3,20 +3,18 @@ use mathlib.Core.Bool.{Bool, true, false, cond, _&&_}
 use mathlib.Core.Path.{_≡_, refl, sym, _∙_, ap, subst}
 use mathlib.Core.List.{List, [], _∷_, _++_, append-assoc, append-nil}
 use Prim.Native.Nat.{ℕ, zero, suc, _+_, _-_, _<_, _≤_}
-use lib.Dec.{eqb}
-use lib.ListN.{getD, drop, length, length-append, length-drop}
+use lib.ListN.{drop, length, length-append}
 use native.Mathlib.Omega.{arith}
 use native.Mathlib.Numerals.{add-one}
 use native.Mathlib.Nat.{add-zero}
 use borrow.Author.Tests.{lt-ltb}
-use Rattle.grammar.specs.Reading.{hasByte, hasWord}
+use Rattle.grammar.specs.Reading.{hasWord}
 use Rattle.grammar.proofs.Cases.{on-test, clash}
-use Rattle.grammar.proofs.Bytes.{drop-head, drop-past, word-reads, word-text, word-within}
+use Rattle.grammar.proofs.Bytes.{drop-head, drop-past, word-reads, word-text}
 use Rattle.construction.specs.declared.Verdict.{Verdict}
-use Rattle.construction.specs.declared.Refusal.the-variants.{Malformed}
 use Rattle.dump.specs.declared.Header.{Header}
 use Rattle.dump.specs.Dump.{timescaleLine, scopeLine, varLine, upscopeLine, definitionsLine, timeText, varsText, headerText}
-use Rattle.dump.specs.Reading.{headerStart, headerRefused, onHeader, pastWord, thenWord, withVar, varsFrom, thenVars, readHeader}
+use Rattle.dump.specs.Reading.{headerStart, headerRefused, onHeader, pastWord, thenWord, varsFrom, thenVars, readHeader}
 
 abbrev Taken : Header → Type 0
 Taken h = h .verdict ≡ Verdict.Accepted
@@ -93,10 +91,17 @@ module _ (t : List ℕ) where
       omega (arith, length-append (timescaleLine ++ (scopeLine ++ (varsText n 0 ++ (upscopeLine ++ definitionsLine)))) (timeText 0), length-append (varsText n 0) (upscopeLine ++ definitionsLine)) in
       let l : 1 + 1 + 1 + n + 1 + 1 + 1 ≡ n + 6 = omega arith in
       let z : 0 + n ≡ n = omega arith in
-      rw (word-taken timescaleLine _ 0 0 1 d₀, word-taken scopeLine _ 0 (0 + length timescaleLine) (1 + 1) d₁, vars-taken n 64 0 at₂ (1 + 1 + 1) _ few d₂, z,
-      word-taken upscopeLine _ n (at₂ + length (varsText n 0)) (1 + 1 + 1 + n) d₃,
-      word-taken definitionsLine _ n (at₂ + length (varsText n 0) + length upscopeLine) (1 + 1 + 1 + n + 1) d₄,
-      word-taken (timeText 0) r n (at₂ + length (varsText n 0) + length upscopeLine + length definitionsLine) (1 + 1 + 1 + n + 1 + 1) d₅, p, l)
+      rw (
+        word-taken timescaleLine _ 0 0 1 d₀,
+        word-taken scopeLine _ 0 (0 + length timescaleLine) (1 + 1) d₁,
+        vars-taken n 64 0 at₂ (1 + 1 + 1) _ few d₂,
+        z,
+        word-taken upscopeLine _ n (at₂ + length (varsText n 0)) (1 + 1 + 1 + n) d₃,
+        word-taken definitionsLine _ n (at₂ + length (varsText n 0) + length upscopeLine) (1 + 1 + 1 + n + 1) d₄,
+        word-taken (timeText 0) r n (at₂ + length (varsText n 0) + length upscopeLine + length definitionsLine) (1 + 1 + 1 + n + 1 + 1) d₅,
+        p,
+        l,
+      )
 
   -- ---- a header that was taken stands there
   pub record Read (text : List ℕ) (n line : ℕ) (h : Header) : Type 0 where

@@ -1,24 +1,23 @@
 -- Writer and reader are inverse (specs/Inverse): the reader takes the dump of every history that fits and shows its values, and a text that it takes is
 -- the dump of the history that it shows.
-use mathlib.Core.Path.{_≡_, refl, sym, _∙_, ap, subst}
-use mathlib.Core.Logic.{_⊎_, inl, inr}
+use mathlib.Core.Path.{_≡_, refl, sym, _∙_, ap}
+use mathlib.Core.Logic.{_⊎_, inr}
 use mathlib.Core.List.{List, [], _∷_, _++_}
 use Prim.Native.Nat.{ℕ, zero, suc, _+_, _-_, _<_, _≤_, min}
 use lib.ListN.{getD, length}
 use native.Mathlib.Omega.{arith}
 use native.Mathlib.Nat.{sub-zero}
-use native.Mathlib.Decide.{decLe, decLt}
+use native.Mathlib.Decide.{decLe}
 use Rattle.construction.specs.declared.Verdict.{Verdict}
-use Rattle.construction.proofs.Basics.{getD-replicate-same}
 use Rattle.dump.specs.declared.Readings.{Readings}
 use Rattle.dump.specs.Binary.{over}
-use Rattle.dump.specs.Dump.{Change, valuesText, changesFrom, linesText, toldAfter, openingText, dump}
+use Rattle.dump.specs.Dump.{Change, valuesText, changesFrom, linesText, openingText, dump}
 use Rattle.dump.specs.Reading.{readings}
-use Rattle.dump.specs.Inverse.{Fits, rowAfter, Shows, rowsRead, OneSpelling}
+use Rattle.dump.specs.Inverse.{Fits, Shows, rowsRead, OneSpelling}
 use Rattle.dump.proofs.Trails.{Proper, shownAfter}
 use Rattle.dump.proofs.Starts.{startRow, start-there, start-past, start-length}
-use Rattle.dump.proofs.Shapes.{Shape, shownReadings, shape-reads, Shaped, shape-there}
-use Rattle.dump.proofs.Rows.{shown-kept, shown-last, shown-length, shown-all, proper-ordered, unique, Agree, rows-proper, rows-told, rows-shown}
+use Rattle.dump.proofs.Shapes.{Shape, shape-reads, shape-there}
+use Rattle.dump.proofs.Rows.{shown-kept, shown-last, shown-all, proper-ordered, unique, Agree, rows-proper, rows-told, rows-shown}
 
 -- ---- the reader takes the dump of a history
 module _ {n : ℕ} {row : List ℕ} {rows : List (List ℕ)} (f : Fits n row rows) where

@@ -1,34 +1,31 @@
 -- What a read shows has 32 bits (document 01: 'Variables, inputs, outputs and the registers r0 to r3 are unsigned 32-bit words'): the words of the
 -- sequential run stay so, if the inputs of every call are.
 use Prim.Native.Nat.{ℕ, zero, suc, _+_, _-_, _≤_, _<_, min}
-use mathlib.Core.Bool.{Bool, true, false, cond, not, _&&_}
-use mathlib.Core.Path.{_≡_, refl, sym, _∙_, ap, subst}
+use mathlib.Core.Bool.{true, cond, not, _&&_}
+use mathlib.Core.Path.{_≡_, refl, _∙_, ap, subst}
 use mathlib.Core.List.{List, [], _∷_}
 use native.Mathlib.Omega.{arith}
-use native.Mathlib.Decide.{ℕ-discrete}
 use lib.Dec.{eqb, leb, ltb}
-use lib.ListN.{length, getD, set, take, replicate, List·getD-eq-default}
-use lib.Seq.{getD-take}
+use lib.ListN.{length, getD, set, take}
 use borrow.Author.Tests.{ltb-true, not-false}
 use Rattle.grammar.proofs.Cases.{on-test, and-true, clash}
-use Rattle.construction.specs.declared.{Words.Words, Instruction.Instruction, Decoded.Decoded, Encoded.Encoded, Line.Line, Program.Program, Effect.Effect, Simulation.Simulation, Card.Card, Contents.Contents, VarLine.VarLine, InsLine.InsLine, CardLine.CardLine, Verdict.Verdict, ProgramReading.ProgramReading, Reading.Reading, Answered.Answered}
+use Rattle.construction.specs.declared.{Words.Words, Instruction.Instruction, Decoded.Decoded, Encoded.Encoded, Line.Line, Program.Program, Effect.Effect, Simulation.Simulation, Card.Card, Contents.Contents, CardLine.CardLine, Verdict.Verdict, ProgramReading.ProgramReading, Reading.Reading}
 use Rattle.construction.specs.declared.Refusal.{Refusal}
 use Rattle.construction.specs.declared.Refusal.the-variants.{TooLong, Malformed}
 use Rattle.construction.specs.Cells.{zeros}
-use Rattle.construction.specs.Instructions.{word, withWord, sum, difference, load, store, free, isCell, effectOf, shortened, nextInstruction, nextEffect, fetch, noLine, noProgram, started, faulted, withRegister, withOutput, skipped, decode, decodeAs, encoded, encode, eachOperand, ranged, unusedZero}
-use Rattle.construction.specs.Effects.{Store, put, Executed, allocated, execute, onExecuted}
+use Rattle.construction.specs.Instructions.{word, withWord, sum, difference, load, store, free, isCell, effectOf, shortened, nextInstruction, nextEffect, fetch, noLine, noProgram, started, withRegister, withOutput, skipped, decode, encoded, encode}
+use Rattle.construction.specs.Effects.{Store, Executed, allocated, execute}
 use Rattle.construction.specs.Sequential.{Ending, wordAt, withStores, nextExecuted, runFrom, sequential}
 use Rattle.construction.specs.Lines.{insLine, sheetLine, varLine, cardLine}
 use Rattle.construction.specs.Parts.{contentsOf}
-use Rattle.construction.specs.Opening.{noContents, fresh, refusedAt, programRefusedAt, withLine, insFrom, readProgram, withProgram, programsFrom, withStart, varsFrom, atEnd, thenPrograms, afterCard, readCard, opened, begun}
+use Rattle.construction.specs.Opening.{fresh, refusedAt, programRefusedAt, withLine, insFrom, readProgram, withProgram, programsFrom, withStart, varsFrom, atEnd, thenPrograms, afterCard, readCard, opened}
 use Rattle.construction.specs.Weight.{cardWeight}
 use Rattle.construction.specs.Changes.{changeRead, ifProgramAccepted}
-use Rattle.construction.specs.History.{Entry, act, Invocation, Replacement, History, Event, eventOf, latestCall, textAt, benchRun, finishing, withFinish, withFinishes, withInvocation, withResponse, withChange, withEntry, Observation, observe, observeAll, opening, run, startWords}
+use Rattle.construction.specs.History.{Entry, act, Invocation, Replacement, History, Event, eventOf, latestCall, textAt, finishing, withFinish, withFinishes, withResponse, withEntry, Observation, observe, observeAll, opening, run}
 use Rattle.construction.proofs.Basics.{set-keeps, getD-replicate-same}
 use Rattle.construction.proofs.Text.Lines.{card-read, ins-read, var-read}
 use Rattle.construction.proofs.Text.Decoding.{decoded-encodes}
 use Rattle.construction.proofs.Text.Reading.{afterFields, afterLength, on-ins, on-sheet, on-weighed, on-program, on-var, on-accepted, on-card}
-use Rattle.construction.proofs.Text.Bounds.{opened-bounded}
 use Rattle.construction.proofs.Simulating.Effects.{on-executed}
 use Rattle.dump.specs.Histories.{FourNarrow, NarrowEntry, Narrow}
 

@@ -8,14 +8,13 @@ use lib.Dec.{eqb, leb}
 use lib.ListN.{getD, set, length, length-set}
 use lib.Seq.{getD-set-same, getD-set-other}
 use native.Mathlib.Omega.{arith}
-use native.Mathlib.Nat.{add-zero}
 use native.Mathlib.Decide.{decLt, decLe, ℕ-discrete}
-use borrow.Author.Tests.{le-leb, lt-leb, eq-eqb, eqb-true, eqb-false, leb-true, leb-false}
-use Rattle.grammar.proofs.Cases.{on-test, clash}
+use borrow.Author.Tests.{le-leb, lt-leb, eqb-true, eqb-false}
+use Rattle.grammar.proofs.Cases.{on-test}
 use Rattle.dump.specs.Binary.{over}
 use Rattle.dump.specs.Dump.{Change, change, changesAt, changesFrom, toldAfter}
 use Rattle.dump.specs.Reading.{shownAt}
-use Rattle.dump.proofs.Trails.{Next, Proper, shownAfter}
+use Rattle.dump.proofs.Trails.{Proper, shownAfter}
 
 -- ---- what is shown: changes in order of time, and of variable within a time
 abbrev After : ℕ → ℕ → Change → Type 0
@@ -239,15 +238,16 @@ module _ (n k : ℕ) (before after : List ℕ) (rest : List Change) (small : Sma
           more told next values (⊎-elim (λ (h : told ≤ k). inl h) (λ (h : (told ≡ suc k) × (next ≤ v)). inr (h .0, omega (arith, h .1))) o)
           (mixed-same v values (eqb-true _ _ t) x)
       by false t more =
-          let inside : v < n = omega arith in
-          (record {
-            after = ⊎-elim (λ (h : told ≤ k). inl (omega arith)) (λ (h : (told ≡ suc k) × (next ≤ v)). inr (sym (h .0), h .1)) o;
-            within = inside;
-            small = small v inside;
-            bounded = bounded;
-            differs = λ f. eqb-false (getD before v 0) (getD after v 0) t (sym (x .left v inside (omega arith)) ∙ sym f);
-          },
-          more (suc k) (suc v) (set values v (getD after v 0)) (inr (refl, omega arith)) (mixed-set v values inside x))
+          let inside : v < n = omega arith in (
+            record {
+              after = ⊎-elim (λ (h : told ≤ k). inl (omega arith)) (λ (h : (told ≡ suc k) × (next ≤ v)). inr (sym (h .0), h .1)) o;
+              within = inside;
+              small = small v inside;
+              bounded = bounded;
+              differs = λ f. eqb-false (getD before v 0) (getD after v 0) t (sym (x .left v inside (omega arith)) ∙ sym f);
+            },
+            more (suc k) (suc v) (set values v (getD after v 0)) (inr (refl, omega arith)) (mixed-set v values inside x),
+          )
 
   -- what is shown of them at a step that is not before them
   module _ (step : ℕ) (P : List ℕ → Type 0) (due : suc k ≤ step) where

@@ -1,31 +1,29 @@
 -- The dump of a run read back (specs/Runs).
 use Prim.Native.Nat.{ℕ, zero, suc, _+_, _≤_, _<_, _%_, min}
-use mathlib.Core.Bool.{Bool, true, false, cond, not, _&&_}
+use mathlib.Core.Bool.{Bool, true, false, cond, _&&_}
 use mathlib.Core.Path.{_≡_, refl, sym, _∙_, ap, subst}
 use mathlib.Core.List.{List, [], _∷_, _++_, append-nil}
 use native.Mathlib.Omega.{arith}
-use native.Mathlib.Decide.{decLt, ℕ-discrete}
-use lib.Dec.{eqb, ltb}
-use lib.ListN.{length, getD, set, replicate, length-set, length-append}
+use native.Mathlib.Decide.{ℕ-discrete}
+use lib.ListN.{length, getD, set, replicate, length-set}
 use lib.Seq.{getD-set-same, getD-set-other}
 use borrow.Author.Tests.{lt-ltb}
-use Rattle.grammar.proofs.Cases.{on-test, clash}
-use Rattle.construction.specs.declared.{Words.Words, Access.Access, Announcement.Announcement, Flag.Flag, Card.Card, Answer.Answer, Answered.Answered, Contents.Contents, Verdict.Verdict}
+use Rattle.grammar.proofs.Cases.{on-test}
+use Rattle.construction.specs.declared.{Announcement.Announcement, Flag.Flag, Card.Card, Answer.Answer, Answered.Answered, Contents.Contents}
 use Rattle.construction.specs.Answers.{isRefused}
-use Rattle.construction.specs.Parts.{contentsOf, localAt}
-use Rattle.construction.specs.Machine.{advance, perform, accessIn}
+use Rattle.construction.specs.Parts.{localAt}
+use Rattle.construction.specs.Machine.{advance}
 use Rattle.construction.specs.Requests.{answerOf, isIdle, returned, isVariable, valueOf, read}
 use Rattle.construction.specs.Opening.{fresh, opened}
 use Rattle.construction.specs.History.{Entry, act, Steps, Observation, observe, observeAll, opening, run}
 use Rattle.construction.proofs.Observing.Outcomes.{Outcome, outcome}
 use Rattle.construction.proofs.Observing.Consistency.{Consistent, entry-kept, read-shown}
 use Rattle.construction.proofs.Observing.Runs.{opened-consistent}
-use Rattle.construction.proofs.Observing.Growth.{observe-append}
 use Rattle.construction.proofs.Statements.Refusals.{read-value}
 use Rattle.dump.specs.Histories.{Narrow, rowFrom, rowOf, isStep, accepts, rowsOf, acceptedSteps, dumpOf}
 use Rattle.dump.specs.Dump.{dump}
 use Rattle.dump.specs.Reading.{readings}
-use Rattle.dump.specs.Inverse.{Fits, Shows, rowAfter}
+use Rattle.dump.specs.Inverse.{Fits}
 use Rattle.dump.specs.Runs.{ReadsBack}
 use Rattle.dump.proofs.Inverse.{dump-read}
 use Rattle.dump.proofs.Narrow.{words-narrow, no-process}

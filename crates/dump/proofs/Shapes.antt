@@ -2,7 +2,7 @@
 use mathlib.Core.Path.{_≡_, refl, sym, _∙_, ap, subst}
 use mathlib.Core.Logic.{_⊎_, inl, inr}
 use mathlib.Core.List.{List, [], _∷_, _++_, append-assoc}
-use Prim.Native.Nat.{ℕ, zero, suc, _+_, _-_, _<_, _≤_}
+use Prim.Native.Nat.{ℕ, _+_, _-_, _<_, _≤_}
 use lib.ListN.{getD, drop, length}
 use lib.Seq.{drop-append-seam, ext-getD}
 use native.Mathlib.Omega.{arith}
@@ -14,7 +14,7 @@ use Rattle.construction.proofs.Basics.{getD-replicate-same}
 use Rattle.dump.specs.declared.{Header.Header, Progress.Progress, Readings.Readings}
 use Rattle.dump.specs.Binary.{over}
 use Rattle.dump.specs.Dump.{timeText, headerText, valuesText, Change, toldAfter, linesText, openingText}
-use Rattle.dump.specs.Reading.{readHeader, noValues, begun, startsFrom, linesFrom, onProgress, thenStarts, thenLines, progress, readingsOf, readings}
+use Rattle.dump.specs.Reading.{readHeader, noValues, begun, startsFrom, linesFrom, onProgress, thenStarts, progress, readingsOf, readings}
 use Rattle.dump.proofs.Headers.{headerAt, header-reads, header-there}
 use Rattle.dump.proofs.Trails.{Proper, Headed, shownAfter, going, TrailRead, trail-read, Trail, trail-there}
 use Rattle.dump.proofs.Starts.{startRow, starts-read, StartsThere, starts-there, start-there, start-past, start-length}

@@ -1,10 +1,10 @@
 -- The values at time 0: what is written reads back, and values that were taken stand there as they are written.
-use mathlib.Core.Bool.{Bool, true, false, cond}
-use mathlib.Core.Path.{_≡_, refl, sym, _∙_, ap, subst}
-use mathlib.Core.List.{List, [], _∷_, _++_, append-assoc}
+use mathlib.Core.Bool.{Bool, true, false}
+use mathlib.Core.Path.{_≡_, refl, sym, _∙_, ap}
+use mathlib.Core.List.{List, _∷_, _++_, append-assoc}
 use Prim.Native.Nat.{ℕ, zero, suc, _+_, _-_, _<_, _≤_}
-use lib.Dec.{eqb, leb}
-use lib.ListN.{getD, set, drop, length, length-append, length-set, replicate}
+use lib.Dec.{eqb}
+use lib.ListN.{getD, set, drop, length, length-append, length-set}
 use lib.Seq.{getD-set-same, getD-set-other}
 use native.Mathlib.Omega.{arith}
 use native.Mathlib.Nat.{add-zero}
@@ -16,7 +16,7 @@ use Rattle.construction.proofs.Basics.{getD-replicate-same}
 use Rattle.dump.specs.declared.{DumpLine.DumpLine, Progress.Progress}
 use Rattle.dump.specs.Binary.{over}
 use Rattle.dump.specs.Dump.{valueText, valuesText}
-use Rattle.dump.specs.Reading.{lineAt, progressRefused, noValues, shownAt, withValue, nextStart, startsFrom}
+use Rattle.dump.specs.Reading.{lineAt, noValues, withValue, nextStart, startsFrom}
 use Rattle.dump.proofs.DumpLines.{value-reads, value-there}
 use Rattle.dump.proofs.Trails.{going}
 

@@ -1,23 +1,21 @@
 -- The times and values of a dump as a trail of changes: what is written of a trail reads back, and lines that were taken are those of a trail.
-use mathlib.Core.Bool.{Bool, true, false, cond, not, _&&_}
+use mathlib.Core.Bool.{Bool, true, false, not, _&&_}
 use mathlib.Core.Path.{_≡_, refl, sym, _∙_, ap, subst}
 use mathlib.Core.Logic.{_⊎_, inl, inr, ⊎-elim}
 use mathlib.Core.List.{List, [], _∷_, _++_, append-assoc, append-nil}
 use Prim.Native.Nat.{ℕ, zero, suc, _+_, _-_, _<_, _≤_}
 use lib.Dec.{eqb, leb, ltb}
-use lib.ListN.{getD, set, drop, length, length-append, length-drop, length-set, drop-of-length-le}
+use lib.ListN.{getD, set, drop, length, length-append, length-drop, drop-of-length-le}
 use native.Mathlib.Omega.{arith}
-use native.Mathlib.Nat.{add-zero}
 use native.Mathlib.Decide.{decLt}
-use borrow.Author.Tests.{lt-ltb, le-ltb, ltb-true, ltb-false, le-leb, leb-true, eq-eqb, ne-eqb, eqb-true, eqb-false, not-true, not-false}
+use borrow.Author.Tests.{lt-ltb, le-ltb, ltb-true, ltb-false, le-leb, leb-true, ne-eqb, eqb-false, not-true}
 use Rattle.grammar.proofs.Cases.{on-test, and-true, clash}
 use Rattle.grammar.proofs.Bytes.{drop-past}
-use Rattle.grammar.specs.Reading.{most}
 use Rattle.construction.specs.declared.Verdict.{Verdict}
 use Rattle.dump.specs.declared.{DumpLine.DumpLine, Progress.Progress}
 use Rattle.dump.specs.Binary.{over}
-use Rattle.dump.specs.Dump.{timeText, valueText, valuesText, Change, change, timeAbove, changesText, toldAfter, linesText}
-use Rattle.dump.specs.Reading.{lineAt, progressRefused, shownAt, withValue, withTime, nextStart, startsFrom, takesTime, takesValue, nextLine, linesFrom}
+use Rattle.dump.specs.Dump.{timeText, valueText, Change, change, timeAbove, changesText, toldAfter, linesText}
+use Rattle.dump.specs.Reading.{lineAt, shownAt, withValue, withTime, takesTime, takesValue, nextLine, linesFrom}
 use Rattle.dump.proofs.DumpLines.{time-reads, value-reads, time-there, value-there}
 
 -- a change may follow: after the time told and the variables below `next`, of a variable that there is, to another value than it has
@@ -170,7 +168,6 @@ module _ (step : ℕ) (t : List ℕ) (n : ℕ) where
       (c .value ≡ getD values (c .variable) 0 → ⊥) → Proper n (c .time) (suc (c .variable)) (set values (c .variable) (c .value)) cs →
       toldAfter (c .time) cs ≤ last → last ≤ 1000000000000000000 →
       TrailRead last (shownAfter step shown (c ∷ cs)) (linesFrom step t n f (going at line (c .time) next values shown))
-
   value-read c cs more f last at line next values shown fuel e o w small d p rises bounded = go f fuel
     where
       e₁ : drop at t ≡ valueText (c .variable) (c .value) ++ linesText (c .time) last cs
@@ -230,7 +227,6 @@ module _ (step : ℕ) (t : List ℕ) (n : ℕ) where
       within more h =
           subst (λ (k : ℕ). TrailRead last (shownAfter step shown (c ∷ cs)) (linesFrom step t n f (going at line k next values shown))) (h .0)
           (value-read c cs more f last at line next values shown fuel (e ∙ ap (λ (k : ℕ). linesText k last (c ∷ cs)) (sym (h .0))) (h .1) (p .0 .within) (p .0 .small) (p .0 .differs) (p .1) rises bounded)
-
 
 -- ---- lines that were taken are those of a trail
 -- where a time was just told, what follows it is of that time
@@ -307,9 +303,10 @@ trail-time t n s r k i e taken h =
         (lines-last (s .time) (r .time) lt ∙ rw z (ap (λ (y : List ℕ). timeText k ++ y) (sym (lines-none k k (omega arith)))), tt)
     by (c ∷ cs) z p =
         let lt : s .time < c .time = omega (arith, w₀ .above) in
-        let q = p .0 in
-        (lines-time (s .time) (r .time) c cs lt ∙ ap (λ (y : ℕ). timeText y ++ linesText y (r .time) (c ∷ cs)) z,
-        (record { after = inl lt; within = q .within; small = q .small; bounded = q .bounded; differs = q .differs }, p .1))
+        let q = p .0 in (
+          lines-time (s .time) (r .time) c cs lt ∙ ap (λ (y : ℕ). timeText y ++ linesText y (r .time) (c ∷ cs)) z,
+          (record { after = inl lt; within = q .within; small = q .small; bounded = q .bounded; differs = q .differs }, p .1),
+        )
 
     below : (cs : List Change) → Headed k (r .time) cs → toldAfter k cs ≤ r .time → toldAfter (s .time) cs ≤ r .time
     below [] z l = omega (arith, w₀ .above)

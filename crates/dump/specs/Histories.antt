@@ -2,8 +2,8 @@
 use Prim.Native.Nat.{ℕ, zero, suc, _<_}
 use mathlib.Core.Bool.{Bool, true, false, cond, not, _&&_}
 use mathlib.Core.List.{List, [], _∷_}
-use lib.ListN.{length, getD, set, replicate}
-use Rattle.construction.specs.declared.{Words.Words, Card.Card, Answer.Answer, Answered.Answered}
+use lib.ListN.{length, set, replicate}
+use Rattle.construction.specs.declared.{Words.Words, Card.Card, Answer.Answer}
 use Rattle.construction.specs.Answers.{isRefused}
 use Rattle.construction.specs.Requests.{valueOf}
 use Rattle.construction.specs.History.{Entry, act}

@@ -1,16 +1,15 @@
 -- What each test of the reader comes to, by what the code has found.
 use mathlib.Core.Bool.{Bool, true, false, cond, not, _&&_}
-use mathlib.Core.Path.{_≡_, refl, sym, _∙_, ap, subst}
+use mathlib.Core.Path.{_≡_, refl, sym, _∙_, ap}
 use mathlib.Core.List.{List, [], _∷_, _++_}
-use Prim.Native.Nat.{ℕ, zero, suc, _+_, _-_, _/_, _%_, _<_, _≤_, min}
-use lib.Dec.{eqb, leb, ltb}
-use lib.ListN.{getD, set, drop, length, List·getD-eq-default, length-append}
-use lib.Seq.{set-out}
+use Prim.Native.Nat.{ℕ, zero, suc, _+_, _-_, _/_, _%_, _<_, _≤_}
+use lib.Dec.{eqb, leb}
+use lib.ListN.{getD, length, length-append}
 use native.Mathlib.Omega.{arith}
 use native.Mathlib.Numerals.{add-one}
 use native.Mathlib.Decide.{decLt}
 use native.Mathlib.Nat.{add-zero}
-use borrow.Author.Tests.{lt-ltb, le-ltb, le-leb, lt-leb, leb-true, eq-eqb, ne-eqb, not-true, not-false, ltb-true}
+use borrow.Author.Tests.{lt-ltb, le-ltb, le-leb, lt-leb, leb-true, eq-eqb, ne-eqb, not-true, not-false}
 use Rattle.grammar.specs.declared.Number.{Number}
 use Rattle.grammar.specs.declared.Number.the-variants.{Value}
 use Rattle.grammar.specs.Reading.{hasByte, hasWord, field}
@@ -21,8 +20,8 @@ use Rattle.grammar.proofs.Cases.{on-test, and-true}
 use Rattle.construction.specs.declared.Verdict.{Verdict}
 use Rattle.construction.specs.Answers.{bytes}
 use Rattle.construction.specs.declared.Refusal.{Refusal}
-use Rattle.dump.specs.declared.{DumpLine.DumpLine, Header.Header, Progress.Progress, Readings.Readings}
-use Rattle.dump.specs.Binary.{over, isBit, growBit, bitsAt}
+use Rattle.dump.specs.declared.{DumpLine.DumpLine, Header.Header}
+use Rattle.dump.specs.Binary.{over, isBit, bitsAt}
 use Rattle.dump.specs.Dump.{lineOf, timescaleLine, scopeLine, upscopeLine, definitionsLine, codeOf, varLine, timeText}
 use Rattle.dump.specs.Reading.{timeOf, hasCode, valueOf, lineAt, headerStart, headerRefused, onHeader, pastWord, thenWord, withVar, varsFrom, thenVars, readHeader}
 use Rattle.dump_reader.specs.Taking.{timeFollows, valueFollows}

@@ -1,11 +1,10 @@
 -- A line taken, part by part (document 02, order 7): `nextStart` and `nextLine` of the crate dump ask these of a line, and leave this of what was read.
-use Prim.Native.Nat.{ℕ, suc, _+_, _<_, min}
+use Prim.Native.Nat.{ℕ, _+_, _<_, min}
 use mathlib.Core.Bool.{Bool, false, cond, not, _&&_}
 use mathlib.Core.List.{List}
 use lib.ListN.{getD, set}
 use lib.Dec.{eqb, leb, ltb}
 use Rattle.dump.specs.declared.DumpLine.{DumpLine}
-use Rattle.dump.specs.Reading.{shownAt}
 
 -- the line is of a variable that there is room for
 abbrev pub Inside : DumpLine → Type 0

@@ -1,31 +1,31 @@
 -- The course of a session: what is left of it, command by command, and what is put of it into a buffer.
 use mathlib.Core.Bool.{Bool, true, false, cond, not, _&&_}
 use mathlib.Core.Path.{_≡_, refl, sym, _∙_, ap, subst}
-use mathlib.Core.List.{List, [], _∷_, _++_, append-nil, append-assoc}
-use Prim.Native.Nat.{ℕ, zero, suc, _+_, _-_, _<_, _≤_, min}
-use lib.ListN.{length, getD, take, drop, set}
+use mathlib.Core.List.{List, [], _∷_, _++_, append-assoc}
+use Prim.Native.Nat.{ℕ, suc, _+_, _-_, _<_, _≤_, min}
+use lib.ListN.{length, take, drop, set}
 use lib.Seq.{sets, length-sets, take-at, take-set-le}
 use native.Mathlib.Omega.{arith}
 use native.Mathlib.Nat.{add-zero}
 use borrow.Author.Tests.{le-leb, lt-leb, not-true, not-false}
 use Rattle.grammar.specs.Writing.{placeAfter, largest, Put}
-use Rattle.grammar.proofs.Puts.{Room, Rest, rest-all, rest-step, rest-last, rest-length, put-both, put-front, put-fits}
-use Rattle.construction.specs.declared.{Card.Card, Answer.Answer, Written.Written, Opened.Opened, Contents.Contents}
+use Rattle.grammar.proofs.Puts.{Room, Rest, rest-all, rest-step, rest-last, put-both, put-front, put-fits}
+use Rattle.construction.specs.declared.{Card.Card, Answer.Answer, Written.Written, Opened.Opened}
 use Rattle.construction.specs.declared.Refusal.the-variants.{ShortBuffer}
 use Rattle.construction.specs.Answers.{isRefused}
-use Rattle.construction.specs.Opening.{fresh, readCard, opened}
-use Rattle.construction.specs.History.{Entry, act}
+use Rattle.construction.specs.Opening.{fresh, opened}
+use Rattle.construction.specs.History.{Entry}
 use Rattle.construction.proofs.Text.Bounds.{opened-bounded}
 use Rattle.grammar.proofs.Cases.{on-test}
-use Rattle.commands.specs.declared.{Command.Command, Parsed.Parsed}
-use Rattle.commands.specs.Commands.{part, command, commands}
+use Rattle.commands.specs.declared.{Command.Command}
+use Rattle.commands.specs.Commands.{command, commands}
 use Rattle.commands.proofs.CommandsLaws.{command-past, commands-end, commands-more}
 use Rattle.session.specs.declared.{State.State, Advanced.Advanced}
 use Rattle.session.specs.Session.{entriesOf, execute, afterLine, advanced, entries, firstState}
 use Rattle.dump.specs.Dump.{Change, changesAt, changesFrom, changesText, toldAfter, timeAbove, linesText, openingText, dump, written, writtenInto}
 use Rattle.dump.specs.Histories.{rowOf, rowsOf, dumpOf}
 use Rattle.dump_writer.specs.declared.{Told.Told, Course.Course, Piece.Piece}
-use Rattle.dump_writer.specs.Courses.{Tells, stepsIn, countsIn, nextChanges, nextText, nextCourse, PutsCommand, countOf, leftRows, leftText, startCourse, Opens, dumpText, PutsPiece, Writes}
+use Rattle.dump_writer.specs.Courses.{Tells, stepsIn, countsIn, nextChanges, nextText, nextCourse, PutsCommand, countOf, leftRows, leftText, startCourse, Opens, dumpText, PutsPiece}
 use Rattle.dump_writer.proofs.LineLaws.{put-none, changes-append, told-append}
 
 -- ---- an accepted step
@@ -264,9 +264,10 @@ module _ {t : List ℕ} {x₀ : Course} {b₀ : List ℕ} {x : Course} {n : ℕ}
           put = both;
           given = λ q.
               let r₁ = g .given q in
-              let s = r₁ .1 in
-              (r₁ .0 ∙ ap (λ (y : List ℕ). g .lines ++ y) (left-more t x h (omega arith)) ∙ sym (append-assoc (g .lines) (nextText t x) (leftText t (nextCourse t x))) ∙ ap (λ (y : Course). (g .lines ++ nextText t x) ++ leftText t y) (sym (p .course)),
-              rw (p .course) (omega arith));
+              let s = r₁ .1 in (
+                r₁ .0 ∙ ap (λ (y : List ℕ). g .lines ++ y) (left-more t x h (omega arith)) ∙ sym (append-assoc (g .lines) (nextText t x) (leftText t (nextCourse t x))) ∙ ap (λ (y : Course). (g .lines ++ nextText t x) ++ leftText t y) (sym (p .course)),
+                rw (p .course) (omega arith),
+              );
           within = omega arith;
           small = g .small;
           here = refl;

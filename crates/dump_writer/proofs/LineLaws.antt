@@ -2,13 +2,12 @@
 use mathlib.Core.Bool.{Bool, true, false, cond}
 use mathlib.Core.Path.{_≡_, refl, sym, _∙_, ap, subst}
 use mathlib.Core.List.{List, [], _∷_, _++_, append-nil, append-assoc}
-use Prim.Native.Nat.{ℕ, suc, _+_, _-_, _/_, _%_, _<_, _≤_, min}
+use Prim.Native.Nat.{ℕ, suc, _+_, _-_, _/_, _%_, _<_, _≤_}
 use lib.Dec.{eqb}
-use lib.ListN.{length, getD}
+use lib.ListN.{getD}
 use native.Mathlib.Omega.{arith}
-use native.Mathlib.Nat.{add-zero}
 use borrow.Author.Tests.{lt-ltb, le-ltb, eq-eqb, ne-eqb}
-use Rattle.grammar.specs.Writing.{decimal, fieldText, largest, placeAfter, Put}
+use Rattle.grammar.specs.Writing.{decimal, fieldText, largest, Put}
 use Rattle.grammar.proofs.Puts.{Room, Rest, rest-all, rest-step, rest-last, rest-none, put-both}
 use Rattle.construction.specs.Answers.{bytes}
 use Rattle.construction.proofs.Text.Writing.{Series}

@@ -6,7 +6,7 @@ use mathlib.Core.Path.{_≡_}
 use lib.ListN.{length, getD, set, take}
 use lib.Dec.{eqb}
 use Rattle.grammar.specs.Writing.{placeAfter, Put}
-use Rattle.construction.specs.declared.{Gate.Gate, Announcement.Announcement, Record.Record, Card.Card, Answer.Answer, Written.Written}
+use Rattle.construction.specs.declared.{Gate.Gate, Announcement.Announcement, Record.Record, Answer.Answer, Written.Written}
 use Rattle.construction.specs.Answers.{isRefused}
 use Rattle.construction.specs.Cells.{openRecord}
 use Rattle.construction.specs.Requests.{shown}
@@ -15,7 +15,7 @@ use Rattle.commands.specs.declared.Command.{Command}
 use Rattle.commands.specs.Commands.{commands}
 use Rattle.session.specs.declared.State.{State}
 use Rattle.session.specs.Session.{advanced, entries}
-use Rattle.dump.specs.Dump.{Change, change, changesAt, changesFrom, changesText, toldAfter, timeAbove, linesText, openingText, written, writtenInto}
+use Rattle.dump.specs.Dump.{Change, change, changesAt, changesFrom, changesText, toldAfter, linesText, openingText, written, writtenInto}
 use Rattle.dump.specs.Histories.{rowOf, rowsOf, dumpOf}
 use Rattle.dump_writer.specs.declared.{Told.Told, Course.Course, Piece.Piece}
 

@@ -19,12 +19,7 @@ fn at_most(count: u8) -> usize
 }
 
 // By the gate, the announcement of its holder and the records.
-fn values(
-    gate: Gate,
-    announcement: Announcement,
-    records: [Record; 64],
-    count: u8,
-) -> [u32; 64]
+fn values(gate: Gate, announcement: Announcement, records: [Record; 64], count: u8) -> [u32; 64]
     ensures { λ r. ⌜ r ≡ shownFrom gate announcement records count 0 (replicate 64 0) ⌝ }
 {
     let mut row = [0u32; 64];

@@ -118,7 +118,11 @@ fn step_of(argument: &[u8]) -> u64 {
     let Number::Value { value, next } = number_at(argument, 0) else {
         return LAST + 1;
     };
-    if next == argument.len() { value } else { LAST + 1 }
+    if next == argument.len() {
+        value
+    } else {
+        LAST + 1
+    }
 }
 
 // Judges a dump, and prints what was asked for. Whether all of it was written.

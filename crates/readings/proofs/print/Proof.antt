@@ -3,25 +3,6 @@ use lib.Seq.{length-take-le}
 use borrow.Author.Needs.{needs}
 use Rattle.readings.proofs.print.Statement.{statement}
 use Rattle.readings.proofs.print.Tie as tie
-use Rattle.readings.proofs.print.Reads as reads
-use Rattle.readings.proofs.print.Lts as lts
-use Rattle.io.proofs.write_all.Reads as write-all-reads
-
--- src/main.rt:39:9
-returns : tie.Need-returns
-returns c = search needs
-
--- src/main.rt:41:34
-slice-aggregate-write-all : tie.Need-slice-aggregate-write-all
-slice-aggregate-write-all c = sym (length-take-le ((c .before .before .before .args) .end) ((c .before .before .before .args) .buffer .now) (c .before .if1 .left))
-
--- src/main.rt:41:5
-write-all-requires : tie.Need-write-all-requires
-write-all-requires c κs = search needs
-
--- src/main.rt:37:1
-returns-2 : tie.Need-returns-2
-returns-2 c = search needs
 
 pub print-spec : {M : Type 1} → statement M
-print-spec = tie.close (tie.spec returns slice-aggregate-write-all write-all-requires returns-2)
+print-spec = tie.close (tie.spec (λ c. search needs) (λ c. sym (length-take-le ((c .before .before .before .args) .end) ((c .before .before .before .args) .buffer .now) (c .before .if1 .left))) (λ c κs. search needs) (λ c. search needs))

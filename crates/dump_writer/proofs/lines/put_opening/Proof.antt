@@ -4,27 +4,15 @@ use borrow.Author.Needs.{needs}
 use Rattle.dump_writer.proofs.lines.put_opening.Statement.{statement}
 use Rattle.dump_writer.proofs.lines.put_opening.Tie as tie
 
-put-header-requires : tie.Need-put-header-requires
-put-header-requires c κs = search needs
-
-put-time-requires : tie.Need-put-time-requires
-put-time-requires c κs = search needs
-
-put-values-requires : tie.Need-put-values-requires
-put-values-requires c κs = search needs
-
-same-length : tie.Need-same-length
-same-length c = search needs
-
 returns : tie.Need-returns
-returns c = laws.put-opening ((c .before .before .before .before .before .before .before .before .before .before .before .before .before .args) .count) ((c .before .before .before .before .before .before .before .before .before .before .before .before .before .args) .row) (omega arith) (c .before .before .before .before .before .before .before .before .before .before .put-header .ensures) (c .before .before .before .before .before .before .put-time .ensures) (c .before .before .put-values .ensures)
+returns c = let a = c .before .before .before .before .before .before .before .before .before .before .before .before .before .args in laws.put-opening (a .count) (a .row) (omega arith) (c .before .before .before .before .before .before .before .before .before .before .put-header .ensures) (c .before .before .before .before .before .before .put-time .ensures) (c .before .before .put-values .ensures)
 
 pub put-opening-spec : {M : Type 1} → statement M
 put-opening-spec =
     tie.close
     (tie.spec
-    put-header-requires
-    put-time-requires
-    put-values-requires
-    same-length
+    (λ c κs. search needs)
+    (λ c κs. search needs)
+    (λ c κs. search needs)
+    (λ c. search needs)
     returns)

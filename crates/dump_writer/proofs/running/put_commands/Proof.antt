@@ -12,12 +12,6 @@ Inv-loop calls buffer₀ course₀ length₀ at₀ buffer course length at = law
 abbrev μ-loop : tie.MeasureT-loop
 μ-loop calls buffer₀ course₀ length₀ at₀ buffer course length at = list.length calls - at
 
-loop-holds : tie.Need-loop-holds Inv-loop μ-loop
-loop-holds c = laws.going _ _ _ (omega arith)
-
-put-command-requires : tie.Need-put-command-requires Inv-loop μ-loop
-put-command-requires c κs = search needs
-
 same-length : tie.Need-same-length Inv-loop μ-loop
 same-length c = laws.going-same (c .before .before .before .before .before .before .loop .inv) (omega arith) (c .before .before .before .before .before .loop-test .taken) (c .before .before .before .put-command .ensures)
 
@@ -30,23 +24,17 @@ loop-less c = laws.going-less (c .before .before .before .before .before .before
 loop-again : tie.Need-loop-again Inv-loop μ-loop
 loop-again c = laws.going-again (c .before .before .before .before .before .before .before .loop .inv) (omega arith) (c .before .before .before .before .before .before .loop-test .taken) (c .before .before .before .before .put-command .ensures) (c .before .if1 .left)
 
-same-length-2 : tie.Need-same-length-2 Inv-loop μ-loop
-same-length-2 c = laws.going-length (c .before .loop .inv) (omega arith)
-
-returns-2 : tie.Need-returns-2 Inv-loop μ-loop
-returns-2 c = laws.going-end (c .before .loop .inv) (omega arith)
-
 pub put-commands-spec : {M : Type 1} → statement M
 put-commands-spec =
     tie.close
     (tie.spec
     Inv-loop
     μ-loop
-    loop-holds
-    put-command-requires
+    (λ c. laws.going _ _ _ (omega arith))
+    (λ c κs. search needs)
     same-length
     returns
     loop-less
     loop-again
-    same-length-2
-    returns-2)
+    (λ c. laws.going-length (c .before .loop .inv) (omega arith))
+    (λ c. laws.going-end (c .before .loop .inv) (omega arith)))

@@ -14,23 +14,11 @@ Inv-loop calls buffer₀ at course₀ i₀ place₀ buffer course i place = laws
 abbrev μ-loop : tie.MeasureT-loop
 μ-loop calls buffer₀ at course₀ i₀ place₀ buffer course i place = list.length calls - place
 
-loop-holds : tie.Need-loop-holds Inv-loop μ-loop
-loop-holds c = laws.left-all _ _ _ _ (omega arith) (c .before .before .pre)
-
-put-command-requires : tie.Need-put-command-requires Inv-loop μ-loop
-put-command-requires c κs = search needs
-
 loop-less : tie.Need-loop-less Inv-loop μ-loop
 loop-less c = laws.left-less (c .before .before .before .before .before .before .loop .inv) (omega arith) (c .before .before .before .before .before .loop-test .taken) (c .before .before .before .put-command .ensures)
 
 loop-again : tie.Need-loop-again Inv-loop μ-loop
 loop-again c = laws.left-turn (c .before .before .before .before .before .before .loop .inv) (omega arith) (c .before .before .before .before .before .loop-test .taken) (c .before .before .before .put-command .ensures)
-
-put-above-requires : tie.Need-put-above-requires Inv-loop μ-loop
-put-above-requires c κs = search needs
-
-same-length : tie.Need-same-length Inv-loop μ-loop
-same-length c = ((c .before .before .put-above) .kept .0) ∙ puts.rest-length ((c .before .before .before .before .before .loop .inv) .rest)
 
 returns : tie.Need-returns Inv-loop μ-loop
 returns c = laws.left-last (c .before .before .before .before .before .loop .inv) (omega arith) (c .before .before .before .before .loop-test .left) (c .before .before .put-above .ensures)
@@ -41,10 +29,10 @@ put-left-spec =
     (tie.spec
     Inv-loop
     μ-loop
-    loop-holds
-    put-command-requires
+    (λ c. laws.left-all _ _ _ _ (omega arith) (c .before .before .pre))
+    (λ c κs. search needs)
     loop-less
     loop-again
-    put-above-requires
-    same-length
+    (λ c κs. search needs)
+    (λ c. ((c .before .before .put-above) .kept .0) ∙ puts.rest-length ((c .before .before .before .before .before .loop .inv) .rest))
     returns)

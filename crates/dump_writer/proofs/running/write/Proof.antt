@@ -6,26 +6,8 @@ use borrow.Author.Needs.{needs}
 use Rattle.dump_writer.proofs.running.write.Statement.{statement}
 use Rattle.dump_writer.proofs.running.write.Tie as tie
 
-slice-relend-prefix-put-dump : tie.Need-slice-relend-prefix-put-dump
-slice-relend-prefix-put-dump c = search needs
-
-slice-aggregate-put-dump : tie.Need-slice-aggregate-put-dump
-slice-aggregate-put-dump c = search needs
-
-put-dump-requires : tie.Need-put-dump-requires
-put-dump-requires c κs = search needs
-
-put-dump-requires-2 : tie.Need-put-dump-requires-2
-put-dump-requires-2 c κs = search needs
-
-same-length : tie.Need-same-length
-same-length c = search needs
-
 returns : tie.Need-returns
 returns c = let told = (c .before .before .before .before .before .before .before .put-dump) in let a = (c .before .before .before .before .before .before .before .before .before .before .before .before .args) in let same = no-front (told .last .1 .1 .0) (a .buffer .now) (told .kept .1 .1 .0) in record { answer = laws.written-bytes (dumpText (a .card .now) (a .calls .now)) (a .buffer .now) same (told .ensures) (omega arith) (omega arith); bytes = laws.text-there (dumpText (a .card .now) (a .calls .now)) (a .buffer .now) same (told .ensures) (omega arith) (omega arith) (c .before .before .put-dump2 .ensures) }
-
-same-length-2 : tie.Need-same-length-2
-same-length-2 c = search needs
 
 returns-2 : tie.Need-returns-2
 returns-2 c = let told = (c .before .before .before .put-dump) in let a = (c .before .before .before .before .before .before .before .before .args) in let same = no-front (told .last .1 .1 .0) (a .buffer .now) (told .kept .1 .1 .0) in record { answer = laws.written-short (dumpText (a .card .now) (a .calls .now)) (a .buffer .now) same (told .ensures) (omega arith) (omega arith); bytes = laws.bytes-kept (dumpText (a .card .now) (a .calls .now)) (a .buffer .now) same (told .ensures) (omega arith) (omega arith) }
@@ -34,11 +16,11 @@ pub write-spec : {M : Type 1} → statement M
 write-spec =
     tie.close
     (tie.spec
-    slice-relend-prefix-put-dump
-    slice-aggregate-put-dump
-    put-dump-requires
-    put-dump-requires-2
-    same-length
+    (λ c. search needs)
+    (λ c. search needs)
+    (λ c κs. search needs)
+    (λ c κs. search needs)
+    (λ c. search needs)
     returns
-    same-length-2
+    (λ c. search needs)
     returns-2)

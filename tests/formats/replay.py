@@ -1,8 +1,8 @@
 #!/usr/bin/env python3
 """Replays docs/FORMATS.md through the proved programs in target/bin and through the commands at the top of the repository, which find nothing to prove.
 
-- A block marked `text FILE` is a file; one marked `text ./COMMAND ..` is what that command prints, without arguments on a folder with the files last
-  shown. Lines that begin with the command's name and a colon are its standard error.
+- A block marked `text FILE` is a file; one marked `text ./COMMAND ..` is what that command prints, `./bench` without arguments on a folder with the files
+  last shown. Lines that begin with the command's name and a colon are its standard error.
 - A line in backquotes followed by `in [NAME](../examples/NAME)` is one that this example prints.
 - The tables are complete (refusals, codes, labels and commands by the definitions, programs by the scripts), and the program judges every range, weight and refusal.
 
@@ -152,6 +152,26 @@ def refusals_of_changes():
         holds(f"example of refusal {number} of a change", ask(CARD_K, commands), quoted(answer))
 
 
+def refusals_of_dumps():
+    """Each row's example: the dump of the page with a line changed, cut off, or with too many bytes."""
+    [dump] = re.findall(r"^```text \./waves examples/card-k\n(.*?)^```", PAGE, re.M | re.S)
+    for what, example, answer in rows("Waveforms", "what is wrong"):
+        lines = dump.splitlines(True)
+        changed = re.match(r"line (\d+) is `([^`]*)`", example)
+        cut = re.match(r"the dump ends after line (\d+)", example)
+        if changed:
+            lines[int(changed[1]) - 1] = changed[2] + "\n"
+        elif cut:
+            del lines[int(cut[1]) :]
+        else:
+            size = int(re.search(r"([\d,]+) bytes", example)[1].replace(",", ""))
+            lines.append("x" * (size - len(dump)))
+        with tempfile.TemporaryDirectory() as room:
+            (pathlib.Path(room) / "dump.vcd").write_text("".join(lines))
+            ran = subprocess.run([ROOT / "target/bin/readings", "dump.vcd"], cwd=room, capture_output=True, text=True)
+        holds(f"refused dump: {what}", ran.stdout.splitlines(), quoted(answer))
+
+
 def others():
     """A row for each label, for each command of the bench program, and for each script at the top that runs a program."""
     labels = re.findall(r'word = "(\w+)"', (ROOT / "crates/construction/specs/Reports.antt").read_text())
@@ -171,6 +191,7 @@ lines_of_examples()
 codes()
 refusals()
 refusals_of_changes()
+refusals_of_dumps()
 others()
 print(f"page of formats: {checks} checks, {failures} failed")
 sys.exit(failures != 0)

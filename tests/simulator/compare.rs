@@ -29,35 +29,38 @@ struct Executable {
 impl Executable {
     /// What the program prints for a case, or why it failed.
     fn run(&self, case: &Case) -> Result<Vec<u8>, String> {
-        let written = self.write(case);
-        let result = written.map_err(|error| format!("cannot write the case: {error}")).and_then(|()| self.start());
+        let written = write_files(case, &self.folder).map_err(|error| format!("cannot write the case: {error}"));
+        let result = written.and_then(|()| output_of(&self.program, &[], &self.folder));
         let _ = fs::remove_dir_all(&self.folder);
         result
     }
+}
 
-    fn write(&self, case: &Case) -> std::io::Result<()> {
-        fs::create_dir_all(&self.folder)?;
-        for (name, bytes) in [("card.txt", &case.card), ("calls.txt", &case.calls)] {
-            if let Some(bytes) = bytes {
-                fs::write(self.folder.join(name), bytes)?;
-            }
+/// Writes the files of a case that are there.
+pub fn write_files(case: &Case, folder: &Path) -> std::io::Result<()> {
+    fs::create_dir_all(folder)?;
+    for (name, bytes) in [("card.txt", &case.card), ("calls.txt", &case.calls)] {
+        if let Some(bytes) = bytes {
+            fs::write(folder.join(name), bytes)?;
         }
-        Ok(())
     }
+    Ok(())
+}
 
-    fn start(&self) -> Result<Vec<u8>, String> {
-        let mut command = Command::new(&self.program);
-        command.current_dir(&self.folder).stdin(Stdio::null()).stdout(Stdio::piped()).stderr(Stdio::null());
-        let mut child = command.spawn().map_err(|error| format!("cannot start {}: {error}", self.program.display()))?;
-        let output = collect(&mut child);
-        if output.is_err() {
-            let _ = child.kill();
-        }
-        let status = child.wait().map_err(|error| error.to_string())?;
-        match (output, status.code()) {
-            (Ok(_), None) => Err(format!("ended by a signal: {status}")),
-            (output, _) => output,
-        }
+/// What a program prints that runs in a folder with these arguments, or why it failed.
+pub fn output_of(program: &Path, arguments: &[&str], folder: &Path) -> Result<Vec<u8>, String> {
+    let mut command = Command::new(program);
+    command.args(arguments).current_dir(folder);
+    command.stdin(Stdio::null()).stdout(Stdio::piped()).stderr(Stdio::null());
+    let mut child = command.spawn().map_err(|error| format!("cannot start {}: {error}", program.display()))?;
+    let output = collect(&mut child);
+    if output.is_err() {
+        let _ = child.kill();
+    }
+    let status = child.wait().map_err(|error| error.to_string())?;
+    match (output, status.code()) {
+        (Ok(_), None) => Err(format!("ended by a signal: {status}")),
+        (output, _) => output,
     }
 }
 
@@ -106,8 +109,7 @@ pub fn cover(first_seed: u64, count: u64) -> bool {
 
 /// Writes a case's two files into a folder.
 pub fn write_case(seed: u64, folder: &str) -> Result<(), String> {
-    let executable = Executable { program: PathBuf::new(), folder: Path::new(folder).to_path_buf() };
-    executable.write(&case(seed)).map_err(|error| format!("cannot write into {folder}: {error}"))
+    write_files(&case(seed), Path::new(folder)).map_err(|error| format!("cannot write into {folder}: {error}"))
 }
 
 /// A file that is not there counts as empty.
@@ -216,7 +218,7 @@ fn print_difference(seed: u64, executable: &Executable, case: &Case) {
 }
 
 /// A text as it can be printed: bytes that are not plain ASCII are escaped, and an unended line is marked.
-fn shown(text: Option<&[u8]>) -> String {
+pub fn shown(text: Option<&[u8]>) -> String {
     let Some(text) = text else { return "(no file)".to_string() };
     let lines = text.split_inclusive(|&byte| byte == 10).map(|line| match line.strip_suffix(b"\n") {
         Some(line) => line.escape_ascii().to_string(),
@@ -225,7 +227,7 @@ fn shown(text: Option<&[u8]>) -> String {
     lines.collect::<Vec<_>>().join("\n")
 }
 
-fn first_difference(right: &[u8], printed: &[u8]) -> String {
+pub fn first_difference(right: &[u8], printed: &[u8]) -> String {
     let split = |text: &[u8]| -> Vec<String> {
         text.split_inclusive(|&byte| byte == 10).map(|line| line.escape_ascii().to_string()).collect()
     };

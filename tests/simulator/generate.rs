@@ -22,7 +22,7 @@ impl Random {
         random
     }
 
-    fn next(&mut self) -> u64 {
+    pub fn next(&mut self) -> u64 {
         self.0 ^= self.0 << 13;
         self.0 ^= self.0 >> 7;
         self.0 ^= self.0 << 17;
@@ -41,7 +41,7 @@ impl Random {
         self.below(100) < percent
     }
 
-    fn pick<T: Copy>(&mut self, choices: &[T]) -> T {
+    pub fn pick<T: Copy>(&mut self, choices: &[T]) -> T {
         choices[self.below(choices.len())]
     }
 }
@@ -722,7 +722,7 @@ const ODD_LINES: [&str; 16] = [
     ",step,0\n", "look 0\n", "card,1,1,1,1\n", "trace\n", "trace,0,0\n", "traces,0\n", "tracE,0\n",
 ];
 
-fn split_lines(text: &[u8]) -> Vec<Vec<u8>> {
+pub fn split_lines(text: &[u8]) -> Vec<Vec<u8>> {
     text.split_inclusive(|&byte| byte == 10).map(<[u8]>::to_vec).collect()
 }
 

@@ -1,9 +1,10 @@
 //! The simulator against document 01: the listing of card K, the proving pieces, the rows of 'Turned back',
-//! schedules that show the faults met in drafts, changes of programs (document 02, order 11), and the sequential run side by side.
+//! schedules that show the faults met in drafts, changes of programs (document 02, order 11), dumps (order 7), and the sequential run side by side.
 
 use crate::generate::{card_text, case, longest_card};
 use crate::machine::{open, read_change, Announcement, Answer, Flag, Instruction, Machine, Record};
 use crate::session::{expected, Command, Commands};
+use crate::wavetest;
 
 /// Card K's program: store the input, output the old value.
 const EXCHANGE: &str = "sheet,4\nins,1,0,0,0\nins,3,1,0,0\nins,4,0,0,0\nins,11,0,1,0\n";
@@ -15,13 +16,13 @@ const FIXED: &str = "sheet,2\nins,2,0,77,0\nins,11,0,0,0\n";
 const FLIP: &str = "sheet,4\nins,2,0,1,0\nins,3,1,0,0\nins,8,0,1,0\nins,4,0,0,0\n";
 
 #[derive(Default)]
-struct Checks {
+pub struct Checks {
     made: usize,
     failed: usize,
 }
 
 impl Checks {
-    fn equal<T: PartialEq + std::fmt::Debug>(&mut self, name: &str, found: T, wanted: T) {
+    pub fn equal<T: PartialEq + std::fmt::Debug>(&mut self, name: &str, found: T, wanted: T) {
         self.made += 1;
         if found != wanted {
             self.failed += 1;
@@ -52,6 +53,7 @@ pub fn selftest() -> bool {
     changes_in_time(&mut checks);
     change_refusals(&mut checks);
     change_commands(&mut checks);
+    wavetest::dumps(&mut checks);
     for seed in 1..=600 {
         let found = side_by_side(seed);
         checks.equal(&format!("sequential run, seed {seed}"), found, Ok(()));

@@ -4,6 +4,7 @@ use dump_writer::Course;
 use dump_writer::running::open;
 use dump_writer::running::put_commands;
 use dump_writer::running::put_end;
+use libc::STDERR_FILENO;
 use libc::STDOUT_FILENO;
 use session::State;
 use session::running::start;
@@ -77,8 +78,13 @@ fn print_session(card: &[u8], calls: &[u8]) -> bool {
     print_dump(state, calls)
 }
 
-// At most one byte more than its limit is read of each file. A program has no exit status, so what cannot be written is told on standard error.
+// It takes no argument. At most one byte more than its limit is read of each file. A program has no exit status, so what cannot be written is told on
+// standard error.
 fn main() {
+    if os::arg_count() != 1 {
+        io::write_all(STDERR_FILENO, b"usage: waves\n");
+        return;
+    }
     let mut card = [0u8; 16385];
     let mut calls = [0u8; 65537];
     let card_length = read_file(b"card.txt", &mut card);

@@ -49,7 +49,7 @@ module _ (t : List ℕ) where
   word-taken w r n at line e = rw (word-reads t w r at e)
 
   -- no variable stands where the scope ends
-  no-var : (v at : ℕ) (r : List ℕ) → drop at t ≡ upscopeLine ++ r → hasWord t at (varLine v) ≡ false
+  pub no-var : (v at : ℕ) (r : List ℕ) → drop at t ≡ upscopeLine ++ r → hasWord t at (varLine v) ≡ false
   unfolding varLine hasWord
   no-var v at r e =
       let h = drop-head t at 36 _ e in

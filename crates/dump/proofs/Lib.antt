@@ -6,5 +6,7 @@ pub mod Starts
 pub mod Shapes
 pub mod Rows
 pub mod Inverse
+pub mod Judging
+pub mod Written
 pub mod Narrow
 pub mod Runs

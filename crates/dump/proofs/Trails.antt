@@ -1,5 +1,5 @@
 -- The times and values of a dump as a trail of changes: what is written of a trail reads back, and lines that were taken are those of a trail.
-use mathlib.Core.Bool.{Bool, true, false, not, _&&_}
+use mathlib.Core.Bool.{Bool, true, false, cond, not, _&&_}
 use mathlib.Core.Path.{_≡_, refl, sym, _∙_, ap, subst}
 use mathlib.Core.Logic.{_⊎_, inl, inr, ⊎-elim}
 use mathlib.Core.List.{List, [], _∷_, _++_, append-assoc, append-nil}
@@ -15,7 +15,7 @@ use Rattle.construction.specs.declared.Verdict.{Verdict}
 use Rattle.dump.specs.declared.{DumpLine.DumpLine, Progress.Progress}
 use Rattle.dump.specs.Binary.{over}
 use Rattle.dump.specs.Dump.{timeText, valueText, Change, change, timeAbove, changesText, toldAfter, linesText}
-use Rattle.dump.specs.Reading.{lineAt, shownAt, withValue, withTime, takesTime, takesValue, nextLine, linesFrom}
+use Rattle.dump.specs.Reading.{lineAt, progressRefused, shownAt, withValue, withTime, takesTime, takesValue, nextLine, linesFrom}
 use Rattle.dump.proofs.DumpLines.{time-reads, value-reads, time-there, value-there}
 
 -- a change may follow: after the time told and the variables below `next`, of a variable that there is, to another value than it has
@@ -338,3 +338,30 @@ module _ (step : ℕ) (t : List ℕ) (n : ℕ) where
           (λ w a. trail-value t n step s (linesFrom step t n f (withValue step s v x i)) v x i e w bounded (more (withValue step s v x i) (omega arith) bounded a))
           (λ w a. clash (cc))
       line DumpLine.Malformed e more = λ a. clash (cc)
+
+-- ---- more than enough fuel changes nothing
+module _ (step : ℕ) (t : List ℕ) (n : ℕ) where
+  pub fuel : (f g : ℕ) (s : Progress) → length t - s .at ≤ f → length t - s .at ≤ g → linesFrom step t n f s ≡ linesFrom step t n g s
+  unfolding linesFrom
+  fuel zero zero s p q = refl
+  fuel zero (suc g) s p q = rw (le-ltb (s .at) (length t) (omega arith))
+  fuel (suc f) zero s p q = rw (le-ltb (s .at) (length t) (omega arith))
+  fuel (suc f) (suc g) s p q = by (ltb (s .at) (length t)) refl (λ x a b. fuel f g x a b)
+    where
+      by :
+          (b : Bool) → ltb (s .at) (length t) ≡ b → ((x : Progress) → length t - x .at ≤ f → length t - x .at ≤ g → linesFrom step t n f x ≡ linesFrom step t n g x) →
+          cond b (nextLine step n s (lineAt t (s .at)) (λ r. linesFrom step t n f r)) s ≡ cond b (nextLine step n s (lineAt t (s .at)) (λ r. linesFrom step t n g r)) s
+      by false e more = refl
+      by true e more = line (lineAt t (s .at)) refl
+        where
+          inside : s .at < length t
+          inside = ltb-true (s .at) (length t) e
+
+          line : (z : DumpLine) → lineAt t (s .at) ≡ z → nextLine step n s z (λ r. linesFrom step t n f r) ≡ nextLine step n s z (λ r. linesFrom step t n g r)
+          line (DumpLine.Time k i) h =
+              let l = time-there t (s .at) k i h .later in
+              ap (λ (x : Progress). cond (takesTime s k) x (progressRefused (s .line))) (more (withTime s k i) (omega arith) (omega arith))
+          line (DumpLine.Value v x i) h =
+              let l = value-there t (s .at) v x i h .later in
+              ap (λ (y : Progress). cond (takesValue n s v x) y (progressRefused (s .line))) (more (withValue step s v x i) (omega arith) (omega arith))
+          line DumpLine.Malformed h = refl

@@ -12,6 +12,7 @@ use Rattle.construction.specs.declared.Verdict.{Verdict}
 use Rattle.dump.specs.declared.{DumpLine.DumpLine, Progress.Progress}
 use Rattle.dump.specs.Reading.{lineAt, progressRefused, withValue, withTime, nextStart, startsFrom, takesTime, takesValue, nextLine, linesFrom}
 use Rattle.dump.proofs.DumpLines.{time-there, value-there}
+pub use Rattle.dump.proofs.Trails.{fuel}
 use Rattle.dump.proofs.Trails.{going}
 use Rattle.dump_reader.specs.Taking.{Inside, startsWith, takesLine, valuesWith, shownWith, pastLine, timeWith, nextWith}
 
@@ -78,33 +79,8 @@ pub starts-end : (step : ℕ) (t : List ℕ) (m next : ℕ) (s : Progress) → m
 unfolding startsFrom
 starts-end step t m next s h = let k : m - next ≡ 0 = omega arith in rw k
 
--- ---- the lines after them: more than enough fuel changes nothing
+-- ---- the lines after them
 module _ (step : ℕ) (t : List ℕ) (n : ℕ) where
-  pub fuel : (f g : ℕ) (s : Progress) → length t - s .at ≤ f → length t - s .at ≤ g → linesFrom step t n f s ≡ linesFrom step t n g s
-  unfolding linesFrom
-  fuel zero zero s p q = refl
-  fuel zero (suc g) s p q = rw (le-ltb (s .at) (length t) (omega arith))
-  fuel (suc f) zero s p q = rw (le-ltb (s .at) (length t) (omega arith))
-  fuel (suc f) (suc g) s p q = by (ltb (s .at) (length t)) refl (λ x a b. fuel f g x a b)
-    where
-      by :
-          (b : Bool) → ltb (s .at) (length t) ≡ b → ((x : Progress) → length t - x .at ≤ f → length t - x .at ≤ g → linesFrom step t n f x ≡ linesFrom step t n g x) →
-          cond b (nextLine step n s (lineAt t (s .at)) (λ r. linesFrom step t n f r)) s ≡ cond b (nextLine step n s (lineAt t (s .at)) (λ r. linesFrom step t n g r)) s
-      by false e more = refl
-      by true e more = line (lineAt t (s .at)) refl
-        where
-          inside : s .at < length t
-          inside = ltb-true (s .at) (length t) e
-
-          line : (z : DumpLine) → lineAt t (s .at) ≡ z → nextLine step n s z (λ r. linesFrom step t n f r) ≡ nextLine step n s z (λ r. linesFrom step t n g r)
-          line (DumpLine.Time k i) h =
-              let l = time-there t (s .at) k i h .later in
-              ap (λ (x : Progress). cond (takesTime s k) x (progressRefused (s .line))) (more (withTime s k i) (omega arith) (omega arith))
-          line (DumpLine.Value v x i) h =
-              let l = value-there t (s .at) v x i h .later in
-              ap (λ (y : Progress). cond (takesValue n s v x) y (progressRefused (s .line))) (more (withValue step s v x i) (omega arith) (omega arith))
-          line DumpLine.Malformed h = refl
-
   module _ (at number time next : ℕ) (values shown : List ℕ) (l : at < length t) {line : DumpLine} (e : line ≡ lineAt t at) {b : Bool} (f : b ≡ takesLine n time next values line) where
     lines-more :
         linesFrom step t n (length t - at) (going at number time next values shown)
@@ -128,7 +104,7 @@ module _ (step : ℕ) (t : List ℕ) (n : ℕ) where
         lines-more
         ∙ line-taken step n at number time next values shown line (λ r. linesFrom step t n (length t - suc at) r) few (sym f ∙ not-false b h)
         ∙ rw (← ev, ← es, ← ea, ← et, ← en)
-        (fuel (length t - suc at) (length t - at₂) (going at₂ (number + 1) time₂ next₂ values₂ shown₂) (omega arith) (omega arith))
+        (fuel step t n (length t - suc at) (length t - at₂) (going at₂ (number + 1) time₂ next₂ values₂ shown₂) (omega arith) (omega arith))
 
   pub lines-end : (at : ℕ) (s : Progress) → length t ≤ at → linesFrom step t n (length t - at) s ≡ s
   unfolding linesFrom

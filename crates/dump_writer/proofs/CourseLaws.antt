@@ -143,7 +143,7 @@ few : (card : List ℕ) → (min 64 (opened card .card .variableCount) ≡ opene
 unfolding opened fresh
 few card = let h = opened-bounded card .variableCount in (omega arith, omega arith)
 
-dump-is :
+pub dump-is :
     (card calls : List ℕ) →
     dumpText card calls
     ≡ openingText (min 64 (opened card .card .variableCount)) (rowOf (opened card .card)) ++ leftText calls (startCourse (firstState (opened card .card)))

@@ -46,14 +46,27 @@ first_refusal() {
     rm -rf "$room"
 }
 
+# tell_refusal NAME FILE NUMBER LINE: tells why a file is refused, and at which line
+tell_refusal() {
+    local where=''
+    if [ -f "$2" ] && [ -r "$2" ]; then
+        [ "$4" -eq 0 ] || where=", line $4, $(line_of "$2" "$4"),"
+        tell "$1$where is refused with $3: $(meaning_of "$3"); docs/FORMATS.md tells what to do"
+    fi
+}
+
 # explain FOLDER [ARGUMENT..]: tells of a file that the program refuses, as a card, which line that is and why
 explain() {
-    local file number line where=''
+    local file
     if [[ "$(first_refusal "$@")" =~ ^([a-z]+)(,([0-9]+))?,refused,([0-9]+),([0-9]+)$ ]]; then
-        file="${BASH_REMATCH[1]}${BASH_REMATCH[3]}.txt" number="${BASH_REMATCH[4]}" line="${BASH_REMATCH[5]}"
-        if [ -f "$1/$file" ] && [ -r "$1/$file" ]; then
-            [ "$line" -eq 0 ] || where=", line $line, $(line_of "$1/$file" "$line"),"
-            tell "$file$where is refused with $number: $(meaning_of "$number"); docs/FORMATS.md tells what to do"
-        fi
+        file="${BASH_REMATCH[1]}${BASH_REMATCH[3]}.txt"
+        tell_refusal "$file" "$1/$file" "${BASH_REMATCH[4]}" "${BASH_REMATCH[5]}"
+    fi
+}
+
+# explain_dump DUMP [STEP]: the same of a dump
+explain_dump() {
+    if [[ "$( ("$target/bin/$program" "$@" </dev/null | head -n 1) 2>/dev/null || true)" =~ ^dump,refused,([0-9]+),([0-9]+)$ ]]; then
+        tell_refusal "$1" "$1" "${BASH_REMATCH[1]}" "${BASH_REMATCH[2]}"
     fi
 }

@@ -173,6 +173,26 @@ def refusals_of_listings():
         holds(f"example of refusal {number} of a listing", ask_quoted(CARD_K, commands), quoted(answer))
 
 
+def refusals_of_dumps():
+    """Each row's example: the dump of the page with a line changed, cut off, or with too many bytes."""
+    [dump] = re.findall(r"^```text \./waves examples/card-k\n(.*?)^```", PAGE, re.M | re.S)
+    for what, example, answer in rows("Waveforms", "what is wrong"):
+        lines = dump.splitlines(True)
+        changed = re.match(r"line (\d+) is `([^`]*)`", example)
+        cut = re.match(r"the dump ends after line (\d+)", example)
+        if changed:
+            lines[int(changed[1]) - 1] = changed[2] + "\n"
+        elif cut:
+            del lines[int(cut[1]) :]
+        else:
+            size = int(re.search(r"([\d,]+) bytes", example)[1].replace(",", ""))
+            lines.append("x" * (size - len(dump)))
+        with tempfile.TemporaryDirectory() as room:
+            (pathlib.Path(room) / "dump.vcd").write_text("".join(lines))
+            ran = subprocess.run([ROOT / "target/bin/readings", "dump.vcd"], cwd=room, capture_output=True, text=True)
+        holds(f"refused dump: {what}", ran.stdout.splitlines(), quoted(answer))
+
+
 def others():
     """A row for each label, for each command of the bench program, and for each script at the top that runs a program."""
     labels = re.findall(r'word = "(\w+)"', (ROOT / "crates/construction/specs/Reports.antt").read_text())
@@ -193,6 +213,7 @@ codes()
 refusals()
 refusals_of_changes()
 refusals_of_listings()
+refusals_of_dumps()
 others()
 print(f"page of formats: {checks} checks, {failures} failed")
 sys.exit(failures != 0)

@@ -293,8 +293,21 @@ call "$repository/reading" card.txt 7
 holds "a program that takes a file runs where its caller stands" ends 0 "card
 7" ""
 cd "$here"
+printf 'first\nsecond\n' >"$folder/a dump"
+program_is '[ -e "$1" ] && echo dump,refused,2,2 || echo dump,refused,2,1' reading
+call "$repository/reading" "$folder/a dump" 7
+holds "a refused dump is told by its line, and why" ends 0 dump,refused,2,2 \
+    "reading: $folder/a dump, line 2, 'second', is refused with 2: a line has the wrong form, is missing or is left over; docs/FORMATS.md tells what to do"
+program_is '[ "$2" = 7 ] && echo dump,refused,1,0 || echo "usage: reading DUMP [STEP]" >&2' reading
+call "$repository/reading" "$folder/a dump" 7
+holds "a dump that is too long is told without a line" grep -q "^reading: $folder/a dump is refused with 1: the text is too long" "$SAID"
+call "$repository/reading" "$folder/a dump" 07
+holds "a wrong step is a wrong call, and nothing is said of the dump" ends 2 "" "usage: reading DUMP [STEP]
+usage: ./reading DUMP [STEP]
+Does this."
+program_is 'echo dump,refused,2,1' reading
 call "$repository/reading" "$work/nowhere"
-holds "a file that is not there is told" grep -q "^reading: there is no $work/nowhere; it counts as empty" "$SAID"
+holds "a file that is not there is told, and nothing more of it" ends 0 dump,refused,2,1 "reading: there is no $work/nowhere; it counts as empty"
 
 # what is wrong with the files: the session and the status stay as they are
 program_is '[ ! -e card.txt ] || ! grep -q "^ins,99" card.txt || { echo card,refused,4,2; exit; }
@@ -341,6 +354,15 @@ launch "$work/nowhere"
 holds "a folder that is not there is named" ends 2 "" "program: no such folder: $work/nowhere (./program --help tells what it should hold)"
 launch "$folder/card.txt"
 holds "a file in the place of a folder is named" ends 2 "" "program: $folder/card.txt is no folder (./program --help tells what belongs in one)"
+for usage in './bench DIR' './waits' './schedules DIR L' './waves DIR' './readings DUMP [STEP]'; do
+    call "$top/${usage%% *}" --help
+    holds "$usage tells its usage" [ "$status: $(head -n 1 "$work/output")" = "0: usage: $usage" ]
+done
+for arguments in schedules 'schedules a' waves 'waves a b' readings 'readings a 1 2'; do
+    # shellcheck disable=SC2086
+    call "$top"/$arguments
+    holds "$arguments is a wrong call" [ "$status: $(head -n 1 "$SAID" | cut -c 1-9)" = "2: usage: ./" ]
+done
 call "$repository/check" --help
 holds "help on the check does not start it" grep -q '^usage: ./check$' "$work/output"
 holds "help on the check is no failure" [ "$status" -eq 0 ]

@@ -1,5 +1,6 @@
 //! Runs the bench program, or the program `schedules`, on cases and compares what it prints; a case that differs is made small.
 
+use std::ffi::OsStr;
 use std::fs;
 use std::io::Read;
 use std::path::{Path, PathBuf};
@@ -58,8 +59,7 @@ impl Executable {
 
     /// What the program writes for a case, or why it failed.
     pub fn run(&self, case: &Case) -> Result<Written, String> {
-        let written = self.write(case);
-        let result = written.map_err(|error| format!("cannot write the case: {error}")).and_then(|()| self.start());
+        let result = write_files(case, &self.folder).and_then(|()| output_of(&self.program, &self.words, &self.folder));
         let _ = fs::remove_dir_all(&self.folder);
         result
     }
@@ -68,31 +68,36 @@ impl Executable {
     fn prints(&self, case: &Case) -> Result<Vec<u8>, String> {
         self.run(case).map(|written| written.printed)
     }
+}
 
-    fn write(&self, case: &Case) -> std::io::Result<()> {
-        fs::create_dir_all(&self.folder)?;
+/// Writes the files of a case that are there.
+pub fn write_files(case: &Case, folder: &Path) -> Result<(), String> {
+    let write = || {
+        fs::create_dir_all(folder)?;
         for (name, bytes) in [("card.txt", &case.card), ("calls.txt", &case.calls)] {
             if let Some(bytes) = bytes {
-                fs::write(self.folder.join(name), bytes)?;
+                fs::write(folder.join(name), bytes)?;
             }
         }
         Ok(())
-    }
+    };
+    write().map_err(|error: std::io::Error| format!("cannot write into {}: {error}", folder.display()))
+}
 
-    fn start(&self) -> Result<Written, String> {
-        let mut command = Command::new(&self.program);
-        command.args(&self.words).current_dir(&self.folder);
-        command.stdin(Stdio::null()).stdout(Stdio::piped()).stderr(Stdio::piped());
-        let mut child = command.spawn().map_err(|error| format!("cannot start {}: {error}", self.program.display()))?;
-        let output = collect(&mut child);
-        if output.is_err() {
-            let _ = child.kill();
-        }
-        let status = child.wait().map_err(|error| error.to_string())?;
-        match (output, status.code()) {
-            (Ok(_), None) => Err(format!("ended by a signal: {status}")),
-            (output, _) => output,
-        }
+/// What a program writes that runs in a folder with these words, or why it failed.
+pub fn output_of(program: &Path, words: &[impl AsRef<OsStr>], folder: &Path) -> Result<Written, String> {
+    let mut command = Command::new(program);
+    command.args(words).current_dir(folder);
+    command.stdin(Stdio::null()).stdout(Stdio::piped()).stderr(Stdio::piped());
+    let mut child = command.spawn().map_err(|error| format!("cannot start {}: {error}", program.display()))?;
+    let output = collect(&mut child);
+    if output.is_err() {
+        let _ = child.kill();
+    }
+    let status = child.wait().map_err(|error| error.to_string())?;
+    match (output, status.code()) {
+        (Ok(_), None) => Err(format!("ended by a signal: {status}")),
+        (output, _) => output,
     }
 }
 
@@ -180,29 +185,26 @@ pub fn cover(first_seed: u64, count: u64) -> bool {
 
 /// Writes a case's two files into a folder.
 pub fn write_case(seed: u64, folder: &str) -> Result<(), String> {
-    write_files(&case(seed), folder)
+    write_files(&case(seed), Path::new(folder))
 }
 
 /// The same of a listing; its length is printed.
 pub fn write_schedules(seed: u64, folder: &str) -> Result<(), String> {
     let (case, length) = generate::schedules::case(seed);
     println!("{length}");
-    write_files(&case, folder)
+    write_files(&case, Path::new(folder))
 }
 
-fn write_files(case: &Case, folder: &str) -> Result<(), String> {
-    let folder_path = Path::new(folder).to_path_buf();
-    let executable = Executable { program: PathBuf::new(), words: vec![], folder: folder_path, right: Right::Session };
-    executable.write(case).map_err(|error| format!("cannot write into {folder}: {error}"))
-}
-
-fn listed(case: &Case, length: u32, reached: &mut Reached) -> Vec<u8> {
-    schedules::run(case.card.as_deref().unwrap_or(&[]), case.calls.as_deref().unwrap_or(&[]), length, reached)
-}
-
-/// A file that is not there counts as empty.
+/// What the bench program must print.
 pub fn expected(case: &Case, coverage: &mut Coverage) -> Vec<u8> {
-    session::run(case.card.as_deref().unwrap_or(&[]), case.calls.as_deref().unwrap_or(&[]), coverage)
+    let (card, calls) = case.texts();
+    session::run(card, calls, coverage)
+}
+
+/// What the program `schedules` must print.
+fn listed(case: &Case, length: u32, reached: &mut Reached) -> Vec<u8> {
+    let (card, calls) = case.texts();
+    schedules::run(card, calls, length, reached)
 }
 
 /// Prints the summary; true if everything that can occur was reached and no operation waited too long.
@@ -309,7 +311,7 @@ fn front(text: &[u8]) -> &[u8] {
 }
 
 /// A text as it can be printed: bytes that are not plain ASCII are escaped, and an unended line is marked.
-fn shown(text: Option<&[u8]>) -> String {
+pub fn shown(text: Option<&[u8]>) -> String {
     let Some(text) = text else { return "(no file)".to_string() };
     let lines = text.split_inclusive(|&byte| byte == 10).map(|line| match line.strip_suffix(b"\n") {
         Some(line) => line.escape_ascii().to_string(),
@@ -318,7 +320,7 @@ fn shown(text: Option<&[u8]>) -> String {
     lines.collect::<Vec<_>>().join("\n")
 }
 
-fn first_difference(right: &[u8], printed: &[u8]) -> String {
+pub fn first_difference(right: &[u8], printed: &[u8]) -> String {
     let split = |text: &[u8]| -> Vec<String> {
         text.split_inclusive(|&byte| byte == 10).map(|line| line.escape_ascii().to_string()).collect()
     };

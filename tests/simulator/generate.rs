@@ -12,6 +12,13 @@ pub struct Case {
     pub calls: Option<Vec<u8>>,
 }
 
+impl Case {
+    /// The two texts; a file that is not there counts as empty.
+    pub fn texts(&self) -> (&[u8], &[u8]) {
+        (self.card.as_deref().unwrap_or(&[]), self.calls.as_deref().unwrap_or(&[]))
+    }
+}
+
 /// A small generator of random numbers (xorshift, 64 bits).
 pub struct Random(u64);
 
@@ -24,7 +31,7 @@ impl Random {
         random
     }
 
-    fn next(&mut self) -> u64 {
+    pub fn next(&mut self) -> u64 {
         self.0 ^= self.0 << 13;
         self.0 ^= self.0 >> 7;
         self.0 ^= self.0 << 17;
@@ -43,7 +50,7 @@ impl Random {
         self.below(100) < percent
     }
 
-    fn pick<T: Copy>(&mut self, choices: &[T]) -> T {
+    pub fn pick<T: Copy>(&mut self, choices: &[T]) -> T {
         choices[self.below(choices.len())]
     }
 }
@@ -724,7 +731,7 @@ const ODD_LINES: [&str; 16] = [
     ",step,0\n", "look 0\n", "card,1,1,1,1\n", "trace\n", "trace,0,0\n", "traces,0\n", "tracE,0\n",
 ];
 
-fn split_lines(text: &[u8]) -> Vec<Vec<u8>> {
+pub fn split_lines(text: &[u8]) -> Vec<Vec<u8>> {
     text.split_inclusive(|&byte| byte == 10).map(<[u8]>::to_vec).collect()
 }
 

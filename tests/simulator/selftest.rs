@@ -1,11 +1,12 @@
 //! The simulator against document 01: the listing of card K, the proving pieces, the rows of 'Turned back',
-//! schedules that show the faults met in drafts, changes of programs (document 02, order 11), the sequential run side by side, and listings of
-//! every short schedule (order 13).
+//! schedules that show the faults met in drafts, changes of programs (document 02, order 11), dumps (order 7), the sequential run side by side, and
+//! listings of every short schedule (order 13).
 
 use crate::generate::{self, card_text, case, longest_card};
 use crate::machine::{open, read_change, Announcement, Answer, Flag, Instruction, Machine, Record};
 use crate::schedules;
 use crate::session::{expected, Command, Commands};
+use crate::wavetest;
 
 /// Card K's program: store the input, output the old value.
 const EXCHANGE: &str = "sheet,4\nins,1,0,0,0\nins,3,1,0,0\nins,4,0,0,0\nins,11,0,1,0\n";
@@ -17,13 +18,13 @@ const FIXED: &str = "sheet,2\nins,2,0,77,0\nins,11,0,0,0\n";
 const FLIP: &str = "sheet,4\nins,2,0,1,0\nins,3,1,0,0\nins,8,0,1,0\nins,4,0,0,0\n";
 
 #[derive(Default)]
-struct Checks {
+pub struct Checks {
     made: usize,
     failed: usize,
 }
 
 impl Checks {
-    fn equal<T: PartialEq + std::fmt::Debug>(&mut self, name: &str, found: T, wanted: T) {
+    pub fn equal<T: PartialEq + std::fmt::Debug>(&mut self, name: &str, found: T, wanted: T) {
         self.made += 1;
         if found != wanted {
             self.failed += 1;
@@ -54,6 +55,7 @@ pub fn selftest() -> bool {
     changes_in_time(&mut checks);
     change_refusals(&mut checks);
     change_commands(&mut checks);
+    wavetest::dumps(&mut checks);
     for seed in 1..=600 {
         let found = side_by_side(seed);
         checks.equal(&format!("sequential run, seed {seed}"), found, Ok(()));
@@ -558,13 +560,14 @@ impl Bench {
 /// Demand 3 on the case of a seed: the words equal the values read after each entry, rank, outputs and mark those of 'done' and 'fault'.
 fn side_by_side(seed: u64) -> Result<(), String> {
     let case = case(seed);
-    let Ok(card) = open(case.card.as_deref().unwrap_or(&[])) else { return Ok(()) };
+    let (card, calls) = case.texts();
+    let Ok(card) = open(card) else { return Ok(()) };
     let (words, programs) = (card.starting.clone(), card.programs.clone());
     let mut bench = Bench { words, programs, told: Vec::new(), run: 0 };
     let mut latest = vec![(0, [0; 4]); card.processes];
     let mut results = vec![(0, [0; 4], false); card.processes];
     let mut machine = Machine::new(card);
-    for numbered in Commands::new(case.calls.as_deref().unwrap_or(&[])) {
+    for numbered in Commands::new(calls) {
         let Ok(command) = numbered.command else { continue };
         let before = flags(&machine);
         let answer = enter(&mut machine, command, &mut latest, &mut bench);

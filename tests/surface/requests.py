@@ -13,9 +13,11 @@ import sys
 
 ROOT = pathlib.Path(__file__).resolve().parents[2]
 
-# The requests; the session of the bench program, whose card is that of `run` on its commands (theorem `session-run`); and the calls of a listing, whose
-# card is that of `run` on one call for each process (its contract).
-ALLOWED = {"card::call", "card::request_exit", "card::step", "tracing::trace", "card::read", "changing::change", "session::put_lines", "listing::call_all"}
+# The requests; the session of the bench program and of a dump, whose card is that of `run` on its commands (theorems `session-run`, `left-more`); and the
+# calls of a listing, whose card is that of `run` on one call for each process (its contract).
+REQUESTS = {"card::call", "card::request_exit", "card::step", "tracing::trace", "card::read", "changing::change"}
+SESSIONS = {"session::put_lines", "session::advance", "dump_writer::open", "dump_writer::put_commands"}
+ALLOWED = REQUESTS | SESSIONS | {"listing::call_all"}
 
 COMMENT = re.compile(r"//[^\n]*")
 TYPE = re.compile(r"\b(?:struct|enum)\s+(\w+)[^{;]*\{")

@@ -17,12 +17,19 @@ use Rattle.commands.specs.CommandFields.{commandFields}
 use Rattle.commands.specs.Printing.{lineText, longest, cardRefusal, callsRefusal}
 use Rattle.commands.proofs.CommandsLaws.{command-past, commands-end, commands-more}
 use Rattle.session.specs.declared.{State.State, Printed.Printed}
-use Rattle.session.specs.Session.{execute, lineOf, afterLine, linesOf, linesText, gather, fitting, firstLine, printed, printedInto, Prints, overState, verdictBeginning, beginning, session, Starts}
+use Rattle.session.specs.Session.{execute, lineOf, afterLine, advanced, linesOf, linesText, gather, fitting, firstLine, printed, printedInto, Prints, overState, verdictBeginning, beginning, session, Starts}
 
 -- a malformed command is answered as its fields say
 pub malformed-refused : (t : List ℕ) (c : Card) → answerFields (execute t c Command.Malformed .answer) ≡ commandFields Command.Malformed
 unfolding execute answerFields commandFields
 malformed-refused t c = refl
+
+-- a command carried out; m, a and l are what the code computes
+pub advances :
+    (t : List ℕ) (s : State) {m : Parsed} {a : Traced} {l : ℕ} → m ≡ command t (s .at) → a ≡ execute t (s .card) (m .command) → l ≡ placeAfter (s .line) (m .lines) →
+    record { state = record { card = a .card; at = m .next; line = l }; command = m .command; answer = a .answer } ≡ advanced t s
+unfolding advanced afterLine
+advances t s em ea el = rw (← em, ← ea, ← el)
 
 -- the text of a change lies in the calls text
 pub inside :

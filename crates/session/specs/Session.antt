@@ -14,9 +14,9 @@ use Rattle.construction.specs.Tracing.{noReport, trace}
 use Rattle.construction.specs.History.{Entry, act}
 use Rattle.construction.specs.Opening.{opened}
 use Rattle.commands.specs.declared.{Command.Command, Parsed.Parsed}
-use Rattle.commands.specs.Commands.{part, commands}
+use Rattle.commands.specs.Commands.{part, command, commands}
 use Rattle.commands.specs.Printing.{lineText, longest, cardRefusal, callsRefusal}
-use Rattle.session.specs.declared.{State.State, Printed.Printed}
+use Rattle.session.specs.declared.{State.State, Printed.Printed, Advanced.Advanced}
 
 -- the entries that a command of the calls text t names: one, or none where it is malformed
 abbrev pub entriesOf : List ℕ → Command → List Entry
@@ -57,6 +57,12 @@ lineOf t s m =
 
 unfoldable pub afterLine : List ℕ → State → Parsed → State
 afterLine t s m = record { card = execute t (s .card) (m .command) .card; at = m .next; line = placeAfter (s .line) (m .lines) }
+
+-- a command carried out and not printed: the one at the session's place
+unfoldable pub advanced : List ℕ → State → Advanced
+advanced t s =
+    let m = command t (s .at) in
+    record { state = afterLine t s m; command = m .command; answer = execute t (s .card) (m .command) .answer }
 
 -- the lines one after the other, the card going from command to command
 unfoldable pub linesOf : List ℕ → State → List Parsed → List ℕ

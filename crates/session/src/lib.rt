@@ -4,6 +4,8 @@
 // its contract gives its whole result and every byte of the buffer.
 pub mod running; // running.rt: the session, as many whole lines at a time as a buffer takes
 
+use commands::Command;
+use construction::Answer;
 use construction::Card;
 
 // A session under way: the card, the place of the next command and the number of its line.
@@ -17,4 +19,11 @@ pub struct State {
 pub struct Printed {
     pub state: State,
     pub length: usize,
+}
+
+// A command carried out and not printed: the command, its answer, and the session after it.
+pub struct Advanced {
+    pub state: State,
+    pub command: Command,
+    pub answer: Answer,
 }

@@ -1,4 +1,5 @@
 // The session: where it starts, and its lines, as many whole ones at a time as a buffer takes.
+use crate::Advanced;
 use crate::Printed;
 use crate::State;
 use commands::Command;
@@ -16,7 +17,7 @@ ghost use mathlib.Core.Path.{_≡_};
 ghost use Rattle.grammar.specs.Writing.{placeAfter};
 ghost use Rattle.construction.specs.Tracing.{noReport};
 ghost use Rattle.commands.specs.Commands.{Inside};
-ghost use Rattle.session.specs.Session.{execute as executed, Prints, Starts};
+ghost use Rattle.session.specs.Session.{execute as executed, advanced as advancedAs, Prints, Starts};
 
 // The most bytes of calls that are read.
 const LIMIT: usize = 65_536;
@@ -73,6 +74,29 @@ pub fn next_line(line: u64, lines: u64) -> u64
         LARGEST
     } else {
         line + lines
+    }
+}
+
+// Carries out the command at the session's place, and prints nothing.
+pub fn advance(state: State, calls: &[u8]) -> Advanced
+    ensures { λ r. ⌜ r ≡ advancedAs (now (calls .entry)) state ⌝ }
+{
+    let parsed = command_at(calls, state.at);
+    let command = parsed.command;
+    let card = state.card;
+    let executed = execute(calls, card, command);
+    let answer = executed.answer;
+    let after = executed.card;
+    let line = next_line(state.line, parsed.lines);
+    let next = State {
+        card: after,
+        at: parsed.next,
+        line,
+    };
+    Advanced {
+        state: next,
+        command,
+        answer,
     }
 }
 

@@ -1,0 +1,12 @@
+pub mod Binaries
+pub mod DumpLines
+pub mod Headers
+pub mod Trails
+pub mod Starts
+pub mod Shapes
+pub mod Rows
+pub mod Inverse
+pub mod Judging
+pub mod Written
+pub mod Narrow
+pub mod Runs

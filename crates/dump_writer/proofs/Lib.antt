@@ -1,0 +1,4 @@
+pub mod LineLaws
+pub mod RowLaws
+pub mod CourseLaws
+pub mod Sessions

@@ -116,14 +116,18 @@ module _ (step : ℕ) (t : List ℕ) where
     omega arith,
   )
   good-read (GoodUntil.nextVar {n} {at} d l e) =
-      let k : n + 3 + 1 ≡ n + 1 + 3 = omega arith in
-      (good-read d .0
-      ∙ ap fromUpscope (var-more n at (n + 3) l e ∙ ap (λ (y : ℕ). varsFrom t (64 - (n + 1)) (headerAt (n + 1) (at + length (varLine n)) y)) k), omega arith)
+      let k : n + 3 + 1 ≡ n + 1 + 3 = omega arith in (
+        good-read d .0
+            ∙ ap fromUpscope (var-more n at (n + 3) l e ∙ ap (λ (y : ℕ). varsFrom t (64 - (n + 1)) (headerAt (n + 1) (at + length (varLine n)) y)) k),
+        omega arith,
+      )
   good-read (GoodUntil.definitions {n} {at} d e) =
-      let k : n + 3 + 1 ≡ n + 4 = omega arith in
-      (good-read d .0
-      ∙ ap fromUpscope (var-none n at (n + 3) (λ _. no-var t n at (drop (at + length upscopeLine) t) (word-text t upscopeLine at e)))
-      ∙ ap fromDefinitions (word-good upscopeLine n at (n + 3) e ∙ ap (λ (y : ℕ). headerAt n (at + length upscopeLine) y) k), tt)
+      let k : n + 3 + 1 ≡ n + 4 = omega arith in (
+        good-read d .0
+            ∙ ap fromUpscope (var-none n at (n + 3) (λ _. no-var t n at (drop (at + length upscopeLine) t) (word-text t upscopeLine at e)))
+            ∙ ap fromDefinitions (word-good upscopeLine n at (n + 3) e ∙ ap (λ (y : ℕ). headerAt n (at + length upscopeLine) y) k),
+        tt,
+      )
   good-read (GoodUntil.zero {n} {at} d e) =
       let k : n + 4 + 1 ≡ n + 5 = omega arith in
       (good-read d .0 ∙ ap fromZero (word-good definitionsLine n at (n + 4) e ∙ ap (λ (y : ℕ). headerAt n (at + length definitionsLine) y) k), tt)
@@ -140,13 +144,17 @@ module _ (step : ℕ) (t : List ℕ) where
       let h = good-read d in
       (h .0 ∙ goes s (linesFrom step t n (length t) s) (h .1) ∙ fuel step t n (length t) (length t - s .at) s (omega arith) (omega arith), h .1)
   good-read (GoodUntil.nextTime {n} {k} {i} {s} d l e a) =
-      let w = time-there t (s .at) k i e .later in
-      (good-read d .0 ∙ line-good n s l (DumpLine.Time k i) e ∙ cond-true (takesTime s k) (linesFrom step t n (length t - suc (s .at)) (withTime s k i)) _ a
-      ∙ fuel step t n (length t - suc (s .at)) (length t - i) (withTime s k i) (omega arith) (omega arith), refl)
+      let w = time-there t (s .at) k i e .later in (
+        good-read d .0 ∙ line-good n s l (DumpLine.Time k i) e ∙ cond-true (takesTime s k) (linesFrom step t n (length t - suc (s .at)) (withTime s k i)) _ a
+            ∙ fuel step t n (length t - suc (s .at)) (length t - i) (withTime s k i) (omega arith) (omega arith),
+        refl,
+      )
   good-read (GoodUntil.nextValue {n} {v} {x} {i} {s} d l e a) =
-      let w = value-there t (s .at) v x i e .later in
-      (good-read d .0 ∙ line-good n s l (DumpLine.Value v x i) e ∙ cond-true (takesValue n s v x) (linesFrom step t n (length t - suc (s .at)) (withValue step s v x i)) _ a
-      ∙ fuel step t n (length t - suc (s .at)) (length t - i) (withValue step s v x i) (omega arith) (omega arith), refl)
+      let w = value-there t (s .at) v x i e .later in (
+        good-read d .0 ∙ line-good n s l (DumpLine.Value v x i) e ∙ cond-true (takesValue n s v x) (linesFrom step t n (length t - suc (s .at)) (withValue step s v x i)) _ a
+            ∙ fuel step t n (length t - suc (s .at)) (length t - i) (withValue step s v x i) (omega arith) (omega arith),
+        refl,
+      )
 
   -- ---- what the verdict says
   refused-at : {p : Progress} (line : ℕ) → progress step t ≡ p → p .verdict ≡ Verdict.Refused Malformed line → verdictFields (readings t step .verdict) ≡ refusedIn line 2

@@ -1,7 +1,8 @@
 // 'The listing recurs on the steps still to choose' (document 02, order 13): the text of all executions that go on from a card. What was printed of the
 // steps chosen so far stands in two small buffers, process numbers and answers, as in a line the numbers come before all answers; a branch
 // writes past them, and leaves what stood before. The card is handed on by value, once for each chosen process.
-use crate::lasts::put_lasts;
+use crate::runs::put_run;
+use crate::runs::runs_on;
 use answers::kinds::is_refused;
 use answers::put_answer;
 use card::step;
@@ -24,7 +25,7 @@ ghost use Rattle.executions.specs.Listings.{branchText, textAfter};
 ghost use Rattle.listing.specs.Prefixes.{areIdle, Holds, longest, capacity, Lines};
 
 // Whether process k is idle; one past the last is.
-fn is_idle_at(tasks: [Task; 8], k: u8) -> bool
+pub(crate) fn is_idle_at(tasks: [Task; 8], k: u8) -> bool
     ensures { λ r. ⌜ r ≡ isIdle (getD tasks k idleTask .place) ⌝ }
 {
     let at = k as usize;
@@ -69,7 +70,7 @@ pub(crate) fn put_line(buffer: &mut [u8], at: usize, numbers: &[u8], answers: &[
     put_byte(buffer, j, b'\n')
 }
 
-// The executions that process k begins: none where its step is refused.
+// The executions that process k begins: none where its step is refused. Where no process can return, the card is not stepped.
 fn put_branch(
     buffer: &mut [u8],
     at: usize,
@@ -81,13 +82,18 @@ fn put_branch(
     answers: &mut [u8],
     y: usize,
 ) -> usize
-    requires { ⌜ (0 < left) × Holds (card .processCount) left (now numbers) x (now answers) y ⌝ }
+    requires { ⌜ (0 < left) × (k < card .processCount) × Holds (card .processCount) left (now numbers) x (now answers) y ⌝ }
     ensures { λ r. ⌜
         Lines (now (buffer .entry)) at
         (branchText k (step card k) (take x (now (numbers .entry))) (take y (now (answers .entry))) (λ d z w. textAfter (left - 1) d z w))
         (capacity (left - 1) (longest left x y)) r (now (buffer .exit))
         (now (numbers .entry)) x (now (numbers .exit)) (now (answers .entry)) y (now (answers .exit)) ⌝ }
 {
+    let tasks = card.tasks;
+    let count = card.processCount;
+    if runs_on(left, tasks, count, k, card.steps, card.limit) {
+        return put_run(buffer, at, left, tasks, count, k, numbers, x, answers, y);
+    }
     let stepped = step(card, k as u32);
     let answer = stepped.answer;
     if is_refused(answer) {
@@ -120,9 +126,6 @@ pub(crate) fn put_after(
     let count = card.processCount;
     if has_ended(left, tasks, count) {
         return put_line(buffer, at, &numbers[..x], &answers[..y]);
-    }
-    if left == 1 {
-        return put_lasts(buffer, at, card, numbers, x, answers, y);
     }
     let mut i = at;
     let mut k: u8 = 0;

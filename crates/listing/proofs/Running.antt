@@ -24,6 +24,10 @@ use Rattle.construction.proofs.Statements.Refusals.{step-accepted}
 use Rattle.executions.specs.Schedules.{isQuiet}
 use Rattle.executions.specs.Listings.{answerText, branchText, branchesText, textAfter}
 use Rattle.executions.proofs.Branches.{accepted-busy, quiet-idle}
+use mir.Val.{Val}
+use denote.Laws.{Is}
+use denote.Struct.Declared.{row}
+use Rattle.construction.proofs.Card.{the-type}
 use Rattle.listing.specs.Runs.{distance, placeAt, areFar, runsOn, runText, runsFrom, runsText}
 
 -- a step brings a return at most one step nearer
@@ -200,6 +204,10 @@ runs-text : (n : ℕ) → Known n
 unfolding textAfter runsText
 runs-text zero c x y S F q = refl
 runs-text (suc n) c x y S F q = rw q (all-run n (runs-text n) c S F x y (c .processCount) 0 (omega arith))
+
+-- the limit of a card that code holds
+pub limit-fits : (c : Card) (vs : List Val) → Is (row the-type) c vs → c .limit < 18446744073709551616
+limit-fits c vs p = omega (arith, p .1 .1 .1 .0)
 
 -- the test of code
 far-all : (n : ℕ) (l : List Task) (m : ℕ) → areFar n l m ≡ true → (i : ℕ) → i < m → isIdle (placeAt l i) ≡ false → n < distance (placeAt l i)

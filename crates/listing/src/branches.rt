@@ -70,7 +70,7 @@ pub(crate) fn put_line(buffer: &mut [u8], at: usize, numbers: &[u8], answers: &[
     put_byte(buffer, j, b'\n')
 }
 
-// The executions that process k begins: none where its step is refused. Where no process can return, the card is not stepped.
+// The executions that process k begins: none where its step is refused.
 fn put_branch(
     buffer: &mut [u8],
     at: usize,
@@ -82,18 +82,13 @@ fn put_branch(
     answers: &mut [u8],
     y: usize,
 ) -> usize
-    requires { ⌜ (0 < left) × (k < card .processCount) × Holds (card .processCount) left (now numbers) x (now answers) y ⌝ }
+    requires { ⌜ (0 < left) × Holds (card .processCount) left (now numbers) x (now answers) y ⌝ }
     ensures { λ r. ⌜
         Lines (now (buffer .entry)) at
         (branchText k (step card k) (take x (now (numbers .entry))) (take y (now (answers .entry))) (λ d z w. textAfter (left - 1) d z w))
         (capacity (left - 1) (longest left x y)) r (now (buffer .exit))
         (now (numbers .entry)) x (now (numbers .exit)) (now (answers .entry)) y (now (answers .exit)) ⌝ }
 {
-    let tasks = card.tasks;
-    let count = card.processCount;
-    if runs_on(left, tasks, count, k, card.steps, card.limit) {
-        return put_run(buffer, at, left, tasks, count, k, numbers, x, answers, y);
-    }
     let stepped = step(card, k as u32);
     let answer = stepped.answer;
     if is_refused(answer) {
@@ -105,7 +100,8 @@ fn put_branch(
     put_after(buffer, at, left - 1, next, numbers, i, answers, j)
 }
 
-// All executions that go on from a card for this many steps: the one that ends there where none is left or nothing is under way, else each process in turn.
+// All executions that go on from a card for this many steps: the one that ends there where none is left or nothing is under way, else each process in turn. Where no process
+// can return with the steps that are left, the card is not stepped.
 pub(crate) fn put_after(
     buffer: &mut [u8],
     at: usize,
@@ -130,8 +126,24 @@ pub(crate) fn put_after(
     let mut i = at;
     let mut k: u8 = 0;
     while k < count {
-        i = put_branch(buffer, i, left, card, k, numbers, x, answers, y);
+        let process = k;
         k = k + 1;
+        if runs_on(left, tasks, count, process, card.steps, card.limit) {
+            i = put_run(
+                buffer,
+                i,
+                left,
+                tasks,
+                count,
+                process,
+                numbers,
+                x,
+                answers,
+                y,
+            );
+            continue;
+        }
+        i = put_branch(buffer, i, left, card, process, numbers, x, answers, y);
     }
     i
 }

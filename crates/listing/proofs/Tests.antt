@@ -6,8 +6,9 @@ use mathlib.Core.List.{List}
 use native.Mathlib.Omega.{arith}
 use native.Mathlib.Numerals.{add-one}
 use lib.ListN.{getD}
-use lib.Dec.{eqb}
-use Rattle.construction.specs.declared.{Task.Task, Card.Card}
+use lib.Dec.{eqb, ltb}
+use borrow.Author.Tests.{lt-ltb, le-ltb, lt-leb, le-leb}
+use Rattle.construction.specs.declared.{Place.Place, Task.Task, Card.Card}
 use Rattle.construction.specs.Parts.{idleTask}
 use Rattle.construction.specs.Requests.{isIdle, isProgram, call}
 use Rattle.executions.specs.declared.{Request.Request}
@@ -15,6 +16,7 @@ use Rattle.executions.specs.Schedules.{noRequest, isQuiet}
 use Rattle.executions.specs.Listings.{areCallable}
 use Rattle.executions.proofs.Runs.{calledFrom}
 use Rattle.listing.specs.Prefixes.{areIdle}
+use Rattle.listing.specs.Runs.{distance, placeAt, areFar, runsOn}
 
 -- idle processes
 not-not : (b : Bool) → not (not b) ≡ b
@@ -45,6 +47,56 @@ module _ (l : List Task) where
   unfolding areIdle
   idle-none zero h = refl
   idle-none (suc n) h = absurd (omega arith)
+
+-- processes that are far from their return
+module _ (n : ℕ) (l : List Task) where
+  far-suc : (m : ℕ) → areFar n l (suc m) ≡ ((isIdle (placeAt l m) || ltb n (distance (placeAt l m))) && areFar n l m)
+  unfolding areFar
+  far-suc m = refl
+
+  far-step : (m : ℕ) → 0 < m → areFar n l m ≡ ((isIdle (placeAt l (m - 1)) || ltb n (distance (placeAt l (m - 1)))) && areFar n l (m - 1))
+  far-step zero h = absurd (omega arith)
+  far-step (suc m) h = let e : suc m - 1 ≡ m = omega arith in rw e (far-suc m)
+
+  module _ (m : ℕ) {p : Place} {b : Bool} (h : 0 < m) (e : p ≡ placeAt l (m - 1)) (t : b ≡ (isIdle p || ltb n (distance p))) where
+    far-told : (isIdle (placeAt l (m - 1)) || ltb n (distance (placeAt l (m - 1)))) ≡ b
+    far-told = ap (λ (q : Place). isIdle q || ltb n (distance q)) (sym e) ∙ sym t
+
+    pub far-turn : b ≡ true → areFar n l m ≡ areFar n l (m - 1)
+    far-turn f = far-step m h ∙ rw (far-told ∙ f)
+
+    pub far-stop : b ≡ false → areFar n l m ≡ false
+    far-stop f = far-step m h ∙ rw (far-told ∙ f)
+
+  pub far-none : (m : ℕ) → m ≤ 0 → areFar n l m ≡ true
+  unfolding areFar
+  far-none zero h = refl
+  far-none (suc m) h = absurd (omega arith)
+
+-- the test whether a branch runs on, in its three parts
+module _ (left : ℕ) (l : List Task) (count k steps limit : ℕ) {p : Place} (e : p ≡ placeAt l k) {d : ℕ} (q : d ≡ distance p) where
+  near-told : distance (placeAt l k) ≡ d
+  near-told = ap (λ (r : Place). distance r) (sym e) ∙ sym q
+
+  pub runs-near : d ≤ left → false ≡ runsOn left l count k steps limit
+  unfolding runsOn
+  runs-near h = sym (rw (ap (λ (n : ℕ). ltb left n) near-told ∙ le-ltb left d h))
+
+  module _ (h : left < d) {b : Bool} (f : b ≡ areFar (left - 1) l count) where
+    far-there : ltb left (distance (placeAt l k)) ≡ true
+    far-there = ap (λ (n : ℕ). ltb left n) near-told ∙ lt-ltb left d h
+
+    pub runs-others : b ≡ false → false ≡ runsOn left l count k steps limit
+    unfolding runsOn
+    runs-others g = sym (rw (far-there, sym f ∙ g))
+
+    pub runs-limited : b ≡ true → limit < steps + left → false ≡ runsOn left l count k steps limit
+    unfolding runsOn
+    runs-limited g i = sym (rw (far-there, sym f ∙ g, lt-leb (steps + left) limit i))
+
+    pub runs-free : b ≡ true → steps + left ≤ limit → true ≡ runsOn left l count k steps limit
+    unfolding runsOn
+    runs-free g i = sym (rw (far-there, sym f ∙ g, le-leb (steps + left) limit i))
 
 -- calls whose programs are there
 module _ (c : Card) (calls : List Request) where

@@ -1,4 +1,4 @@
 pub mod Prefixes
 pub mod Listed
 pub mod Pieces
-pub mod Last
+pub mod Runs

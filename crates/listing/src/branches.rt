@@ -1,7 +1,8 @@
 // 'The listing recurs on the steps still to choose' (document 02, order 13): the text of all executions that go on from a card. What was printed of the
 // steps chosen so far stands in two small buffers, process numbers and answers, as in a line the numbers come before all answers; a branch
 // writes past them, and leaves what stood before. The card is handed on by value, once for each chosen process.
-use crate::lasts::put_lasts;
+use crate::runs::put_run;
+use crate::runs::runs_on;
 use answers::kinds::is_refused;
 use answers::put_answer;
 use card::step;
@@ -24,7 +25,7 @@ ghost use Rattle.executions.specs.Listings.{branchText, textAfter};
 ghost use Rattle.listing.specs.Prefixes.{areIdle, Holds, longest, capacity, Lines};
 
 // Whether process k is idle; one past the last is.
-fn is_idle_at(tasks: [Task; 8], k: u8) -> bool
+pub(crate) fn is_idle_at(tasks: [Task; 8], k: u8) -> bool
     ensures { λ r. ⌜ r ≡ isIdle (getD tasks k idleTask .place) ⌝ }
 {
     let at = k as usize;
@@ -99,7 +100,8 @@ fn put_branch(
     put_after(buffer, at, left - 1, next, numbers, i, answers, j)
 }
 
-// All executions that go on from a card for this many steps: the one that ends there where none is left or nothing is under way, else each process in turn.
+// All executions that go on from a card for this many steps: the one that ends there where none is left or nothing is under way, else each process in turn. Where no process
+// can return with the steps that are left, the card is not stepped.
 pub(crate) fn put_after(
     buffer: &mut [u8],
     at: usize,
@@ -121,14 +123,27 @@ pub(crate) fn put_after(
     if has_ended(left, tasks, count) {
         return put_line(buffer, at, &numbers[..x], &answers[..y]);
     }
-    if left == 1 {
-        return put_lasts(buffer, at, card, numbers, x, answers, y);
-    }
     let mut i = at;
     let mut k: u8 = 0;
     while k < count {
-        i = put_branch(buffer, i, left, card, k, numbers, x, answers, y);
+        let process = k;
         k = k + 1;
+        if runs_on(left, tasks, count, process, card.steps, card.limit) {
+            i = put_run(
+                buffer,
+                i,
+                left,
+                tasks,
+                count,
+                process,
+                numbers,
+                x,
+                answers,
+                y,
+            );
+            continue;
+        }
+        i = put_branch(buffer, i, left, card, process, numbers, x, answers, y);
     }
     i
 }

@@ -2,7 +2,7 @@
 // it. The text, the refusals and what a schedule is are defined in the crate executions; the machine is that of the crate card. It rests on the
 // crates grammar, construction, executions, answers, machine, opening, requests and card.
 pub mod branches; // branches.rt: the executions that go on from a card, by recursion on the steps still to choose
-mod lasts; // lasts.rt: the last step of a schedule
+mod runs; // runs.rt: schedules in which every step runs on
 pub mod pieces; // pieces.rt: the listing in pieces, numbered by its first steps
 pub mod judging; // judging.rt: refusals 6 and 17
 pub mod starting; // starting.rt: the card as it was opened, with its calls made

@@ -1,11 +1,12 @@
-use mathlib.Core.Path.{sym, _∙_}
-use Rattle.listing.proofs.Tests as tests
-use Rattle.executions.specs.Listings.{textAfter}
-use lib.ListN.{length-take}
+use Rattle.listing.proofs.Running as running
 use borrow.Author.Needs.{needs}
 use native.Mathlib.Omega.{arith}
 use mathlib.Core.Path.{refl}
+use Rattle.listing.specs.Prefixes.{longest, capacity}
+use lib.ListN.{take, length-take}
 use Rattle.grammar.proofs.Puts.{rest-length}
+use Rattle.requests.proofs.Arrays as arrays
+use Rattle.executions.specs.Listings.{textAfter}
 use Rattle.listing.proofs.Recursion as laws
 use Prim.Native.Nat.{ℕ, _+_, _*_, _-_, _<_}
 use borrow.Fn.Kinds.{In}
@@ -22,7 +23,8 @@ use Rattle.card.proofs.step.Reads as step-reads
 use Rattle.grammar.proofs.writing.put_decimal.Reads as put-decimal-reads
 use Rattle.listing.proofs.branches.has_ended.Reads as has-ended-reads
 use Rattle.listing.proofs.branches.put_line.Reads as put-line-reads
-use Rattle.listing.proofs.lasts.put_lasts.Reads as put-lasts-reads
+use Rattle.listing.proofs.runs.put_run.Reads as put-run-reads
+use Rattle.listing.proofs.runs.runs_on.Reads as runs-on-reads
 use Rattle.listing.proofs.branches.+put_after+put_branch.{statement}
 use Rattle.listing.proofs.branches.+put_after+put_branch.Tie.{close}
 
@@ -48,323 +50,360 @@ put-branch-below t =
     and 3 put-branch-kinds.ps (falls 3 put-branch-kinds.ps _<_ μ-put-branch t) put-branch.Pre
 
 abbrev put-after-Inv-loop : put-after-lts.InvT-loop
-put-after-Inv-loop buffer₀ at left card numbers₀ x answers₀ y count i₀ k₀ buffer numbers answers i k =
-    laws.Turning card left buffer₀ at numbers₀ x answers₀ y buffer i k numbers answers
+put-after-Inv-loop buffer₀ at left card numbers₀ x answers₀ y tasks count i₀ k₀ buffer numbers answers i k =
+    laws.Turning (laws.branchesOf card left (take x numbers₀) (take y answers₀)) (card .processCount) (capacity (left - 1) (longest left x y)) buffer₀ at numbers₀ x answers₀ y buffer i k numbers answers
 
 abbrev put-after-μ-loop : put-after-lts.MeasureT-loop
-put-after-μ-loop buffer₀ at left card numbers₀ x answers₀ y count i₀ k₀ buffer numbers answers i k =
-    count - k
+put-after-μ-loop buffer₀ at left card numbers₀ x answers₀ y tasks count i₀ k₀ buffer numbers answers i k = count - k
 
--- src/branches.rt:120:8
+-- src/branches.rt:123:8
 put-after-has-ended-requires : (t : ℕ) → put-after-lts.Need-has-ended-requires (
   has-ended-reads.Asked,
   has-ended-reads.Learnt,
   put-line-reads.Asked,
   put-line-reads.Learnt,
-  put-lasts-reads.Asked,
-  put-lasts-reads.Learnt,
+  runs-on-reads.Asked,
+  runs-on-reads.Learnt,
+  put-run-reads.Asked,
+  put-run-reads.Learnt,
   put-branch-below t,
   put-branch.Post,
 ) (put-after-at t) put-after.Post put-after-Inv-loop put-after-μ-loop
 put-after-has-ended-requires t c κs = search needs
 
--- src/branches.rt:121:37
+-- src/branches.rt:124:37
 put-after-slice-reshare-prefix-put-line :
     (t : ℕ) → put-after-lts.Need-slice-reshare-prefix-put-line (
       has-ended-reads.Asked,
       has-ended-reads.Learnt,
       put-line-reads.Asked,
       put-line-reads.Learnt,
-      put-lasts-reads.Asked,
-      put-lasts-reads.Learnt,
+      runs-on-reads.Asked,
+      runs-on-reads.Learnt,
+      put-run-reads.Asked,
+      put-run-reads.Learnt,
       put-branch-below t,
       put-branch.Post,
     ) (put-after-at t) put-after.Post put-after-Inv-loop put-after-μ-loop
 put-after-slice-reshare-prefix-put-line t c = omega (arith, c .before .before .before .before .before .before .before .pre .1 .digits)
 
--- src/branches.rt:121:37
+-- src/branches.rt:124:37
 put-after-slice-aggregate-put-line : (t : ℕ) → put-after-lts.Need-slice-aggregate-put-line (
   has-ended-reads.Asked,
   has-ended-reads.Learnt,
   put-line-reads.Asked,
   put-line-reads.Learnt,
-  put-lasts-reads.Asked,
-  put-lasts-reads.Learnt,
+  runs-on-reads.Asked,
+  runs-on-reads.Learnt,
+  put-run-reads.Asked,
+  put-run-reads.Learnt,
   put-branch-below t,
   put-branch.Post,
 ) (put-after-at t) put-after.Post put-after-Inv-loop put-after-μ-loop
 put-after-slice-aggregate-put-line t c = simp length-take (omega (arith, c .before .before .before .before .before .before .before .before .pre .1 .digits))
 
--- src/branches.rt:121:52
+-- src/branches.rt:124:52
 put-after-slice-reshare-prefix-put-line-2 :
     (t : ℕ) → put-after-lts.Need-slice-reshare-prefix-put-line-2 (
       has-ended-reads.Asked,
       has-ended-reads.Learnt,
       put-line-reads.Asked,
       put-line-reads.Learnt,
-      put-lasts-reads.Asked,
-      put-lasts-reads.Learnt,
+      runs-on-reads.Asked,
+      runs-on-reads.Learnt,
+      put-run-reads.Asked,
+      put-run-reads.Learnt,
       put-branch-below t,
       put-branch.Post,
     ) (put-after-at t) put-after.Post put-after-Inv-loop put-after-μ-loop
 put-after-slice-reshare-prefix-put-line-2 t c = omega (arith, c .before .before .before .before .before .before .before .before .pre .1 .fields)
 
--- src/branches.rt:121:52
+-- src/branches.rt:124:52
 put-after-slice-aggregate-put-line-2 : (t : ℕ) → put-after-lts.Need-slice-aggregate-put-line-2 (
   has-ended-reads.Asked,
   has-ended-reads.Learnt,
   put-line-reads.Asked,
   put-line-reads.Learnt,
-  put-lasts-reads.Asked,
-  put-lasts-reads.Learnt,
+  runs-on-reads.Asked,
+  runs-on-reads.Learnt,
+  put-run-reads.Asked,
+  put-run-reads.Learnt,
   put-branch-below t,
   put-branch.Post,
 ) (put-after-at t) put-after.Post put-after-Inv-loop put-after-μ-loop
 put-after-slice-aggregate-put-line-2 t c = simp length-take (omega (arith, c .before .before .before .before .before .before .before .before .before .pre .1 .fields))
 
--- src/branches.rt:121:9
+-- src/branches.rt:124:9
 put-after-put-line-requires : (t : ℕ) → put-after-lts.Need-put-line-requires (
   has-ended-reads.Asked,
   has-ended-reads.Learnt,
   put-line-reads.Asked,
   put-line-reads.Learnt,
-  put-lasts-reads.Asked,
-  put-lasts-reads.Learnt,
+  runs-on-reads.Asked,
+  runs-on-reads.Learnt,
+  put-run-reads.Asked,
+  put-run-reads.Learnt,
   put-branch-below t,
   put-branch.Post,
 ) (put-after-at t) put-after.Post put-after-Inv-loop put-after-μ-loop
 put-after-put-line-requires t c κs = search needs
 
--- src/branches.rt:121:9
+-- src/branches.rt:124:9
 put-after-same-length : (t : ℕ) → put-after-lts.Need-same-length (
   has-ended-reads.Asked,
   has-ended-reads.Learnt,
   put-line-reads.Asked,
   put-line-reads.Learnt,
-  put-lasts-reads.Asked,
-  put-lasts-reads.Learnt,
+  runs-on-reads.Asked,
+  runs-on-reads.Learnt,
+  put-run-reads.Asked,
+  put-run-reads.Learnt,
   put-branch-below t,
   put-branch.Post,
 ) (put-after-at t) put-after.Post put-after-Inv-loop put-after-μ-loop
 put-after-same-length t c = search needs
 
--- src/branches.rt:121:9
+-- src/branches.rt:124:9
 put-after-same-length-2 : (t : ℕ) → put-after-lts.Need-same-length-2 (
   has-ended-reads.Asked,
   has-ended-reads.Learnt,
   put-line-reads.Asked,
   put-line-reads.Learnt,
-  put-lasts-reads.Asked,
-  put-lasts-reads.Learnt,
+  runs-on-reads.Asked,
+  runs-on-reads.Learnt,
+  put-run-reads.Asked,
+  put-run-reads.Learnt,
   put-branch-below t,
   put-branch.Post,
 ) (put-after-at t) put-after.Post put-after-Inv-loop put-after-μ-loop
 put-after-same-length-2 t c = search needs
 
--- src/branches.rt:121:9
+-- src/branches.rt:124:9
 put-after-same-length-3 : (t : ℕ) → put-after-lts.Need-same-length-3 (
   has-ended-reads.Asked,
   has-ended-reads.Learnt,
   put-line-reads.Asked,
   put-line-reads.Learnt,
-  put-lasts-reads.Asked,
-  put-lasts-reads.Learnt,
+  runs-on-reads.Asked,
+  runs-on-reads.Learnt,
+  put-run-reads.Asked,
+  put-run-reads.Learnt,
   put-branch-below t,
   put-branch.Post,
 ) (put-after-at t) put-after.Post put-after-Inv-loop put-after-μ-loop
 put-after-same-length-3 t c = search needs
 
--- src/branches.rt:121:9
+-- src/branches.rt:124:9
 put-after-returns : (t : ℕ) → put-after-lts.Need-returns (
   has-ended-reads.Asked,
   has-ended-reads.Learnt,
   put-line-reads.Asked,
   put-line-reads.Learnt,
-  put-lasts-reads.Asked,
-  put-lasts-reads.Learnt,
+  runs-on-reads.Asked,
+  runs-on-reads.Learnt,
+  put-run-reads.Asked,
+  put-run-reads.Learnt,
   put-branch-below t,
   put-branch.Post,
 ) (put-after-at t) put-after.Post put-after-Inv-loop put-after-μ-loop
 put-after-returns t c = laws.ended-lines (c .before .before .before .before .before .before .before .before .before .before .before .before .args .card) (c .before .before .before .before .before .before .before .before .before .before .before .before .args .left) (c .before .before .before .before .before .before .before .has-ended .ensures) (c .before .before .before .before .before .before .if1 .taken) (c .before .before .put-line .ensures)
 
-put-after-put-lasts-requires : (t : ℕ) → put-after-lts.Need-put-lasts-requires (
-  has-ended-reads.Asked,
-  has-ended-reads.Learnt,
-  put-line-reads.Asked,
-  put-line-reads.Learnt,
-  put-lasts-reads.Asked,
-  put-lasts-reads.Learnt,
-  put-branch-below t,
-  put-branch.Post,
-) (put-after-at t) put-after.Post put-after-Inv-loop put-after-μ-loop
-put-after-put-lasts-requires t c κs = (laws.not-quiet (c .before .before .before .before .before .before .before .before .before .before .args .card) (c .before .before .before .before .before .before .before .before .before .before .args .left) (c .before .before .before .before .before .has-ended .ensures) (c .before .before .before .before .if1 .left), laws.one-holds (c .before .before .before .before .before .before .before .before .before .before .args .left) (c .before .before .before .if2 .taken) (c .before .before .before .before .before .before .before .before .before .before .pre .1))
-
-put-after-same-length-4 : (t : ℕ) → put-after-lts.Need-same-length-4 (
-  has-ended-reads.Asked,
-  has-ended-reads.Learnt,
-  put-line-reads.Asked,
-  put-line-reads.Learnt,
-  put-lasts-reads.Asked,
-  put-lasts-reads.Learnt,
-  put-branch-below t,
-  put-branch.Post,
-) (put-after-at t) put-after.Post put-after-Inv-loop put-after-μ-loop
-put-after-same-length-4 t c = search needs
-
-put-after-same-length-5 : (t : ℕ) → put-after-lts.Need-same-length-5 (
-  has-ended-reads.Asked,
-  has-ended-reads.Learnt,
-  put-line-reads.Asked,
-  put-line-reads.Learnt,
-  put-lasts-reads.Asked,
-  put-lasts-reads.Learnt,
-  put-branch-below t,
-  put-branch.Post,
-) (put-after-at t) put-after.Post put-after-Inv-loop put-after-μ-loop
-put-after-same-length-5 t c = search needs
-
-put-after-same-length-6 : (t : ℕ) → put-after-lts.Need-same-length-6 (
-  has-ended-reads.Asked,
-  has-ended-reads.Learnt,
-  put-line-reads.Asked,
-  put-line-reads.Learnt,
-  put-lasts-reads.Asked,
-  put-lasts-reads.Learnt,
-  put-branch-below t,
-  put-branch.Post,
-) (put-after-at t) put-after.Post put-after-Inv-loop put-after-μ-loop
-put-after-same-length-6 t c = search needs
-
-put-after-returns-2 : (t : ℕ) → put-after-lts.Need-returns-2 (
-  has-ended-reads.Asked,
-  has-ended-reads.Learnt,
-  put-line-reads.Asked,
-  put-line-reads.Learnt,
-  put-lasts-reads.Asked,
-  put-lasts-reads.Learnt,
-  put-branch-below t,
-  put-branch.Post,
-) (put-after-at t) put-after.Post put-after-Inv-loop put-after-μ-loop
-put-after-returns-2 t c = laws.one-lines (c .before .before .before .before .before .before .before .before .before .before .before .before .before .before .before .before .before .args .left) (c .before .before .before .before .before .before .before .before .before .before .before .before .before .before .before .before .before .args .card) (c .before .before .before .before .before .before .before .before .before .before .if2 .taken) (c .before .before .before .before .before .before .put-lasts .ensures)
-
--- src/branches.rt:125:5
+-- src/branches.rt:128:5
 put-after-loop-holds : (t : ℕ) → put-after-lts.Need-loop-holds (
   has-ended-reads.Asked,
   has-ended-reads.Learnt,
   put-line-reads.Asked,
   put-line-reads.Learnt,
-  put-lasts-reads.Asked,
-  put-lasts-reads.Learnt,
+  runs-on-reads.Asked,
+  runs-on-reads.Learnt,
+  put-run-reads.Asked,
+  put-run-reads.Learnt,
   put-branch-below t,
   put-branch.Post,
 ) (put-after-at t) put-after.Post put-after-Inv-loop put-after-μ-loop
-put-after-loop-holds t c = laws.turning-begin (c .before .before .before .before .before .before .before .args .card) (c .before .before .before .before .before .before .before .args .left) _ _ _ _ _ _ (omega arith)
+put-after-loop-holds t c = laws.turning-begin (laws.branches-series (c .before .before .before .before .before .before .args .card) (c .before .before .before .before .before .before .args .left) _ _) (c .before .before .before .before .before .before .args .card .processCount) (capacity (c .before .before .before .before .before .before .args .left - 1) (longest (c .before .before .before .before .before .before .args .left) (c .before .before .before .before .before .before .args .x) (c .before .before .before .before .before .before .args .y))) _ _ _ _ _ _ (omega arith)
 
--- src/branches.rt:126:9
-put-after-put-branch-requires : (t : ℕ) → put-after-lts.Need-put-branch-requires (
-  has-ended-reads.Asked,
-  has-ended-reads.Learnt,
-  put-line-reads.Asked,
-  put-line-reads.Learnt,
-  put-lasts-reads.Asked,
-  put-lasts-reads.Learnt,
-  put-branch-below t,
-  put-branch.Post,
-) (put-after-at t) put-after.Post put-after-Inv-loop put-after-μ-loop
-put-after-put-branch-requires t c κs = (omega (arith, c .before .before .before .before .before .before .before .before .before .before .before .before .pre .0), (laws.steps-left (c .before .before .before .before .before .before .before .before .before .before .before .before .args .card) (c .before .before .before .before .before .before .before .before .before .before .before .before .args .left) (c .before .before .before .before .before .before .before .has-ended .ensures) (c .before .before .before .before .before .before .if1 .left), laws.turning-holds (c .before .before .before .before .before .before .before .before .before .before .before .before .args .card) (c .before .before .before .before .before .before .before .before .before .before .before .before .args .left) _ _ _ _ _ _ (c .before .before .before .before .loop .inv) (c .before .before .before .before .before .before .before .before .before .before .before .before .pre .1)))
-
--- src/branches.rt:127:13
+-- src/branches.rt:130:13
 put-after-add-k : (t : ℕ) → put-after-lts.Need-add-k (
   has-ended-reads.Asked,
   has-ended-reads.Learnt,
   put-line-reads.Asked,
   put-line-reads.Learnt,
-  put-lasts-reads.Asked,
-  put-lasts-reads.Learnt,
+  runs-on-reads.Asked,
+  runs-on-reads.Learnt,
+  put-run-reads.Asked,
+  put-run-reads.Learnt,
   put-branch-below t,
   put-branch.Post,
 ) (put-after-at t) put-after.Post put-after-Inv-loop put-after-μ-loop
 put-after-add-k t c = search needs
 
--- src/branches.rt:125:5
+-- src/branches.rt:131:12
+put-after-runs-on-requires : (t : ℕ) → put-after-lts.Need-runs-on-requires (
+  has-ended-reads.Asked,
+  has-ended-reads.Learnt,
+  put-line-reads.Asked,
+  put-line-reads.Learnt,
+  runs-on-reads.Asked,
+  runs-on-reads.Learnt,
+  put-run-reads.Asked,
+  put-run-reads.Learnt,
+  put-branch-below t,
+  put-branch.Post,
+) (put-after-at t) put-after.Post put-after-Inv-loop put-after-μ-loop
+put-after-runs-on-requires t c κs = (laws.steps-left (c .before .before .before .before .before .before .before .before .args .card) (c .before .before .before .before .before .before .before .before .args .left) (c .before .before .before .has-ended .ensures) (c .before .before .if1 .left))
+
+-- src/branches.rt:132:13
+put-after-put-run-requires : (t : ℕ) → put-after-lts.Need-put-run-requires (
+  has-ended-reads.Asked,
+  has-ended-reads.Learnt,
+  put-line-reads.Asked,
+  put-line-reads.Learnt,
+  runs-on-reads.Asked,
+  runs-on-reads.Learnt,
+  put-run-reads.Asked,
+  put-run-reads.Learnt,
+  put-branch-below t,
+  put-branch.Post,
+) (put-after-at t) put-after.Post put-after-Inv-loop put-after-μ-loop
+put-after-put-run-requires t c κs = ((laws.steps-left (c .before .before .before .before .before .before .before .before .before .before .before .before .before .args .card) (c .before .before .before .before .before .before .before .before .before .before .before .before .before .args .left) (c .before .before .before .before .before .before .before .before .has-ended .ensures) (c .before .before .before .before .before .before .before .if1 .left)), c .before .before .before .before .before .loop-test .taken, (laws.turning-holds (laws.branches-series (c .before .before .before .before .before .before .before .before .before .before .before .before .before .args .card) (c .before .before .before .before .before .before .before .before .before .before .before .before .before .args .left) _ _) (c .before .before .before .before .before .before .before .before .before .before .before .before .before .args .card .processCount) (capacity (c .before .before .before .before .before .before .before .before .before .before .before .before .before .args .left - 1) (longest (c .before .before .before .before .before .before .before .before .before .before .before .before .before .args .left) (c .before .before .before .before .before .before .before .before .before .before .before .before .before .args .x) (c .before .before .before .before .before .before .before .before .before .before .before .before .before .args .y))) _ _ _ _ _ _ (c .before .before .before .before .before .before .loop .inv) (c .before .before .before .before .before .before .before .before .before .before .before .before .before .pre .1)))
+
+-- src/branches.rt:128:5
 put-after-loop-less : (t : ℕ) → put-after-lts.Need-loop-less (
   has-ended-reads.Asked,
   has-ended-reads.Learnt,
   put-line-reads.Asked,
   put-line-reads.Learnt,
-  put-lasts-reads.Asked,
-  put-lasts-reads.Learnt,
+  runs-on-reads.Asked,
+  runs-on-reads.Learnt,
+  put-run-reads.Asked,
+  put-run-reads.Learnt,
   put-branch-below t,
   put-branch.Post,
 ) (put-after-at t) put-after.Post put-after-Inv-loop put-after-μ-loop
 put-after-loop-less t c = omega arith
 
--- src/branches.rt:125:5
+-- src/branches.rt:128:5
 put-after-loop-again : (t : ℕ) → put-after-lts.Need-loop-again (
   has-ended-reads.Asked,
   has-ended-reads.Learnt,
   put-line-reads.Asked,
   put-line-reads.Learnt,
-  put-lasts-reads.Asked,
-  put-lasts-reads.Learnt,
+  runs-on-reads.Asked,
+  runs-on-reads.Learnt,
+  put-run-reads.Asked,
+  put-run-reads.Learnt,
   put-branch-below t,
   put-branch.Post,
 ) (put-after-at t) put-after.Post put-after-Inv-loop put-after-μ-loop
-put-after-loop-again t c = laws.turning-turn (c .before .before .before .before .before .before .before .before .before .before .before .before .before .before .before .before .before .before .before .args .card) (c .before .before .before .before .before .before .before .before .before .before .before .before .before .before .before .before .before .before .before .args .left) _ _ _ _ _ _ (c .before .before .before .before .before .before .before .before .before .before .before .loop .inv) (c .before .before .before .before .before .before .before .before .before .before .loop-test .taken) (c .before .before .before .before .before .before .put-branch .ensures) (search needs) (search needs)
+put-after-loop-again t c = laws.turning-turn (laws.branches-series (c .before .before .before .before .before .before .before .before .before .before .before .before .before .before .before .before .before .before .before .before .args .card) (c .before .before .before .before .before .before .before .before .before .before .before .before .before .before .before .before .before .before .before .before .args .left) _ _) (c .before .before .before .before .before .before .before .before .before .before .before .before .before .before .before .before .before .before .before .before .args .card .processCount) (capacity (c .before .before .before .before .before .before .before .before .before .before .before .before .before .before .before .before .before .before .before .before .args .left - 1) (longest (c .before .before .before .before .before .before .before .before .before .before .before .before .before .before .before .before .before .before .before .before .args .left) (c .before .before .before .before .before .before .before .before .before .before .before .before .before .before .before .before .before .before .before .before .args .x) (c .before .before .before .before .before .before .before .before .before .before .before .before .before .before .before .before .before .before .before .before .args .y))) _ _ _ _ _ _ (c .before .before .before .before .before .before .before .before .before .before .before .before .before .loop .inv) (laws.branch-kept (c .before .before .before .before .before .before .before .before .before .before .before .before .before .before .before .before .before .before .before .before .args .card) (c .before .before .before .before .before .before .before .before .before .before .before .before .before .before .before .before .before .before .before .before .args .left) (c .before .before .before .before .before .before .before .before .before .before .before .before .before .loop .k) (c .before .before .before .before .before .before .before .before .before .before .before .before .before .loop .inv .digits) (c .before .before .before .before .before .before .before .before .before .before .before .before .before .loop .inv .fields)) (c .before .before .before .before .before .before .before .before .before .before .before .before .loop-test .taken) (laws.runs-branch-lines (c .before .before .before .before .before .before .before .before .before .before .before .before .before .before .before .before .before .before .before .before .args .left) (c .before .before .before .before .before .before .before .before .before .before .before .before .before .before .before .before .before .before .before .before .args .card) (c .before .before .before .before .before .before .before .before .before .before .before .before .before .loop .k) (laws.steps-left (c .before .before .before .before .before .before .before .before .before .before .before .before .before .before .before .before .before .before .before .before .args .card) (c .before .before .before .before .before .before .before .before .before .before .before .before .before .before .before .before .before .before .before .before .args .left) (c .before .before .before .before .before .before .before .before .before .before .before .before .before .before .before .has-ended .ensures) (c .before .before .before .before .before .before .before .before .before .before .before .before .before .before .if1 .left)) (laws.turning-holds (laws.branches-series (c .before .before .before .before .before .before .before .before .before .before .before .before .before .before .before .before .before .before .before .before .args .card) (c .before .before .before .before .before .before .before .before .before .before .before .before .before .before .before .before .before .before .before .before .args .left) _ _) (c .before .before .before .before .before .before .before .before .before .before .before .before .before .before .before .before .before .before .before .before .args .card .processCount) (capacity (c .before .before .before .before .before .before .before .before .before .before .before .before .before .before .before .before .before .before .before .before .args .left - 1) (longest (c .before .before .before .before .before .before .before .before .before .before .before .before .before .before .before .before .before .before .before .before .args .left) (c .before .before .before .before .before .before .before .before .before .before .before .before .before .before .before .before .before .before .before .before .args .x) (c .before .before .before .before .before .before .before .before .before .before .before .before .before .before .before .before .before .before .before .before .args .y))) _ _ _ _ _ _ (c .before .before .before .before .before .before .before .before .before .before .before .before .before .loop .inv) (c .before .before .before .before .before .before .before .before .before .before .before .before .before .before .before .before .before .before .before .before .pre .1)) (arrays.rooms (c .before .before .before .before .before .before .before .before .before .before .before .before .before .before .before .before .before .before .before .before .args .card) _ (c .before .before .before .before .before .before .before .before .before .before .before .before .before .before .before .before .before .before .before .before .good .1 .1 .1 .0) .tasks) (running.limit-fits (c .before .before .before .before .before .before .before .before .before .before .before .before .before .before .before .before .before .before .before .before .args .card) _ (c .before .before .before .before .before .before .before .before .before .before .before .before .before .before .before .before .before .before .before .before .good .1 .1 .1 .0)) (c .before .before .before .before .before .before .before .before .before .before .before .before .loop-test .taken) (c .before .before .before .before .before .before .before .before .before .before .before .runs-on .ensures) (c .before .before .before .before .before .before .before .before .before .before .if2 .taken) (c .before .before .before .before .before .before .put-run .ensures)) (search needs) (search needs)
 
--- src/branches.rt:102:1
-put-after-same-length-7 : (t : ℕ) → put-after-lts.Need-same-length-7 (
+-- src/branches.rt:146:9
+put-after-put-branch-requires : (t : ℕ) → put-after-lts.Need-put-branch-requires (
   has-ended-reads.Asked,
   has-ended-reads.Learnt,
   put-line-reads.Asked,
   put-line-reads.Learnt,
-  put-lasts-reads.Asked,
-  put-lasts-reads.Learnt,
+  runs-on-reads.Asked,
+  runs-on-reads.Learnt,
+  put-run-reads.Asked,
+  put-run-reads.Learnt,
   put-branch-below t,
   put-branch.Post,
 ) (put-after-at t) put-after.Post put-after-Inv-loop put-after-μ-loop
-put-after-same-length-7 t c = rest-length (c .before .loop .inv .rest)
+put-after-put-branch-requires t c κs = (omega (arith, c .before .before .before .before .before .before .before .before .before .before .before .before .before .pre .0), ((laws.steps-left (c .before .before .before .before .before .before .before .before .before .before .before .before .before .args .card) (c .before .before .before .before .before .before .before .before .before .before .before .before .before .args .left) (c .before .before .before .before .before .before .before .before .has-ended .ensures) (c .before .before .before .before .before .before .before .if1 .left)), (laws.turning-holds (laws.branches-series (c .before .before .before .before .before .before .before .before .before .before .before .before .before .args .card) (c .before .before .before .before .before .before .before .before .before .before .before .before .before .args .left) _ _) (c .before .before .before .before .before .before .before .before .before .before .before .before .before .args .card .processCount) (capacity (c .before .before .before .before .before .before .before .before .before .before .before .before .before .args .left - 1) (longest (c .before .before .before .before .before .before .before .before .before .before .before .before .before .args .left) (c .before .before .before .before .before .before .before .before .before .before .before .before .before .args .x) (c .before .before .before .before .before .before .before .before .before .before .before .before .before .args .y))) _ _ _ _ _ _ (c .before .before .before .before .before .before .loop .inv) (c .before .before .before .before .before .before .before .before .before .before .before .before .before .pre .1))))
 
--- src/branches.rt:102:1
-put-after-same-length-8 : (t : ℕ) → put-after-lts.Need-same-length-8 (
+-- src/branches.rt:128:5
+put-after-loop-less-2 : (t : ℕ) → put-after-lts.Need-loop-less-2 (
   has-ended-reads.Asked,
   has-ended-reads.Learnt,
   put-line-reads.Asked,
   put-line-reads.Learnt,
-  put-lasts-reads.Asked,
-  put-lasts-reads.Learnt,
+  runs-on-reads.Asked,
+  runs-on-reads.Learnt,
+  put-run-reads.Asked,
+  put-run-reads.Learnt,
   put-branch-below t,
   put-branch.Post,
 ) (put-after-at t) put-after.Post put-after-Inv-loop put-after-μ-loop
-put-after-same-length-8 t c = c .before .loop .inv .digitsSize
+put-after-loop-less-2 t c = omega arith
 
--- src/branches.rt:102:1
-put-after-same-length-9 : (t : ℕ) → put-after-lts.Need-same-length-9 (
+-- src/branches.rt:128:5
+put-after-loop-again-2 : (t : ℕ) → put-after-lts.Need-loop-again-2 (
   has-ended-reads.Asked,
   has-ended-reads.Learnt,
   put-line-reads.Asked,
   put-line-reads.Learnt,
-  put-lasts-reads.Asked,
-  put-lasts-reads.Learnt,
+  runs-on-reads.Asked,
+  runs-on-reads.Learnt,
+  put-run-reads.Asked,
+  put-run-reads.Learnt,
   put-branch-below t,
   put-branch.Post,
 ) (put-after-at t) put-after.Post put-after-Inv-loop put-after-μ-loop
-put-after-same-length-9 t c = c .before .loop .inv .fieldsSize
+put-after-loop-again-2 t c = laws.turning-turn (laws.branches-series (c .before .before .before .before .before .before .before .before .before .before .before .before .before .before .before .before .before .before .before .before .args .card) (c .before .before .before .before .before .before .before .before .before .before .before .before .before .before .before .before .before .before .before .before .args .left) _ _) (c .before .before .before .before .before .before .before .before .before .before .before .before .before .before .before .before .before .before .before .before .args .card .processCount) (capacity (c .before .before .before .before .before .before .before .before .before .before .before .before .before .before .before .before .before .before .before .before .args .left - 1) (longest (c .before .before .before .before .before .before .before .before .before .before .before .before .before .before .before .before .before .before .before .before .args .left) (c .before .before .before .before .before .before .before .before .before .before .before .before .before .before .before .before .before .before .before .before .args .x) (c .before .before .before .before .before .before .before .before .before .before .before .before .before .before .before .before .before .before .before .before .args .y))) _ _ _ _ _ _ (c .before .before .before .before .before .before .before .before .before .before .before .before .before .loop .inv) (laws.branch-kept (c .before .before .before .before .before .before .before .before .before .before .before .before .before .before .before .before .before .before .before .before .args .card) (c .before .before .before .before .before .before .before .before .before .before .before .before .before .before .before .before .before .before .before .before .args .left) (c .before .before .before .before .before .before .before .before .before .before .before .before .before .loop .k) (c .before .before .before .before .before .before .before .before .before .before .before .before .before .loop .inv .digits) (c .before .before .before .before .before .before .before .before .before .before .before .before .before .loop .inv .fields)) (c .before .before .before .before .before .before .before .before .before .before .before .before .loop-test .taken) (c .before .before .before .before .before .before .put-branch .ensures) (search needs) (search needs)
 
--- src/branches.rt:102:1
-put-after-returns-3 : (t : ℕ) → put-after-lts.Need-returns-3 (
+-- src/branches.rt:105:1
+put-after-same-length-4 : (t : ℕ) → put-after-lts.Need-same-length-4 (
   has-ended-reads.Asked,
   has-ended-reads.Learnt,
   put-line-reads.Asked,
   put-line-reads.Learnt,
-  put-lasts-reads.Asked,
-  put-lasts-reads.Learnt,
+  runs-on-reads.Asked,
+  runs-on-reads.Learnt,
+  put-run-reads.Asked,
+  put-run-reads.Learnt,
   put-branch-below t,
   put-branch.Post,
 ) (put-after-at t) put-after.Post put-after-Inv-loop put-after-μ-loop
-put-after-returns-3 t c = laws.turning-end (c .before .before .before .before .before .before .before .before .before .args .card) (c .before .before .before .before .before .before .before .before .before .args .left) _ _ _ _ _ _ (c .before .loop .inv) (c .before .before .before .before .has-ended .ensures) (c .before .before .before .if1 .left) (c .before .before .before .before .before .before .before .before .before .pre .1 .few) (c .loop-test .left)
+put-after-same-length-4 t c = rest-length (c .before .loop .inv .rest)
 
--- src/branches.rt:90:9
+-- src/branches.rt:105:1
+put-after-same-length-5 : (t : ℕ) → put-after-lts.Need-same-length-5 (
+  has-ended-reads.Asked,
+  has-ended-reads.Learnt,
+  put-line-reads.Asked,
+  put-line-reads.Learnt,
+  runs-on-reads.Asked,
+  runs-on-reads.Learnt,
+  put-run-reads.Asked,
+  put-run-reads.Learnt,
+  put-branch-below t,
+  put-branch.Post,
+) (put-after-at t) put-after.Post put-after-Inv-loop put-after-μ-loop
+put-after-same-length-5 t c = c .before .loop .inv .digitsSize
+
+-- src/branches.rt:105:1
+put-after-same-length-6 : (t : ℕ) → put-after-lts.Need-same-length-6 (
+  has-ended-reads.Asked,
+  has-ended-reads.Learnt,
+  put-line-reads.Asked,
+  put-line-reads.Learnt,
+  runs-on-reads.Asked,
+  runs-on-reads.Learnt,
+  put-run-reads.Asked,
+  put-run-reads.Learnt,
+  put-branch-below t,
+  put-branch.Post,
+) (put-after-at t) put-after.Post put-after-Inv-loop put-after-μ-loop
+put-after-same-length-6 t c = c .before .loop .inv .fieldsSize
+
+-- src/branches.rt:105:1
+put-after-returns-2 : (t : ℕ) → put-after-lts.Need-returns-2 (
+  has-ended-reads.Asked,
+  has-ended-reads.Learnt,
+  put-line-reads.Asked,
+  put-line-reads.Learnt,
+  runs-on-reads.Asked,
+  runs-on-reads.Learnt,
+  put-run-reads.Asked,
+  put-run-reads.Learnt,
+  put-branch-below t,
+  put-branch.Post,
+) (put-after-at t) put-after.Post put-after-Inv-loop put-after-μ-loop
+put-after-returns-2 t c = laws.more-lines (c .before .before .before .before .before .before .before .before .args .card) (c .before .before .before .before .before .before .before .before .args .left) (c .before .before .before .has-ended .ensures) (c .before .before .if1 .left) (laws.turning-end (laws.branches-series (c .before .before .before .before .before .before .before .before .args .card) (c .before .before .before .before .before .before .before .before .args .left) _ _) (c .before .before .before .before .before .before .before .before .args .card .processCount) (capacity (c .before .before .before .before .before .before .before .before .args .left - 1) (longest (c .before .before .before .before .before .before .before .before .args .left) (c .before .before .before .before .before .before .before .before .args .x) (c .before .before .before .before .before .before .before .before .args .y))) _ _ _ _ _ _ (c .before .loop .inv) (c .before .before .before .before .before .before .before .before .pre .1 .few) (c .loop-test .left))
+
+-- src/branches.rt:92:9
 put-branch-step-requires : (t : ℕ) → put-branch-lts.Need-step-requires (
   step-reads.Asked,
   step-reads.Learnt,
@@ -379,7 +418,7 @@ put-branch-step-requires : (t : ℕ) → put-branch-lts.Need-step-requires (
 ) (put-branch-at t) put-branch.Post
 put-branch-step-requires t c κs = search needs
 
--- src/branches.rt:92:8
+-- src/branches.rt:94:8
 put-branch-is-refused-requires : (t : ℕ) → put-branch-lts.Need-is-refused-requires (
   step-reads.Asked,
   step-reads.Learnt,
@@ -394,7 +433,7 @@ put-branch-is-refused-requires : (t : ℕ) → put-branch-lts.Need-is-refused-re
 ) (put-branch-at t) put-branch.Post
 put-branch-is-refused-requires t c κs = search needs
 
--- src/branches.rt:93:9
+-- src/branches.rt:95:9
 put-branch-returns : (t : ℕ) → put-branch-lts.Need-returns (
   step-reads.Asked,
   step-reads.Learnt,
@@ -409,7 +448,7 @@ put-branch-returns : (t : ℕ) → put-branch-lts.Need-returns (
 ) (put-branch-at t) put-branch.Post
 put-branch-returns t c = laws.branch-refused (c .before .before .before .before .before .before .args .card) (c .before .before .before .before .before .before .args .k) (c .before .before .step .ensures) (c .before .is-refused .ensures) (λ d z w. textAfter (c .before .before .before .before .before .before .args .left - 1) d z w) (c .before .before .before .before .before .before .args .left - 1) (c .before .before .before .before .before .before .args .left) _ _ _ _ (c .if1 .taken) (omega arith)
 
--- src/branches.rt:95:9
+-- src/branches.rt:97:9
 put-branch-put-decimal-requires : (t : ℕ) → put-branch-lts.Need-put-decimal-requires (
   step-reads.Asked,
   step-reads.Learnt,
@@ -424,7 +463,7 @@ put-branch-put-decimal-requires : (t : ℕ) → put-branch-lts.Need-put-decimal-
 ) (put-branch-at t) put-branch.Post
 put-branch-put-decimal-requires t c κs = search needs
 
--- src/branches.rt:96:9
+-- src/branches.rt:98:9
 put-branch-put-answer-requires : (t : ℕ) → put-branch-lts.Need-put-answer-requires (
   step-reads.Asked,
   step-reads.Learnt,
@@ -439,7 +478,7 @@ put-branch-put-answer-requires : (t : ℕ) → put-branch-lts.Need-put-answer-re
 ) (put-branch-at t) put-branch.Post
 put-branch-put-answer-requires t c κs = search needs
 
--- src/branches.rt:98:27
+-- src/branches.rt:100:27
 put-branch-sub-put-after : (t : ℕ) → put-branch-lts.Need-sub-put-after (
   step-reads.Asked,
   step-reads.Learnt,
@@ -454,7 +493,7 @@ put-branch-sub-put-after : (t : ℕ) → put-branch-lts.Need-sub-put-after (
 ) (put-branch-at t) put-branch.Post
 put-branch-sub-put-after t c = omega (arith, c .before .before .before .before .before .before .before .before .before .before .before .before .before .before .before .before .pre .1 .0)
 
--- src/branches.rt:98:5
+-- src/branches.rt:100:5
 put-branch-put-after-requires : (t : ℕ) → put-branch-lts.Need-put-after-requires (
   step-reads.Asked,
   step-reads.Learnt,
@@ -469,7 +508,7 @@ put-branch-put-after-requires : (t : ℕ) → put-branch-lts.Need-put-after-requ
 ) (put-branch-at t) put-branch.Post
 put-branch-put-after-requires t c κs = (omega (arith, c .before .before .before .before .before .before .before .before .before .before .before .before .before .before .before .before .before .before .pre .0, c .before .before .before .before .before .before .before .before .before .before .before .before .before .before .before .before .before .before .pre .1 .0), laws.branch-holds (c .before .before .before .before .before .before .before .before .before .before .before .before .before .before .before .before .before .before .args .card) (c .before .before .before .before .before .before .before .before .before .before .before .before .before .before .before .before .before .before .args .k) (c .before .before .before .before .before .before .before .before .before .before .before .before .before .before .step .ensures) (c .before .before .before .before .before .before .before .before .before .before .before .before .before .is-refused .ensures) (λ d z w. textAfter (c .before .before .before .before .before .before .before .before .before .before .before .before .before .before .before .before .before .before .args .left - 1) d z w) (c .before .before .before .before .before .before .before .before .before .before .before .before .before .before .before .before .before .before .args .left - 1) (c .before .before .before .before .before .before .before .before .before .before .before .before .before .before .before .before .before .before .args .left) _ _ _ _ (c .before .before .before .before .before .before .before .before .before .before .before .before .before .before .before .before .before .before .pre .1 .1) (c .before .before .before .before .before .before .before .before .before .before .before .before .before .before .before .before .before .before .pre .1 .0) (c .before .before .before .before .before .before .before .before .before .before .before .before .if1 .left) (c .before .before .before .before .before .before .before .before .before .before .put-decimal .ensures) (c .before .before .before .before .before .before .put-answer .ensures .0) (c .before .before .before .before .before .before .put-answer .ensures .1) refl)
 
--- src/branches.rt:72:1
+-- src/branches.rt:74:1
 put-branch-same-length : (t : ℕ) → put-branch-lts.Need-same-length (
   step-reads.Asked,
   step-reads.Learnt,
@@ -484,7 +523,7 @@ put-branch-same-length : (t : ℕ) → put-branch-lts.Need-same-length (
 ) (put-branch-at t) put-branch.Post
 put-branch-same-length t c = search needs
 
--- src/branches.rt:72:1
+-- src/branches.rt:74:1
 put-branch-same-length-2 : (t : ℕ) → put-branch-lts.Need-same-length-2 (
   step-reads.Asked,
   step-reads.Learnt,
@@ -499,7 +538,7 @@ put-branch-same-length-2 : (t : ℕ) → put-branch-lts.Need-same-length-2 (
 ) (put-branch-at t) put-branch.Post
 put-branch-same-length-2 t c = search needs
 
--- src/branches.rt:72:1
+-- src/branches.rt:74:1
 put-branch-same-length-3 : (t : ℕ) → put-branch-lts.Need-same-length-3 (
   step-reads.Asked,
   step-reads.Learnt,
@@ -514,7 +553,7 @@ put-branch-same-length-3 : (t : ℕ) → put-branch-lts.Need-same-length-3 (
 ) (put-branch-at t) put-branch.Post
 put-branch-same-length-3 t c = search needs
 
--- src/branches.rt:72:1
+-- src/branches.rt:74:1
 put-branch-returns-2 : (t : ℕ) → put-branch-lts.Need-returns-2 (
   step-reads.Asked,
   step-reads.Learnt,
@@ -535,8 +574,10 @@ pub +put-after+put-branch-spec : {M : Type 1} → statement M
   has-ended-reads.Learnt,
   put-line-reads.Asked,
   put-line-reads.Learnt,
-  put-lasts-reads.Asked,
-  put-lasts-reads.Learnt,
+  runs-on-reads.Asked,
+  runs-on-reads.Learnt,
+  put-run-reads.Asked,
+  put-run-reads.Learnt,
   put-branch-below t,
   put-branch.Post,
 )
@@ -554,20 +595,19 @@ pub +put-after+put-branch-spec : {M : Type 1} → statement M
     (put-after-same-length-2 t)
     (put-after-same-length-3 t)
     (put-after-returns t)
-    (put-after-put-lasts-requires t)
+    (put-after-loop-holds t)
+    (put-after-add-k t)
+    (put-after-runs-on-requires t)
+    (put-after-put-run-requires t)
+    (put-after-loop-less t)
+    (put-after-loop-again t)
+    (put-after-put-branch-requires t)
+    (put-after-loop-less-2 t)
+    (put-after-loop-again-2 t)
     (put-after-same-length-4 t)
     (put-after-same-length-5 t)
     (put-after-same-length-6 t)
-    (put-after-returns-2 t)
-    (put-after-loop-holds t)
-    (put-after-put-branch-requires t)
-    (put-after-add-k t)
-    (put-after-loop-less t)
-    (put-after-loop-again t)
-    (put-after-same-length-7 t)
-    (put-after-same-length-8 t)
-    (put-after-same-length-9 t)
-    (put-after-returns-3 t))
+    (put-after-returns-2 t))
     λ t. put-branch-lts.spec (
       step-reads.Asked,
       step-reads.Learnt,

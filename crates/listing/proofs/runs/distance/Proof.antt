@@ -1,9 +1,9 @@
 use borrow.Author.Needs.{needs}
-use Rattle.listing.proofs.lasts.runs_on.Statement.{statement}
-use Rattle.listing.proofs.lasts.runs_on.Tie as tie
+use Rattle.listing.proofs.runs.distance.Statement.{statement}
+use Rattle.listing.proofs.runs.distance.Tie as tie
 
-pub runs-on-spec : {M : Type 1} → statement M
-runs-on-spec =
+pub distance-spec : {M : Type 1} → statement M
+distance-spec =
     tie.close
     (tie.spec
     (λ c. search needs)

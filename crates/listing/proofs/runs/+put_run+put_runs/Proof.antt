@@ -1,0 +1,388 @@
+use borrow.Author.Needs.{needs}
+use native.Mathlib.Omega.{arith}
+use Rattle.listing.specs.Prefixes.{longest, capacity}
+use lib.ListN.{take, length-take}
+use Rattle.grammar.proofs.Puts.{rest-length}
+use Rattle.listing.proofs.Recursion as laws
+use Prim.Native.Nat.{ℕ, _+_, _*_, _-_, _<_}
+use borrow.Fn.Kinds.{In}
+use borrow.Fn.PlainCycle.{Measures, is, falls, and}
+use Rattle.listing.proofs.runs.put_run.Reads as put-run
+use Rattle.listing.proofs.runs.put_run.Kinds as put-run-kinds
+use Rattle.listing.proofs.runs.+put_run+put_runs.Lts-put_run as put-run-lts
+use Rattle.listing.proofs.runs.put_runs.Reads as put-runs
+use Rattle.listing.proofs.runs.put_runs.Kinds as put-runs-kinds
+use Rattle.listing.proofs.runs.+put_run+put_runs.Lts-put_runs as put-runs-lts
+use Rattle.answers.proofs.put_answer.Reads as put-answer-reads
+use Rattle.grammar.proofs.writing.put_decimal.Reads as put-decimal-reads
+use Rattle.listing.proofs.branches.is_idle_at.Reads as is-idle-at-reads
+use Rattle.listing.proofs.branches.put_line.Reads as put-line-reads
+use Rattle.listing.proofs.runs.+put_run+put_runs.{statement}
+use Rattle.listing.proofs.runs.+put_run+put_runs.Tie.{close}
+
+abbrev μ-put-run : Measures 3 put-run-kinds.ps ℕ
+μ-put-run κs a = 2 * a .1 .1 .0
+
+abbrev μ-put-runs : Measures 3 put-runs-kinds.ps ℕ
+μ-put-runs κs a = 2 * a .1 .1 .0 + 1
+
+abbrev put-run-at : ℕ → In 3 put-run-kinds.ps
+put-run-at t = and 3 put-run-kinds.ps (is 3 put-run-kinds.ps μ-put-run t) put-run.Pre
+
+abbrev put-run-below : ℕ → In 3 put-run-kinds.ps
+put-run-below t = and 3 put-run-kinds.ps (falls 3 put-run-kinds.ps _<_ μ-put-run t) put-run.Pre
+
+abbrev put-runs-at : ℕ → In 3 put-runs-kinds.ps
+put-runs-at t = and 3 put-runs-kinds.ps (is 3 put-runs-kinds.ps μ-put-runs t) put-runs.Pre
+
+abbrev put-runs-below : ℕ → In 3 put-runs-kinds.ps
+put-runs-below t =
+    and 3 put-runs-kinds.ps (falls 3 put-runs-kinds.ps _<_ μ-put-runs t) put-runs.Pre
+
+-- src/runs.rt:127:8
+put-run-is-idle-at-requires : (t : ℕ) → put-run-lts.Need-is-idle-at-requires (
+  is-idle-at-reads.Asked,
+  is-idle-at-reads.Learnt,
+  put-decimal-reads.Asked,
+  put-decimal-reads.Learnt,
+  put-answer-reads.Asked,
+  put-answer-reads.Learnt,
+  put-runs-below t,
+  put-runs.Post,
+) (put-run-at t) put-run.Post
+put-run-is-idle-at-requires t c κs = search needs
+
+-- src/runs.rt:128:9
+put-run-returns : (t : ℕ) → put-run-lts.Need-returns (
+  is-idle-at-reads.Asked,
+  is-idle-at-reads.Learnt,
+  put-decimal-reads.Asked,
+  put-decimal-reads.Learnt,
+  put-answer-reads.Asked,
+  put-answer-reads.Learnt,
+  put-runs-below t,
+  put-runs.Post,
+) (put-run-at t) put-run.Post
+put-run-returns t c = laws.run-idle (c .before .before .before .before .before .args .tasks) (c .before .before .before .before .before .args .k) (c .before .before .before .before .before .args .left) (c .before .before .before .before .before .args .count) _ _ _ _ (c .before .is-idle-at .ensures) (c .if1 .taken) (omega arith)
+
+-- src/runs.rt:130:9
+put-run-put-decimal-requires : (t : ℕ) → put-run-lts.Need-put-decimal-requires (
+  is-idle-at-reads.Asked,
+  is-idle-at-reads.Learnt,
+  put-decimal-reads.Asked,
+  put-decimal-reads.Learnt,
+  put-answer-reads.Asked,
+  put-answer-reads.Learnt,
+  put-runs-below t,
+  put-runs.Post,
+) (put-run-at t) put-run.Post
+put-run-put-decimal-requires t c κs = search needs
+
+-- src/runs.rt:131:9
+put-run-put-answer-requires : (t : ℕ) → put-run-lts.Need-put-answer-requires (
+  is-idle-at-reads.Asked,
+  is-idle-at-reads.Learnt,
+  put-decimal-reads.Asked,
+  put-decimal-reads.Learnt,
+  put-answer-reads.Asked,
+  put-answer-reads.Learnt,
+  put-runs-below t,
+  put-runs.Post,
+) (put-run-at t) put-run.Post
+put-run-put-answer-requires t c κs = search needs
+
+-- src/runs.rt:132:26
+put-run-sub-put-runs : (t : ℕ) → put-run-lts.Need-sub-put-runs (
+  is-idle-at-reads.Asked,
+  is-idle-at-reads.Learnt,
+  put-decimal-reads.Asked,
+  put-decimal-reads.Learnt,
+  put-answer-reads.Asked,
+  put-answer-reads.Learnt,
+  put-runs-below t,
+  put-runs.Post,
+) (put-run-at t) put-run.Post
+put-run-sub-put-runs t c = omega (arith, c .before .before .before .before .before .before .before .before .before .before .before .before .before .before .pre .1 .0)
+
+-- src/runs.rt:132:5
+put-run-put-runs-requires : (t : ℕ) → put-run-lts.Need-put-runs-requires (
+  is-idle-at-reads.Asked,
+  is-idle-at-reads.Learnt,
+  put-decimal-reads.Asked,
+  put-decimal-reads.Learnt,
+  put-answer-reads.Asked,
+  put-answer-reads.Learnt,
+  put-runs-below t,
+  put-runs.Post,
+) (put-run-at t) put-run.Post
+put-run-put-runs-requires t c κs = (omega (arith, c .before .before .before .before .before .before .before .before .before .before .before .before .before .before .before .before .pre .0, c .before .before .before .before .before .before .before .before .before .before .before .before .before .before .before .before .pre .1 .0), laws.run-holds (c .before .before .before .before .before .before .before .before .before .before .before .before .before .before .before .before .args .tasks) (c .before .before .before .before .before .before .before .before .before .before .before .before .before .before .before .before .args .k) (c .before .before .before .before .before .before .before .before .before .before .before .before .before .before .before .before .args .left) (c .before .before .before .before .before .before .before .before .before .before .before .before .before .before .before .before .args .count) _ _ _ _ (c .before .before .before .before .before .before .before .before .before .before .before .before .is-idle-at .ensures) (c .before .before .before .before .before .before .before .before .before .before .before .before .before .before .before .before .pre .1 .2) (c .before .before .before .before .before .before .before .before .before .before .before .before .before .before .before .before .pre .1 .1) (c .before .before .before .before .before .before .before .before .before .before .before .before .before .before .before .before .pre .1 .0) (c .before .before .before .before .before .before .before .before .before .before .before .if1 .left) (c .before .before .before .before .before .before .before .before .before .put-decimal .ensures) (c .before .before .before .before .before .put-answer .ensures .0) (c .before .before .before .before .before .put-answer .ensures .1))
+
+-- src/runs.rt:108:1
+put-run-same-length : (t : ℕ) → put-run-lts.Need-same-length (
+  is-idle-at-reads.Asked,
+  is-idle-at-reads.Learnt,
+  put-decimal-reads.Asked,
+  put-decimal-reads.Learnt,
+  put-answer-reads.Asked,
+  put-answer-reads.Learnt,
+  put-runs-below t,
+  put-runs.Post,
+) (put-run-at t) put-run.Post
+put-run-same-length t c = search needs
+
+-- src/runs.rt:108:1
+put-run-same-length-2 : (t : ℕ) → put-run-lts.Need-same-length-2 (
+  is-idle-at-reads.Asked,
+  is-idle-at-reads.Learnt,
+  put-decimal-reads.Asked,
+  put-decimal-reads.Learnt,
+  put-answer-reads.Asked,
+  put-answer-reads.Learnt,
+  put-runs-below t,
+  put-runs.Post,
+) (put-run-at t) put-run.Post
+put-run-same-length-2 t c = search needs
+
+-- src/runs.rt:108:1
+put-run-same-length-3 : (t : ℕ) → put-run-lts.Need-same-length-3 (
+  is-idle-at-reads.Asked,
+  is-idle-at-reads.Learnt,
+  put-decimal-reads.Asked,
+  put-decimal-reads.Learnt,
+  put-answer-reads.Asked,
+  put-answer-reads.Learnt,
+  put-runs-below t,
+  put-runs.Post,
+) (put-run-at t) put-run.Post
+put-run-same-length-3 t c = search needs
+
+-- src/runs.rt:108:1
+put-run-returns-2 : (t : ℕ) → put-run-lts.Need-returns-2 (
+  is-idle-at-reads.Asked,
+  is-idle-at-reads.Learnt,
+  put-decimal-reads.Asked,
+  put-decimal-reads.Learnt,
+  put-answer-reads.Asked,
+  put-answer-reads.Learnt,
+  put-runs-below t,
+  put-runs.Post,
+) (put-run-at t) put-run.Post
+put-run-returns-2 t c = laws.run-busy (c .before .before .before .before .before .before .before .before .before .before .before .before .before .before .before .before .before .before .before .before .before .before .before .args .tasks) (c .before .before .before .before .before .before .before .before .before .before .before .before .before .before .before .before .before .before .before .before .before .before .before .args .k) (c .before .before .before .before .before .before .before .before .before .before .before .before .before .before .before .before .before .before .before .before .before .before .before .args .left) (c .before .before .before .before .before .before .before .before .before .before .before .before .before .before .before .before .before .before .before .before .before .before .before .args .count) _ _ _ _ (c .before .before .before .before .before .before .before .before .before .before .before .before .before .before .before .before .before .before .before .is-idle-at .ensures) (c .before .before .before .before .before .before .before .before .before .before .before .before .before .before .before .before .before .before .before .before .before .before .before .pre .1 .2) (c .before .before .before .before .before .before .before .before .before .before .before .before .before .before .before .before .before .before .before .before .before .before .before .pre .1 .1) (c .before .before .before .before .before .before .before .before .before .before .before .before .before .before .before .before .before .before .before .before .before .before .before .pre .1 .0) (c .before .before .before .before .before .before .before .before .before .before .before .before .before .before .before .before .before .before .if1 .left) (c .before .before .before .before .before .before .before .before .before .before .before .before .before .before .before .before .put-decimal .ensures) (c .before .before .before .before .before .before .before .before .before .before .before .before .put-answer .ensures .0) (c .before .before .before .before .before .before .before .before .before .before .before .before .put-answer .ensures .1) (c .before .before .before .before .before .before .put-runs .ensures)
+
+abbrev put-runs-Inv-loop : put-runs-lts.InvT-loop
+put-runs-Inv-loop buffer₀ at left tasks count numbers₀ x answers₀ y i₀ k₀ buffer numbers answers i k =
+    laws.Turning (laws.runsOf left tasks count (take x numbers₀) (take y answers₀)) count (capacity (left - 1) (longest left x y)) buffer₀ at numbers₀ x answers₀ y buffer i k numbers answers
+
+abbrev put-runs-μ-loop : put-runs-lts.MeasureT-loop
+put-runs-μ-loop buffer₀ at left tasks count numbers₀ x answers₀ y i₀ k₀ buffer numbers answers i k = count - k
+
+-- src/runs.rt:154:37
+put-runs-slice-reshare-prefix-put-line : (t : ℕ) → put-runs-lts.Need-slice-reshare-prefix-put-line (
+  put-line-reads.Asked,
+  put-line-reads.Learnt,
+  put-run-below t,
+  put-run.Post,
+) (put-runs-at t) put-runs.Post put-runs-Inv-loop put-runs-μ-loop
+put-runs-slice-reshare-prefix-put-line t c = omega (arith, c .before .before .before .before .before .pre .1 .digits)
+
+-- src/runs.rt:154:37
+put-runs-slice-aggregate-put-line : (t : ℕ) → put-runs-lts.Need-slice-aggregate-put-line (
+  put-line-reads.Asked,
+  put-line-reads.Learnt,
+  put-run-below t,
+  put-run.Post,
+) (put-runs-at t) put-runs.Post put-runs-Inv-loop put-runs-μ-loop
+put-runs-slice-aggregate-put-line t c = simp length-take (omega (arith, c .before .before .before .before .before .before .pre .1 .digits))
+
+-- src/runs.rt:154:52
+put-runs-slice-reshare-prefix-put-line-2 :
+    (t : ℕ) → put-runs-lts.Need-slice-reshare-prefix-put-line-2 (
+      put-line-reads.Asked,
+      put-line-reads.Learnt,
+      put-run-below t,
+      put-run.Post,
+    ) (put-runs-at t) put-runs.Post put-runs-Inv-loop put-runs-μ-loop
+put-runs-slice-reshare-prefix-put-line-2 t c = omega (arith, c .before .before .before .before .before .before .pre .1 .fields)
+
+-- src/runs.rt:154:52
+put-runs-slice-aggregate-put-line-2 : (t : ℕ) → put-runs-lts.Need-slice-aggregate-put-line-2 (
+  put-line-reads.Asked,
+  put-line-reads.Learnt,
+  put-run-below t,
+  put-run.Post,
+) (put-runs-at t) put-runs.Post put-runs-Inv-loop put-runs-μ-loop
+put-runs-slice-aggregate-put-line-2 t c = simp length-take (omega (arith, c .before .before .before .before .before .before .before .pre .1 .fields))
+
+-- src/runs.rt:154:9
+put-runs-put-line-requires : (t : ℕ) → put-runs-lts.Need-put-line-requires (
+  put-line-reads.Asked,
+  put-line-reads.Learnt,
+  put-run-below t,
+  put-run.Post,
+) (put-runs-at t) put-runs.Post put-runs-Inv-loop put-runs-μ-loop
+put-runs-put-line-requires t c κs = search needs
+
+-- src/runs.rt:154:9
+put-runs-same-length : (t : ℕ) → put-runs-lts.Need-same-length (
+  put-line-reads.Asked,
+  put-line-reads.Learnt,
+  put-run-below t,
+  put-run.Post,
+) (put-runs-at t) put-runs.Post put-runs-Inv-loop put-runs-μ-loop
+put-runs-same-length t c = search needs
+
+-- src/runs.rt:154:9
+put-runs-same-length-2 : (t : ℕ) → put-runs-lts.Need-same-length-2 (
+  put-line-reads.Asked,
+  put-line-reads.Learnt,
+  put-run-below t,
+  put-run.Post,
+) (put-runs-at t) put-runs.Post put-runs-Inv-loop put-runs-μ-loop
+put-runs-same-length-2 t c = search needs
+
+-- src/runs.rt:154:9
+put-runs-same-length-3 : (t : ℕ) → put-runs-lts.Need-same-length-3 (
+  put-line-reads.Asked,
+  put-line-reads.Learnt,
+  put-run-below t,
+  put-run.Post,
+) (put-runs-at t) put-runs.Post put-runs-Inv-loop put-runs-μ-loop
+put-runs-same-length-3 t c = search needs
+
+-- src/runs.rt:154:9
+put-runs-returns : (t : ℕ) → put-runs-lts.Need-returns (
+  put-line-reads.Asked,
+  put-line-reads.Learnt,
+  put-run-below t,
+  put-run.Post,
+) (put-runs-at t) put-runs.Post put-runs-Inv-loop put-runs-μ-loop
+put-runs-returns t c = laws.runs-line (c .before .before .before .before .before .before .before .before .before .before .args .left) (c .before .before .before .before .before .before .before .before .before .before .args .tasks) (c .before .before .before .before .before .before .before .before .before .before .args .count) _ _ _ _ (c .before .before .before .before .before .before .if1 .taken) (c .before .before .put-line .ensures)
+
+-- src/runs.rt:158:5
+put-runs-loop-holds : (t : ℕ) → put-runs-lts.Need-loop-holds (
+  put-line-reads.Asked,
+  put-line-reads.Learnt,
+  put-run-below t,
+  put-run.Post,
+) (put-runs-at t) put-runs.Post put-runs-Inv-loop put-runs-μ-loop
+put-runs-loop-holds t c = laws.turning-begin (laws.runs-series (c .before .before .before .before .args .left) (c .before .before .before .before .args .tasks) (c .before .before .before .before .args .count) _ _) (c .before .before .before .before .args .count) (capacity (c .before .before .before .before .args .left - 1) (longest (c .before .before .before .before .args .left) (c .before .before .before .before .args .x) (c .before .before .before .before .args .y))) _ _ _ _ _ _ (omega arith)
+
+-- src/runs.rt:159:9
+put-runs-put-run-requires : (t : ℕ) → put-runs-lts.Need-put-run-requires (
+  put-line-reads.Asked,
+  put-line-reads.Learnt,
+  put-run-below t,
+  put-run.Post,
+) (put-runs-at t) put-runs.Post put-runs-Inv-loop put-runs-μ-loop
+put-runs-put-run-requires t c κs = (omega (arith, c .before .before .before .before .before .before .before .before .before .pre .0), (omega arith, c .before .before .before .loop-test .taken, laws.turning-holds (laws.runs-series (c .before .before .before .before .before .before .before .before .before .args .left) (c .before .before .before .before .before .before .before .before .before .args .tasks) (c .before .before .before .before .before .before .before .before .before .args .count) _ _) (c .before .before .before .before .before .before .before .before .before .args .count) (capacity (c .before .before .before .before .before .before .before .before .before .args .left - 1) (longest (c .before .before .before .before .before .before .before .before .before .args .left) (c .before .before .before .before .before .before .before .before .before .args .x) (c .before .before .before .before .before .before .before .before .before .args .y))) _ _ _ _ _ _ (c .before .before .before .before .loop .inv) (c .before .before .before .before .before .before .before .before .before .pre .1)))
+
+-- src/runs.rt:160:13
+put-runs-add-k : (t : ℕ) → put-runs-lts.Need-add-k (
+  put-line-reads.Asked,
+  put-line-reads.Learnt,
+  put-run-below t,
+  put-run.Post,
+) (put-runs-at t) put-runs.Post put-runs-Inv-loop put-runs-μ-loop
+put-runs-add-k t c = search needs
+
+-- src/runs.rt:158:5
+put-runs-loop-less : (t : ℕ) → put-runs-lts.Need-loop-less (
+  put-line-reads.Asked,
+  put-line-reads.Learnt,
+  put-run-below t,
+  put-run.Post,
+) (put-runs-at t) put-runs.Post put-runs-Inv-loop put-runs-μ-loop
+put-runs-loop-less t c = omega arith
+
+-- src/runs.rt:158:5
+put-runs-loop-again : (t : ℕ) → put-runs-lts.Need-loop-again (
+  put-line-reads.Asked,
+  put-line-reads.Learnt,
+  put-run-below t,
+  put-run.Post,
+) (put-runs-at t) put-runs.Post put-runs-Inv-loop put-runs-μ-loop
+put-runs-loop-again t c = laws.turning-turn (laws.runs-series (c .before .before .before .before .before .before .before .before .before .before .before .before .before .before .before .before .args .left) (c .before .before .before .before .before .before .before .before .before .before .before .before .before .before .before .before .args .tasks) (c .before .before .before .before .before .before .before .before .before .before .before .before .before .before .before .before .args .count) _ _) (c .before .before .before .before .before .before .before .before .before .before .before .before .before .before .before .before .args .count) (capacity (c .before .before .before .before .before .before .before .before .before .before .before .before .before .before .before .before .args .left - 1) (longest (c .before .before .before .before .before .before .before .before .before .before .before .before .before .before .before .before .args .left) (c .before .before .before .before .before .before .before .before .before .before .before .before .before .before .before .before .args .x) (c .before .before .before .before .before .before .before .before .before .before .before .before .before .before .before .before .args .y))) _ _ _ _ _ _ (c .before .before .before .before .before .before .before .before .before .before .before .loop .inv) (laws.run-kept (c .before .before .before .before .before .before .before .before .before .before .before .before .before .before .before .before .args .left) (c .before .before .before .before .before .before .before .before .before .before .before .before .before .before .before .before .args .tasks) (c .before .before .before .before .before .before .before .before .before .before .before .before .before .before .before .before .args .count) (c .before .before .before .before .before .before .before .before .before .before .before .loop .k) (c .before .before .before .before .before .before .before .before .before .before .before .loop .inv .digits) (c .before .before .before .before .before .before .before .before .before .before .before .loop .inv .fields)) (c .before .before .before .before .before .before .before .before .before .before .loop-test .taken) (c .before .before .before .before .before .before .put-run .ensures) (search needs) (search needs)
+
+-- src/runs.rt:136:1
+put-runs-same-length-4 : (t : ℕ) → put-runs-lts.Need-same-length-4 (
+  put-line-reads.Asked,
+  put-line-reads.Learnt,
+  put-run-below t,
+  put-run.Post,
+) (put-runs-at t) put-runs.Post put-runs-Inv-loop put-runs-μ-loop
+put-runs-same-length-4 t c = rest-length (c .before .loop .inv .rest)
+
+-- src/runs.rt:136:1
+put-runs-same-length-5 : (t : ℕ) → put-runs-lts.Need-same-length-5 (
+  put-line-reads.Asked,
+  put-line-reads.Learnt,
+  put-run-below t,
+  put-run.Post,
+) (put-runs-at t) put-runs.Post put-runs-Inv-loop put-runs-μ-loop
+put-runs-same-length-5 t c = c .before .loop .inv .digitsSize
+
+-- src/runs.rt:136:1
+put-runs-same-length-6 : (t : ℕ) → put-runs-lts.Need-same-length-6 (
+  put-line-reads.Asked,
+  put-line-reads.Learnt,
+  put-run-below t,
+  put-run.Post,
+) (put-runs-at t) put-runs.Post put-runs-Inv-loop put-runs-μ-loop
+put-runs-same-length-6 t c = c .before .loop .inv .fieldsSize
+
+-- src/runs.rt:136:1
+put-runs-returns-2 : (t : ℕ) → put-runs-lts.Need-returns-2 (
+  put-line-reads.Asked,
+  put-line-reads.Learnt,
+  put-run-below t,
+  put-run.Post,
+) (put-runs-at t) put-runs.Post put-runs-Inv-loop put-runs-μ-loop
+put-runs-returns-2 t c = laws.runs-lines (c .before .before .before .before .before .before .args .left) (c .before .before .before .before .before .before .args .tasks) (c .before .before .before .before .before .before .args .count) (c .before .before .if1 .left) (laws.turning-end (laws.runs-series (c .before .before .before .before .before .before .args .left) (c .before .before .before .before .before .before .args .tasks) (c .before .before .before .before .before .before .args .count) _ _) (c .before .before .before .before .before .before .args .count) (capacity (c .before .before .before .before .before .before .args .left - 1) (longest (c .before .before .before .before .before .before .args .left) (c .before .before .before .before .before .before .args .x) (c .before .before .before .before .before .before .args .y))) _ _ _ _ _ _ (c .before .loop .inv) (c .before .before .before .before .before .before .pre .1 .few) (c .loop-test .left))
+
+pub +put-run+put-runs-spec : {M : Type 1} → statement M
++put-run+put-runs-spec = close μ-put-run μ-put-runs (λ t. put-run-lts.spec (
+  is-idle-at-reads.Asked,
+  is-idle-at-reads.Learnt,
+  put-decimal-reads.Asked,
+  put-decimal-reads.Learnt,
+  put-answer-reads.Asked,
+  put-answer-reads.Learnt,
+  put-runs-below t,
+  put-runs.Post,
+)
+    (put-run-at t)
+    put-run.Post
+    (put-run-is-idle-at-requires t)
+    (put-run-returns t)
+    (put-run-put-decimal-requires t)
+    (put-run-put-answer-requires t)
+    (put-run-sub-put-runs t)
+    (put-run-put-runs-requires t)
+    (put-run-same-length t)
+    (put-run-same-length-2 t)
+    (put-run-same-length-3 t)
+    (put-run-returns-2 t))
+    λ t. put-runs-lts.spec
+    (put-line-reads.Asked, put-line-reads.Learnt, put-run-below t, put-run.Post)
+    (put-runs-at t)
+    put-runs.Post
+    put-runs-Inv-loop
+    put-runs-μ-loop
+    (put-runs-slice-reshare-prefix-put-line t)
+    (put-runs-slice-aggregate-put-line t)
+    (put-runs-slice-reshare-prefix-put-line-2 t)
+    (put-runs-slice-aggregate-put-line-2 t)
+    (put-runs-put-line-requires t)
+    (put-runs-same-length t)
+    (put-runs-same-length-2 t)
+    (put-runs-same-length-3 t)
+    (put-runs-returns t)
+    (put-runs-loop-holds t)
+    (put-runs-put-run-requires t)
+    (put-runs-add-k t)
+    (put-runs-loop-less t)
+    (put-runs-loop-again t)
+    (put-runs-same-length-4 t)
+    (put-runs-same-length-5 t)
+    (put-runs-same-length-6 t)
+    (put-runs-returns-2 t)

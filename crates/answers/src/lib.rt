@@ -43,6 +43,8 @@ pub fn number_of(refusal: Refusal) -> u64
         Refusal::NotAhead => 15,
         Refusal::Unsettled => 16,
         Refusal::TooLarge => 17,
+        Refusal::BadTerms => 18,
+        Refusal::NoAllowance => 19,
     }
 }
 

@@ -10,10 +10,15 @@ use native.Mathlib.Omega.{arith}
 use borrow.Author.Tests.{lt-ltb, le-ltb, ltb-true}
 use Rattle.grammar.specs.declared.Number.{Number}
 use Rattle.grammar.specs.Reading.{field, hasWord}
-use Rattle.grammar.proofs.Cases.{on-test}
+use Rattle.grammar.proofs.Cases.{clash, on-test}
 use Rattle.grammar.proofs.Fields.{field-within}
-use Rattle.commands.specs.declared.{Command.Command, Parsed.Parsed}
-use Rattle.commands.specs.Commands.{callWord, wishWord, stepWord, lookWord, traceWord, changeWord, lineEnd, linesEnd, malformed, limited, word, withWord, callAt, numbered, changeAt, Inside, command, commandsFrom, commands}
+use Rattle.commands.specs.declared.{Word.Word, Verb.Verb, Found.Found, Command.Command, Parsed.Parsed}
+use Rattle.commands.specs.Commands.{callWord, wishWord, stepWord, lookWord, traceWord, changeWord, lineEnd, linesEnd, malformed, limited, word, withWord, callAt, changeAt, Inside, found, fieldsAt, command, commandsFrom, commands}
+
+-- the place past a field, 0 where there is none
+abbrev nextOf : Word → ℕ
+nextOf (Word.Value v i) = i
+nextOf Word.Malformed = 0
 
 -- ---- a command ends past its place
 end-past : (xs : List ℕ) (at : ℕ) → at ≤ lineEnd at xs
@@ -23,7 +28,7 @@ end-past (x ∷ xs) at =
     let h = end-past xs (suc at) in
     on-test (λ (n : ℕ). at ≤ n) (eqb x 10) (λ e. omega arith) (λ e. omega arith)
 
-line-past : (t : List ℕ) (at : ℕ) → at < length t → at < malformed t at .next
+pub line-past : (t : List ℕ) (at : ℕ) → at < length t → at < malformed t at .next
 unfolding lineEnd
 line-past t at h =
     rw (drop-cons t at 0 h)
@@ -62,28 +67,64 @@ on-word P t {m} p s at {go} f = by (field t s at) refl
         on-test (λ w. P (withWord w m go)) (ltb v 4294967296) (λ _. let l = field-within t s at v i e in f v i (l .0) (l .1)) (λ _. p)
     by Number.Malformed e = p
 
+-- a field of 32 bits ends past its place
+pub word-past : (t : List ℕ) (s at : ℕ) {v i : ℕ} → word t s at ≡ Word.Value v i → at < i
+unfolding word
+word-past t s at {v} {i} e = by (field t s at) refl e
+  where
+    by : (n : Number) → field t s at ≡ n → limited n ≡ Word.Value v i → at < i
+    by (Number.Value w j) f h = on-limit (ltb w 4294967296) h
+      where
+        on-limit : (b : Bool) → cond b (Word.Value w j) Word.Malformed ≡ Word.Value v i → at < i
+        on-limit true k = rw (← ap nextOf k) (field-within t s at w j f .0)
+        on-limit false k = clash (cc)
+    by Number.Malformed f h = clash (cc)
+
+-- the fields of a command end past the place of its line
+pub fields-past : (t : List ℕ) (v : Verb) (line at : ℕ) → line < length t → line ≤ at → line < fieldsAt t v line at .next
+unfolding fieldsAt callAt changeAt
+fields-past t v line at h p = go v
+  where
+    P : Parsed → Type 0
+    P m = line < m .next
+
+    l : P (malformed t line)
+    l = line-past t line h
+
+    go : (v : Verb) → P (fieldsAt t v line at)
+    go Verb.Call =
+        on-word P t l 44 at
+        (λ _ i a _. on-word P t l 44 i
+        (λ _ j b _. on-word P t l 44 j
+        (λ _ k c _. on-word P t l 44 k
+        (λ _ n d _. on-word P t l 44 n
+        (λ _ o e _. on-word P t l 10 o (λ _ q f _. omega arith))))))
+    go Verb.Exit = on-word P t l 10 at (λ v i g _. omega arith)
+    go Verb.Step = on-word P t l 10 at (λ v i g _. omega arith)
+    go Verb.Trace = on-word P t l 10 at (λ v i g _. omega arith)
+    go Verb.Read = on-word P t l 10 at (λ v i g _. omega arith)
+    go Verb.Change =
+        on-word P t l 44 at
+        (λ _ i a _. on-word P t l 44 i
+        (λ _ j b _. on-word P t l 10 j
+        (λ count start d _. omega (arith, lines-past count start t))))
+    go Verb.Unknown = l
+
+-- a verb ends at its place or past it
+pub found-past : (t : List ℕ) (at : ℕ) → at ≤ found t at .next
+unfolding found
+found-past t at =
+    let P : Found → Type 0 = λ f. at ≤ f .next in
+    on-test P (hasWord t at callWord) (λ _. omega arith)
+    (λ _. on-test P (hasWord t at wishWord) (λ _. omega arith)
+    (λ _. on-test P (hasWord t at stepWord) (λ _. omega arith)
+    (λ _. on-test P (hasWord t at lookWord) (λ _. omega arith)
+    (λ _. on-test P (hasWord t at traceWord) (λ _. omega arith)
+    (λ _. on-test P (hasWord t at changeWord) (λ _. omega arith) (λ _. omega arith))))))
+
 pub command-past : (t : List ℕ) (at : ℕ) → at < length t → at < command t at .next
-unfolding command callAt changeAt
-command-past t at h =
-    let P : Parsed → Type 0 = λ m. at < m .next in
-    let l = line-past t at h in
-    let number : (make : ℕ → Command) → P (numbered t at 5 make) = λ make. on-word P t l 10 (at + 5) (λ v i g _. omega arith) in
-    on-test P (hasWord t at callWord)
-    (λ _. on-word P t l 44 (at + 5)
-    (λ _ i a _. on-word P t l 44 i
-    (λ _ j b _. on-word P t l 44 j
-    (λ _ k c _. on-word P t l 44 k
-    (λ _ n d _. on-word P t l 44 n
-    (λ _ o e _. on-word P t l 10 o (λ _ q f _. omega arith)))))))
-    (λ _. on-test P (hasWord t at wishWord) (λ _. number Command.Exit)
-    (λ _. on-test P (hasWord t at stepWord) (λ _. number Command.Step)
-    (λ _. on-test P (hasWord t at lookWord) (λ _. number Command.Read)
-    (λ _. on-test P (hasWord t at traceWord) (λ _. on-word P t l 10 (at + 6) (λ v i g _. omega arith))
-    (λ _. on-test P (hasWord t at changeWord)
-    (λ _. on-word P t l 44 (at + 7)
-    (λ _ i a _. on-word P t l 44 i
-    (λ _ j b _. on-word P t l 10 j
-    (λ count start d _. omega (arith, lines-past count start t))))) (λ _. l))))))
+unfolding command
+command-past t at h = fields-past t (found t at .verb) at (found t at .next) h (found-past t at)
 
 -- ---- the text of a change lies in the calls text
 end-within : (xs : List ℕ) (at : ℕ) → lineEnd at xs ≤ at + length xs
@@ -98,27 +139,35 @@ unfolding linesEnd
 lines-within zero at t h = h
 lines-within (suc k) at t h = lines-within k (lineEnd at (drop at t)) t (omega (arith, end-within (drop at t) at, length-drop at t))
 
+pub fields-inside : (t : List ℕ) (v : Verb) (line at : ℕ) → Inside t (fieldsAt t v line at .command)
+unfolding fieldsAt callAt changeAt
+fields-inside t v line at = go v
+  where
+    P : Parsed → Type 0
+    P m = Inside t (m .command)
+
+    go : (v : Verb) → P (fieldsAt t v line at)
+    go Verb.Call =
+        on-word P t tt 44 at
+        (λ _ i _ _. on-word P t tt 44 i
+        (λ _ j _ _. on-word P t tt 44 j
+        (λ _ k _ _. on-word P t tt 44 k
+        (λ _ n _ _. on-word P t tt 44 n
+        (λ _ o _ _. on-word P t tt 10 o (λ _ _ _ _. tt))))))
+    go Verb.Exit = on-word P t tt 10 at (λ _ _ _ _. tt)
+    go Verb.Step = on-word P t tt 10 at (λ _ _ _ _. tt)
+    go Verb.Trace = on-word P t tt 10 at (λ _ _ _ _. tt)
+    go Verb.Read = on-word P t tt 10 at (λ _ _ _ _. tt)
+    go Verb.Change =
+        on-word P t tt 44 at
+        (λ _ i _ _. on-word P t tt 44 i
+        (λ _ j _ _. on-word P t tt 10 j
+        (λ count start _ l. (lines-past count start t, lines-within count start t l))))
+    go Verb.Unknown = tt
+
 pub command-inside : (t : List ℕ) (at : ℕ) → Inside t (command t at .command)
-unfolding command callAt changeAt
-command-inside t at =
-    let P : Parsed → Type 0 = λ m. Inside t (m .command) in
-    on-test P (hasWord t at callWord)
-    (λ _. on-word P t tt 44 (at + 5)
-    (λ _ i _ _. on-word P t tt 44 i
-    (λ _ j _ _. on-word P t tt 44 j
-    (λ _ k _ _. on-word P t tt 44 k
-    (λ _ n _ _. on-word P t tt 44 n
-    (λ _ o _ _. on-word P t tt 10 o (λ _ _ _ _. tt)))))))
-    (λ _. on-test P (hasWord t at wishWord) (λ _. on-word P t tt 10 (at + 5) (λ _ _ _ _. tt))
-    (λ _. on-test P (hasWord t at stepWord) (λ _. on-word P t tt 10 (at + 5) (λ _ _ _ _. tt))
-    (λ _. on-test P (hasWord t at lookWord) (λ _. on-word P t tt 10 (at + 5) (λ _ _ _ _. tt))
-    (λ _. on-test P (hasWord t at traceWord) (λ _. on-word P t tt 10 (at + 6) (λ _ _ _ _. tt))
-    (λ _. on-test P (hasWord t at changeWord)
-    (λ _. on-word P t tt 44 (at + 7)
-    (λ _ i _ _. on-word P t tt 44 i
-    (λ _ j _ _. on-word P t tt 10 j
-    (λ count start _ l. (lines-past count start t, lines-within count start t l)))))
-    (λ _. tt))))))
+unfolding command
+command-inside t at = fields-inside t (found t at .verb) at (found t at .next)
 
 -- ---- the commands of a text: enough fuel is enough
 module _ (t : List ℕ) where

@@ -1,21 +1,31 @@
 -- Printed lines put into a buffer part by part, and how far they reach.
-use mathlib.Core.List.{List, [], _∷_}
+use mathlib.Core.List.{List, [], _∷_, append-nil}
 use Prim.Native.Nat.{ℕ, _+_, _<_, _≤_}
 use lib.ListN.{length}
 use native.Mathlib.Omega.{arith}
-use Rattle.grammar.specs.Writing.{largest, Put}
+use Rattle.grammar.specs.Writing.{decimal, largest, Put}
 use Rattle.grammar.proofs.Puts.{Room, rest-all, rest-step, rest-last, put-both}
 use Rattle.construction.specs.declared.{Answer.Answer, Report.Report, Verdict.Verdict}
 use Rattle.construction.specs.declared.Refusal.the-variants.{TooLong}
-use Rattle.construction.specs.Answers.{bytes, Fields, numberOf, refusedWith, answerFields, verdictFields, fieldsText}
+use Rattle.construction.specs.Answers.{bytes, Fields, numberOf, refusedWith, answerFields, verdictFields, numbersText, fieldsText}
 use Rattle.construction.specs.Reports.{reportText}
 use Rattle.answers.proofs.Texts.{PutWithin, put-short}
 use Rattle.commands.specs.declared.Command.{Command}
-use Rattle.commands.specs.Printing.{headText, lineWith, lineText, longest, cardRefusal, callsRefusal}
+use Rattle.commands.specs.Printing.{verbOf, firstOf, headText, lineWith, lineText, longest, cardRefusal, callsRefusal}
+
+-- the verb and the first number
+pub put-head :
+    {b : List ℕ} {at i j : ℕ} {y z : List ℕ} (line : ℕ) (m : Command) → Room b at → PutWithin b at (verbOf m) i y 6 →
+    PutWithin y i (44 ∷ decimal (firstOf line m)) j z 21 → PutWithin b at (headText line m) j z 27
+unfolding headText numbersText
+put-head line m h p q =
+    let k = p .1 in
+    let l = q .1 in
+    (rw (append-nil (decimal (firstOf line m))) (put-both h (p .0) (q .0)), omega arith)
 
 -- a line of three parts: its beginning, the fields that follow, and byte 10
 module _ {b : List ℕ} {at i j k : ℕ} {y₁ y₂ z : List ℕ} where
-  put-parts :
+  pub put-parts :
       {x : List ℕ} (f : Fields) (m n size : ℕ) → Room b at → PutWithin b at x i y₁ m → PutWithin y₁ i (fieldsText f) j y₂ n →
       Put y₂ j (10 ∷ []) k z → m + n < size → PutWithin b at (lineWith x f) k z size
   put-parts f m n size h p q r l =

@@ -8,7 +8,7 @@ use lib.ListN.{length, take, drop}
 use lib.Dec.{eqb, ltb}
 use Rattle.grammar.specs.declared.Number.{Number}
 use Rattle.grammar.specs.Reading.{field, hasWord}
-use Rattle.commands.specs.declared.{Word.Word, Command.Command, Parsed.Parsed}
+use Rattle.commands.specs.declared.{Word.Word, Verb.Verb, Found.Found, Command.Command, Parsed.Parsed}
 
 -- `call,` `wish,` `step,` `look,`
 abbrev pub callWord : List ℕ
@@ -61,11 +61,12 @@ abbrev pub withWord : Word → Parsed → (ℕ → ℕ → Parsed) → Parsed
 withWord (Word.Value v i) m go = go v i
 withWord Word.Malformed m go = m
 
+-- The fields of a command stand from a place on, in a line that begins at `line`; where they are malformed, the line is.
 -- `call`: process, sheet and the inputs i0 to i3, which byte 10 ends
-unfoldable pub callAt : List ℕ → ℕ → Parsed
-callAt t at =
-    let m = malformed t at in
-    withWord (word t 44 (at + 5)) m
+unfoldable pub callAt : List ℕ → ℕ → ℕ → Parsed
+callAt t line at =
+    let m = malformed t line in
+    withWord (word t 44 at) m
     (λ process i. withWord (word t 44 i) m
     (λ program j. withWord (word t 44 j) m
     (λ i0 k. withWord (word t 44 k) m
@@ -73,9 +74,18 @@ callAt t at =
     (λ i2 n. withWord (word t 10 n) m
     (λ i3 next. oneLine (Command.Call process program (record { w0 = i0; w1 = i1; w2 = i2; w3 = i3 })) next))))))
 
--- `wish`, `step`, `look`, `trace`: one number after a word of so many bytes, which byte 10 ends
-abbrev pub numbered : List ℕ → ℕ → ℕ → (ℕ → Command) → Parsed
-numbered t at size make = withWord (word t 10 (at + size)) (malformed t at) (λ v next. oneLine (make v) next)
+-- `wish`, `step`, `look`, `trace`: one number, which byte 10 ends
+abbrev pub withNumber : Verb → ℕ → Command
+withNumber Verb.Call v = Command.Malformed
+withNumber Verb.Exit v = Command.Exit v
+withNumber Verb.Step v = Command.Step v
+withNumber Verb.Trace v = Command.Trace v
+withNumber Verb.Read v = Command.Read v
+withNumber Verb.Change v = Command.Malformed
+withNumber Verb.Unknown v = Command.Malformed
+
+abbrev pub numbered : List ℕ → Verb → ℕ → ℕ → Parsed
+numbered t verb line at = withWord (word t 10 at) (malformed t line) (λ v next. oneLine (withNumber verb v) next)
 
 -- `change`: sheet, gate number and the count of the lines of its text, which byte 10 ends. 'That sheet's lines as a card has them' follow: the next
 -- `count` lines of the calls text, byte for byte, or what is left of it, which no line follows.
@@ -84,10 +94,10 @@ changeWith t program from count start =
     let end = linesEnd count start t in
     record { command = Command.Change program from count start end; lines = suc count; next = end }
 
-unfoldable pub changeAt : List ℕ → ℕ → Parsed
-changeAt t at =
-    let m = malformed t at in
-    withWord (word t 44 (at + 7)) m
+unfoldable pub changeAt : List ℕ → ℕ → ℕ → Parsed
+changeAt t line at =
+    let m = malformed t line in
+    withWord (word t 44 at) m
     (λ program i. withWord (word t 44 i) m
     (λ from j. withWord (word t 10 j) m
     (λ count start. changeWith t program from count start)))
@@ -106,15 +116,30 @@ Inside t (Command.Read v) = Unit
 Inside t (Command.Change k from count start end) = (start ≤ end) × (end ≤ length t)
 Inside t Command.Malformed = Unit
 
+-- the verb at a place, with the comma after it, and the place past both
+unfoldable pub found : List ℕ → ℕ → Found
+found t at =
+    cond (hasWord t at callWord) (record { verb = Verb.Call; next = at + 5 })
+    (cond (hasWord t at wishWord) (record { verb = Verb.Exit; next = at + 5 })
+    (cond (hasWord t at stepWord) (record { verb = Verb.Step; next = at + 5 })
+    (cond (hasWord t at lookWord) (record { verb = Verb.Read; next = at + 5 })
+    (cond (hasWord t at traceWord) (record { verb = Verb.Trace; next = at + 6 })
+    (cond (hasWord t at changeWord) (record { verb = Verb.Change; next = at + 7 })
+    (record { verb = Verb.Unknown; next = at }))))))
+
+-- the fields that follow a verb
+unfoldable pub fieldsAt : List ℕ → Verb → ℕ → ℕ → Parsed
+fieldsAt t Verb.Call line at = callAt t line at
+fieldsAt t Verb.Exit line at = numbered t Verb.Exit line at
+fieldsAt t Verb.Step line at = numbered t Verb.Step line at
+fieldsAt t Verb.Trace line at = numbered t Verb.Trace line at
+fieldsAt t Verb.Read line at = numbered t Verb.Read line at
+fieldsAt t Verb.Change line at = changeAt t line at
+fieldsAt t Verb.Unknown line at = malformed t line
+
 -- the command at a place, and the place past its lines
 unfoldable pub command : List ℕ → ℕ → Parsed
-command t at =
-    cond (hasWord t at callWord) (callAt t at)
-    (cond (hasWord t at wishWord) (numbered t at 5 Command.Exit)
-    (cond (hasWord t at stepWord) (numbered t at 5 Command.Step)
-    (cond (hasWord t at lookWord) (numbered t at 5 Command.Read)
-    (cond (hasWord t at traceWord) (numbered t at 6 Command.Trace)
-    (cond (hasWord t at changeWord) (changeAt t at) (malformed t at))))))
+command t at = fieldsAt t (found t at .verb) at (found t at .next)
 
 -- the commands from a place on, one after the other; each has a byte at least, so the length of the text bounds how many there are
 unfoldable pub commandsFrom : ℕ → List ℕ → ℕ → List Parsed

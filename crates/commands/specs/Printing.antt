@@ -1,27 +1,43 @@
 -- The printed lines (document 01, 'The bench program'): 'the verb and first number, then' the fields of the answer, as construction's
 -- specs/Answers gives them. Byte 10 ends each line.
 use Prim.Native.Nat.{ℕ}
+use mathlib.Core.Bool.{Bool, true, false}
 use mathlib.Core.List.{List, [], _∷_, _++_}
-use lib.ListN.{take}
+use lib.ListN.{getD}
 use Rattle.construction.specs.declared.{Answer.Answer, Report.Report, Verdict.Verdict}
 use Rattle.construction.specs.Answers.{bytes, Fields, fields, refusedWith, answerFields, verdictFields, numbersText, fieldsText}
 use Rattle.construction.specs.Reports.{reportText}
 use Rattle.commands.specs.declared.Command.{Command}
 use Rattle.commands.specs.CommandFields.{commandFields}
 
--- 'the verb and first number'
-abbrev pub verbText : Fields → List ℕ
-verbText f = f .word ++ numbersText (take 1 (f .numbers))
+abbrev pub isMalformed : Command → Bool
+isMalformed (Command.Call i k x) = false
+isMalformed (Command.Exit i) = false
+isMalformed (Command.Step i) = false
+isMalformed (Command.Trace i) = false
+isMalformed (Command.Read v) = false
+isMalformed (Command.Change k from count start end) = false
+isMalformed Command.Malformed = true
 
--- what the line of a command begins with; of a malformed one `line,N`, where N is the number of its line
+-- what the line of a command begins with, by its fields; of a malformed one `line,N`, where N is the number of its line
+abbrev pub headFields : ℕ → Command → Fields
+headFields line (Command.Call i k x) = commandFields (Command.Call i k x)
+headFields line (Command.Exit i) = commandFields (Command.Exit i)
+headFields line (Command.Step i) = commandFields (Command.Step i)
+headFields line (Command.Trace i) = commandFields (Command.Trace i)
+headFields line (Command.Read v) = commandFields (Command.Read v)
+headFields line (Command.Change k from count start end) = commandFields (Command.Change k from count start end)
+headFields line Command.Malformed = fields "line" (line ∷ [])
+
+-- 'the verb and first number'
+unfoldable pub verbOf : Command → List ℕ
+verbOf m = headFields 0 m .word
+
+unfoldable pub firstOf : ℕ → Command → ℕ
+firstOf line m = getD (headFields line m .numbers) 0 0
+
 unfoldable pub headText : ℕ → Command → List ℕ
-headText line (Command.Call i k x) = verbText (commandFields (Command.Call i k x))
-headText line (Command.Exit i) = verbText (commandFields (Command.Exit i))
-headText line (Command.Step i) = verbText (commandFields (Command.Step i))
-headText line (Command.Trace i) = verbText (commandFields (Command.Trace i))
-headText line (Command.Read v) = verbText (commandFields (Command.Read v))
-headText line (Command.Change k from count start end) = verbText (commandFields (Command.Change k from count start end))
-headText line Command.Malformed = verbText (fields "line" (line ∷ []))
+headText line m = verbOf m ++ numbersText (firstOf line m ∷ [])
 
 -- a line: what it begins with, and the fields that follow
 abbrev pub lineWith : List ℕ → Fields → List ℕ

@@ -13,6 +13,23 @@ pub enum Word {
     Malformed,
 }
 
+// The verb that a line begins with.
+pub enum Verb {
+    Call,
+    Exit,
+    Step,
+    Trace,
+    Read,
+    Change,
+    Unknown,
+}
+
+// A verb, and the place where what follows it begins.
+pub struct Found {
+    pub verb: Verb,
+    pub next: usize,
+}
+
 // A command, with its own fields only.
 pub enum Command {
     Call {

@@ -12,34 +12,93 @@ use construction::Report;
 use construction::Verdict;
 use grammar::writing::put_byte;
 use grammar::writing::put_word;
+ghost use mathlib.Core.Path.{_≡_};
 ghost use Prim.Native.Nat.{_+_, _≤_};
 ghost use Rattle.grammar.specs.Writing.{Put};
 ghost use Rattle.construction.specs.declared.Verdict.{Verdict as VerdictOf};
-ghost use Rattle.commands.specs.Printing.{headText, lineText, longest, cardRefusal, callsRefusal};
+ghost use Rattle.commands.specs.Printing.{isMalformed, verbOf, firstOf, headText, lineText, longest, cardRefusal, callsRefusal};
 
-// The verb of a command and its first number; of a malformed one its line.
-fn put_head(buffer: &mut [u8], at: usize, line: u64, command: Command) -> usize
-    ensures { λ r. ⌜ Put (now (buffer .entry)) at (headText line command) r (now (buffer .exit)) × (r ≤ at + 27) ⌝ }
+// Whether a command is malformed.
+pub fn is_malformed(command: Command) -> bool
+    ensures { λ r. ⌜ r ≡ isMalformed command ⌝ }
+{
+    match command {
+        Command::Call {
+            process: _,
+            program: _,
+            inputs: _,
+        } => false,
+        Command::Exit { process: _ } => false,
+        Command::Step { process: _ } => false,
+        Command::Trace { process: _ } => false,
+        Command::Read { variable: _ } => false,
+        Command::Change {
+            program: _,
+            from: _,
+            count: _,
+            start: _,
+            end: _,
+        } => false,
+        Command::Malformed => true,
+    }
+}
+
+// The verb of a command; of a malformed one `line`.
+pub fn put_verb(buffer: &mut [u8], at: usize, command: Command) -> usize
+    ensures { λ r. ⌜ Put (now (buffer .entry)) at (verbOf command) r (now (buffer .exit)) × (r ≤ at + 6) ⌝ }
+{
+    match command {
+        Command::Call {
+            process: _,
+            program: _,
+            inputs: _,
+        } => put_word(buffer, at, b"call"),
+        Command::Exit { process: _ } => put_word(buffer, at, b"wish"),
+        Command::Step { process: _ } => put_word(buffer, at, b"step"),
+        Command::Trace { process: _ } => put_word(buffer, at, b"trace"),
+        Command::Read { variable: _ } => put_word(buffer, at, b"look"),
+        Command::Change {
+            program: _,
+            from: _,
+            count: _,
+            start: _,
+            end: _,
+        } => put_word(buffer, at, b"change"),
+        Command::Malformed => put_word(buffer, at, b"line"),
+    }
+}
+
+// The first number of a command; of a malformed one its line.
+pub fn first_of(line: u64, command: Command) -> u64
+    ensures { λ r. ⌜ r ≡ firstOf line command ⌝ }
 {
     match command {
         Command::Call {
             process,
             program: _,
             inputs: _,
-        } => put_number(buffer, at, b"call,", process as u64),
-        Command::Exit { process } => put_number(buffer, at, b"wish,", process as u64),
-        Command::Step { process } => put_number(buffer, at, b"step,", process as u64),
-        Command::Trace { process } => put_number(buffer, at, b"trace,", process as u64),
-        Command::Read { variable } => put_number(buffer, at, b"look,", variable as u64),
+        } => process as u64,
+        Command::Exit { process } => process as u64,
+        Command::Step { process } => process as u64,
+        Command::Trace { process } => process as u64,
+        Command::Read { variable } => variable as u64,
         Command::Change {
             program,
             from: _,
             count: _,
             start: _,
             end: _,
-        } => put_number(buffer, at, b"change,", program as u64),
-        Command::Malformed => put_number(buffer, at, b"line,", line),
+        } => program as u64,
+        Command::Malformed => line,
     }
+}
+
+// The verb of a command and its first number; of a malformed one its line.
+fn put_head(buffer: &mut [u8], at: usize, line: u64, command: Command) -> usize
+    ensures { λ r. ⌜ Put (now (buffer .entry)) at (headText line command) r (now (buffer .exit)) × (r ≤ at + 27) ⌝ }
+{
+    let next = put_verb(buffer, at, command);
+    put_number(buffer, next, b",", first_of(line, command))
 }
 
 // The line of a command, what is told of it and its answer.

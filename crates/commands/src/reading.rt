@@ -1,18 +1,19 @@
-// The command at a place of a calls text.
+// The command at a place of a calls text: its verb, and the fields that follow, which are read from any place.
 use crate::Command;
+use crate::Found;
 use crate::Parsed;
+use crate::Verb;
 use crate::Word;
 use construction::Words;
 use grammar::Number;
 use grammar::reading::field_at;
 use grammar::reading::has_word;
 ghost use mathlib.Core.Path.{_≡_};
-ghost use Prim.Native.Nat.{_<_};
-ghost use lib.ListN.{length, drop};
-ghost use Rattle.commands.specs.Commands.{lineEnd, linesEnd, word, oneLine, malformed, callAt, changeAt, command};
+ghost use lib.ListN.{drop};
+ghost use Rattle.commands.specs.Commands.{lineEnd, linesEnd, word, oneLine, malformed, callAt, withNumber, numbered, changeAt, found, fieldsAt, command};
 
 // A field that has 32 bits, ended by a separator that belongs to it.
-fn word_at(calls: &[u8], separator: u8, at: usize) -> Word
+pub fn word_at(calls: &[u8], separator: u8, at: usize) -> Word
     ensures { λ r. ⌜ r ≡ word (now (calls .entry)) separator at ⌝ }
 {
     let Number::Value { value, next } = field_at(calls, separator, at) else {
@@ -70,39 +71,39 @@ fn one_line(command: Command, next: usize) -> Parsed
 }
 
 // A command that is malformed: its line is searched for its end.
-fn malformed_at(calls: &[u8], at: usize) -> Parsed
+pub fn malformed_at(calls: &[u8], at: usize) -> Parsed
     ensures { λ r. ⌜ r ≡ malformed (now (calls .entry)) at ⌝ }
 {
     let next = line_end(calls, at);
     one_line(Command::Malformed, next)
 }
 
-fn call_at(calls: &[u8], at: usize) -> Parsed
-    requires { ⌜ at < length (now calls) ⌝ }
-    ensures { λ r. ⌜ r ≡ callAt (now (calls .entry)) at ⌝ }
+// The fields of a call; malformed ones are a malformed line, which begins at `line`.
+fn call_at(calls: &[u8], line: usize, at: usize) -> Parsed
+    ensures { λ r. ⌜ r ≡ callAt (now (calls .entry)) line at ⌝ }
 {
-    let Word::Value { value, next } = word_at(calls, b',', at + 5) else {
-        return malformed_at(calls, at);
+    let Word::Value { value, next } = word_at(calls, b',', at) else {
+        return malformed_at(calls, line);
     };
     let process = value;
     let Word::Value { value, next } = word_at(calls, b',', next) else {
-        return malformed_at(calls, at);
+        return malformed_at(calls, line);
     };
     let program = value;
     let Word::Value { value, next } = word_at(calls, b',', next) else {
-        return malformed_at(calls, at);
+        return malformed_at(calls, line);
     };
     let w0 = value;
     let Word::Value { value, next } = word_at(calls, b',', next) else {
-        return malformed_at(calls, at);
+        return malformed_at(calls, line);
     };
     let w1 = value;
     let Word::Value { value, next } = word_at(calls, b',', next) else {
-        return malformed_at(calls, at);
+        return malformed_at(calls, line);
     };
     let w2 = value;
     let Word::Value { value, next } = word_at(calls, b'\n', next) else {
-        return malformed_at(calls, at);
+        return malformed_at(calls, line);
     };
     let w3 = value;
     let inputs = Words { w0, w1, w2, w3 };
@@ -114,20 +115,20 @@ fn call_at(calls: &[u8], at: usize) -> Parsed
     one_line(command, next)
 }
 
-fn change_at(calls: &[u8], at: usize) -> Parsed
-    requires { ⌜ at < length (now calls) ⌝ }
-    ensures { λ r. ⌜ r ≡ changeAt (now (calls .entry)) at ⌝ }
+// The fields of a change, and its text.
+fn change_at(calls: &[u8], line: usize, at: usize) -> Parsed
+    ensures { λ r. ⌜ r ≡ changeAt (now (calls .entry)) line at ⌝ }
 {
-    let Word::Value { value, next } = word_at(calls, b',', at + 7) else {
-        return malformed_at(calls, at);
+    let Word::Value { value, next } = word_at(calls, b',', at) else {
+        return malformed_at(calls, line);
     };
     let program = value;
     let Word::Value { value, next } = word_at(calls, b',', next) else {
-        return malformed_at(calls, at);
+        return malformed_at(calls, line);
     };
     let from = value;
     let Word::Value { value, next } = word_at(calls, b'\n', next) else {
-        return malformed_at(calls, at);
+        return malformed_at(calls, line);
     };
     let count = value;
     let end = lines_end(calls, next, count);
@@ -145,43 +146,98 @@ fn change_at(calls: &[u8], at: usize) -> Parsed
     }
 }
 
+// The command of a verb that one number follows.
+fn with_number(verb: Verb, value: u32) -> Command
+    ensures { λ r. ⌜ r ≡ withNumber verb value ⌝ }
+{
+    match verb {
+        Verb::Call => Command::Malformed,
+        Verb::Exit => Command::Exit { process: value },
+        Verb::Step => Command::Step { process: value },
+        Verb::Trace => Command::Trace { process: value },
+        Verb::Read => Command::Read { variable: value },
+        Verb::Change => Command::Malformed,
+        Verb::Unknown => Command::Malformed,
+    }
+}
+
+// The number of such a command.
+fn numbered_at(calls: &[u8], verb: Verb, line: usize, at: usize) -> Parsed
+    ensures { λ r. ⌜ r ≡ numbered (now (calls .entry)) verb line at ⌝ }
+{
+    let Word::Value { value, next } = word_at(calls, b'\n', at) else {
+        return malformed_at(calls, line);
+    };
+    let command = with_number(verb, value);
+    one_line(command, next)
+}
+
+// The fields of a verb's command from a place on, in a line that begins at `line`.
+pub fn fields_at(calls: &[u8], verb: Verb, line: usize, at: usize) -> Parsed
+    ensures { λ r. ⌜ r ≡ fieldsAt (now (calls .entry)) verb line at ⌝ }
+{
+    match verb {
+        Verb::Call => call_at(calls, line, at),
+        Verb::Exit => numbered_at(calls, verb, line, at),
+        Verb::Step => numbered_at(calls, verb, line, at),
+        Verb::Trace => numbered_at(calls, verb, line, at),
+        Verb::Read => numbered_at(calls, verb, line, at),
+        Verb::Change => change_at(calls, line, at),
+        Verb::Unknown => malformed_at(calls, line),
+    }
+}
+
+// The verb at a place of the text, with the comma after it.
+pub fn verb_at(calls: &[u8], at: usize) -> Found
+    ensures { λ r. ⌜ r ≡ found (now (calls .entry)) at ⌝ }
+{
+    if has_word(calls, at, b"call,") {
+        return Found {
+            verb: Verb::Call,
+            next: at + 5,
+        };
+    }
+    if has_word(calls, at, b"wish,") {
+        return Found {
+            verb: Verb::Exit,
+            next: at + 5,
+        };
+    }
+    if has_word(calls, at, b"step,") {
+        return Found {
+            verb: Verb::Step,
+            next: at + 5,
+        };
+    }
+    if has_word(calls, at, b"look,") {
+        return Found {
+            verb: Verb::Read,
+            next: at + 5,
+        };
+    }
+    if has_word(calls, at, b"trace,") {
+        return Found {
+            verb: Verb::Trace,
+            next: at + 6,
+        };
+    }
+    if has_word(calls, at, b"change,") {
+        return Found {
+            verb: Verb::Change,
+            next: at + 7,
+        };
+    }
+    Found {
+        verb: Verb::Unknown,
+        next: at,
+    }
+}
+
 // The command at a place of the text.
 pub fn command_at(calls: &[u8], at: usize) -> Parsed
     ensures { λ r. ⌜ r ≡ command (now (calls .entry)) at ⌝ }
 {
-    if has_word(calls, at, b"call,") {
-        return call_at(calls, at);
-    }
-    if has_word(calls, at, b"wish,") {
-        let Word::Value { value, next } = word_at(calls, b'\n', at + 5) else {
-            return malformed_at(calls, at);
-        };
-        let command = Command::Exit { process: value };
-        return one_line(command, next);
-    }
-    if has_word(calls, at, b"step,") {
-        let Word::Value { value, next } = word_at(calls, b'\n', at + 5) else {
-            return malformed_at(calls, at);
-        };
-        let command = Command::Step { process: value };
-        return one_line(command, next);
-    }
-    if has_word(calls, at, b"look,") {
-        let Word::Value { value, next } = word_at(calls, b'\n', at + 5) else {
-            return malformed_at(calls, at);
-        };
-        let command = Command::Read { variable: value };
-        return one_line(command, next);
-    }
-    if has_word(calls, at, b"trace,") {
-        let Word::Value { value, next } = word_at(calls, b'\n', at + 6) else {
-            return malformed_at(calls, at);
-        };
-        let command = Command::Trace { process: value };
-        return one_line(command, next);
-    }
-    if has_word(calls, at, b"change,") {
-        return change_at(calls, at);
-    }
-    malformed_at(calls, at)
+    let found = verb_at(calls, at);
+    let verb = found.verb;
+    fields_at(calls, verb, at, found.next)
 }

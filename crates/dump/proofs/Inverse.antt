@@ -1,7 +1,7 @@
 -- Writer and reader are inverse (specs/Inverse): the reader takes the dump of every history that fits and shows its values, and a text that it takes is
 -- the dump of the history that it shows.
 use mathlib.Core.Path.{_≡_, refl, sym, _∙_, ap}
-use mathlib.Core.Logic.{_⊎_, inr}
+use mathlib.Core.Logic.{inr}
 use mathlib.Core.List.{List, [], _∷_, _++_}
 use Prim.Native.Nat.{ℕ, zero, suc, _+_, _-_, _<_, _≤_, min}
 use lib.ListN.{getD, length}

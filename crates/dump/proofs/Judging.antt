@@ -1,15 +1,14 @@
 -- A dump is judged line by line (specs/Judging): the verdict on a text gives the line of the first one that breaks the forms, and accepts a dump; and a text
 -- has no other verdict.
-use mathlib.Core.Bool.{Bool, true, false, cond}
+use mathlib.Core.Bool.{Bool, true, false}
 use mathlib.Core.Path.{_≡_, refl, sym, _∙_, ap, subst}
-use mathlib.Core.Logic.{_≢_}
 use mathlib.Core.List.{List, []}
 use Prim.Native.Nat.{ℕ, zero, suc, _+_, _-_, _<_, _≤_}
 use lib.Dec.{eqb, ltb}
 use lib.ListN.{length, drop}
 use native.Mathlib.Omega.{arith}
 use native.Mathlib.Decide.{decLt}
-use borrow.Author.Tests.{lt-ltb, le-ltb, ltb-true, ltb-false, eq-eqb, ne-eqb, eqb-true, eqb-false}
+use borrow.Author.Tests.{lt-ltb, ltb-true, ltb-false, eq-eqb, ne-eqb, eqb-true, eqb-false}
 use Rattle.grammar.specs.Reading.{hasWord}
 use Rattle.grammar.proofs.Bytes.{word-text}
 use Rattle.construction.specs.declared.Verdict.{Verdict}
@@ -17,10 +16,10 @@ use Rattle.construction.specs.declared.Refusal.the-variants.{Malformed}
 use Rattle.construction.specs.Answers.{Fields, fields, verdictFields}
 use Rattle.construction.specs.TextJudging.{refusedIn}
 use Rattle.construction.proofs.Basics.{cond-true}
-use Rattle.dump.specs.declared.{DumpLine.DumpLine, Header.Header, Progress.Progress, Readings.Readings}
+use Rattle.dump.specs.declared.{DumpLine.DumpLine, Header.Header, Progress.Progress}
 use Rattle.dump.specs.Dump.{timescaleLine, scopeLine, varLine, upscopeLine, definitionsLine, timeText}
-use Rattle.dump.specs.Reading.{lineAt, headerStart, headerRefused, thenWord, withVar, varsFrom, thenVars, readHeader, noValues, progressRefused, begun, withValue, withTime, nextStart, startsFrom, takesTime, takesValue, nextLine, linesFrom, onProgress, thenStarts, thenLines, progress, readingsOf, readings}
-use Rattle.dump.specs.Judging.{NextLine, startAt, GoodUntil, StartBreaks, LineBreaks, Judged}
+use Rattle.dump.specs.Reading.{lineAt, headerStart, headerRefused, thenWord, varsFrom, thenVars, readHeader, progressRefused, begun, withValue, withTime, nextStart, startsFrom, takesTime, takesValue, nextLine, linesFrom, onProgress, thenStarts, thenLines, progress, readingsOf, readings}
+use Rattle.dump.specs.Judging.{NextLine, GoodUntil, StartBreaks, LineBreaks, Judged}
 use Rattle.dump.proofs.Headers.{headerAt, no-var}
 use Rattle.dump.proofs.DumpLines.{time-there, value-there}
 use Rattle.dump.proofs.Trails.{fuel}

@@ -10,3 +10,4 @@ pub mod Judging
 pub mod Written
 pub mod Narrow
 pub mod Runs
+pub mod Pieces

@@ -21,7 +21,6 @@ use Rattle.construction.proofs.Observing.Consistency.{Consistent, entry-kept, r
 use Rattle.construction.proofs.Observing.Runs.{opened-consistent}
 use Rattle.construction.proofs.Statements.Refusals.{read-value}
 use Rattle.dump.specs.Histories.{Narrow, rowFrom, rowOf, isStep, accepts, rowsOf, acceptedSteps, dumpOf}
-use Rattle.dump.specs.Dump.{dump}
 use Rattle.dump.specs.Reading.{readings}
 use Rattle.dump.specs.Inverse.{Fits}
 use Rattle.dump.specs.Runs.{ReadsBack}

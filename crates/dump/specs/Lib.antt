@@ -5,3 +5,4 @@ pub mod Judging
 pub mod Inverse
 pub mod Histories
 pub mod Runs
+pub mod Pieces

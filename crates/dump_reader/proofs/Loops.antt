@@ -2,15 +2,15 @@
 use mathlib.Core.Bool.{Bool, true, false, cond, not, _&&_}
 use mathlib.Core.Path.{_≡_, refl, sym, _∙_, ap}
 use mathlib.Core.List.{List}
-use Prim.Native.Nat.{ℕ, zero, suc, _+_, _-_, _<_, _≤_, min}
+use Prim.Native.Nat.{ℕ, suc, _+_, _-_, _<_, _≤_, min}
 use lib.Dec.{eqb, leb, ltb}
 use lib.ListN.{getD, length}
 use native.Mathlib.Omega.{arith}
-use borrow.Author.Tests.{lt-ltb, le-ltb, eqb-true, ltb-true, not-true, not-false}
+use borrow.Author.Tests.{lt-ltb, eqb-true, ltb-true, not-true, not-false}
 use Rattle.grammar.proofs.Cases.{and-true, clash}
 use Rattle.construction.specs.declared.Verdict.{Verdict}
 use Rattle.dump.specs.declared.{DumpLine.DumpLine, Progress.Progress}
-use Rattle.dump.specs.Reading.{lineAt, progressRefused, withValue, withTime, nextStart, startsFrom, takesTime, takesValue, nextLine, linesFrom}
+use Rattle.dump.specs.Reading.{lineAt, progressRefused, nextStart, startsFrom, nextLine, linesFrom}
 use Rattle.dump.proofs.DumpLines.{time-there, value-there}
 pub use Rattle.dump.proofs.Trails.{fuel}
 use Rattle.dump.proofs.Trails.{going}

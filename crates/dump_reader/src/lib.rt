@@ -1,9 +1,10 @@
-// The reader of a value change dump (document 02, order 7): one pass over the bytes, for any step that is asked for. It rests on the crates grammar
-// (decimals and words at a place), construction (verdicts) and dump (the definitions). Every public function is total, and its contract gives its whole
-// result.
+// The reader of a value change dump (document 02, order 7): one pass over the bytes, for any step that is asked for, or with the values of every time
+// in decimal. It rests on the crates grammar (decimals and words at a place), construction (verdicts) and dump (the definitions). Every public function is
+// total, and its contract gives its whole result.
 mod binary; // binary.rt: binary numbers at a place
 pub mod header; // header.rt: the header and `#0`
 pub mod lines; // lines.rt: one line after the header
+pub mod rows; // rows.rt: the values in decimal, a line for each time
 mod taking; // taking.rt: whether a line may follow, and what is left once it is taken
 
 use crate::header::read_header;
@@ -25,6 +26,19 @@ ghost use Prim.Native.Nat.{_≤_};
 ghost use lib.ListN.{length};
 ghost use Rattle.construction.specs.declared.Verdict.{Verdict};
 ghost use Rattle.dump.specs.Reading.{noValues, progressRefused, begun as begunAs, startsFrom, linesFrom, readings};
+
+// A dump that is gone through: the place of the next line, the time, and the values so far.
+pub struct Scan {
+    pub at: usize,
+    pub time: u64,
+    pub values: [u32; 64],
+}
+
+// What was put of its rows into a buffer: the length, and the scan after it.
+pub struct Shown {
+    pub scan: Scan,
+    pub length: usize,
+}
 
 fn progress_refused(line: u64) -> Progress
     ensures { λ r. ⌜ r ≡ progressRefused line ⌝ }

@@ -1,10 +1,9 @@
 -- The course of a session: what is left of it, command by command, and what is put of it into a buffer.
-use mathlib.Core.Bool.{Bool, true, false, cond, not, _&&_}
+use mathlib.Core.Bool.{Bool, true, false, cond, not}
 use mathlib.Core.Path.{_≡_, refl, sym, _∙_, ap, subst}
 use mathlib.Core.List.{List, [], _∷_, _++_, append-assoc}
 use Prim.Native.Nat.{ℕ, suc, _+_, _-_, _<_, _≤_, min}
-use lib.ListN.{length, take, drop, set}
-use lib.Seq.{sets, length-sets, take-at, take-set-le}
+use lib.ListN.{length}
 use native.Mathlib.Omega.{arith}
 use native.Mathlib.Nat.{add-zero}
 use borrow.Author.Tests.{le-leb, lt-leb, not-true, not-false}
@@ -24,9 +23,10 @@ use Rattle.session.specs.declared.{State.State, Advanced.Advanced}
 use Rattle.session.specs.Session.{entriesOf, execute, afterLine, advanced, entries, firstState}
 use Rattle.dump.specs.Dump.{Change, changesAt, changesFrom, changesText, toldAfter, timeAbove, linesText, openingText, dump, written, writtenInto}
 use Rattle.dump.specs.Histories.{rowOf, rowsOf, dumpOf}
+use Rattle.dump.proofs.Pieces as pieces
 use Rattle.dump_writer.specs.declared.{Told.Told, Course.Course, Piece.Piece}
-use Rattle.dump_writer.specs.Courses.{Tells, stepsIn, countsIn, nextChanges, nextText, nextCourse, PutsCommand, countOf, leftRows, leftText, startCourse, Opens, dumpText, PutsPiece}
-use Rattle.dump_writer.proofs.LineLaws.{put-none, changes-append, told-append}
+use Rattle.dump_writer.specs.Courses.{Tells, stepsIn, countsIn, nextChanges, nextText, nextCourse, PutsCommand, longest, countOf, leftRows, leftText, startCourse, Opens, dumpText, partOf, courseAfter, commandsLeft, pieceOf, PutsPiece}
+use Rattle.dump_writer.proofs.LineLaws.{put-none, changes-append, told-append, Words, changes-short}
 
 -- ---- an accepted step
 pub counts-step : (m : Command) (a : Answer) {b d : Bool} → b ≡ stepsIn m → b ≡ true → d ≡ isRefused a → not d ≡ countsIn m a
@@ -41,17 +41,21 @@ module _ (t : List ℕ) (x : Course) {a : Advanced} (ea : a ≡ advanced t (x .s
       (b : List ℕ) (at : ℕ) → not c ≡ true → at ≤ largest →
       PutsCommand t x b at (record { course = record { session = a .state; count = x .count; row = x .row; steps = x .steps; told = x .told }; at = at }) b
   unfolding nextText nextCourse
-  command-none b at n l = record { put = rw (← ea, ← ec, not-true c n) (put-none b at l); course = rw (← ea, ← ec, not-true c n) }
+  command-none b at n l =
+      record { put = rw (← ea, ← ec, not-true c n) (put-none b at l); course = rw (← ea, ← ec, not-true c n); short = omega arith }
 
   pub command-step :
       (b : List ℕ) (at : ℕ) {row : List ℕ} {steps : ℕ} {now : Told} {z : List ℕ} → not c ≡ false → row ≡ rowOf (a .state .card) → steps ≡ placeAfter (x .steps) 1 →
-      Tells b at (x .told) (changesAt steps (countOf x) 0 (x .row) row) now z →
+      Tells b at (x .told) (changesAt steps (countOf x) 0 (x .row) row) now z → steps ≤ largest → Words row →
       PutsCommand t x b at (record { course = record { session = a .state; count = x .count; row = row; steps = steps; told = now .time }; at = now .at }) z
   unfolding nextText nextCourse
-  command-step b at n er es p =
+  command-step b at {row} {steps} n er es p l w =
+      let place = p .put .place in
+      let few = changes-short (x .told) steps (countOf x) 0 (x .row) row l w in
       record {
         put = rw (← ea, ← ec, not-false c n, ← er, ← es) (p .put);
         course = rw (← ea, ← ec, not-false c n, ← er, ← es, p .time);
+        short = omega arith;
       }
 
 -- ---- what is left, command by command
@@ -109,6 +113,10 @@ module _ (t : List ℕ) (x : Course) where
   further : x .session .at < length t → x .session .at < a .state .at
   unfolding advanced afterLine
   further h = command-past t (x .session .at) h
+
+  next-place : nextCourse t x .session .at ≡ command t (x .session .at) .next
+  unfolding advanced afterLine
+  next-place = rw next-is (on-test (λ (y : Course). y .session .at ≡ command t (x .session .at) .next) (countsIn (a .command) (a .answer)) (λ _. refl) (λ _. refl))
 
   pub next-at : x .session .at < length t → x .session .at < nextCourse t x .session .at
   next-at h = rw next-is (on-test (λ (y : Course). x .session .at < y .session .at) (countsIn (a .command) (a .answer)) (λ _. further h) (λ _. further h))
@@ -200,95 +208,96 @@ put-dump card calls b {o} {p} {y} {n} {z} eo room h q =
 pub start-steps : {s : State} {b : List ℕ} {p : Piece} {z : List ℕ} → Opens s b p z → p .course .steps ≤ p .course .session .at
 start-steps h = rw (h .course) (omega arith)
 
--- ---- pieces
-front-text : {b x : List ℕ} {n : ℕ} {z : List ℕ} → Put b 0 x n z → n < largest → n ≤ length b → take n z ≡ x
-front-text {b} {x} {n} p h l =
-    let e = p .place in
-    ap (λ (y : List ℕ). take n y) (put-front (omega arith) p) ∙ take-at x (drop (length x) b) n (omega arith)
-
-take-sets : (x b : List ℕ) (n : ℕ) → take n (sets b n x) ≡ take n b
-take-sets x b n = go x b n n (omega arith)
-  where
-    go : (x b : List ℕ) (n i : ℕ) → n ≤ i → take n (sets b i x) ≡ take n b
-    go [] b n i h = refl
-    go (a ∷ x) b n i h = go x (set b i a) n (suc i) (omega arith) ∙ take-set-le n b i a h
-
+-- ---- pieces: x₀ as the loop began, x as it stands
 pub record Going (t : List ℕ) (x₀ : Course) (b₀ : List ℕ) (x : Course) (n : ℕ) (b : List ℕ) (place : ℕ) : Type 0 where
   pub lines : List ℕ
-  pub put : Put b₀ 0 lines n b
+  pub put : pieces.Going (partOf t) (courseAfter t) (commandsLeft t) x₀ b₀ lines x n b
   pub given : x₀ .steps ≤ x₀ .session .at → (leftText t x₀ ≡ lines ++ leftText t x) × (x .steps ≤ x .session .at)
-  pub within : n ≤ length b₀
-  pub small : length b₀ < largest
   pub here : place ≡ x .session .at
+  pub later : x₀ .session .at ≤ x .session .at
+  pub onward : 0 < n → x₀ .session .at < x .session .at
 
 pub going : (t : List ℕ) (x : Course) (b : List ℕ) → length b < largest → Going t x b x 0 b (x .session .at)
 going t x b h =
-    record { lines = []; put = record { place = refl; bytes = refl }; given = λ l. (refl, l); within = omega arith; small = h; here = refl }
+    record {
+      lines = [];
+      put = pieces.going (partOf t) (courseAfter t) (commandsLeft t) x b h;
+      given = λ l. (refl, l);
+      here = refl;
+      later = omega arith;
+      onward = λ l. omega arith;
+    }
 
 module _ {t : List ℕ} {x₀ : Course} {b₀ : List ℕ} {x : Course} {n : ℕ} {b : List ℕ} {place : ℕ} (g : Going t x₀ b₀ x n b place) (short : length t ≤ largest) where
   pub going-length : length b ≡ length b₀
-  going-length = ap length (g .put .bytes) ∙ length-sets b₀ 0 (g .lines)
+  going-length = pieces.going-length (partOf t) (courseAfter t) (commandsLeft t) (g .put)
 
-  pub going-end : PutsPiece t x₀ b₀ (record { course = x; at = n }) b
-  going-end =
-      let w = g .within in
-      let s = g .small in
+  -- what it comes to; a piece that put nothing stops only at the end, or where a command does not fit
+  puts :
+      {z : List ℕ} → pieces.Stopped (partOf t) (courseAfter t) (commandsLeft t) x₀ b₀ (g .lines) x n z →
+      (longest ≤ length b₀ → x₀ .session .at < length t → x₀ .session .at < x .session .at) → PutsPiece t x₀ b₀ (record { course = x; at = n }) z
+  unfolding pieceOf
+  puts p on =
       record {
-        text = λ l. g .given l .0 ∙ ap (λ (y : List ℕ). y ++ leftText t x) (sym (front-text (g .put) (omega arith) w));
-        within = omega (arith, going-length);
+        answer = rw (← (p .state), ← (p .count));
+        bytes = p .bytes;
+        text = λ l. rw (p .front) (g .given l .0);
+        within = p .within;
         kept = λ l. g .given l .1;
+        onward = on;
       }
 
+  -- no command is left
+  pub going-end : length t ≤ place → PutsPiece t x₀ b₀ (record { course = x; at = n }) b
+  going-end l =
+      puts (pieces.going-end (partOf t) (courseAfter t) (commandsLeft t) (g .put) (commands-end t (x .session .at) (omega (arith, g .here))))
+      (λ _ h. omega (arith, g .here, g .later))
+
   module _ {r : Piece} {z : List ℕ} (l : place < length t) (p : PutsCommand t x b n r z) where
-    both : Put b₀ 0 (g .lines ++ nextText t x) (r .at) z
-    both = let w = g .within in let s = g .small in put-both (omega arith) (g .put) (p .put)
+    inside : x .session .at < length t
+    inside = omega (arith, g .here)
+
+    more : commands t (x .session .at) ≡ command t (x .session .at) ∷ commands t (nextCourse t x .session .at)
+    more = commands-more t (x .session .at) inside ∙ ap (λ (i : ℕ). command t (x .session .at) ∷ commands t i) (sym (next-place t x))
 
     pub going-same : length z ≡ length b₀
-    going-same = ap length (both .bytes) ∙ length-sets b₀ 0 (g .lines ++ nextText t x)
+    going-same = pieces.going-same (partOf t) (courseAfter t) (commandsLeft t) (g .put) {l = command t (x .session .at)} refl (p .put)
 
     pub going-less : length t - r .course .session .at < length t - place
     going-less =
-        let h : x .session .at < length t = omega (arith, g .here) in
-        let n = next-at t x h in
+        let n = next-at t x inside in
         let q = g .here in
         rw (p .course) (omega arith)
 
+    -- a command that fits
     pub going-again : r .at ≤ length z → Going t x₀ b₀ (r .course) (r .at) z (r .course .session .at)
     going-again fits =
-        let same = going-same in
-        let h : x .session .at < length t = omega (arith, g .here) in
+        let h = inside in
         let k = next-at t x h in
         let m = next-steps t x in
+        let j = g .later in
+        let past : x₀ .session .at < r .course .session .at = rw (p .course) (omega arith) in
         record {
           lines = g .lines ++ nextText t x;
-          put = both;
+          put = pieces.going-again (partOf t) (courseAfter t) (commandsLeft t) (g .put) {l = command t (x .session .at)} refl (p .put) (p .course) more fits;
           given = λ q.
               let r₁ = g .given q in
               let s = r₁ .1 in (
                 r₁ .0 ∙ ap (λ (y : List ℕ). g .lines ++ y) (left-more t x h (omega arith)) ∙ sym (append-assoc (g .lines) (nextText t x) (leftText t (nextCourse t x))) ∙ ap (λ (y : Course). (g .lines ++ nextText t x) ++ leftText t y) (sym (p .course)),
                 rw (p .course) (omega arith),
               );
-          within = omega arith;
-          small = g .small;
           here = refl;
+          later = omega arith;
+          onward = λ _. past;
         }
 
     -- a command that does not fit leaves what was put before it
-    front : take n z ≡ g .lines
-    front =
-        let w = g .within in
-        let s = g .small in
-        ap (λ (y : List ℕ). take n y) (p .put .bytes) ∙ take-sets (nextText t x) b n ∙ front-text (g .put) (omega arith) w
-
-    pub going-stopped : PutsPiece t x₀ b₀ (record { course = x; at = n }) z
-    going-stopped =
-        let w = g .within in
-        let s = g .small in
-        record {
-          text = λ l. g .given l .0 ∙ ap (λ (y : List ℕ). y ++ leftText t x) (sym front);
-          within = omega (arith, going-same);
-          kept = λ l. g .given l .1;
-        }
+    pub going-stopped : length z < r .at → PutsPiece t x₀ b₀ (record { course = x; at = n }) z
+    going-stopped over =
+        let near = p .short in
+        let same = going-same in
+        puts (pieces.going-stopped (partOf t) (courseAfter t) (commandsLeft t) (g .put) {l = command t (x .session .at)} refl (p .put) more over)
+        (λ k _. g .onward (omega arith))
 
 -- ---- the writer, by the length that a buffer of no bytes tells; d is the buffer after that
 module _ (text b : List ℕ) {d : List ℕ} (same : d ≡ b) {e y : List ℕ} {n : ℕ} (p : Put e 0 text n y) (room : length b < largest) where

@@ -2,18 +2,21 @@
 use mathlib.Core.Bool.{Bool, true, false, cond}
 use mathlib.Core.Path.{_≡_, refl, sym, _∙_, ap, subst}
 use mathlib.Core.List.{List, [], _∷_, _++_, append-nil, append-assoc}
-use Prim.Native.Nat.{ℕ, suc, _+_, _-_, _/_, _%_, _<_, _≤_}
-use lib.Dec.{eqb}
-use lib.ListN.{getD}
+use Prim.Native.Nat.{ℕ, zero, suc, _+_, _-_, _*_, _/_, _%_, _<_, _≤_}
+use lib.Dec.{eqb, ltb}
+use lib.ListN.{getD, length, length-append}
+use lib.Seq.{sets}
 use native.Mathlib.Omega.{arith}
 use borrow.Author.Tests.{lt-ltb, le-ltb, eq-eqb, ne-eqb}
 use Rattle.grammar.specs.Writing.{decimal, fieldText, largest, Put}
 use Rattle.grammar.proofs.Puts.{Room, Rest, rest-all, rest-step, rest-last, rest-none, put-both}
 use Rattle.construction.specs.Answers.{bytes}
 use Rattle.construction.proofs.Text.Writing.{Series}
-use Rattle.dump.specs.Binary.{binary}
+use Rattle.grammar.proofs.Cases.{on-test}
+use Rattle.answers.proofs.Texts.{put-word-number}
+use Rattle.dump.specs.Binary.{binary, over}
 use Rattle.dump.specs.Dump.{lineOf, timescaleLine, scopeLine, codeOf, varLine, upscopeLine, definitionsLine, varsText, headerText, timeText, valueText, valuesText, Change, change, changesAt, timeAbove, changesText, toldAfter, openingText}
-use Rattle.dump.proofs.Binaries.{binary-one, binary-more}
+use Rattle.dump.proofs.Binaries.{binary-one, binary-more, binary-short}
 use Rattle.dump_writer.specs.declared.Told.{Told}
 use Rattle.dump_writer.specs.Courses.{changeOf, Tells}
 
@@ -111,6 +114,51 @@ changes-cons k m v before after = go (eqb (getD before v 0) (getD after v 0))
     go : (b : Bool) → cond b (changesAt k m (suc v) before after) (change k v (getD after v 0) ∷ changesAt k m (suc v) before after) ≡ cond b [] (change k v (getD after v 0) ∷ []) ++ changesAt k m (suc v) before after
     go true = refl
     go false = refl
+
+-- ---- how long the changes of one time are
+-- a row of 32-bit words
+abbrev pub Words : List ℕ → Type 0
+Words row = (v : ℕ) → getD row v 0 < over
+
+-- a number of 64 bits has at most 20 digits: so many does a buffer of no bytes tell
+time-short : (k : ℕ) → k ≤ largest → length (timeText k) ≤ 22
+unfolding timeText
+time-short k h =
+    let p = put-word-number {b = []} {at = 0} {z = sets [] 0 (decimal k)} [] k (omega arith) h (put-none [] 0 (omega arith)) (record { place = refl; bytes = refl }) .1 in
+    omega (arith, length-append (decimal k) (10 ∷ []))
+
+value-short : (v x : ℕ) → x < over → length (valueText v x) ≤ 36
+unfolding valueText
+value-short v x h = omega (arith, binary-short x h, length-append (binary x) (32 ∷ codeOf v ∷ 10 ∷ []))
+
+module _ (k : ℕ) (before after : List ℕ) (w : Words after) where
+  above-none : (told : ℕ) → k ≤ told → timeAbove told k ≡ []
+  above-none told h = rw (le-ltb told k h)
+
+  values-short : (m v : ℕ) → length (changesText k (changesAt k m v before after)) ≤ m * 36
+  unfolding changesText changesAt
+  values-short zero v = omega arith
+  values-short (suc m) v =
+      let l = values-short m (suc v) in
+      on-test (λ (cs : List Change). length (changesText k cs) ≤ suc m * 36) (eqb (getD before v 0) (getD after v 0))
+      (λ _. omega arith)
+      (λ _. rw (above-none k (omega arith), length-append (valueText v (getD after v 0))) (let s = value-short v (getD after v 0) (w v) in omega arith))
+
+pub changes-short :
+    (told k m v : ℕ) (before after : List ℕ) → k ≤ largest → Words after → length (changesText told (changesAt k m v before after)) ≤ 22 + m * 36
+unfolding changesText changesAt
+changes-short told k zero v before after h w = omega arith
+changes-short told k (suc m) v before after h w =
+    let l = changes-short told k m (suc v) before after h w in
+    let n = values-short k before after w m (suc v) in
+    let s = value-short v (getD after v 0) (w v) in
+    on-test (λ (cs : List Change). length (changesText told cs) ≤ 22 + suc m * 36) (eqb (getD before v 0) (getD after v 0))
+    (λ _. omega arith)
+    (λ _. rw (length-append (timeAbove told k), length-append (valueText v (getD after v 0)))
+    (let q = above-short told in omega arith))
+  where
+    above-short : (told : ℕ) → length (timeAbove told k) ≤ 22
+    above-short told = on-test (λ (x : List ℕ). length x ≤ 22) (ltb told k) (λ _. time-short k h) (λ _. omega arith)
 
 -- what of the changes is still to be put
 pub record Telling (b₀ : List ℕ) (at told : ℕ) (all : List Change) (b : List ℕ) (i last : ℕ) (rest : List Change) : Type 0 where

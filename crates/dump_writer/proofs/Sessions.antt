@@ -1,21 +1,19 @@
 -- The dump of a session reads back (document 02, order 7): the commands of a calls text name entries whose inputs are 32-bit words, so what the crate dump
 -- proves of every run holds of every card text and every calls text.
-use Prim.Native.Nat.{ℕ, zero, suc, _+_, _<_}
-use mathlib.Core.Bool.{cond}
-use mathlib.Core.Path.{_≡_, refl}
-use mathlib.Core.List.{List, [], _∷_, _++_}
+use Prim.Native.Nat.{ℕ, zero, suc, _<_}
+use mathlib.Core.List.{List, _++_}
 use lib.Dec.{ltb}
 use lib.ListN.{length}
 use borrow.Author.Tests.{ltb-true}
 use Rattle.grammar.specs.declared.Number.{Number}
-use Rattle.grammar.specs.Reading.{field, hasWord}
+use Rattle.grammar.specs.Reading.{field}
 use Rattle.grammar.proofs.Cases.{on-test}
 use Rattle.construction.specs.Opening.{opened}
 use Rattle.construction.specs.History.{Entry}
-use Rattle.commands.specs.declared.{Command.Command, Parsed.Parsed}
-use Rattle.commands.specs.Commands.{callWord, wishWord, stepWord, lookWord, traceWord, changeWord, limited, word, withWord, callAt, numbered, changeAt, command, commandsFrom, commands}
+use Rattle.commands.specs.declared.{Verb.Verb, Command.Command, Parsed.Parsed}
+use Rattle.commands.specs.Commands.{limited, word, withWord, callAt, changeAt, found, fieldsAt, command, commandsFrom, commands}
 use Rattle.session.specs.Session.{entriesOf, entries}
-use Rattle.dump.specs.Histories.{FourNarrow, NarrowEntry, Narrow}
+use Rattle.dump.specs.Histories.{FourNarrow, Narrow}
 use Rattle.dump.specs.Runs.{ReadsBack}
 use Rattle.dump.proofs.Runs.{reads-back}
 
@@ -39,24 +37,29 @@ NarrowCommand (Command.Read v) = Unit {0}
 NarrowCommand (Command.Change k from count start end) = Unit {0}
 NarrowCommand Command.Malformed = Unit {0}
 
+abbrev NarrowParsed : Parsed → Type 0
+NarrowParsed m = NarrowCommand (m .command)
+
+fields-narrow : (t : List ℕ) (verb : Verb) (line at : ℕ) → NarrowCommand (fieldsAt t verb line at .command)
+unfolding fieldsAt callAt changeAt
+fields-narrow t Verb.Call line at =
+    on-word NarrowParsed t tt 44 at
+    (λ _ i _. on-word NarrowParsed t tt 44 i
+    (λ _ j _. on-word NarrowParsed t tt 44 j
+    (λ i0 k a. on-word NarrowParsed t tt 44 k
+    (λ i1 l b. on-word NarrowParsed t tt 44 l
+    (λ i2 n c. on-word NarrowParsed t tt 10 n (λ i3 q d. record { w0 = a; w1 = b; w2 = c; w3 = d }))))))
+fields-narrow t Verb.Exit line at = on-word NarrowParsed t tt 10 at (λ _ _ _. tt)
+fields-narrow t Verb.Step line at = on-word NarrowParsed t tt 10 at (λ _ _ _. tt)
+fields-narrow t Verb.Trace line at = on-word NarrowParsed t tt 10 at (λ _ _ _. tt)
+fields-narrow t Verb.Read line at = on-word NarrowParsed t tt 10 at (λ _ _ _. tt)
+fields-narrow t Verb.Change line at =
+    on-word NarrowParsed t tt 44 at (λ _ i _. on-word NarrowParsed t tt 44 i (λ _ j _. on-word NarrowParsed t tt 10 j (λ _ _ _. tt)))
+fields-narrow t Verb.Unknown line at = tt
+
 command-narrow : (t : List ℕ) (at : ℕ) → NarrowCommand (command t at .command)
-unfolding command callAt changeAt
-command-narrow t at =
-    let P : Parsed → Type 0 = λ m. NarrowCommand (m .command) in
-    on-test P (hasWord t at callWord)
-    (λ _. on-word P t tt 44 (at + 5)
-    (λ _ i _. on-word P t tt 44 i
-    (λ _ j _. on-word P t tt 44 j
-    (λ i0 k a. on-word P t tt 44 k
-    (λ i1 l b. on-word P t tt 44 l
-    (λ i2 n c. on-word P t tt 10 n (λ i3 q d. record { w0 = a; w1 = b; w2 = c; w3 = d })))))))
-    (λ _. on-test P (hasWord t at wishWord) (λ _. on-word P t tt 10 (at + 5) (λ _ _ _. tt))
-    (λ _. on-test P (hasWord t at stepWord) (λ _. on-word P t tt 10 (at + 5) (λ _ _ _. tt))
-    (λ _. on-test P (hasWord t at lookWord) (λ _. on-word P t tt 10 (at + 5) (λ _ _ _. tt))
-    (λ _. on-test P (hasWord t at traceWord) (λ _. on-word P t tt 10 (at + 6) (λ _ _ _. tt))
-    (λ _. on-test P (hasWord t at changeWord)
-    (λ _. on-word P t tt 44 (at + 7) (λ _ i _. on-word P t tt 44 i (λ _ j _. on-word P t tt 10 j (λ _ _ _. tt))))
-    (λ _. tt))))))
+unfolding command
+command-narrow t at = fields-narrow t (found t at .verb) at (found t at .next)
 
 -- so has every entry that the commands name
 narrow-more : (t : List ℕ) (k : Command) (es : List Entry) → NarrowCommand k → Narrow es → Narrow (entriesOf t k ++ es)

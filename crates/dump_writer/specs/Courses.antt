@@ -11,12 +11,13 @@ use Rattle.construction.specs.Answers.{isRefused}
 use Rattle.construction.specs.Cells.{openRecord}
 use Rattle.construction.specs.Requests.{shown}
 use Rattle.construction.specs.Opening.{opened}
-use Rattle.commands.specs.declared.Command.{Command}
+use Rattle.commands.specs.declared.{Command.Command, Parsed.Parsed}
 use Rattle.commands.specs.Commands.{commands}
 use Rattle.session.specs.declared.State.{State}
 use Rattle.session.specs.Session.{advanced, entries}
 use Rattle.dump.specs.Dump.{Change, change, changesAt, changesFrom, changesText, toldAfter, linesText, openingText, written, writtenInto}
 use Rattle.dump.specs.Histories.{rowOf, rowsOf, dumpOf}
+use Rattle.dump.specs.Pieces.{fitting, pieceInto}
 use Rattle.dump_writer.specs.declared.{Told.Told, Course.Course, Piece.Piece}
 
 -- the values of m variables from v on, by the gate, the announcement of its holder and the records
@@ -72,9 +73,14 @@ nextCourse t x =
     })
     (record { session = a .state; count = x .count; row = x .row; steps = x .steps; told = x .told })
 
+-- the most bytes that a command changes a dump by: a time of 20 digits and 64 values of 32
+abbrev pub longest : ℕ
+longest = 2326
+
 pub record PutsCommand (t : List ℕ) (x : Course) (b : List ℕ) (at : ℕ) (r : Piece) (z : List ℕ) : Type 0 where
   pub put : Put b at (nextText t x) (r .at) z
   pub course : r .course ≡ nextCourse t x
+  pub short : r .at ≤ at + longest
 
 -- the rows that are left of a course, and their text up to the last time
 abbrev pub leftRows : List ℕ → Course → List (List ℕ)
@@ -96,11 +102,30 @@ pub record Opens (s : State) (b : List ℕ) (r : Piece) (z : List ℕ) : Type 0 
 unfoldable pub dumpText : List ℕ → List ℕ → List ℕ
 dumpText card calls = dumpOf (opened card .card) (entries calls (commands calls 0))
 
--- a piece of a course: nothing of its text is lost. A course that started at its opening has no more accepted steps than bytes of its commands.
+-- The course in pieces: what each of the commands that are left changes, as many whole commands as fit
+abbrev pub partOf : List ℕ → Course → Parsed → List ℕ
+partOf t x m = nextText t x
+
+abbrev pub courseAfter : List ℕ → Course → Parsed → Course
+courseAfter t x m = nextCourse t x
+
+abbrev pub commandsLeft : List ℕ → Course → List Parsed
+commandsLeft t x = commands t (x .session .at)
+
+unfoldable pub pieceOf : List ℕ → Course → List ℕ → Piece
+pieceOf t x b =
+    let g = fitting (partOf t) (courseAfter t) x (commandsLeft t x) (length b) in
+    record { course = g .state; at = length (g .text) }
+
+-- A piece of a course: the answer, the buffer, and that nothing of the course's text is lost; a buffer that has room for a command goes on. A course that
+-- started at its opening has no more accepted steps than bytes of its commands.
 pub record PutsPiece (t : List ℕ) (x : Course) (b : List ℕ) (r : Piece) (z : List ℕ) : Type 0 where
+  pub answer : r ≡ pieceOf t x b
+  pub bytes : z ≡ pieceInto (partOf t) (courseAfter t) (commandsLeft t) x b
   pub text : x .steps ≤ x .session .at → leftText t x ≡ take (r .at) z ++ leftText t (r .course)
   pub within : r .at ≤ length z
   pub kept : x .steps ≤ x .session .at → r .course .steps ≤ r .course .session .at
+  pub onward : longest ≤ length b → x .session .at < length t → x .session .at < r .course .session .at
 
 -- what the writer does with a lent buffer
 pub record Writes (card calls b : List ℕ) (r : Written) (z : List ℕ) : Type 0 where

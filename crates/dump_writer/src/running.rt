@@ -16,7 +16,7 @@ ghost use mathlib.Core.Path.{_≡_};
 ghost use Prim.Native.Nat.{_≤_, min};
 ghost use Rattle.grammar.specs.Writing.{placeAfter, Put};
 ghost use Rattle.dump.specs.Dump.{timeAbove};
-ghost use Rattle.dump_writer.specs.Courses.{stepsIn, countsIn, startCourse, leftText, dumpText, PutsCommand, Opens, PutsPiece, Writes};
+ghost use Rattle.dump_writer.specs.Courses.{stepsIn, countsIn, leftText, dumpText, PutsCommand, Opens, PutsPiece, Writes};
 
 const LARGEST: u64 = 18_446_744_073_709_551_615;
 

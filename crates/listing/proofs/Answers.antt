@@ -7,7 +7,7 @@ use native.Mathlib.Omega.{arith}
 use lib.ListN.{length, drop}
 use lib.Dec.{leb}
 use borrow.Author.Tests.{le-leb, lt-leb}
-use Rattle.grammar.specs.Writing.{largest, Put}
+use Rattle.grammar.specs.Writing.{Put}
 use Rattle.grammar.proofs.Puts.{put-front}
 use Rattle.construction.specs.declared.{Card.Card, Refusal.Refusal, Written.Written}
 use Rattle.construction.specs.declared.Refusal.the-variants.{NoProgram, TooLarge, ShortBuffer}

@@ -1,11 +1,11 @@
 -- The printed steps in a small buffer: one more put after them, and those before as they were.
-use Prim.Native.Nat.{ℕ, _+_, _≤_, _<_, min}
+use Prim.Native.Nat.{ℕ, _+_, _≤_, _<_}
 use mathlib.Core.Path.{_≡_, refl, sym, ap, _∙_}
 use mathlib.Core.List.{List, [], _∷_, _++_, append-assoc}
 use native.Mathlib.Omega.{arith}
 use lib.ListN.{length, take, drop, length-take, length-append}
-use lib.Seq.{sets, sets-eq, length-sets, take-at, take-take}
-use Rattle.grammar.specs.Writing.{largest, placeAfter, Put}
+use lib.Seq.{sets-eq, length-sets, take-at, take-take}
+use Rattle.grammar.specs.Writing.{largest, Put}
 use Rattle.grammar.proofs.Puts.{Room, rest-all, rest-step, rest-last}
 
 pub record Extended (b : List ℕ) (at : ℕ) (text : List ℕ) (next : ℕ) (z : List ℕ) : Type 0 where

@@ -9,7 +9,7 @@ use native.Mathlib.Numerals.{add-one}
 use lib.ListN.{length, take, length-take, length-append}
 use lib.Dec.{eqb}
 use borrow.Author.Tests.{eq-eqb, ne-eqb}
-use Rattle.grammar.specs.Writing.{decimal, largest, placeAfter, Put}
+use Rattle.grammar.specs.Writing.{decimal, largest, Put}
 use Rattle.grammar.proofs.Decimals.{decimal-one}
 use Rattle.grammar.proofs.Puts.{Room, Rest}
 use Rattle.construction.specs.declared.{Task.Task, Card.Card, Answer.Answer, Answered.Answered}

@@ -2,21 +2,21 @@
 -- processes alone.
 use Prim.Native.Nat.{ℕ, zero, suc, _+_, _-_, _%_, _<_, _≤_}
 use mathlib.Core.Path.{_≡_, refl, sym, subst, ap, _∙_}
-use mathlib.Core.Bool.{Bool, true, false, cond, not, _&&_, _||_, false≢true}
+use mathlib.Core.Bool.{Bool, true, false, _||_, false≢true}
 use mathlib.Core.Logic.{_≢_, ⊎-elim}
-use mathlib.Core.List.{List, [], _∷_, _++_}
+use mathlib.Core.List.{List, [], _++_}
 use native.Mathlib.Omega.{arith}
 use native.Mathlib.Decide.{ℕ-discrete}
-use lib.ListN.{length, getD}
+use lib.ListN.{length}
 use lib.Dec.{ltb, leb}
-use borrow.Author.Tests.{not-true, lt-ltb, ltb-true, leb-true}
+use borrow.Author.Tests.{lt-ltb, ltb-true, leb-true}
 use Rattle.grammar.specs.Writing.{decimal}
 use Rattle.construction.specs.declared.{Place.Place, Task.Task, Card.Card, Answer.Answer, Answered.Answered, Contents.Contents}
 use Rattle.construction.specs.declared.Place.the-variants.{Idle, P1, P3, P5, P7, P10, C2, C4, P13, P14, P16, H21, H36, P19, P20, P21, P22, F1, F3}
 use Rattle.construction.specs.Answers.{isRefused}
-use Rattle.construction.specs.Parts.{idleTask, localAt}
+use Rattle.construction.specs.Parts.{localAt}
 use Rattle.construction.specs.Machine.{accessOf, advance}
-use Rattle.construction.specs.Requests.{isProcess, isIdle, isBusy, answerOf, step}
+use Rattle.construction.specs.Requests.{isIdle, isBusy, step}
 use Rattle.construction.proofs.Basics.{true-or-false, true-false, and-true}
 use Rattle.construction.proofs.Invariant.NextPlaces.{Leads, leads}
 use Rattle.construction.proofs.Statements.OneAccess.{one-access}

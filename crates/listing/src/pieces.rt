@@ -8,7 +8,6 @@ use card::step;
 use construction::Card;
 use grammar::writing::put_decimal;
 ghost use mathlib.Core.Path.{_≡_};
-ghost use mathlib.Core.List.{[]};
 ghost use Prim.Native.Nat.{_+_, _^_, _≤_};
 ghost use lib.ListN.{take};
 ghost use Rattle.grammar.specs.Writing.{Put};

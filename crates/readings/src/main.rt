@@ -1,25 +1,24 @@
 // The program `readings` (document 02, order 7): reads a dump and prints the values after a step, or after each of its times. The dump is judged and read
-// by the crate dump_reader; opening the file, taking the arguments and writing the lines is left to do here.
+// by the crate dump_reader, which forms the lines too; reading the file and the arguments and writing bytes is left to do here.
+use arguments::Argument;
+use arguments::decimal_of;
 use construction::Verdict;
-use dump::DumpLine;
-use dump_reader::header::read_header;
-use dump_reader::lines::line_at;
-use grammar::Number;
-use grammar::reading::number_at;
+use dump_reader::rows::first_scan;
+use dump_reader::rows::put_row;
+use dump_reader::rows::put_rows;
 use grammar::writing::put_byte;
 use grammar::writing::put_decimal;
 use grammar::writing::put_word;
 use libc::STDERR_FILENO;
 use libc::STDOUT_FILENO;
 ghost use mathlib.Core.Path.{_≡_};
-ghost use Prim.Native.Nat.{_≤_};
 ghost use lib.ListN.{length};
 ghost use Rattle.io.specs.Counts.{Counts};
 
 // The most bytes of a dump that are read.
 const LIMIT: usize = 4_194_304;
 
-// The latest step that can be asked for, and what is asked for where there is no argument.
+// The latest step that can be asked for.
 const LAST: u64 = 1_000_000_000_000_000_000;
 
 // Reads as much of a file as the buffer takes. A file that cannot be opened counts as empty.
@@ -54,75 +53,33 @@ fn print_refusal(number: u64, line: u64) -> bool {
     print(&buffer, end)
 }
 
-// A step and the values after it, parted by commas.
-fn put_row(buffer: &mut [u8], step: u64, count: u8, values: [u32; 64]) -> usize {
-    let mut i = put_decimal(buffer, 0, step);
-    let mut v: u8 = 0;
-    while v < count {
-        let value = values[(v % 64) as usize];
-        let j = put_byte(buffer, i, b',');
-        i = put_decimal(buffer, j, value as u64);
-        v = v + 1;
-    }
-    put_byte(buffer, i, b'\n')
-}
-
-fn print_row(step: u64, count: u8, values: [u32; 64]) -> bool {
+// A step and the values after it.
+fn print_row(count: u8, step: u64, values: [u32; 64]) -> bool {
     let mut buffer = io::buffer();
-    let end = put_row(&mut buffer, step, count, values);
+    let end = put_row(&mut buffer, 0, count, step, &values);
     print(&buffer, end)
 }
 
-// The values of one time, from the place of its first one on; the place past them.
-fn take_values(text: &[u8], start: usize, values: &mut [u32; 64]) -> usize
-    ensures { λ r. ⌜ start ≤ r ⌝ }
-{
-    let mut at = start;
-    while at < text.len() {
-        let DumpLine::Value {
-            variable,
-            value,
-            next,
-        } = line_at(text, at)
-        else {
-            return at;
-        };
-        values[(variable % 64) as usize] = value;
-        at = next;
-    }
-    at
-}
-
-// A line for each time of a dump that was taken. Whether all were written.
+// A line for each time of a dump that was taken, as many at a time as a large buffer takes. Whether all were written.
 fn print_rows(text: &[u8], count: u8) -> bool {
-    let header = read_header(text);
-    let mut values = [0u32; 64];
-    let mut at = take_values(text, header.at, &mut values);
-    if !print_row(0, count, values) {
-        return false;
-    }
+    let mut scan = first_scan(text);
+    let mut at = scan.at;
     while at < text.len() {
-        let DumpLine::Time { time, next } = line_at(text, at) else {
-            return false;
-        };
-        at = take_values(text, next, &mut values);
-        if !print_row(time, count, values) {
+        let mut buffer = io::large_buffer();
+        let shown = put_rows(text, count, scan, &mut buffer);
+        let end = shown.length;
+        if !print(&buffer, end) {
             return false;
         }
+        scan = shown.scan;
+        let next = scan.at;
+        if next <= at {
+            return false;
+        }
+        at = next;
     }
-    true
-}
-
-// The step of an argument, or one more than the latest where it is none.
-fn step_of(argument: &[u8]) -> u64 {
-    let Number::Value { value, next } = number_at(argument, 0) else {
-        return LAST + 1;
-    };
-    if next == argument.len() {
-        value
-    } else {
-        LAST + 1
-    }
+    let values = scan.values;
+    print_row(count, scan.time, values)
 }
 
 // Judges a dump, and prints what was asked for. Whether all of it was written.
@@ -140,7 +97,7 @@ fn print_readings(text: &[u8], all: bool, step: u64) -> bool {
         return print_rows(text, count);
     }
     let values = readings.values;
-    print_row(step, count, values)
+    print_row(count, step, values)
 }
 
 fn usage() {
@@ -176,7 +133,10 @@ fn main() {
         run(&path[..path_length], true, 0);
         return;
     }
-    let step = step_of(&argument[..length]);
+    let Argument::Value(step) = decimal_of(&argument[..length]) else {
+        usage();
+        return;
+    };
     if count == 3 && step <= LAST {
         run(&path[..path_length], false, step);
         return;

@@ -5,7 +5,7 @@ use mathlib.Core.Bool.{Bool, true, false, cond, not}
 use mathlib.Core.List.{List, [], _∷_, _++_}
 use lib.ListN.{length}
 use lib.Dec.{ltb}
-use Rattle.grammar.specs.Writing.{decimal, Put}
+use Rattle.grammar.specs.Writing.{Put}
 use Rattle.construction.specs.declared.{Card.Card, Verdict.Verdict}
 use Rattle.construction.specs.Answers.{bytes, refusedWith, fieldsText}
 use Rattle.construction.specs.Opening.{opened}
@@ -13,13 +13,12 @@ use Rattle.construction.specs.History.{run}
 use Rattle.commands.specs.Printing.{cardRefusal, callsRefusal}
 use Rattle.executions.specs.Schedules.{callsOf}
 use Rattle.executions.specs.Listings.{isCallable, isListable}
-use Rattle.schedule_files.specs.declared.{CallsRead.CallsRead, Prepared.Prepared}
-use Rattle.schedule_files.specs.Calls.{callsRead}
+use Rattle.calls.specs.declared.Calls.{Calls}
+use Rattle.calls.specs.Tables.{requestsIn}
+use Rattle.calls.specs.Texts.{callsOf as callsIn, lineRefusal}
+use Rattle.schedule_files.specs.declared.Prepared.{Prepared}
 
--- `line,N,refused,2` and `schedules,refused,NUMBER`
-unfoldable pub lineRefusal : ℕ → List ℕ
-lineRefusal n = (bytes "line," ++ decimal n) ++ (fieldsText (refusedWith 2) ++ (10 ∷ []))
-
+-- `schedules,refused,NUMBER`
 unfoldable pub refusalLine : ℕ → List ℕ
 refusalLine n = bytes "schedules" ++ (fieldsText (refusedWith n) ++ (10 ∷ []))
 
@@ -32,16 +31,16 @@ pub record Preparation : Type 0 where
 abbrev pub refusedBy : List ℕ → Card → Preparation
 refusedBy t c = record { text = t; ready = false; card = c }
 
-abbrev pub judgedCalls : Card → CallsRead → ℕ → Preparation
+abbrev pub judgedCalls : Card → Calls → ℕ → Preparation
 judgedCalls c r L =
     cond (ltb 0 (r .line)) (refusedBy (lineRefusal (r .line)) c)
-    (cond (not (isCallable c (r .calls))) (refusedBy (refusalLine 6) c)
+    (cond (not (isCallable c (requestsIn (r .words)))) (refusedBy (refusalLine 6) c)
     (cond (not (isListable c L)) (refusedBy (refusalLine 17) c)
-    (record { text = []; ready = true; card = run c (callsOf c (r .calls)) .card })))
+    (record { text = []; ready = true; card = run c (callsOf c (requestsIn (r .words))) .card })))
 
 abbrev pub judgedCard : Verdict → Card → List ℕ → ℕ → Preparation
 judgedCard Verdict.Accepted c calls L =
-    cond (ltb 65536 (length calls)) (refusedBy callsRefusal c) (judgedCalls c (callsRead calls (c .processCount)) L)
+    cond (ltb 65536 (length calls)) (refusedBy callsRefusal c) (judgedCalls c (callsIn calls (c .processCount)) L)
 judgedCard (Verdict.Refused r line) c calls L = refusedBy (cardRefusal (Verdict.Refused r line)) c
 
 unfoldable pub preparation : List ℕ → List ℕ → ℕ → Preparation

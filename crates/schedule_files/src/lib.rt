@@ -1,17 +1,15 @@
 // What the two files of the program `schedules` say (document 02, order 13): the card with one call per process made, or the one line that is printed
-// instead. It rests on the crates grammar, construction, executions, answers, commands (the lines, read and printed), reader (the card text), opening and
-// listing (refusals 6 and 17, the calls made).
-pub mod calls; // calls.rt: the calls text
-
-use crate::calls::read_calls;
-use answers::put_number;
+// instead. It rests on the crates grammar, construction, executions, answers, calls (the calls text), commands (the lines that are printed), reader (the card
+// text) and listing (refusals 6 and 17, the calls made).
 use answers::put_refusal;
+use calls::reading::put_line_refusal;
+use calls::reading::read_calls;
+use calls::requests_in;
 use commands::printing::put_calls_refusal;
 use commands::printing::put_card_refusal;
 use construction::Card;
 use construction::Refusal;
 use construction::Verdict;
-use executions::Request;
 use grammar::writing::put_byte;
 use grammar::writing::put_word;
 use listing::judging::are_callable;
@@ -22,13 +20,7 @@ ghost use mathlib.Core.Bool.{true, false};
 ghost use Prim.Native.Nat.{_≤_};
 ghost use Rattle.grammar.specs.Writing.{Put};
 ghost use Rattle.construction.specs.Answers.{numberOf};
-ghost use Rattle.schedule_files.specs.Files.{lineRefusal, refusalLine, Prepares};
-
-// The calls that a text says, and the number of the first line that is none of them, or 0.
-pub struct CallsRead {
-    pub calls: [Request; 8],
-    pub line: u64,
-}
+ghost use Rattle.schedule_files.specs.Files.{refusalLine, Prepares};
 
 // Whether there is a listing, the card with its calls made, and the length of what is printed instead.
 pub struct Prepared {
@@ -39,15 +31,6 @@ pub struct Prepared {
 
 // The most bytes of calls that are read.
 const LIMIT: usize = 65_536;
-
-// The line of a line that is no call.
-fn put_line_refusal(buffer: &mut [u8], line: u64) -> usize
-    ensures { λ r. ⌜ Put (now (buffer .entry)) 0 (lineRefusal line) r (now (buffer .exit)) × (r ≤ 269) ⌝ }
-{
-    let i = put_number(buffer, 0, b"line,", line);
-    let j = put_refusal(buffer, i, Refusal::Malformed);
-    put_byte(buffer, j, b'\n')
-}
 
 // The line of a refused listing.
 fn put_refusal_line(buffer: &mut [u8], refusal: Refusal) -> usize
@@ -88,7 +71,8 @@ pub fn prepare(card: &[u8], calls: &[u8], length: u32, buffer: &mut [u8]) -> Pre
         let end = put_line_refusal(buffer, read.line);
         return over(first, end);
     }
-    let requests = read.calls;
+    let words = read.words;
+    let requests = requests_in(&words);
     if !are_callable(first, requests) {
         let end = put_refusal_line(buffer, Refusal::NoProgram);
         return over(first, end);

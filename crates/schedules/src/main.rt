@@ -1,9 +1,9 @@
 // Every short schedule (document 02, order 13): reads `card.txt` and `calls.txt` in the folder where it is run and prints the listing of length L, its
 // argument. What the files say and the text of each piece are those of the crates schedule_files and listing; only reading the argument and the files,
 // writing the bytes and telling how far it is are left to do here.
+use arguments::Argument;
+use arguments::decimal_of;
 use construction::Card;
-use grammar::Number;
-use grammar::reading::number_at;
 use grammar::writing::put_decimal;
 use grammar::writing::put_word;
 use libc::STDERR_FILENO;
@@ -19,45 +19,15 @@ ghost use Rattle.io.specs.Counts.{Counts};
 // The steps of a piece after its first ones: it has at most 243 lines of at most 2,129 bytes, for which a buffer of 524,288 bytes has room.
 const LAST: u8 = 5;
 
+// The largest length that is read; a listing has at most 16 steps.
 const LARGEST: u64 = 4_294_967_295;
-
-// A decimal that is an argument, or none.
-struct Argument {
-    given: bool,
-    value: u32,
-}
-
-// The decimal that a whole text is, as a card text writes it, below 4,294,967,296.
-fn decimal_of(text: &[u8]) -> Argument {
-    let number = number_at(text, 0);
-    let none = Argument {
-        given: false,
-        value: 0,
-    };
-    let Number::Value { value, next } = number else {
-        return none;
-    };
-    if next < text.len() {
-        return none;
-    }
-    if value > LARGEST {
-        return none;
-    }
-    Argument {
-        given: true,
-        value: value as u32,
-    }
-}
 
 // The one argument.
 fn read_argument() -> Argument {
     let mut text = io::buffer();
     let length = os::arg(1, &mut text);
     if os::arg_count() != 2 {
-        return Argument {
-            given: false,
-            value: 0,
-        };
+        return Argument::Wrong;
     }
     decimal_of(&text[..length])
 }
@@ -174,22 +144,33 @@ fn print_files(card: &[u8], calls: &[u8], length: u32) -> bool {
     io::write_all(STDOUT_FILENO, &buffer[..end])
 }
 
-// The argument is judged before any file, of each of which at most one byte more than its limit is read. A program has no exit status, so what cannot be
-// written is told on standard error.
-fn main() {
-    let length = read_argument();
-    if !length.given {
-        io::write_all(
-            STDERR_FILENO,
-            b"usage: schedules L (the number of steps, a decimal below 4294967296)\n",
-        );
-        return;
-    }
+fn usage() {
+    io::write_all(
+        STDERR_FILENO,
+        b"usage: schedules L (the number of steps, a decimal below 4294967296)\n",
+    );
+}
+
+// Of each file at most one byte more than its limit is read. A program has no exit status, so what cannot be written is told on standard error.
+fn run(length: u32) {
     let mut card = [0u8; 16385];
     let mut calls = [0u8; 65537];
     let card_length = read_file(b"card.txt", &mut card);
     let calls_length = read_file(b"calls.txt", &mut calls);
-    if !print_files(&card[..card_length], &calls[..calls_length], length.value) {
+    if !print_files(&card[..card_length], &calls[..calls_length], length) {
         os::fail(b"schedules: the listing could not be written");
     }
+}
+
+// The argument is judged before any file.
+fn main() {
+    let Argument::Value(length) = read_argument() else {
+        usage();
+        return;
+    };
+    if length > LARGEST {
+        usage();
+        return;
+    }
+    run(length as u32);
 }

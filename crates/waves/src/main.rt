@@ -39,15 +39,11 @@ fn print_course(first: Course, calls: &[u8]) -> bool {
         let mut buffer = io::large_buffer();
         let piece = put_commands(course, calls, &mut buffer);
         let end = piece.at;
-        course = piece.course;
-        let next = course.session.at;
-        if next <= at {
-            return false;
-        }
-        at = next;
         if !print(&buffer, end) {
             return false;
         }
+        course = piece.course;
+        at = course.session.at;
     }
     let mut buffer = io::buffer();
     let end = put_end(course, &mut buffer);

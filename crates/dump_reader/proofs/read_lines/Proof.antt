@@ -1,5 +1,5 @@
 use lib.ListN.{length}
-use Prim.Native.Nat.{_-_, _+_, _≤_}
+use Prim.Native.Nat.{_-_, _≤_}
 use mathlib.Core.Path.{_≡_, sym, _∙_}
 use Rattle.dump.proofs.Trails.{going}
 use Rattle.dump.specs.Reading.{linesFrom}

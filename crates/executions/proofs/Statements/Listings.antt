@@ -16,7 +16,7 @@ use Rattle.construction.specs.Answers.{fields, refusedWith, writtenFields}
 use Rattle.construction.specs.Requests.{isProgram}
 use Rattle.construction.specs.Opening.{fresh, opened}
 use Rattle.construction.specs.History.{Entry, run}
-use Rattle.executions.specs.Schedules.{noRequest, Execution, callsOf, listing, schedules}
+use Rattle.executions.specs.Schedules.{noRequest, callsOf, schedules}
 use Rattle.executions.specs.Listings.{reopened, listingText, textAfter, pieceAfter, together, areCallable, isCallable, isListable, listed, listedInto, Callable, Listable}
 use Rattle.construction.proofs.Basics.{and-true, clash}
 use Rattle.construction.proofs.Statements.AnswerFields.{written-known}

@@ -3,129 +3,96 @@ use Rattle.schedule_files.proofs.Laws as laws
 use borrow.Author.Needs.{needs}
 use Rattle.schedule_files.proofs.prepare.Statement.{statement}
 use Rattle.schedule_files.proofs.prepare.Tie as tie
-use Rattle.schedule_files.proofs.prepare.Reads as reads
-use Rattle.schedule_files.proofs.prepare.Lts as lts
-use Rattle.commands.proofs.printing.put_calls_refusal.Reads as put-calls-refusal-reads
-use Rattle.commands.proofs.printing.put_card_refusal.Reads as put-card-refusal-reads
-use Rattle.listing.proofs.judging.are_callable.Reads as are-callable-reads
-use Rattle.listing.proofs.judging.is_listable.Reads as is-listable-reads
-use Rattle.listing.proofs.starting.call_all.Reads as call-all-reads
-use Rattle.reader.proofs.open.Reads as open-reads
-use Rattle.schedule_files.proofs.calls.read_calls.Reads as read-calls-reads
-use Rattle.schedule_files.proofs.over.Reads as over-reads
-use Rattle.schedule_files.proofs.put_line_refusal.Reads as put-line-refusal-reads
-use Rattle.schedule_files.proofs.put_refusal_line.Reads as put-refusal-line-reads
 
--- src/lib.rt:75:9
 open-requires : tie.Need-open-requires
 open-requires c κs = search needs
 
--- src/lib.rt:78:31
 enum-known-verdict : tie.Need-enum-known-verdict
 enum-known-verdict c = search needs
 
--- src/lib.rt:79:13
 put-card-refusal-requires : tie.Need-put-card-refusal-requires
 put-card-refusal-requires c κs = search needs
 
--- src/lib.rt:80:9
 over-requires : tie.Need-over-requires
 over-requires c κs = search needs
 
--- src/lib.rt:80:9
 same-length : tie.Need-same-length
 same-length c = search needs
 
--- src/lib.rt:80:9
 returns : tie.Need-returns
 returns c = laws.card-refused _ _ (c .before .before .before .before .before .before .before .before .before .before .before .before .before .args .length) (c .before .before .before .before .before .before .before .before .before .«open» .ensures) (c .before .before .before .before .before .before .verdict .given .1) (c .before .before .before .put-card-refusal .ensures .0) (c .before .before .before .put-card-refusal .ensures .1) (c .over .ensures)
 
 enum-told : tie.Need-enum-told
 enum-told c = search needs
 
--- src/lib.rt:83:13
 put-calls-refusal-requires : tie.Need-put-calls-refusal-requires
 put-calls-refusal-requires c κs = search needs
 
--- src/lib.rt:84:9
 over-requires-2 : tie.Need-over-requires-2
 over-requires-2 c κs = search needs
 
--- src/lib.rt:84:9
 same-length-2 : tie.Need-same-length-2
 same-length-2 c = search needs
 
--- src/lib.rt:84:9
 returns-2 : tie.Need-returns-2
 returns-2 c = laws.calls-refused _ _ (c .before .before .before .before .before .before .before .before .before .before .before .before .before .args .length) (c .before .before .before .before .before .before .before .before .before .«open» .ensures) (c .before .before .before .before .before .before .enum-told .given .1) (c .before .before .before .before .before .if1 .taken) (c .before .before .before .put-calls-refusal .ensures .0) (c .before .before .before .put-calls-refusal .ensures .1) (c .over2 .ensures)
 
--- src/lib.rt:86:9
 read-calls-requires : tie.Need-read-calls-requires
 read-calls-requires c κs = search needs
 
--- src/lib.rt:88:13
 put-line-refusal-requires : tie.Need-put-line-refusal-requires
 put-line-refusal-requires c κs = search needs
 
--- src/lib.rt:89:9
 over-requires-3 : tie.Need-over-requires-3
 over-requires-3 c κs = search needs
 
--- src/lib.rt:89:9
 same-length-3 : tie.Need-same-length-3
 same-length-3 c = search needs
 
--- src/lib.rt:89:9
 returns-3 : tie.Need-returns-3
 returns-3 c = laws.line-refused _ _ (c .before .before .before .before .before .before .before .before .before .before .before .before .before .before .before .before .args .length) (c .before .before .before .before .before .before .before .before .before .before .before .before .«open» .ensures) (c .before .before .before .before .before .before .before .before .before .enum-told .given .1) (c .before .before .before .before .before .before .before .before .if1 .left) (c .before .before .before .before .before .before .before .read-calls .ensures) (c .before .before .before .before .before .if2 .taken) (c .before .before .before .put-line-refusal .ensures .0) (c .before .before .before .put-line-refusal .ensures .1) (c .over3 .ensures)
 
--- src/lib.rt:92:9
+slice-aggregate-requests-in : tie.Need-slice-aggregate-requests-in
+slice-aggregate-requests-in c = search needs
+
+requests-in-requires : tie.Need-requests-in-requires
+requests-in-requires c κs = search needs
+
 are-callable-requires : tie.Need-are-callable-requires
 are-callable-requires c κs = search needs
 
--- src/lib.rt:93:13
 put-refusal-line-requires : tie.Need-put-refusal-line-requires
 put-refusal-line-requires c κs = search needs
 
--- src/lib.rt:94:9
 over-requires-4 : tie.Need-over-requires-4
 over-requires-4 c κs = search needs
 
--- src/lib.rt:94:9
 same-length-4 : tie.Need-same-length-4
 same-length-4 c = search needs
 
--- src/lib.rt:94:9
 returns-4 : tie.Need-returns-4
-returns-4 c = laws.six _ _ (c .before .before .before .before .before .before .before .before .before .before .before .before .before .before .before .before .before .before .before .args .length) (c .before .before .before .before .before .before .before .before .before .before .before .before .before .before .before .«open» .ensures) (c .before .before .before .before .before .before .before .before .before .before .before .before .enum-told .given .1) (c .before .before .before .before .before .before .before .before .before .before .before .if1 .left) (c .before .before .before .before .before .before .before .before .before .before .read-calls .ensures) (c .before .before .before .before .before .before .before .before .if2 .left) (c .before .before .before .before .before .before .are-callable .ensures) (not-true _ (c .before .before .before .before .before .if3 .taken)) (c .before .before .before .put-refusal-line .ensures .0) (c .before .before .before .put-refusal-line .ensures .1) (c .over4 .ensures)
+returns-4 c = laws.six _ _ (c .before .before .before .before .before .before .before .before .before .before .before .before .before .before .before .before .before .before .before .before .before .args .length) (c .before .before .before .before .before .before .before .before .before .before .before .before .before .before .before .before .before .«open» .ensures) (c .before .before .before .before .before .before .before .before .before .before .before .before .before .before .enum-told .given .1) (c .before .before .before .before .before .before .before .before .before .before .before .before .before .if1 .left) (c .before .before .before .before .before .before .before .before .before .before .before .before .read-calls .ensures) (c .before .before .before .before .before .before .before .before .before .before .if2 .left) (rw (c .before .before .before .before .before .before .before .requests-in .ensures) at (c .before .before .before .before .before .before .are-callable .ensures)) (not-true _ (c .before .before .before .before .before .if3 .taken)) (c .before .before .before .put-refusal-line .ensures .0) (c .before .before .before .put-refusal-line .ensures .1) (c .over4 .ensures)
 
--- src/lib.rt:96:9
 is-listable-requires : tie.Need-is-listable-requires
 is-listable-requires c κs = search needs
 
--- src/lib.rt:97:13
 put-refusal-line-requires-2 : tie.Need-put-refusal-line-requires-2
 put-refusal-line-requires-2 c κs = search needs
 
--- src/lib.rt:98:9
 over-requires-5 : tie.Need-over-requires-5
 over-requires-5 c κs = search needs
 
--- src/lib.rt:98:9
 same-length-5 : tie.Need-same-length-5
 same-length-5 c = search needs
 
--- src/lib.rt:98:9
 returns-5 : tie.Need-returns-5
-returns-5 c = laws.seventeen _ _ (c .before .before .before .before .before .before .before .before .before .before .before .before .before .before .before .before .before .before .before .before .before .args .length) (c .before .before .before .before .before .before .before .before .before .before .before .before .before .before .before .before .before .«open» .ensures) (c .before .before .before .before .before .before .before .before .before .before .before .before .before .before .enum-told .given .1) (c .before .before .before .before .before .before .before .before .before .before .before .before .before .if1 .left) (c .before .before .before .before .before .before .before .before .before .before .before .before .read-calls .ensures) (c .before .before .before .before .before .before .before .before .before .before .if2 .left) (c .before .before .before .before .before .before .before .before .are-callable .ensures) (not-false _ (c .before .before .before .before .before .before .before .if3 .left)) (c .before .before .before .before .before .before .is-listable .ensures) (not-true _ (c .before .before .before .before .before .if4 .taken)) (c .before .before .before .put-refusal-line2 .ensures .0) (c .before .before .before .put-refusal-line2 .ensures .1) (c .over5 .ensures)
+returns-5 c = laws.seventeen _ _ (c .before .before .before .before .before .before .before .before .before .before .before .before .before .before .before .before .before .before .before .before .before .before .before .args .length) (c .before .before .before .before .before .before .before .before .before .before .before .before .before .before .before .before .before .before .before .«open» .ensures) (c .before .before .before .before .before .before .before .before .before .before .before .before .before .before .before .before .enum-told .given .1) (c .before .before .before .before .before .before .before .before .before .before .before .before .before .before .before .if1 .left) (c .before .before .before .before .before .before .before .before .before .before .before .before .before .before .read-calls .ensures) (c .before .before .before .before .before .before .before .before .before .before .before .before .if2 .left) (rw (c .before .before .before .before .before .before .before .before .before .requests-in .ensures) at (c .before .before .before .before .before .before .before .before .are-callable .ensures)) (not-false _ (c .before .before .before .before .before .before .before .if3 .left)) (c .before .before .before .before .before .before .is-listable .ensures) (not-true _ (c .before .before .before .before .before .if4 .taken)) (c .before .before .before .put-refusal-line2 .ensures .0) (c .before .before .before .put-refusal-line2 .ensures .1) (c .over5 .ensures)
 
--- src/lib.rt:102:15
 call-all-requires : tie.Need-call-all-requires
 call-all-requires c κs = search needs
 
--- src/lib.rt:72:1
 returns-6 : tie.Need-returns-6
-returns-6 c = laws.begins _ _ (c .before .before .before .before .before .before .before .before .before .before .before .before .before .before .before .before .before .args .length) (c .before .before .before .before .before .before .before .before .before .before .before .before .before .«open» .ensures) (c .before .before .before .before .before .before .before .before .before .before .enum-told .given .1) (c .before .before .before .before .before .before .before .before .before .if1 .left) (c .before .before .before .before .before .before .before .before .read-calls .ensures) (c .before .before .before .before .before .before .if2 .left) (c .before .before .before .before .are-callable .ensures) (not-false _ (c .before .before .before .if3 .left)) (c .before .before .is-listable .ensures) (not-false _ (c .before .if4 .left)) (c .call-all .ensures)
+returns-6 c = laws.begins _ _ (c .before .before .before .before .before .before .before .before .before .before .before .before .before .before .before .before .before .before .before .args .length) (c .before .before .before .before .before .before .before .before .before .before .before .before .before .before .before .«open» .ensures) (c .before .before .before .before .before .before .before .before .before .before .before .before .enum-told .given .1) (c .before .before .before .before .before .before .before .before .before .before .before .if1 .left) (c .before .before .before .before .before .before .before .before .before .before .read-calls .ensures) (c .before .before .before .before .before .before .before .before .if2 .left) (rw (c .before .before .before .before .before .requests-in .ensures) at (c .before .before .before .before .are-callable .ensures)) (not-false _ (c .before .before .before .if3 .left)) (c .before .before .is-listable .ensures) (not-false _ (c .before .if4 .left)) (rw (c .before .before .before .before .before .requests-in .ensures) at (c .call-all .ensures))
 
 pub prepare-spec : {M : Type 1} → statement M
 prepare-spec =
@@ -147,6 +114,8 @@ prepare-spec =
     over-requires-3
     same-length-3
     returns-3
+    slice-aggregate-requests-in
+    requests-in-requires
     are-callable-requires
     put-refusal-line-requires
     over-requires-4

@@ -4,33 +4,22 @@ use Rattle.schedule_files.proofs.Laws as laws
 use borrow.Author.Needs.{needs}
 use Rattle.schedule_files.proofs.put_refusal_line.Statement.{statement}
 use Rattle.schedule_files.proofs.put_refusal_line.Tie as tie
-use Rattle.schedule_files.proofs.put_refusal_line.Reads as reads
-use Rattle.schedule_files.proofs.put_refusal_line.Lts as lts
-use Rattle.answers.proofs.put_refusal.Reads as put-refusal-reads
-use Rattle.grammar.proofs.writing.put_byte.Reads as put-byte-reads
-use Rattle.grammar.proofs.writing.put_word.Reads as put-word-reads
 
--- src/lib.rt:56:33
 slice-aggregate-put-word : tie.Need-slice-aggregate-put-word
 slice-aggregate-put-word c = search needs
 
--- src/lib.rt:56:9
 put-word-requires : tie.Need-put-word-requires
 put-word-requires c κs = search needs
 
--- src/lib.rt:57:9
 put-refusal-requires : tie.Need-put-refusal-requires
 put-refusal-requires c κs = search needs
 
--- src/lib.rt:58:5
 put-byte-requires : tie.Need-put-byte-requires
 put-byte-requires c κs = search needs
 
--- src/lib.rt:53:1
 same-length : tie.Need-same-length
 same-length c = search needs
 
--- src/lib.rt:53:1
 returns : tie.Need-returns
 returns c = (laws.refusal-put (numberOf (c .before .before .before .before .before .before .before .before .before .before .before .before .before .before .args .refusal)) (omega arith) (c .before .before .before .before .before .before .before .before .before .before .put-word .ensures) (c .before .before .before .before .before .before .put-refusal .ensures .0) (c .before .before .put-byte .ensures), omega (arith, c .before .before .put-byte .ensures .place, c .before .before .before .before .before .before .put-refusal .ensures .1, c .before .before .before .before .before .before .before .before .before .before .put-word .ensures .place))
 

@@ -1,4 +1,5 @@
 use Prim.Native.Nat.{_-_}
+use mathlib.Core.Path.{_≡_, refl}
 use lib.ListN as list
 use native.Mathlib.Omega.{arith}
 use borrow.Author.Needs.{needs}
@@ -6,10 +7,15 @@ use Rattle.waves.proofs.print_course.Statement.{statement}
 use Rattle.waves.proofs.print_course.Tie as tie
 
 abbrev Inv-loop : tie.InvT-loop
-Inv-loop calls course₀ at₀ course at = Unit {0}
+Inv-loop calls course₀ at₀ course at = at ≡ course .session .at
 
 abbrev μ-loop : tie.MeasureT-loop
 μ-loop calls course₀ at₀ course at = list.length calls - at
+
+loop-less : tie.Need-loop-less Inv-loop μ-loop
+loop-less c =
+    let h = c .before .before .before .before .before .put-commands .ensures .onward (omega arith) (omega arith) in
+    omega arith
 
 pub print-course-spec : {M : Type 1} → statement M
 print-course-spec =
@@ -17,16 +23,15 @@ print-course-spec =
     (tie.spec
     Inv-loop
     μ-loop
-    (λ c. tt)
+    (λ c. refl)
     (λ c κs. search needs)
     (λ c. search needs)
     (λ c κs. search needs)
     (λ c. search needs)
-    (λ c. search needs)
     (λ c κs. search needs)
     (λ c. search needs)
-    (λ c. omega arith)
-    (λ c. tt)
+    loop-less
+    (λ c. refl)
     (λ c κs. search needs)
     (λ c. search needs)
     (λ c κs. search needs)

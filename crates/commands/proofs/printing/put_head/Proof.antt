@@ -1,56 +1,19 @@
-use mathlib.Core.List.{append-nil}
+use Rattle.commands.proofs.PrintingLaws as laws
 use native.Mathlib.Omega.{arith}
-use Rattle.construction.specs.Answers.{numbersText}
-use Rattle.answers.proofs.Texts.{put-as-within}
-use Rattle.commands.specs.CommandFields.{commandFields}
-use Rattle.commands.specs.Printing.{headText}
 use borrow.Author.Needs.{needs}
 use Rattle.commands.proofs.printing.put_head.Statement.{statement}
 use Rattle.commands.proofs.printing.put_head.Tie as tie
 
+returns : tie.Need-returns
+returns c = laws.put-head _ _ (omega arith) (c .before .before .before .before .before .before .before .before .put-verb .ensures) (rw (← (c .before .before .before .first-of .ensures)) (c .before .before .put-number .ensures))
+
 pub put-head-spec : {M : Type 1} → statement M
-unfolding headText commandFields numbersText
 put-head-spec =
     tie.close
     (tie.spec
+    (λ c κs. search needs)
     (λ c. search needs)
+    (λ c κs. search needs)
+    (λ c κs. search needs)
     (λ c. search needs)
-    (λ c. search needs)
-    (λ c. search needs)
-    (λ c. search needs)
-    (λ c. search needs)
-    (λ c. search needs)
-    (λ c. search needs)
-    (λ c. search needs)
-    (λ c. search needs)
-    (λ c. search needs)
-    (λ c. search needs)
-    (λ c. search needs)
-    (λ c. search needs)
-    (λ c. search needs)
-    (λ c. search needs)
-    (λ c. search needs)
-    (λ c. search needs)
-    (λ c. search needs)
-    (λ c. search needs)
-    (λ c. search needs)
-    (λ c. search needs)
-    (λ c. search needs)
-    (λ c. search needs)
-    (λ c. search needs)
-    (λ c. search needs)
-    (λ c. search needs)
-    (λ c. search needs)
-    (λ c. put-as-within 27 (c .before .before .put-number .ensures) (omega arith) (rw (c .before .before .before .before .before .before .command .given .1, append-nil)))
-    (λ c. search needs)
-    (λ c. put-as-within 27 (c .before .before .put-number2 .ensures) (omega arith) (rw (c .before .before .before .before .before .before .command2 .given .1, append-nil)))
-    (λ c. search needs)
-    (λ c. put-as-within 27 (c .before .before .put-number3 .ensures) (omega arith) (rw (c .before .before .before .before .before .before .command3 .given .1, append-nil)))
-    (λ c. search needs)
-    (λ c. put-as-within 27 (c .before .before .put-number4 .ensures) (omega arith) (rw (c .before .before .before .before .before .before .command4 .given .1, append-nil)))
-    (λ c. search needs)
-    (λ c. put-as-within 27 (c .before .before .put-number5 .ensures) (omega arith) (rw (c .before .before .before .before .before .before .command5 .given .1, append-nil)))
-    (λ c. search needs)
-    (λ c. put-as-within 27 (c .before .before .put-number6 .ensures) (omega arith) (rw (c .before .before .before .before .before .before .command6 .given .1, append-nil)))
-    (λ c. search needs)
-    (λ c. put-as-within 27 (c .before .before .put-number7 .ensures) (omega arith) (rw (c .before .before .before .before .before .enum-told .given .1, append-nil))))
+    returns)

@@ -30,7 +30,6 @@ pub change-at-spec : {M : Type 1} → statement M
 change-at-spec =
     tie.close
     (tie.spec
-    (λ c. search needs)
     (λ c κs. search needs)
     (λ c. search needs)
     (λ c. search needs)

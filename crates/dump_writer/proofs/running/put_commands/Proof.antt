@@ -16,7 +16,7 @@ same-length : tie.Need-same-length Inv-loop μ-loop
 same-length c = laws.going-same (c .before .before .before .before .before .before .loop .inv) (omega arith) (c .before .before .before .before .before .loop-test .taken) (c .before .before .before .put-command .ensures)
 
 returns : tie.Need-returns Inv-loop μ-loop
-returns c = laws.going-stopped (c .before .before .before .before .before .before .loop .inv) (omega arith) (c .before .before .before .before .before .loop-test .taken) (c .before .before .before .put-command .ensures)
+returns c = laws.going-stopped (c .before .before .before .before .before .before .loop .inv) (omega arith) (c .before .before .before .before .before .loop-test .taken) (c .before .before .before .put-command .ensures) (c .if1 .taken)
 
 loop-less : tie.Need-loop-less Inv-loop μ-loop
 loop-less c = laws.going-less (c .before .before .before .before .before .before .before .loop .inv) (omega arith) (c .before .before .before .before .before .before .loop-test .taken) (c .before .before .before .before .put-command .ensures)
@@ -37,4 +37,4 @@ put-commands-spec =
     loop-less
     loop-again
     (λ c. laws.going-length (c .before .loop .inv) (omega arith))
-    (λ c. laws.going-end (c .before .loop .inv) (omega arith)))
+    (λ c. laws.going-end (c .before .loop .inv) (omega arith) (c .loop-test .left)))

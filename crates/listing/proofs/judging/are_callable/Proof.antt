@@ -2,15 +2,11 @@ use borrow.Author.Tests.{not-true, not-false}
 use borrow.Author.Needs.{needs}
 use native.Mathlib.Omega.{arith}
 use Prim.Native.Nat.{ℕ, _-_, _≤_}
-use mathlib.Core.Path.{_≡_, refl, sym, ap, _∙_}
+use mathlib.Core.Path.{_≡_, sym, ap, _∙_}
 use Rattle.executions.specs.Listings.{areCallable}
 use Rattle.listing.proofs.Tests as laws
 use Rattle.listing.proofs.judging.are_callable.Statement.{statement}
 use Rattle.listing.proofs.judging.are_callable.Tie as tie
-use Rattle.listing.proofs.judging.are_callable.Reads as reads
-use Rattle.listing.proofs.judging.are_callable.Lts as lts
-use Rattle.listing.proofs.judging.request_at.Reads as request-at-reads
-use Rattle.requests.proofs.judging.is_below.Reads as is-below-reads
 
 abbrev Inv-loop : tie.InvT-loop
 Inv-loop card calls k₀ k = (areCallable card calls (card .processCount - k) k ≡ areCallable card calls (card .processCount) 0) × (k ≤ card .processCount)
@@ -18,35 +14,15 @@ Inv-loop card calls k₀ k = (areCallable card calls (card .processCount - k) k 
 abbrev μ-loop : tie.MeasureT-loop
 μ-loop card calls k₀ k = card .processCount - k
 
--- src/judging.rt:30:5
 loop-holds : tie.Need-loop-holds Inv-loop μ-loop
 loop-holds c = (ap (λ (n : ℕ). areCallable (c .args .card) (c .args .calls) n 0) (omega arith), omega arith)
 
--- src/judging.rt:31:13
-request-at-requires : tie.Need-request-at-requires Inv-loop μ-loop
-request-at-requires c κs = search needs
-
--- src/judging.rt:32:13
-is-below-requires : tie.Need-is-below-requires Inv-loop μ-loop
-is-below-requires c κs = search needs
-
--- src/judging.rt:33:13
 returns : tie.Need-returns Inv-loop μ-loop
 returns c = sym (laws.callable-stop (c .before .before .before .before .before .before .args .card) (c .before .before .before .before .before .before .args .calls) _ _ (c .before .before .before .if1 .taken) (c .before .before .request-at .ensures) (c .before .is-below .ensures) (not-true _ (c .if2 .taken))) ∙ c .before .before .before .before .before .loop .inv .0
 
--- src/judging.rt:35:13
-add-k : tie.Need-add-k Inv-loop μ-loop
-add-k c = search needs
-
--- src/judging.rt:30:5
-loop-less : tie.Need-loop-less Inv-loop μ-loop
-loop-less c = omega arith
-
--- src/judging.rt:30:5
 loop-again : tie.Need-loop-again Inv-loop μ-loop
 loop-again c = (sym (laws.callable-turn (c .before .before .before .before .before .before .args .card) (c .before .before .before .before .before .before .args .calls) _ _ (c .before .before .before .if1 .taken) (c .before .before .request-at .ensures) (c .before .is-below .ensures) (not-false _ (c .if2 .left))) ∙ c .before .before .before .before .before .loop .inv .0, omega arith)
 
--- src/judging.rt:26:1
 returns-2 : tie.Need-returns-2 Inv-loop μ-loop
 returns-2 c = sym (laws.callable-none (c .before .before .before .args .card) (c .before .before .before .args .calls) _ _ (omega arith)) ∙ c .before .before .loop .inv .0
 
@@ -57,10 +33,10 @@ are-callable-spec =
     Inv-loop
     μ-loop
     loop-holds
-    request-at-requires
-    is-below-requires
+    (λ c κs. search needs)
+    (λ c κs. search needs)
     returns
-    add-k
-    loop-less
+    (λ c. search needs)
+    (λ c. omega arith)
     loop-again
     returns-2)

@@ -39,136 +39,6 @@ abbrev put-runs-below : ℕ → In 3 put-runs-kinds.ps
 put-runs-below t =
     and 3 put-runs-kinds.ps (falls 3 put-runs-kinds.ps _<_ μ-put-runs t) put-runs.Pre
 
--- src/runs.rt:127:8
-put-run-is-idle-at-requires : (t : ℕ) → put-run-lts.Need-is-idle-at-requires (
-  is-idle-at-reads.Asked,
-  is-idle-at-reads.Learnt,
-  put-decimal-reads.Asked,
-  put-decimal-reads.Learnt,
-  put-answer-reads.Asked,
-  put-answer-reads.Learnt,
-  put-runs-below t,
-  put-runs.Post,
-) (put-run-at t) put-run.Post
-put-run-is-idle-at-requires t c κs = search needs
-
--- src/runs.rt:128:9
-put-run-returns : (t : ℕ) → put-run-lts.Need-returns (
-  is-idle-at-reads.Asked,
-  is-idle-at-reads.Learnt,
-  put-decimal-reads.Asked,
-  put-decimal-reads.Learnt,
-  put-answer-reads.Asked,
-  put-answer-reads.Learnt,
-  put-runs-below t,
-  put-runs.Post,
-) (put-run-at t) put-run.Post
-put-run-returns t c = laws.run-idle (c .before .before .before .before .before .args .tasks) (c .before .before .before .before .before .args .k) (c .before .before .before .before .before .args .left) (c .before .before .before .before .before .args .count) _ _ _ _ (c .before .is-idle-at .ensures) (c .if1 .taken) (omega arith)
-
--- src/runs.rt:130:9
-put-run-put-decimal-requires : (t : ℕ) → put-run-lts.Need-put-decimal-requires (
-  is-idle-at-reads.Asked,
-  is-idle-at-reads.Learnt,
-  put-decimal-reads.Asked,
-  put-decimal-reads.Learnt,
-  put-answer-reads.Asked,
-  put-answer-reads.Learnt,
-  put-runs-below t,
-  put-runs.Post,
-) (put-run-at t) put-run.Post
-put-run-put-decimal-requires t c κs = search needs
-
--- src/runs.rt:131:9
-put-run-put-answer-requires : (t : ℕ) → put-run-lts.Need-put-answer-requires (
-  is-idle-at-reads.Asked,
-  is-idle-at-reads.Learnt,
-  put-decimal-reads.Asked,
-  put-decimal-reads.Learnt,
-  put-answer-reads.Asked,
-  put-answer-reads.Learnt,
-  put-runs-below t,
-  put-runs.Post,
-) (put-run-at t) put-run.Post
-put-run-put-answer-requires t c κs = search needs
-
--- src/runs.rt:132:26
-put-run-sub-put-runs : (t : ℕ) → put-run-lts.Need-sub-put-runs (
-  is-idle-at-reads.Asked,
-  is-idle-at-reads.Learnt,
-  put-decimal-reads.Asked,
-  put-decimal-reads.Learnt,
-  put-answer-reads.Asked,
-  put-answer-reads.Learnt,
-  put-runs-below t,
-  put-runs.Post,
-) (put-run-at t) put-run.Post
-put-run-sub-put-runs t c = omega (arith, c .before .before .before .before .before .before .before .before .before .before .before .before .before .before .pre .1 .0)
-
--- src/runs.rt:132:5
-put-run-put-runs-requires : (t : ℕ) → put-run-lts.Need-put-runs-requires (
-  is-idle-at-reads.Asked,
-  is-idle-at-reads.Learnt,
-  put-decimal-reads.Asked,
-  put-decimal-reads.Learnt,
-  put-answer-reads.Asked,
-  put-answer-reads.Learnt,
-  put-runs-below t,
-  put-runs.Post,
-) (put-run-at t) put-run.Post
-put-run-put-runs-requires t c κs = (omega (arith, c .before .before .before .before .before .before .before .before .before .before .before .before .before .before .before .before .pre .0, c .before .before .before .before .before .before .before .before .before .before .before .before .before .before .before .before .pre .1 .0), laws.run-holds (c .before .before .before .before .before .before .before .before .before .before .before .before .before .before .before .before .args .tasks) (c .before .before .before .before .before .before .before .before .before .before .before .before .before .before .before .before .args .k) (c .before .before .before .before .before .before .before .before .before .before .before .before .before .before .before .before .args .left) (c .before .before .before .before .before .before .before .before .before .before .before .before .before .before .before .before .args .count) _ _ _ _ (c .before .before .before .before .before .before .before .before .before .before .before .before .is-idle-at .ensures) (c .before .before .before .before .before .before .before .before .before .before .before .before .before .before .before .before .pre .1 .2) (c .before .before .before .before .before .before .before .before .before .before .before .before .before .before .before .before .pre .1 .1) (c .before .before .before .before .before .before .before .before .before .before .before .before .before .before .before .before .pre .1 .0) (c .before .before .before .before .before .before .before .before .before .before .before .if1 .left) (c .before .before .before .before .before .before .before .before .before .put-decimal .ensures) (c .before .before .before .before .before .put-answer .ensures .0) (c .before .before .before .before .before .put-answer .ensures .1))
-
--- src/runs.rt:108:1
-put-run-same-length : (t : ℕ) → put-run-lts.Need-same-length (
-  is-idle-at-reads.Asked,
-  is-idle-at-reads.Learnt,
-  put-decimal-reads.Asked,
-  put-decimal-reads.Learnt,
-  put-answer-reads.Asked,
-  put-answer-reads.Learnt,
-  put-runs-below t,
-  put-runs.Post,
-) (put-run-at t) put-run.Post
-put-run-same-length t c = search needs
-
--- src/runs.rt:108:1
-put-run-same-length-2 : (t : ℕ) → put-run-lts.Need-same-length-2 (
-  is-idle-at-reads.Asked,
-  is-idle-at-reads.Learnt,
-  put-decimal-reads.Asked,
-  put-decimal-reads.Learnt,
-  put-answer-reads.Asked,
-  put-answer-reads.Learnt,
-  put-runs-below t,
-  put-runs.Post,
-) (put-run-at t) put-run.Post
-put-run-same-length-2 t c = search needs
-
--- src/runs.rt:108:1
-put-run-same-length-3 : (t : ℕ) → put-run-lts.Need-same-length-3 (
-  is-idle-at-reads.Asked,
-  is-idle-at-reads.Learnt,
-  put-decimal-reads.Asked,
-  put-decimal-reads.Learnt,
-  put-answer-reads.Asked,
-  put-answer-reads.Learnt,
-  put-runs-below t,
-  put-runs.Post,
-) (put-run-at t) put-run.Post
-put-run-same-length-3 t c = search needs
-
--- src/runs.rt:108:1
-put-run-returns-2 : (t : ℕ) → put-run-lts.Need-returns-2 (
-  is-idle-at-reads.Asked,
-  is-idle-at-reads.Learnt,
-  put-decimal-reads.Asked,
-  put-decimal-reads.Learnt,
-  put-answer-reads.Asked,
-  put-answer-reads.Learnt,
-  put-runs-below t,
-  put-runs.Post,
-) (put-run-at t) put-run.Post
-put-run-returns-2 t c = laws.run-busy (c .before .before .before .before .before .before .before .before .before .before .before .before .before .before .before .before .before .before .before .before .before .before .before .args .tasks) (c .before .before .before .before .before .before .before .before .before .before .before .before .before .before .before .before .before .before .before .before .before .before .before .args .k) (c .before .before .before .before .before .before .before .before .before .before .before .before .before .before .before .before .before .before .before .before .before .before .before .args .left) (c .before .before .before .before .before .before .before .before .before .before .before .before .before .before .before .before .before .before .before .before .before .before .before .args .count) _ _ _ _ (c .before .before .before .before .before .before .before .before .before .before .before .before .before .before .before .before .before .before .before .is-idle-at .ensures) (c .before .before .before .before .before .before .before .before .before .before .before .before .before .before .before .before .before .before .before .before .before .before .before .pre .1 .2) (c .before .before .before .before .before .before .before .before .before .before .before .before .before .before .before .before .before .before .before .before .before .before .before .pre .1 .1) (c .before .before .before .before .before .before .before .before .before .before .before .before .before .before .before .before .before .before .before .before .before .before .before .pre .1 .0) (c .before .before .before .before .before .before .before .before .before .before .before .before .before .before .before .before .before .before .if1 .left) (c .before .before .before .before .before .before .before .before .before .before .before .before .before .before .before .before .put-decimal .ensures) (c .before .before .before .before .before .before .before .before .before .before .before .before .put-answer .ensures .0) (c .before .before .before .before .before .before .before .before .before .before .before .before .put-answer .ensures .1) (c .before .before .before .before .before .before .put-runs .ensures)
-
 abbrev put-runs-Inv-loop : put-runs-lts.InvT-loop
 put-runs-Inv-loop buffer₀ at left tasks count numbers₀ x answers₀ y i₀ k₀ buffer numbers answers i k =
     laws.Turning (laws.runsOf left tasks count (take x numbers₀) (take y answers₀)) count (capacity (left - 1) (longest left x y)) buffer₀ at numbers₀ x answers₀ y buffer i k numbers answers
@@ -176,25 +46,6 @@ put-runs-Inv-loop buffer₀ at left tasks count numbers₀ x answers₀ y i₀ k
 abbrev put-runs-μ-loop : put-runs-lts.MeasureT-loop
 put-runs-μ-loop buffer₀ at left tasks count numbers₀ x answers₀ y i₀ k₀ buffer numbers answers i k = count - k
 
--- src/runs.rt:154:37
-put-runs-slice-reshare-prefix-put-line : (t : ℕ) → put-runs-lts.Need-slice-reshare-prefix-put-line (
-  put-line-reads.Asked,
-  put-line-reads.Learnt,
-  put-run-below t,
-  put-run.Post,
-) (put-runs-at t) put-runs.Post put-runs-Inv-loop put-runs-μ-loop
-put-runs-slice-reshare-prefix-put-line t c = omega (arith, c .before .before .before .before .before .pre .1 .digits)
-
--- src/runs.rt:154:37
-put-runs-slice-aggregate-put-line : (t : ℕ) → put-runs-lts.Need-slice-aggregate-put-line (
-  put-line-reads.Asked,
-  put-line-reads.Learnt,
-  put-run-below t,
-  put-run.Post,
-) (put-runs-at t) put-runs.Post put-runs-Inv-loop put-runs-μ-loop
-put-runs-slice-aggregate-put-line t c = simp length-take (omega (arith, c .before .before .before .before .before .before .pre .1 .digits))
-
--- src/runs.rt:154:52
 put-runs-slice-reshare-prefix-put-line-2 :
     (t : ℕ) → put-runs-lts.Need-slice-reshare-prefix-put-line-2 (
       put-line-reads.Asked,
@@ -203,141 +54,6 @@ put-runs-slice-reshare-prefix-put-line-2 :
       put-run.Post,
     ) (put-runs-at t) put-runs.Post put-runs-Inv-loop put-runs-μ-loop
 put-runs-slice-reshare-prefix-put-line-2 t c = omega (arith, c .before .before .before .before .before .before .pre .1 .fields)
-
--- src/runs.rt:154:52
-put-runs-slice-aggregate-put-line-2 : (t : ℕ) → put-runs-lts.Need-slice-aggregate-put-line-2 (
-  put-line-reads.Asked,
-  put-line-reads.Learnt,
-  put-run-below t,
-  put-run.Post,
-) (put-runs-at t) put-runs.Post put-runs-Inv-loop put-runs-μ-loop
-put-runs-slice-aggregate-put-line-2 t c = simp length-take (omega (arith, c .before .before .before .before .before .before .before .pre .1 .fields))
-
--- src/runs.rt:154:9
-put-runs-put-line-requires : (t : ℕ) → put-runs-lts.Need-put-line-requires (
-  put-line-reads.Asked,
-  put-line-reads.Learnt,
-  put-run-below t,
-  put-run.Post,
-) (put-runs-at t) put-runs.Post put-runs-Inv-loop put-runs-μ-loop
-put-runs-put-line-requires t c κs = search needs
-
--- src/runs.rt:154:9
-put-runs-same-length : (t : ℕ) → put-runs-lts.Need-same-length (
-  put-line-reads.Asked,
-  put-line-reads.Learnt,
-  put-run-below t,
-  put-run.Post,
-) (put-runs-at t) put-runs.Post put-runs-Inv-loop put-runs-μ-loop
-put-runs-same-length t c = search needs
-
--- src/runs.rt:154:9
-put-runs-same-length-2 : (t : ℕ) → put-runs-lts.Need-same-length-2 (
-  put-line-reads.Asked,
-  put-line-reads.Learnt,
-  put-run-below t,
-  put-run.Post,
-) (put-runs-at t) put-runs.Post put-runs-Inv-loop put-runs-μ-loop
-put-runs-same-length-2 t c = search needs
-
--- src/runs.rt:154:9
-put-runs-same-length-3 : (t : ℕ) → put-runs-lts.Need-same-length-3 (
-  put-line-reads.Asked,
-  put-line-reads.Learnt,
-  put-run-below t,
-  put-run.Post,
-) (put-runs-at t) put-runs.Post put-runs-Inv-loop put-runs-μ-loop
-put-runs-same-length-3 t c = search needs
-
--- src/runs.rt:154:9
-put-runs-returns : (t : ℕ) → put-runs-lts.Need-returns (
-  put-line-reads.Asked,
-  put-line-reads.Learnt,
-  put-run-below t,
-  put-run.Post,
-) (put-runs-at t) put-runs.Post put-runs-Inv-loop put-runs-μ-loop
-put-runs-returns t c = laws.runs-line (c .before .before .before .before .before .before .before .before .before .before .args .left) (c .before .before .before .before .before .before .before .before .before .before .args .tasks) (c .before .before .before .before .before .before .before .before .before .before .args .count) _ _ _ _ (c .before .before .before .before .before .before .if1 .taken) (c .before .before .put-line .ensures)
-
--- src/runs.rt:158:5
-put-runs-loop-holds : (t : ℕ) → put-runs-lts.Need-loop-holds (
-  put-line-reads.Asked,
-  put-line-reads.Learnt,
-  put-run-below t,
-  put-run.Post,
-) (put-runs-at t) put-runs.Post put-runs-Inv-loop put-runs-μ-loop
-put-runs-loop-holds t c = laws.turning-begin (laws.runs-series (c .before .before .before .before .args .left) (c .before .before .before .before .args .tasks) (c .before .before .before .before .args .count) _ _) (c .before .before .before .before .args .count) (capacity (c .before .before .before .before .args .left - 1) (longest (c .before .before .before .before .args .left) (c .before .before .before .before .args .x) (c .before .before .before .before .args .y))) _ _ _ _ _ _ (omega arith)
-
--- src/runs.rt:159:9
-put-runs-put-run-requires : (t : ℕ) → put-runs-lts.Need-put-run-requires (
-  put-line-reads.Asked,
-  put-line-reads.Learnt,
-  put-run-below t,
-  put-run.Post,
-) (put-runs-at t) put-runs.Post put-runs-Inv-loop put-runs-μ-loop
-put-runs-put-run-requires t c κs = (omega (arith, c .before .before .before .before .before .before .before .before .before .pre .0), (omega arith, c .before .before .before .loop-test .taken, laws.turning-holds (laws.runs-series (c .before .before .before .before .before .before .before .before .before .args .left) (c .before .before .before .before .before .before .before .before .before .args .tasks) (c .before .before .before .before .before .before .before .before .before .args .count) _ _) (c .before .before .before .before .before .before .before .before .before .args .count) (capacity (c .before .before .before .before .before .before .before .before .before .args .left - 1) (longest (c .before .before .before .before .before .before .before .before .before .args .left) (c .before .before .before .before .before .before .before .before .before .args .x) (c .before .before .before .before .before .before .before .before .before .args .y))) _ _ _ _ _ _ (c .before .before .before .before .loop .inv) (c .before .before .before .before .before .before .before .before .before .pre .1)))
-
--- src/runs.rt:160:13
-put-runs-add-k : (t : ℕ) → put-runs-lts.Need-add-k (
-  put-line-reads.Asked,
-  put-line-reads.Learnt,
-  put-run-below t,
-  put-run.Post,
-) (put-runs-at t) put-runs.Post put-runs-Inv-loop put-runs-μ-loop
-put-runs-add-k t c = search needs
-
--- src/runs.rt:158:5
-put-runs-loop-less : (t : ℕ) → put-runs-lts.Need-loop-less (
-  put-line-reads.Asked,
-  put-line-reads.Learnt,
-  put-run-below t,
-  put-run.Post,
-) (put-runs-at t) put-runs.Post put-runs-Inv-loop put-runs-μ-loop
-put-runs-loop-less t c = omega arith
-
--- src/runs.rt:158:5
-put-runs-loop-again : (t : ℕ) → put-runs-lts.Need-loop-again (
-  put-line-reads.Asked,
-  put-line-reads.Learnt,
-  put-run-below t,
-  put-run.Post,
-) (put-runs-at t) put-runs.Post put-runs-Inv-loop put-runs-μ-loop
-put-runs-loop-again t c = laws.turning-turn (laws.runs-series (c .before .before .before .before .before .before .before .before .before .before .before .before .before .before .before .before .args .left) (c .before .before .before .before .before .before .before .before .before .before .before .before .before .before .before .before .args .tasks) (c .before .before .before .before .before .before .before .before .before .before .before .before .before .before .before .before .args .count) _ _) (c .before .before .before .before .before .before .before .before .before .before .before .before .before .before .before .before .args .count) (capacity (c .before .before .before .before .before .before .before .before .before .before .before .before .before .before .before .before .args .left - 1) (longest (c .before .before .before .before .before .before .before .before .before .before .before .before .before .before .before .before .args .left) (c .before .before .before .before .before .before .before .before .before .before .before .before .before .before .before .before .args .x) (c .before .before .before .before .before .before .before .before .before .before .before .before .before .before .before .before .args .y))) _ _ _ _ _ _ (c .before .before .before .before .before .before .before .before .before .before .before .loop .inv) (laws.run-kept (c .before .before .before .before .before .before .before .before .before .before .before .before .before .before .before .before .args .left) (c .before .before .before .before .before .before .before .before .before .before .before .before .before .before .before .before .args .tasks) (c .before .before .before .before .before .before .before .before .before .before .before .before .before .before .before .before .args .count) (c .before .before .before .before .before .before .before .before .before .before .before .loop .k) (c .before .before .before .before .before .before .before .before .before .before .before .loop .inv .digits) (c .before .before .before .before .before .before .before .before .before .before .before .loop .inv .fields)) (c .before .before .before .before .before .before .before .before .before .before .loop-test .taken) (c .before .before .before .before .before .before .put-run .ensures) (search needs) (search needs)
-
--- src/runs.rt:136:1
-put-runs-same-length-4 : (t : ℕ) → put-runs-lts.Need-same-length-4 (
-  put-line-reads.Asked,
-  put-line-reads.Learnt,
-  put-run-below t,
-  put-run.Post,
-) (put-runs-at t) put-runs.Post put-runs-Inv-loop put-runs-μ-loop
-put-runs-same-length-4 t c = rest-length (c .before .loop .inv .rest)
-
--- src/runs.rt:136:1
-put-runs-same-length-5 : (t : ℕ) → put-runs-lts.Need-same-length-5 (
-  put-line-reads.Asked,
-  put-line-reads.Learnt,
-  put-run-below t,
-  put-run.Post,
-) (put-runs-at t) put-runs.Post put-runs-Inv-loop put-runs-μ-loop
-put-runs-same-length-5 t c = c .before .loop .inv .digitsSize
-
--- src/runs.rt:136:1
-put-runs-same-length-6 : (t : ℕ) → put-runs-lts.Need-same-length-6 (
-  put-line-reads.Asked,
-  put-line-reads.Learnt,
-  put-run-below t,
-  put-run.Post,
-) (put-runs-at t) put-runs.Post put-runs-Inv-loop put-runs-μ-loop
-put-runs-same-length-6 t c = c .before .loop .inv .fieldsSize
-
--- src/runs.rt:136:1
-put-runs-returns-2 : (t : ℕ) → put-runs-lts.Need-returns-2 (
-  put-line-reads.Asked,
-  put-line-reads.Learnt,
-  put-run-below t,
-  put-run.Post,
-) (put-runs-at t) put-runs.Post put-runs-Inv-loop put-runs-μ-loop
-put-runs-returns-2 t c = laws.runs-lines (c .before .before .before .before .before .before .args .left) (c .before .before .before .before .before .before .args .tasks) (c .before .before .before .before .before .before .args .count) (c .before .before .if1 .left) (laws.turning-end (laws.runs-series (c .before .before .before .before .before .before .args .left) (c .before .before .before .before .before .before .args .tasks) (c .before .before .before .before .before .before .args .count) _ _) (c .before .before .before .before .before .before .args .count) (capacity (c .before .before .before .before .before .before .args .left - 1) (longest (c .before .before .before .before .before .before .args .left) (c .before .before .before .before .before .before .args .x) (c .before .before .before .before .before .before .args .y))) _ _ _ _ _ _ (c .before .loop .inv) (c .before .before .before .before .before .before .pre .1 .few) (c .loop-test .left))
 
 pub +put-run+put-runs-spec : {M : Type 1} → statement M
 +put-run+put-runs-spec = close μ-put-run μ-put-runs (λ t. put-run-lts.spec (
@@ -352,37 +68,37 @@ pub +put-run+put-runs-spec : {M : Type 1} → statement M
 )
     (put-run-at t)
     put-run.Post
-    (put-run-is-idle-at-requires t)
-    (put-run-returns t)
-    (put-run-put-decimal-requires t)
-    (put-run-put-answer-requires t)
-    (put-run-sub-put-runs t)
-    (put-run-put-runs-requires t)
-    (put-run-same-length t)
-    (put-run-same-length-2 t)
-    (put-run-same-length-3 t)
-    (put-run-returns-2 t))
+    (λ c κs. search needs)
+    (λ c. laws.run-idle (c .before .before .before .before .before .args .tasks) (c .before .before .before .before .before .args .k) (c .before .before .before .before .before .args .left) (c .before .before .before .before .before .args .count) _ _ _ _ (c .before .is-idle-at .ensures) (c .if1 .taken) (omega arith))
+    (λ c κs. search needs)
+    (λ c κs. search needs)
+    (λ c. omega (arith, c .before .before .before .before .before .before .before .before .before .before .before .before .before .before .pre .1 .0))
+    (λ c κs. (omega (arith, c .before .before .before .before .before .before .before .before .before .before .before .before .before .before .before .before .pre .0, c .before .before .before .before .before .before .before .before .before .before .before .before .before .before .before .before .pre .1 .0), laws.run-holds (c .before .before .before .before .before .before .before .before .before .before .before .before .before .before .before .before .args .tasks) (c .before .before .before .before .before .before .before .before .before .before .before .before .before .before .before .before .args .k) (c .before .before .before .before .before .before .before .before .before .before .before .before .before .before .before .before .args .left) (c .before .before .before .before .before .before .before .before .before .before .before .before .before .before .before .before .args .count) _ _ _ _ (c .before .before .before .before .before .before .before .before .before .before .before .before .is-idle-at .ensures) (c .before .before .before .before .before .before .before .before .before .before .before .before .before .before .before .before .pre .1 .2) (c .before .before .before .before .before .before .before .before .before .before .before .before .before .before .before .before .pre .1 .1) (c .before .before .before .before .before .before .before .before .before .before .before .before .before .before .before .before .pre .1 .0) (c .before .before .before .before .before .before .before .before .before .before .before .if1 .left) (c .before .before .before .before .before .before .before .before .before .put-decimal .ensures) (c .before .before .before .before .before .put-answer .ensures .0) (c .before .before .before .before .before .put-answer .ensures .1)))
+    (λ c. search needs)
+    (λ c. search needs)
+    (λ c. search needs)
+    (λ c. laws.run-busy (c .before .before .before .before .before .before .before .before .before .before .before .before .before .before .before .before .before .before .before .before .before .before .before .args .tasks) (c .before .before .before .before .before .before .before .before .before .before .before .before .before .before .before .before .before .before .before .before .before .before .before .args .k) (c .before .before .before .before .before .before .before .before .before .before .before .before .before .before .before .before .before .before .before .before .before .before .before .args .left) (c .before .before .before .before .before .before .before .before .before .before .before .before .before .before .before .before .before .before .before .before .before .before .before .args .count) _ _ _ _ (c .before .before .before .before .before .before .before .before .before .before .before .before .before .before .before .before .before .before .before .is-idle-at .ensures) (c .before .before .before .before .before .before .before .before .before .before .before .before .before .before .before .before .before .before .before .before .before .before .before .pre .1 .2) (c .before .before .before .before .before .before .before .before .before .before .before .before .before .before .before .before .before .before .before .before .before .before .before .pre .1 .1) (c .before .before .before .before .before .before .before .before .before .before .before .before .before .before .before .before .before .before .before .before .before .before .before .pre .1 .0) (c .before .before .before .before .before .before .before .before .before .before .before .before .before .before .before .before .before .before .if1 .left) (c .before .before .before .before .before .before .before .before .before .before .before .before .before .before .before .before .put-decimal .ensures) (c .before .before .before .before .before .before .before .before .before .before .before .before .put-answer .ensures .0) (c .before .before .before .before .before .before .before .before .before .before .before .before .put-answer .ensures .1) (c .before .before .before .before .before .before .put-runs .ensures)))
     λ t. put-runs-lts.spec
     (put-line-reads.Asked, put-line-reads.Learnt, put-run-below t, put-run.Post)
     (put-runs-at t)
     put-runs.Post
     put-runs-Inv-loop
     put-runs-μ-loop
-    (put-runs-slice-reshare-prefix-put-line t)
-    (put-runs-slice-aggregate-put-line t)
+    (λ c. omega (arith, c .before .before .before .before .before .pre .1 .digits))
+    (λ c. simp length-take (omega (arith, c .before .before .before .before .before .before .pre .1 .digits)))
     (put-runs-slice-reshare-prefix-put-line-2 t)
-    (put-runs-slice-aggregate-put-line-2 t)
-    (put-runs-put-line-requires t)
-    (put-runs-same-length t)
-    (put-runs-same-length-2 t)
-    (put-runs-same-length-3 t)
-    (put-runs-returns t)
-    (put-runs-loop-holds t)
-    (put-runs-put-run-requires t)
-    (put-runs-add-k t)
-    (put-runs-loop-less t)
-    (put-runs-loop-again t)
-    (put-runs-same-length-4 t)
-    (put-runs-same-length-5 t)
-    (put-runs-same-length-6 t)
-    (put-runs-returns-2 t)
+    (λ c. simp length-take (omega (arith, c .before .before .before .before .before .before .before .pre .1 .fields)))
+    (λ c κs. search needs)
+    (λ c. search needs)
+    (λ c. search needs)
+    (λ c. search needs)
+    (λ c. laws.runs-line (c .before .before .before .before .before .before .before .before .before .before .args .left) (c .before .before .before .before .before .before .before .before .before .before .args .tasks) (c .before .before .before .before .before .before .before .before .before .before .args .count) _ _ _ _ (c .before .before .before .before .before .before .if1 .taken) (c .before .before .put-line .ensures))
+    (λ c. laws.turning-begin (laws.runs-series (c .before .before .before .before .args .left) (c .before .before .before .before .args .tasks) (c .before .before .before .before .args .count) _ _) (c .before .before .before .before .args .count) (capacity (c .before .before .before .before .args .left - 1) (longest (c .before .before .before .before .args .left) (c .before .before .before .before .args .x) (c .before .before .before .before .args .y))) _ _ _ _ _ _ (omega arith))
+    (λ c κs. (omega (arith, c .before .before .before .before .before .before .before .before .before .pre .0), (omega arith, c .before .before .before .loop-test .taken, laws.turning-holds (laws.runs-series (c .before .before .before .before .before .before .before .before .before .args .left) (c .before .before .before .before .before .before .before .before .before .args .tasks) (c .before .before .before .before .before .before .before .before .before .args .count) _ _) (c .before .before .before .before .before .before .before .before .before .args .count) (capacity (c .before .before .before .before .before .before .before .before .before .args .left - 1) (longest (c .before .before .before .before .before .before .before .before .before .args .left) (c .before .before .before .before .before .before .before .before .before .args .x) (c .before .before .before .before .before .before .before .before .before .args .y))) _ _ _ _ _ _ (c .before .before .before .before .loop .inv) (c .before .before .before .before .before .before .before .before .before .pre .1))))
+    (λ c. search needs)
+    (λ c. omega arith)
+    (λ c. laws.turning-turn (laws.runs-series (c .before .before .before .before .before .before .before .before .before .before .before .before .before .before .before .before .args .left) (c .before .before .before .before .before .before .before .before .before .before .before .before .before .before .before .before .args .tasks) (c .before .before .before .before .before .before .before .before .before .before .before .before .before .before .before .before .args .count) _ _) (c .before .before .before .before .before .before .before .before .before .before .before .before .before .before .before .before .args .count) (capacity (c .before .before .before .before .before .before .before .before .before .before .before .before .before .before .before .before .args .left - 1) (longest (c .before .before .before .before .before .before .before .before .before .before .before .before .before .before .before .before .args .left) (c .before .before .before .before .before .before .before .before .before .before .before .before .before .before .before .before .args .x) (c .before .before .before .before .before .before .before .before .before .before .before .before .before .before .before .before .args .y))) _ _ _ _ _ _ (c .before .before .before .before .before .before .before .before .before .before .before .loop .inv) (laws.run-kept (c .before .before .before .before .before .before .before .before .before .before .before .before .before .before .before .before .args .left) (c .before .before .before .before .before .before .before .before .before .before .before .before .before .before .before .before .args .tasks) (c .before .before .before .before .before .before .before .before .before .before .before .before .before .before .before .before .args .count) (c .before .before .before .before .before .before .before .before .before .before .before .loop .k) (c .before .before .before .before .before .before .before .before .before .before .before .loop .inv .digits) (c .before .before .before .before .before .before .before .before .before .before .before .loop .inv .fields)) (c .before .before .before .before .before .before .before .before .before .before .loop-test .taken) (c .before .before .before .before .before .before .put-run .ensures) (search needs) (search needs))
+    (λ c. rest-length (c .before .loop .inv .rest))
+    (λ c. c .before .loop .inv .digitsSize)
+    (λ c. c .before .loop .inv .fieldsSize)
+    (λ c. laws.runs-lines (c .before .before .before .before .before .before .args .left) (c .before .before .before .before .before .before .args .tasks) (c .before .before .before .before .before .before .args .count) (c .before .before .if1 .left) (laws.turning-end (laws.runs-series (c .before .before .before .before .before .before .args .left) (c .before .before .before .before .before .before .args .tasks) (c .before .before .before .before .before .before .args .count) _ _) (c .before .before .before .before .before .before .args .count) (capacity (c .before .before .before .before .before .before .args .left - 1) (longest (c .before .before .before .before .before .before .args .left) (c .before .before .before .before .before .before .args .x) (c .before .before .before .before .before .before .args .y))) _ _ _ _ _ _ (c .before .loop .inv) (c .before .before .before .before .before .before .pre .1 .few) (c .loop-test .left)))

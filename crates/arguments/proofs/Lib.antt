@@ -1,0 +1,3 @@
+-- Laws that the proofs of the functions cite, and what an argument is
+pub mod Digits
+pub mod Spelling

@@ -1,0 +1,3 @@
+-- One call for each process
+pub mod Tables
+pub mod Texts

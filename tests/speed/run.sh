@@ -1,8 +1,8 @@
 #!/usr/bin/env bash
-# Times the proved programs steps_speed (the card by value) and lent_speed (the card in lent words) against tests/speed/steps/steps.rs on the same steps, by
-# turns: all must end with the same cells. The processes step by pseudo-random numbers; with lent words also one after the other.
-# usage: run.sh [STEPS [ROUNDS]]   (default 10,000,000 and 5). For each it prints nanoseconds of processor time per step, the least of all rounds, and the
-# ratio of the least times and of the medians.
+# Times the proved program steps_speed (the card by value) against tests/speed/steps/steps.rs on the same steps, by turns: both must end with the same cells.
+# The processes step by pseudo-random numbers. The card in lent words is timed by sweep.py.
+# usage: run.sh [STEPS [ROUNDS]]   (default 10,000,000 and 5). It prints nanoseconds of processor time per step, the least of all rounds, and the ratio of
+# the least times and of the medians.
 set -euo pipefail
 steps=${1:-10000000}
 rounds=${2:-5}
@@ -17,7 +17,7 @@ done
 build=$(mktemp -d)
 trap 'rm -rf "$build"' EXIT
 rustc --edition 2021 -O -o "$build/steps" "$here/steps/steps.rs"
-if ! (cd "$root" && rt check steps_speed lent_speed) >"$build/log" 2>&1; then
+if ! (cd "$root" && rt check steps_speed) >"$build/log" 2>&1; then
     tail -n 5 "$build/log" >&2
     exit 1
 fi
@@ -54,5 +54,3 @@ compare() {
 
 echo "$steps steps, $rounds rounds"
 compare 'by value, pseudo-random' steps_speed "$steps"
-compare 'lent words, pseudo-random' lent_speed "$steps"
-compare 'lent words, one after the other' lent_speed "$steps,1" turns

@@ -28,7 +28,7 @@ step-enough b l p i = by (isEleven (answerTo b l i)) refl
     by true e = let h = loan-too-short-only b l i (eleven-number (answerTo b l i) e) .1 in absurd (omega arith)
     by false e = refl
 
-enough : (b l : List ℕ) → loanWords b ≤ length l → (e : Entry) → isEleven (replyIn b l e .answer) ≡ false
+pub enough : (b l : List ℕ) → loanWords b ≤ length l → (e : Entry) → isEleven (replyIn b l e .answer) ≡ false
 enough b l p (Entry.Call i k inputs) = call-numbers b i k
 enough b l p (Entry.Exit i) = exit-numbers b i
 enough b l p (Entry.Step i) = step-enough b l p i
@@ -37,7 +37,7 @@ enough b l p (Entry.Read v) = read-numbers b v
 enough b l p (Entry.Change k from t) = change-numbers b k from t
 
 -- and stays one
-words-kept : {b c : List ℕ} → BlockKept b c → loanWords c ≡ loanWords b
+pub words-kept : {b c : List ℕ} → BlockKept b c → loanWords c ≡ loanWords b
 words-kept {b} {c} x =
     let processes = ap byte (number-same b c 0 1 0 (x .size) (x .counts 0 (omega arith))) in
     let room = kept-w x in
@@ -47,7 +47,7 @@ length-left : (t : Bool) (m l : List ℕ) → length m ≡ length l → length (
 length-left true m l e = e
 length-left false m l e = refl
 
-still :
+pub still :
     (m : Memory) (e : Entry) → loanWords (m .block) ≤ length (m .loan) →
     loanWords (memoryAfter m (asLeft m e) .block) ≤ length (memoryAfter m (asLeft m e) .loan)
 still m e p =

@@ -94,7 +94,7 @@ pub record Stays (b l : List ℕ) (i : ℕ) (x : Answer) : Type 0 where
   pub report : reportTo b l i ≡ noReport
 
 module _ (b l : List ℕ) (i : ℕ) where
-  stays : (x : Answer) → stepVerdict b l i ≡ x → isRefused x ≡ true → Stays b l i x
+  pub stays : (x : Answer) → stepVerdict b l i ≡ x → isRefused x ≡ true → Stays b l i x
   unfolding answerTo stepBlock stepLoan reportTo
   stays x e r =
       let z : isRefused (stepVerdict b l i) ≡ true = ap isRefused e ∙ r in

@@ -1,4 +1,4 @@
-// Step: refusals 5, 8, 10 and 11, or one shared access.
+// Step: refusals 5, 8, 10 and 11, or one shared access; and whether it would be refused.
 use answers::kinds::is_refused;
 use block::cells::limit;
 use block::cells::process_count;
@@ -40,6 +40,13 @@ pub(crate) fn judge(b: &[u64], l: &[u64], process: u32, i: u8) -> Answer
     Answer::Taken
 }
 
+// Whether a step is accepted, with nothing written: what its answer would be if it is refused, and `taken` if it is not.
+pub fn verdict(b: &[u64], l: &[u64], process: u32) -> Answer
+    ensures { λ r. ⌜ r ≡ stepVerdict (now (b .entry)) (now (l .entry)) process ⌝ }
+{
+    judge(b, l, process, narrow(process))
+}
+
 // The access of process i.
 pub(crate) fn access_at(b: &[u64], i: u8) -> Access
     ensures { λ r. ⌜ r ≡ accessAt (now (b .entry)) i ⌝ }
@@ -50,7 +57,7 @@ pub(crate) fn access_at(b: &[u64], i: u8) -> Access
 }
 
 // An accepted step.
-pub(crate) fn advance(b: &mut [u64], l: &mut [u64], i: u8)
+pub fn advance(b: &mut [u64], l: &mut [u64], i: u8)
     ensures { λ r. ⌜ (now (b .exit) ≡ advanced (now (b .entry)) (now (l .entry)) i) × (now (l .exit) ≡ accessLoan (accessAt (now (b .entry)) i) (now (b .entry)) (now (l .entry)) i) ⌝ }
 {
     let access = access_at(b, i);
@@ -59,7 +66,7 @@ pub(crate) fn advance(b: &mut [u64], l: &mut [u64], i: u8)
 }
 
 // The answer to a step of process i that was accepted.
-pub(crate) fn answer_in(b: &[u64], i: u8) -> Answer
+pub fn answer_in(b: &[u64], i: u8) -> Answer
     ensures { λ r. ⌜ r ≡ answerIn (now (b .entry)) i ⌝ }
 {
     let task = task(b, i);

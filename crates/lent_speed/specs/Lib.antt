@@ -1,2 +1,0 @@
--- The run that is timed
-pub mod Runs

@@ -1,0 +1,8 @@
+-- Laws that proofs cite
+pub mod Steps
+pub mod Schedules
+pub mod Parts
+pub mod Statements
+pub mod Waits
+pub mod Accepted
+pub mod Limits

@@ -1,0 +1,163 @@
+// A sweep (document 02, order 12): reads `card.txt` and `calls.txt` in the folder where it is run, makes STEPS steps by the schedule of SEED, its arguments, and prints
+// what they come to. What the files say, the steps and the printed lines are those of the crate sweeping; only reading the arguments and the files, writing the
+// bytes and telling how far it is are left to do here. Block and loan stand in two arrays of this program.
+use arguments::Argument;
+use arguments::decimal_of;
+use libc::STDERR_FILENO;
+use libc::STDOUT_FILENO;
+use sweeping::Progress;
+use sweeping::pieces::advance;
+use sweeping::pieces::begin;
+use sweeping::printing::put_summary;
+use sweeping::starting::start;
+ghost use Rattle.io.specs.Counts.{Counts};
+ghost use Rattle.sweeping.specs.Pieces.{Finishes};
+
+// An argument by its place.
+fn argument_at(place: usize) -> Argument {
+    let mut text = io::buffer();
+    let length = os::arg(place, &mut text);
+    decimal_of(&text[..length])
+}
+
+// Reads as much of a file as the buffer takes. A file that cannot be opened counts as empty.
+fn read_file(path: &[u8], buffer: &mut [u8]) -> usize
+    ensures { λ r. ⌜ Counts r (now (buffer .exit)) ⌝ }
+{
+    let file = os::open_read(path);
+    if file < 0 {
+        return 0;
+    }
+    let count = io::read_full(file, buffer);
+    libc::close(file);
+    count
+}
+
+// The seconds of the system's clock.
+fn seconds() -> u64 {
+    let mut clock: i64 = 0;
+    let now = libc::time(&mut clock);
+    if now < 0 {
+        return 0;
+    }
+    now as u64
+}
+
+// A quotient, 0 where the divisor is 0.
+fn quotient(a: u64, b: u64) -> u64 {
+    if b == 0 {
+        return 0;
+    }
+    a / b
+}
+
+// Tells how many of the steps are done, how many in a second, and how many seconds are left.
+fn tell(done: u64, left: u64, elapsed: u64) {
+    let rate = quotient(done, elapsed);
+    io::print_decimal(STDERR_FILENO, done);
+    io::write_all(STDERR_FILENO, b" of ");
+    io::print_decimal(STDERR_FILENO, std::num::wrapping_add_u64(done, left));
+    io::write_all(STDERR_FILENO, b" steps, ");
+    io::print_decimal(STDERR_FILENO, rate);
+    io::write_all(STDERR_FILENO, b" a second, ");
+    io::print_decimal(STDERR_FILENO, quotient(left, rate));
+    io::write_all(STDERR_FILENO, b" s left\n");
+}
+
+// Tells how far it is where two seconds have passed since that was last told; when it was last told.
+fn report(q: Progress, started: u64, told: u64) -> u64 {
+    let now = seconds();
+    if now < told {
+        return told;
+    }
+    if now - told < 2 {
+        return told;
+    }
+    if now >= started {
+        let counts = q.counts;
+        tell(counts.accepted, q.left, now - started);
+    }
+    now
+}
+
+// All pieces of a sweep.
+fn sweep_all(b: &mut [u64], l: &mut [u64], calls: &[u32], first: Progress) -> Progress
+    ensures { λ r. ⌜ Finishes (now (calls .entry)) (now (b .entry)) (now (l .entry)) first r (now (b .exit)) (now (l .exit)) ⌝ }
+{
+    let started = seconds();
+    let mut told = started;
+    let mut q = first;
+    while q.left > 0 {
+        q = advance(b, l, calls, q);
+        told = report(q, started, told);
+    }
+    q
+}
+
+// Prints what a sweep comes to. Whether all of it was written.
+fn print_summary(b: &[u64], q: Progress) -> bool {
+    let mut buffer = io::large_buffer();
+    let counts = q.counts;
+    let length = put_summary(&mut buffer, b, counts);
+    if length > 65536 {
+        return false;
+    }
+    io::write_all(STDOUT_FILENO, &buffer[..length])
+}
+
+// Prints what the files come to: one line, or a sweep. Whether all of it was written. Eight processes with 32 items each have 768 words.
+fn print_sweep(card: &[u8], calls: &[u8], first: Progress) -> bool {
+    let mut b = [0u64; 1456];
+    let mut l = [0u64; 768];
+    let mut buffer = io::buffer();
+    let started = start(card, calls, &mut b, &mut buffer);
+    let length = started.length;
+    if length > 0 {
+        return io::write_all(STDOUT_FILENO, &buffer[..length]);
+    }
+    let calls = started.table;
+    let q = sweep_all(&mut b, &mut l, &calls, first);
+    print_summary(&b, q)
+}
+
+// Runs a sweep. At most one byte more than its limit is read of each file. A program has no exit status, so what cannot be written is told on standard error.
+fn sweep(steps: u64, seed: u64) {
+    let mut card = [0u8; 16385];
+    let mut calls = [0u8; 65537];
+    let card_length = read_file(b"card.txt", &mut card);
+    let calls_length = read_file(b"calls.txt", &mut calls);
+    let first = begin(steps, seed);
+    if !print_sweep(&card[..card_length], &calls[..calls_length], first) {
+        os::fail(b"sweep: the counts could not be written");
+    }
+}
+
+fn tell_usage() {
+    io::write_all(
+        STDERR_FILENO,
+        b"usage: sweep STEPS SEED (decimals below 18446744073709551616, SEED not 0)\n",
+    );
+}
+
+// The arguments are judged before any file: there are two, decimals, the second not 0.
+fn main() {
+    let first = argument_at(1);
+    let second = argument_at(2);
+    let Argument::Value(steps) = first else {
+        tell_usage();
+        return;
+    };
+    let Argument::Value(seed) = second else {
+        tell_usage();
+        return;
+    };
+    if os::arg_count() != 3 {
+        tell_usage();
+        return;
+    }
+    if seed == 0 {
+        tell_usage();
+        return;
+    }
+    sweep(steps, seed);
+}

@@ -1,0 +1,2 @@
+-- The run that is timed
+pub mod Rounds

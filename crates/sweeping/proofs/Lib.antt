@@ -1,0 +1,6 @@
+-- Laws that proofs cite
+pub mod Lines
+pub mod CallsMade
+pub mod Files
+pub mod Progressing
+pub mod Whole

@@ -1,0 +1,2 @@
+-- Pseudo-random schedules
+pub mod Xorshift

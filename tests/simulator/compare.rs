@@ -1,4 +1,4 @@
-//! Runs the bench program, or the program `schedules`, on cases and compares what it prints; a case that differs is made small.
+//! Runs the bench program, or one of the programs `schedules` and `sweep`, on cases and compares what it prints; a case that differs is made small.
 
 use std::ffi::OsStr;
 use std::fs;
@@ -10,10 +10,12 @@ use std::thread;
 use std::time::{Duration, Instant};
 
 use crate::coverage::Coverage;
-use crate::generate::{self, card_text, case, Case};
+use crate::generate::{card_text, case, Case};
 use crate::machine::{length_of_lines, open, Card};
-use crate::schedules::{self, Reached};
+use crate::reached::Reached;
+use crate::schedules;
 use crate::session;
+use crate::sweeps;
 
 /// A run that takes longer counts as failed.
 const TIME_LIMIT: Duration = Duration::from_secs(60);
@@ -24,10 +26,22 @@ const PRINTED_CASES: u64 = 3;
 /// So many lines of an output that differs are printed.
 const PRINTED_LINES: usize = 1000;
 
-/// What a program must print for a case: a session, or the listing of schedules of a length.
+/// What a program must print for a case: a session, the listing of schedules of a length, or the sweep of the words that it is called with.
 pub enum Right {
     Session,
     Listing(u32),
+    Sweep,
+}
+
+impl Right {
+    /// All that can be reached, but for sessions, whose coverage is counted apart.
+    fn events(&self) -> Vec<&'static str> {
+        match self {
+            Right::Session => vec![],
+            Right::Listing(_) => schedules::events(),
+            Right::Sweep => sweeps::events(),
+        }
+    }
 }
 
 /// The executable to judge, the words that it is called with, the folder in which it runs, and what it must print.
@@ -46,15 +60,41 @@ pub struct Written {
 }
 
 impl Executable {
-    fn expected(&self, case: &Case) -> Vec<u8> {
+    /// What must be printed; counts what was reached.
+    fn expected(&self, case: &Case, reached: &mut Reached) -> Vec<u8> {
+        let (card, calls) = case.texts();
         match self.right {
             Right::Session => expected(case, &mut Coverage::default()),
-            Right::Listing(length) => listed(case, length, &mut Reached::default()),
+            Right::Listing(length) => schedules::run(card, calls, length, reached),
+            Right::Sweep => sweeps::run(card, calls, &self.words, reached),
         }
     }
 
+    /// What must be printed, without counting.
+    fn right(&self, case: &Case) -> Vec<u8> {
+        self.expected(case, &mut Reached::new(&self.right.events()))
+    }
+
     fn differs(&self, case: &Case) -> bool {
-        self.prints(case).as_ref() != Ok(&self.expected(case))
+        self.heard(case).as_ref() != Ok(&self.right(case))
+    }
+
+    /// What the program prints; of a sweep, behind it, what it says of a wrong call or a failure. How far it is may be told or not, and a usage line may
+    /// tell more.
+    fn heard(&self, case: &Case) -> Result<Vec<u8>, String> {
+        let written = self.run(case)?;
+        let mut heard = written.printed;
+        if !matches!(self.right, Right::Sweep) {
+            return Ok(heard);
+        }
+        for line in written.told.split_inclusive(|&byte| byte == 10) {
+            if line.starts_with(sweeps::USAGE.trim_end().as_bytes()) {
+                heard.extend(sweeps::USAGE.bytes());
+            } else if line.starts_with(b"usage: ") || line.starts_with(b"sweep: ") {
+                heard.extend(line);
+            }
+        }
+        Ok(heard)
     }
 
     /// What the program writes for a case, or why it failed.
@@ -62,11 +102,6 @@ impl Executable {
         let result = write_files(case, &self.folder).and_then(|()| output_of(&self.program, &self.words, &self.folder));
         let _ = fs::remove_dir_all(&self.folder);
         result
-    }
-
-    /// What it prints.
-    fn prints(&self, case: &Case) -> Result<Vec<u8>, String> {
-        self.run(case).map(|written| written.printed)
     }
 }
 
@@ -135,7 +170,7 @@ pub fn compare(program: &str, first_seed: u64, count: u64) -> Result<bool, Strin
         let executable = Executable { program: program.clone(), words: vec![], folder, right: Right::Session };
         let case = case(seed);
         let expected = expected(&case, &mut coverage);
-        if executable.prints(&case).as_ref() != Ok(&expected) {
+        if executable.heard(&case).as_ref() != Ok(&expected) {
             different += 1;
             if different <= PRINTED_CASES {
                 print_difference(seed, &executable, &shrink(&executable, case));
@@ -147,31 +182,36 @@ pub fn compare(program: &str, first_seed: u64, count: u64) -> Result<bool, Strin
     Ok(report(&coverage) && different == 0)
 }
 
-/// Compares the listings of `count` seeds; true if none differs and everything was reached.
-pub fn compare_schedules(program: &str, first_seed: u64, count: u64) -> Result<bool, String> {
+/// A case of a program that is called with words, these words, and what it must print.
+pub type Called = (Case, Vec<String>, Right);
+
+/// Compares a program that is called with words, on the cases of `count` seeds; true if none differs and everything was reached.
+pub fn compare_called(
+    program: &str,
+    first_seed: u64,
+    count: u64,
+    events: &[&'static str],
+    made: fn(u64) -> Called,
+) -> Result<bool, String> {
     let program = find(program)?;
     let root = work_folder();
-    let mut reached = Reached::default();
+    let mut reached = Reached::new(events);
     let mut different = 0;
     for seed in first_seed..first_seed + count {
-        let (case, length) = generate::schedules::case(seed);
-        let folder = root.join(seed.to_string());
-        let words = vec![length.to_string()];
-        let executable = Executable { program: program.clone(), words, folder, right: Right::Listing(length) };
-        let expected = listed(&case, length, &mut reached);
-        if executable.prints(&case).as_ref() != Ok(&expected) {
+        let (case, words, right) = made(seed);
+        let executable = Executable { program: program.clone(), words, folder: root.join(seed.to_string()), right };
+        let expected = executable.expected(&case, &mut reached);
+        if executable.heard(&case).as_ref() != Ok(&expected) {
             different += 1;
             if different <= PRINTED_CASES {
-                println!("length {length}");
+                println!("called with {:?}", executable.words);
                 print_difference(seed, &executable, &shrink(&executable, case));
             }
         }
     }
     let _ = fs::remove_dir_all(&root);
-    println!("different cases {different}\n{}", reached.summary());
-    let never = reached.never_reached();
-    println!("never reached: {}", if never.is_empty() { "nothing".to_string() } else { never.join(", ") });
-    Ok(never.is_empty() && different == 0)
+    println!("different cases {different}");
+    Ok(reached.report() && different == 0)
 }
 
 /// Simulates only.
@@ -188,10 +228,9 @@ pub fn write_case(seed: u64, folder: &str) -> Result<(), String> {
     write_files(&case(seed), Path::new(folder))
 }
 
-/// The same of a listing; its length is printed.
-pub fn write_schedules(seed: u64, folder: &str) -> Result<(), String> {
-    let (case, length) = generate::schedules::case(seed);
-    println!("{length}");
+/// The same of a program that is called with words, which are printed.
+pub fn write_called((case, words, _): Called, folder: &str) -> Result<(), String> {
+    println!("{}", words.join(" "));
     write_files(&case, Path::new(folder))
 }
 
@@ -199,12 +238,6 @@ pub fn write_schedules(seed: u64, folder: &str) -> Result<(), String> {
 pub fn expected(case: &Case, coverage: &mut Coverage) -> Vec<u8> {
     let (card, calls) = case.texts();
     session::run(card, calls, coverage)
-}
-
-/// What the program `schedules` must print.
-fn listed(case: &Case, length: u32, reached: &mut Reached) -> Vec<u8> {
-    let (card, calls) = case.texts();
-    schedules::run(card, calls, length, reached)
 }
 
 /// Prints the summary; true if everything that can occur was reached and no operation waited too long.
@@ -295,8 +328,8 @@ fn drop_pieces(
 }
 
 fn print_difference(seed: u64, executable: &Executable, case: &Case) {
-    let right = executable.expected(case);
-    let printed = executable.prints(case).unwrap_or_else(|reason| format!("({reason})\n").into_bytes());
+    let right = executable.right(case);
+    let printed = executable.heard(case).unwrap_or_else(|reason| format!("({reason})\n").into_bytes());
     println!("seed {seed} differs; made small:");
     println!("--- card.txt\n{}", shown(case.card.as_deref()));
     println!("--- calls.txt\n{}", shown(case.calls.as_deref()));

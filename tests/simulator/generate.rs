@@ -1,6 +1,9 @@
 //! Cases from a seed: the two files of the bench program, valid and damaged.
 
+pub mod calls;
+pub mod machines;
 pub mod schedules;
+pub mod sweeps;
 
 use crate::machine::{weight, Card, Instruction, Machine, GREATEST_LIMIT, TEXT_LIMIT, WORD_END};
 use crate::session::CALLS_LIMIT;

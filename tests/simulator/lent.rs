@@ -6,6 +6,7 @@ use std::path::{Path, PathBuf};
 use crate::compare::{expected, find, work_folder, Executable, Right};
 use crate::coverage::Coverage;
 use crate::generate::{case, Case};
+use crate::replay::{schedules, Schedule};
 
 /// What the program tells at the end of a session that touched nothing past the words of its loan.
 const KEPT: &[u8] = b"the loan is kept\n";
@@ -68,39 +69,16 @@ fn failure(program: &Path, words: &[String], case: &Case, right: &[u8]) -> Optio
     (written.told != KEPT).then(|| format!("it told {:?}", String::from_utf8_lossy(&written.told)))
 }
 
-/// The schedules of the program replay (its standard input, crates/replay) as sessions; what prints shared cells is left out.
+/// The schedules of the program replay (its standard input, crates/replay) as sessions.
 fn played(text: &str) -> Vec<Named> {
-    let mut cases = Vec::new();
-    let mut card = String::new();
-    for line in text.lines() {
-        if line.starts_with('#') {
-            card.clear();
-        } else if let Some((title, entries)) = line.strip_prefix('>').and_then(|rest| rest.split_once(": ")) {
-            let calls: String = entries.split(' ').map(commands).collect();
-            let case = Case { card: Some(card.clone().into_bytes()), calls: Some(calls.into_bytes()) };
-            cases.push(Named { name: format!("schedule '{title}'"), case, seeds: SEEDS.to_vec() });
-        } else {
-            card += line;
-            card += "\n";
-        }
-    }
-    cases
-}
-
-/// The commands of an entry of a schedule.
-fn commands(entry: &str) -> String {
-    let (verb, operands) = entry.split_at(1);
-    let mut numbers: Vec<u32> = operands.split(',').map(|field| field.parse().expect("a number")).collect();
-    numbers.resize(6, 0);
-    let [process, count, ..] = numbers[..] else { unreachable!() };
-    match verb {
-        "c" => format!("call,{}\n", numbers.iter().map(u32::to_string).collect::<Vec<_>>().join(",")),
-        "w" => format!("wish,{process}\n"),
-        "r" => format!("look,{process}\n"),
-        "s" => format!("step,{process}\n").repeat(count as usize),
-        "t" => format!("trace,{process}\n").repeat(count as usize),
-        _ => String::new(),
-    }
+    let bytes = |text: &str| Some(text.as_bytes().to_vec());
+    let case = |schedule: &Schedule| Case { card: bytes(schedule.card), calls: bytes(schedule.calls) };
+    let named = |schedule: &Schedule| Named {
+        name: format!("schedule '{}'", schedule.title),
+        case: case(schedule),
+        seeds: SEEDS.to_vec(),
+    };
+    schedules(text).iter().map(named).collect()
 }
 
 /// The stored cases of a folder.

@@ -1,17 +1,23 @@
-//! An independent simulator of the card (document 01). It says what the programs `bench`, `schedules` (document 02, order 13), `waves` and `readings`
-//! (order 7) must print, compares programs with that on generated cases, and looks for long waits (order 3).
+//! An independent simulator of the card (document 01). It says what the programs `bench`, `schedules` (document 02, order 13), `sweep` (order 12),
+//! `waves` and `readings` (order 7) must print, compares programs with that on generated cases, and looks for long waits (order 3).
 //! A program that runs a session on a card in lent words (order 10) is compared as a bench program is.
+//! Sessions of several machines (order 14) are compared with the program `machines`.
 //! Standard library only.
 
+mod calls;
 mod compare;
 mod coverage;
 mod dumps;
 mod generate;
 mod lent;
 mod machine;
+mod machines;
+mod reached;
+mod replay;
 mod schedules;
 mod selftest;
 mod session;
+mod sweeps;
 mod waits;
 mod waves;
 mod wavetest;
@@ -29,11 +35,18 @@ const USAGE: &str = "usage: simulator simulate DIR
        simulator schedules DIR LENGTH
        simulator compare-schedules PROGRAM FIRST_SEED COUNT
        simulator write-schedules SEED DIR
+       simulator sweep DIR [ARGUMENT..]
+       simulator compare-sweeps PROGRAM FIRST_SEED COUNT
+       simulator write-sweep SEED DIR
+       simulator replay INPUT
        simulator waits
        simulator waves DIR
        simulator readings DUMP [STEP]
        simulator compare-waves WAVES READINGS FIRST_SEED COUNT
        simulator damaged-dumps READINGS FIRST_SEED COUNT
+       simulator machines DIR [ARGUMENT..]
+       simulator compare-machines PROGRAM FIRST_SEED COUNT [BENCH]
+       simulator write-machines SEED DIR
        simulator selftest";
 
 fn main() -> ExitCode {
@@ -59,14 +72,24 @@ fn perform(arguments: &[&str]) -> Result<bool, String> {
         ["coverage", first, count] => Ok(compare::cover(seed(first)?, seed(count)?)),
         ["write", number, folder] => compare::write_case(seed(number)?, folder).map(|()| true),
         ["schedules", folder, length] => list(Path::new(folder), seed(length)?),
-        ["compare-schedules", program, first, count] => compare::compare_schedules(program, seed(first)?, seed(count)?),
-        ["write-schedules", number, folder] => compare::write_schedules(seed(number)?, folder).map(|()| true),
+        ["compare-schedules", program, first, count] => schedules::compare(program, seed(first)?, seed(count)?),
+        ["write-schedules", number, folder] => schedules::write_case(seed(number)?, folder).map(|()| true),
+        ["sweep", folder, words @ ..] => sweep(Path::new(folder), words),
+        ["compare-sweeps", program, first, count] => sweeps::compare(program, seed(first)?, seed(count)?),
+        ["write-sweep", number, folder] => sweeps::write_case(seed(number)?, folder).map(|()| true),
+        ["replay", input] => print(replay::expected(&String::from_utf8_lossy(&file(Path::new(input)))).as_bytes()),
         ["waits"] => Ok(waits::report()),
         ["waves", folder] => waves(Path::new(folder)),
         ["readings", dump] => readings(dump, None),
         ["readings", dump, step] => readings(dump, Some(waves::step_of(step).ok_or(USAGE)?)),
         ["compare-waves", waves, readings, first, count] => dumps::compare(waves, readings, seed(first)?, seed(count)?),
         ["damaged-dumps", readings, first, count] => dumps::damaged(readings, seed(first)?, seed(count)?),
+        ["machines", folder] => print(&machines::expected(&machines::Files::of(Path::new(folder)))),
+        ["machines", _, _, ..] => print(machines::USAGE.as_bytes()),
+        ["compare-machines", program, first, count, bench @ ..] if bench.len() < 2 => {
+            machines::compare::compare(program, seed(first)?, seed(count)?, bench.first().copied())
+        }
+        ["write-machines", number, folder] => machines::compare::write_case(seed(number)?, folder).map(|()| true),
         ["selftest"] => Ok(selftest::selftest()),
         _ => Err(USAGE.to_string()),
     }
@@ -103,6 +126,13 @@ fn readings(dump: &str, step: Option<u64>) -> Result<bool, String> {
 /// The card and the calls of a folder.
 fn files(folder: &Path) -> (Vec<u8>, Vec<u8>) {
     (file(&folder.join("card.txt")), file(&folder.join("calls.txt")))
+}
+
+/// Prints what the program `sweep` must print, on either stream.
+fn sweep(folder: &Path, words: &[&str]) -> Result<bool, String> {
+    let words: Vec<String> = words.iter().map(|word| word.to_string()).collect();
+    let (card, calls) = files(folder);
+    print(&sweeps::expected(&card, &calls, &words))
 }
 
 /// A file that cannot be opened counts as empty.

@@ -1,61 +1,32 @@
 //! What the program `schedules` prints (document 02, order 13). It goes by the order's own words: every schedule of at most L steps is tried, in
 //! dictionary order, each from the opening on, and those are kept whose steps are all accepted and which have L steps, or leave nothing under way.
 
-use std::collections::BTreeMap;
-
-use crate::machine::{lines, open, Answer, Line, Machine};
-use crate::session::{parse, Command, CALLS_LIMIT};
+use crate::calls::{requests, BAD_LINES};
+use crate::compare::{compare_called, write_called, Called, Right};
+use crate::generate;
+use crate::machine::{open, Answer, Machine};
+use crate::reached::Reached;
+use crate::session::CALLS_LIMIT;
 
 /// Order 13: the most processes and the greatest length.
 pub const MOST_PROCESSES: usize = 3;
 pub const GREATEST_LENGTH: u32 = 16;
 
-/// All that can be reached; `line` kinds are those of a calls file that is refused.
+/// All that can be reached, but for the kinds of bad lines.
 #[rustfmt::skip]
-pub const EVENTS: [&str; 24] = [
-    "card refused", "calls refused", "line of another verb", "line of another process", "line misformed", "line missing", "line left over",
-    "line unended", "6", "6 where 17 holds too", "17 by processes", "17 by length", "17 by the limit", "listed", "listed with length 0",
-    "listed with length 16", "listed with the limit equal to the length", "cut by the length", "over at the length", "over before the length",
-    "a process back before the others", "done", "fault", "a step refused",
+const EVENTS: [&str; 18] = [
+    "card refused", "calls refused", "6", "6 where 17 holds too", "17 by processes", "17 by length", "17 by the limit", "listed",
+    "listed with length 0", "listed with length 16", "listed with the limit equal to the length", "cut by the length", "over at the length",
+    "over before the length", "a process back before the others", "done", "fault", "a step refused",
 ];
 
-/// Counts what a set of cases reached.
-#[derive(Default)]
-pub struct Reached {
-    pub cases: u64,
-    pub lines: u64,
-    events: BTreeMap<&'static str, u64>,
+pub fn events() -> Vec<&'static str> {
+    [&EVENTS[..], &BAD_LINES[..]].concat()
 }
-
-impl Reached {
-    fn event(&mut self, event: &'static str) {
-        self.event_if(true, event);
-    }
-
-    fn event_if(&mut self, occurred: bool, event: &'static str) {
-        if occurred {
-            *self.events.entry(event).or_default() += 1;
-        }
-    }
-
-    pub fn summary(&self) -> String {
-        let events = EVENTS.iter().map(|event| format!("{event} {}", self.events.get(event).unwrap_or(&0)));
-        let events = events.collect::<Vec<_>>().join(", ");
-        format!("cases {}\nlines {}\nreached: {events}", self.cases, self.lines)
-    }
-
-    /// What can occur and never did.
-    pub fn never_reached(&self) -> Vec<&'static str> {
-        EVENTS.into_iter().filter(|event| !self.events.contains_key(event)).collect()
-    }
-}
-
-/// What a process is called with: program and inputs.
-type Request = (u32, [u32; 4]);
 
 /// Everything that the program prints for these two files and this length.
 pub fn expected(card: &[u8], calls: &[u8], length: u32) -> Vec<u8> {
-    run(card, calls, length, &mut Reached::default())
+    run(card, calls, length, &mut Reached::new(&events()))
 }
 
 /// The same, and counts what was reached. Judged in this sequence: the card, the size of the calls, their lines, 6, 17.
@@ -102,32 +73,6 @@ fn judge(card: &[u8], calls: &[u8], length: u32, reached: &mut Reached) -> Resul
         machine.call(process, program, inputs).expect("the process is there and idle, and so is the program");
     }
     Ok(machine)
-}
-
-/// The calls of the processes in their order; else the number of the first line that breaks the form, and how.
-fn requests(calls: &[u8], processes: usize) -> Result<Vec<Request>, (usize, &'static str)> {
-    let lines = lines(calls);
-    let mut requests = Vec::new();
-    for process in 0..processes {
-        let line = lines.get(process).ok_or((process + 1, "line missing"))?;
-        requests.push(request(line, process).map_err(|kind| (process + 1, kind))?);
-    }
-    if lines.len() > processes {
-        return Err((processes + 1, "line left over"));
-    }
-    Ok(requests)
-}
-
-/// The call of a process as its line has it.
-fn request(line: &Line, process: usize) -> Result<Request, &'static str> {
-    match parse(line) {
-        Some(Command::Call { process: named, program, inputs }) if named as usize == process => Ok((program, inputs)),
-        Some(Command::Call { .. }) => Err("line of another process"),
-        Some(_) => Err("line of another verb"),
-        None if !line.ended => Err("line unended"),
-        None if !line.bytes.starts_with(b"call,") => Err("line of another verb"),
-        None => Err("line misformed"),
-    }
 }
 
 /// The lines of all schedules that are one of those.
@@ -206,4 +151,20 @@ fn line_of(schedule: &[u32], answers: &[Answer]) -> String {
         }
     }
     line + "\n"
+}
+
+/// The case of a seed, the length as the program's argument.
+fn called(seed: u64) -> Called {
+    let (case, length) = generate::schedules::case(seed);
+    (case, vec![length.to_string()], Right::Listing(length))
+}
+
+/// Writes a case's two files into a folder; its length is printed.
+pub fn write_case(seed: u64, folder: &str) -> Result<(), String> {
+    write_called(called(seed), folder)
+}
+
+/// Compares on the cases of `count` seeds; true if none differs and everything was reached.
+pub fn compare(program: &str, first: u64, count: u64) -> Result<bool, String> {
+    compare_called(program, first, count, &events(), called)
 }

@@ -1,6 +1,9 @@
 //! The simulator against document 01: the listing of card K, the proving pieces, the rows of 'Turned back',
-//! schedules that show the faults met in drafts, changes of programs (document 02, order 11), dumps (order 7), the sequential run side by side, and
-//! listings of every short schedule (order 13).
+//! schedules that show the faults met in drafts, changes of programs (document 02, order 11), dumps (order 7), the sequential run side by side,
+//! listings of every short schedule (order 13), sweeps (order 12), and several machines (order 14).
+
+mod machines;
+mod sweeps;
 
 use crate::generate::{self, card_text, case, longest_card};
 use crate::machine::{open, read_change, Announcement, Answer, Flag, Instruction, Machine, Record};
@@ -65,6 +68,8 @@ pub fn selftest() -> bool {
     for seed in 1..=200 {
         checks.equal(&format!("listing, seed {seed}"), replayed(seed), Ok(()));
     }
+    sweeps::sweeps(&mut checks);
+    machines::machines(&mut checks);
     println!("{} checks, {} failed", checks.made, checks.failed);
     checks.failed == 0
 }

@@ -124,7 +124,7 @@ pub fn parse(line: &Line) -> Option<Command<'static>> {
 }
 
 /// The line printed for a command: the verb and first number, then the answer or the refusal.
-fn answer(machine: &mut Machine, command: Command, coverage: &mut Coverage) -> String {
+pub fn answer(machine: &mut Machine, command: Command, coverage: &mut Coverage) -> String {
     let (verb, first, answer) = match command {
         Command::Call { process, program, inputs } => {
             ("call", process, machine.call(process, program, inputs).map(|()| coverage.answered("called", "taken")))

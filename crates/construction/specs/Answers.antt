@@ -7,7 +7,7 @@ use mathlib.Core.Path.{_≡_}
 use mathlib.Core.Bool.{Bool, true, false}
 use mathlib.Core.List.{List, [], _∷_, _++_}
 use Rattle.grammar.specs.Writing.{decimal}
-use Rattle.construction.specs.Types.{Words, Decoded, Encoded, Card, Refusal, TooLong, Malformed, OutOfRange, UnknownCode, NoProcess, NoProgram, Busy, NotBusy, NoPlace, LimitReached, ShortBuffer, OperandOutOfRange, UnusedOperand, TooHeavy, NotAhead, Unsettled, TooLarge, Answer, Answered, RowSwap, CardLine, VarLine, SheetLine, InsLine, Verdict, Written}
+use Rattle.construction.specs.Types.{Words, Decoded, Encoded, Card, Refusal, TooLong, Malformed, OutOfRange, UnknownCode, NoProcess, NoProgram, Busy, NotBusy, NoPlace, LimitReached, ShortBuffer, OperandOutOfRange, UnusedOperand, TooHeavy, NotAhead, Unsettled, TooLarge, BadTerms, NoAllowance, Answer, Answered, RowSwap, CardLine, VarLine, SheetLine, InsLine, Verdict, Written}
 use Rattle.construction.specs.Instructions.{encode}
 
 -- the bytes of a text
@@ -27,7 +27,8 @@ fields word numbers = record { word = bytes word; numbers = numbers }
 abbrev pub refusedWith : ℕ → Fields
 refusedWith number = fields "refused" (number ∷ [])
 
--- the number of a refusal in the table of 'Turned back', 12 and 13 in document 02, order 8, 14 in its order 9, 15 and 16 in its order 11, 17 in its order 13
+-- the number of a refusal in the table of 'Turned back', 12 and 13 in document 02, order 8, 14 in its order 9, 15 and 16 in its order 11, 17 in its order 13,
+-- 18 and 19 in its order 14
 abbrev pub numberOf : Refusal → ℕ
 numberOf TooLong = 1
 numberOf Malformed = 2
@@ -46,6 +47,8 @@ numberOf TooHeavy = 14
 numberOf NotAhead = 15
 numberOf Unsettled = 16
 numberOf TooLarge = 17
+numberOf BadTerms = 18
+numberOf NoAllowance = 19
 
 -- a call, an exit request, a step or a read: '`taken`, `run`, `done` with four outputs and the operation's own steps, `exited` with its own
 -- steps, the looked value, or `refused` and the number'; 'a done answer gives it', the gate number, 'before the outputs' (document 02, order 4);

@@ -40,7 +40,7 @@ pub use Rattle.construction.specs.declared.Writing.{Writing}
 pub use Rattle.construction.specs.declared.Operation.{Operation}
 pub use Rattle.construction.specs.declared.Card.{Card}
 pub use Rattle.construction.specs.declared.Refusal.{Refusal}
-pub use Rattle.construction.specs.declared.Refusal.the-variants.{TooLong, Malformed, OutOfRange, UnknownCode, NoProcess, NoProgram, Busy, NotBusy, NoPlace, LimitReached, ShortBuffer, OperandOutOfRange, UnusedOperand, TooHeavy, NotAhead, Unsettled, TooLarge}
+pub use Rattle.construction.specs.declared.Refusal.the-variants.{TooLong, Malformed, OutOfRange, UnknownCode, NoProcess, NoProgram, Busy, NotBusy, NoPlace, LimitReached, ShortBuffer, OperandOutOfRange, UnusedOperand, TooHeavy, NotAhead, Unsettled, TooLarge, BadTerms, NoAllowance}
 pub use Rattle.construction.specs.declared.Answer.{Answer}
 pub use Rattle.construction.specs.declared.Answered.{Answered}
 pub use Rattle.construction.specs.declared.Label.{Label}

@@ -320,8 +320,8 @@ pub struct Card {
     pub masks: [u64; 8],
 }
 
-// Why something is refused: rows 1 to 11 of document 01's table, 12 and 13 of document 02, order 8, 14 of its order 9, 15 and 16 of its order 11, and
-// 17 of its order 13.
+// Why something is refused: rows 1 to 11 of document 01's table, 12 and 13 of document 02, order 8, 14 of its order 9, 15 and 16 of its order 11,
+// 17 of its order 13, and 18 and 19 of its order 14.
 pub enum Refusal {
     TooLong,
     Malformed,
@@ -340,6 +340,8 @@ pub enum Refusal {
     NotAhead,
     Unsettled,
     TooLarge,
+    BadTerms,
+    NoAllowance,
 }
 
 // The answer to a call, an exit request, a step, a read or a change. Done covers document 02's `fault` (order 6): what it yields tells which. A change is

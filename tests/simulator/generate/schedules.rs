@@ -1,12 +1,12 @@
 //! Cases of the program `schedules` from a seed (document 02, order 13): a card, a file of calls, and a length.
 
+use super::calls::{bad_calls, calls_text, case_of, edge_of_size, make_missing, make_requests};
 use super::{
-    allocating_program, card_text, damage, damage_number, make, make_card, make_chain, make_program, split_lines,
-    value, Case, Random, Shape, ALONE, CONTENDED,
+    allocating_program, card_text, damage, damage_number, make, make_card, make_chain, make_program, Case, Random,
+    Shape, ALONE, CONTENDED,
 };
-use crate::machine::{Card, GREATEST_LIMIT, WORD_END};
+use crate::machine::{Card, GREATEST_LIMIT};
 use crate::schedules::GREATEST_LENGTH;
-use crate::session::CALLS_LIMIT;
 
 /// One, two or three processes.
 const FEW: Shape = Shape { processes: (1, 3), ..CONTENDED };
@@ -28,29 +28,10 @@ pub fn case(seed: u64) -> (Case, u32) {
         41..=50 => at_the_limit(random),
         51..=60 => refused(random),
         61..=67 => odd_length(random),
-        68..=87 => bad_calls(random),
+        68..=87 => with_bad_calls(random),
         88..=94 => bad_card(random),
-        _ => edge_of_size(random),
+        _ => of_an_odd_size(random),
     }
-}
-
-fn calls_text(calls: &[(usize, [u32; 4])]) -> Vec<u8> {
-    let line = |(process, (program, [i0, i1, i2, i3])): (usize, &(usize, [u32; 4]))| {
-        format!("call,{process},{program},{i0},{i1},{i2},{i3}\n")
-    };
-    calls.iter().enumerate().map(line).collect::<String>().into_bytes()
-}
-
-/// A call for each process of a program that is there.
-fn make_requests(random: &mut Random, card: &Card) -> Vec<(usize, [u32; 4])> {
-    let variables = card.starting.len();
-    let request = |_| (random.below(card.programs.len()), [(); 4].map(|()| value(random, variables)));
-    (0..card.processes).map(request).collect()
-}
-
-fn case_of(random: &mut Random, card: &Card) -> Case {
-    let requests = make_requests(random, card);
-    Case { card: Some(card_text(card)), calls: Some(calls_text(&requests)) }
 }
 
 /// A card of up to three processes whose programs touch a few variables, or take cells and give them back.
@@ -105,9 +86,7 @@ fn refused(random: &mut Random) -> (Case, u32) {
     card.limit = random.pick(&[1, 5, 15, 16, 17, GREATEST_LIMIT]);
     let mut requests = make_requests(random, &card);
     if random.chance(50) {
-        let programs = card.programs.len();
-        let place = random.below(requests.len());
-        requests[place].0 = random.pick(&[programs, programs + 1, 255 + programs, 256, WORD_END as usize - 1]);
+        make_missing(random, &card, &mut requests);
     }
     let length = random.pick(&[0, 1, 5, 16, 17]);
     let length = if card.processes < 4 && length == 16 { SHORT[card.processes] as u32 } else { length };
@@ -121,39 +100,10 @@ fn odd_length(random: &mut Random) -> (Case, u32) {
     (case_of(random, &card), random.pick(&[0, 0, past, past + 1, 32, 256, 272, 1 << 31, u32::MAX]))
 }
 
-/// Lines in the place of a call; each kind of bad line, at any place.
-#[rustfmt::skip]
-const ODD_CALLS: [&str; 22] = [
-    "", "step,0", "wish,0", "look,0", "trace,0", "change,0,2,0", "Call,0,0,1,2,3,4", "calls,0,0,1,2,3,4", "call", "call,", "call,0,0,1,2,3",
-    "call,0,0,1,2,3,4,5", "call,00,0,1,2,3,4", "call,0,00,1,2,3,4", "call,0,0,01,2,3,4", "call,0,0,1,2,3,4294967296", "call,0,4294967296,1,2,3,4",
-    "call,0,0,1,2,3,4 ", "call,0,0,1,,3,4", "call,0,0,1,2,3,4\r", "call,18446744073709551616,0,1,2,3,4", "call,0,0,-1,2,3,4",
-];
-
-fn bad_calls(random: &mut Random) -> (Case, u32) {
+fn with_bad_calls(random: &mut Random) -> (Case, u32) {
     let processes = (1, random.pick(&[3, 3, 3, 8]));
     let card = make_card(random, Shape { processes, ..CONTENDED }, false);
-    let mut case = case_of(random, &card);
-    let mut calls = case.calls.take().unwrap_or_default();
-    let mut lines = split_lines(&calls);
-    let (place, other) = (random.below(lines.len()), random.below(card.processes + 1));
-    match random.below(12) {
-        0..=2 => lines[place] = format!("{}\n", random.pick(&ODD_CALLS)).into_bytes(),
-        3 => lines[place] = format!("call,{other},0,1,2,3,4\n").into_bytes(),
-        4 => lines.swap(place, other.min(card.processes - 1)),
-        5 => drop(lines.remove(place)),
-        6 => lines
-            .push(random.pick(&["\n", "x", "call,1,0,0,0,0,0\n", "step,0\n", "call,2,0,0,0,0,0"]).bytes().collect()),
-        7 => lines.insert(place, lines[place].clone()),
-        8 => drop(lines[card.processes - 1].pop()),
-        _ => (),
-    }
-    calls = lines.concat();
-    if random.chance(30) {
-        for _ in 0..random.pick(&[1, 1, 2]) {
-            damage(random, &mut calls);
-        }
-    }
-    case.calls = Some(calls);
+    let case = Case { card: Some(card_text(&card)), calls: Some(bad_calls(random, &card)) };
     (case, random.between(0, SHORT[card.processes.min(3)] - 1) as u32)
 }
 
@@ -176,28 +126,10 @@ fn bad_card(random: &mut Random) -> (Case, u32) {
     (case, random.between(0, SHORT[3]) as u32)
 }
 
-/// Files that are not there, or at an edge of their size.
-fn edge_of_size(random: &mut Random) -> (Case, u32) {
+fn of_an_odd_size(random: &mut Random) -> (Case, u32) {
     let card = small_card(random);
-    let mut case = case_of(random, &card);
-    let length = random.between(0, SHORT[card.processes] - 1) as u32;
-    let mut calls = case.calls.take().unwrap_or_default();
-    let size = random.pick(&[CALLS_LIMIT, CALLS_LIMIT + 1, CALLS_LIMIT + 2, 100_000]);
-    match random.below(8) {
-        0 => case.card = None,
-        1 => calls.clear(),
-        2 => return (case, length),
-        3 => calls.resize(size, b'\n'),
-        4 => calls = b"call,0,0,0,0,0,0\n".iter().cycle().copied().take(size).collect(),
-        5 => calls = [b"call,0,0,".to_vec(), vec![b'1'; size - 16], b",0,0,0\n".to_vec()].concat(),
-        6 => {
-            case.card = Some(b"card,9,1,1,5\n".to_vec());
-            calls.resize(CALLS_LIMIT + 1, b'\n');
-        }
-        _ => calls.resize(size, b'7'),
-    }
-    case.calls = Some(calls);
-    (case, length)
+    let case = edge_of_size(random, &card);
+    (case, random.between(0, SHORT[card.processes] - 1) as u32)
 }
 
 /// Each process outputs its input and touches nothing.

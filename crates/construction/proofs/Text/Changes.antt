@@ -13,7 +13,7 @@ use borrow.Author.Tests.{ltb-true, ltb-false, lt-ltb, le-ltb}
 use Rattle.grammar.specs.declared.Number.{Number}
 use Rattle.grammar.specs.declared.Numbers.{Numbers}
 use Rattle.grammar.specs.Reading.{field, four, hasWord}
-use Rattle.construction.specs.Types.{Instruction, Encoded, Format, Unknown, Known, Decoded, Refusal, TooLong, Malformed, OutOfRange, UnknownCode, NoProcess, NoProgram, Busy, NotBusy, NoPlace, LimitReached, ShortBuffer, OperandOutOfRange, UnusedOperand, TooHeavy, NotAhead, Unsettled, SheetLine, InsLine, Contents, Verdict, ProgramReading, TooLarge}
+use Rattle.construction.specs.Types.{Instruction, Encoded, Format, Unknown, Known, Decoded, Refusal, TooLong, Malformed, OutOfRange, UnknownCode, NoProcess, NoProgram, Busy, NotBusy, NoPlace, LimitReached, ShortBuffer, OperandOutOfRange, UnusedOperand, TooHeavy, NotAhead, Unsettled, SheetLine, InsLine, Contents, Verdict, ProgramReading, TooLarge, BadTerms, NoAllowance}
 use Rattle.construction.specs.Instructions.{inRange, rowOf, ranged, unusedZero, eachOperand, decodeAs, decode, encoded}
 use Rattle.construction.specs.Weight.{weight, cardWeight}
 use Rattle.construction.specs.Lines.{sheetWord, insWord, judgeSheet, sheetLine, insOf, judgeIns, insLine}
@@ -136,26 +136,28 @@ judged x t =
     on-test (Judged x t) (ltb 16384 (length t)) (λ l. Judged.too-long (ltb-true 16384 _ l))
     (λ l. end-judged x t (ltb-false 16384 _ l) (read-judged x t (ltb-false 16384 _ l)))
 
--- what its refusal says: of 14 that it counts too much, and 6, 15 and 16 it never is
+-- what its refusal says: of 14 that it counts too much; it is 1 to 4 or 12 to 14, and never another
 module _ (x : Contents) (t : List ℕ) where
   abbrev pub Says : Refusal → ℕ → Type 0
   Says TooLong line = Unit
   Says Malformed line = Unit
   Says OutOfRange line = Unit
   Says UnknownCode line = Unit
-  Says NoProcess line = Unit
+  Says NoProcess line = ⊥
   Says NoProgram line = ⊥
-  Says Busy line = Unit
-  Says NotBusy line = Unit
-  Says NoPlace line = Unit
-  Says LimitReached line = Unit
-  Says ShortBuffer line = Unit
+  Says Busy line = ⊥
+  Says NotBusy line = ⊥
+  Says NoPlace line = ⊥
+  Says LimitReached line = ⊥
+  Says ShortBuffer line = ⊥
   Says OperandOutOfRange line = Unit
   Says UnusedOperand line = Unit
   Says TooHeavy line = (length t ≤ 16384) × Overweight x t line
   Says NotAhead line = ⊥
   Says Unsettled line = ⊥
-  Says TooLarge line = Unit
+  Says TooLarge line = ⊥
+  Says BadTerms line = ⊥
+  Says NoAllowance line = ⊥
 
   abbrev VerdictSays : Verdict → Type 0
   VerdictSays Verdict.Accepted = Unit

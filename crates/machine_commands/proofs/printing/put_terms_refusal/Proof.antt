@@ -1,0 +1,19 @@
+use native.Mathlib.Omega.{arith}
+use Rattle.machine_commands.proofs.PrintingLaws as laws
+use borrow.Author.Needs.{needs}
+use Rattle.machine_commands.proofs.printing.put_terms_refusal.Statement.{statement}
+use Rattle.machine_commands.proofs.printing.put_terms_refusal.Tie as tie
+
+returns : tie.Need-returns
+returns c = laws.put-terms-refusal _ (omega arith) (c .before .before .before .before .before .before .before .before .before .before .put-word .ensures) (c .before .before .before .before .before .before .put-verdict .ensures) (c .before .before .put-byte .ensures)
+
+pub put-terms-refusal-spec : {M : Type 1} → statement M
+put-terms-refusal-spec =
+    tie.close
+    (tie.spec
+    (λ c. search needs)
+    (λ c κs. search needs)
+    (λ c κs. search needs)
+    (λ c κs. search needs)
+    (λ c. search needs)
+    returns)

@@ -1,0 +1,3 @@
+-- The lines of the program `machines`
+pub mod Requests
+pub mod Printing

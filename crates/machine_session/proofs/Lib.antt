@@ -1,0 +1,4 @@
+pub mod Answered
+pub mod Lines
+pub mod Started
+pub mod Sessions

@@ -1,0 +1,78 @@
+use native.Mathlib.Omega.{arith}
+use mathlib.Core.Path.{_≡_, refl, _∙_}
+use Prim.Native.Nat.{_-_}
+use lib.ListN as list
+use Rattle.machine_commands.proofs.RequestsLaws.{request-inside}
+use Rattle.machine_session.specs.Session.{stage}
+use Rattle.machine_session.proofs.Lines as laws
+use borrow.Author.Needs.{needs}
+use Rattle.machine_session.proofs.running.put_lines.Statement.{statement}
+use Rattle.machine_session.proofs.running.put_lines.Tie as tie
+
+abbrev Inv-loop : tie.InvT-loop
+Inv-loop calls blocks₀ loans₀ buffer₀ state₀ length₀ blocks loans buffer state n = (laws.Going calls (stage state₀ blocks₀ loans₀) buffer₀ (stage state blocks loans) n buffer) × (list.length blocks ≡ list.length blocks₀) × (list.length loans ≡ list.length loans₀)
+
+abbrev μ-loop : tie.MeasureT-loop
+μ-loop calls blocks₀ loans₀ buffer₀ state₀ length₀ blocks loans buffer state n = list.length calls - state .at
+
+loop-holds : tie.Need-loop-holds Inv-loop μ-loop
+loop-holds c = (laws.going _ _ _ (omega arith), refl, refl)
+
+sub-if2 : tie.Need-sub-if2 Inv-loop μ-loop
+sub-if2 c = let g = (c .before .before .loop .inv .0) in let w = g .within in let e = laws.same g in omega arith
+
+same-length : tie.Need-same-length Inv-loop μ-loop
+same-length c = (c .before .before .before .loop .inv .1)
+
+same-length-2 : tie.Need-same-length-2 Inv-loop μ-loop
+same-length-2 c = (c .before .before .before .loop .inv .2)
+
+same-length-3 : tie.Need-same-length-3 Inv-loop μ-loop
+same-length-3 c = laws.same (c .before .before .before .loop .inv .0)
+
+returns : tie.Need-returns Inv-loop μ-loop
+returns c = laws.stopped (c .before .before .before .loop .inv .0) (c .before .if1 .taken) (c .if2 .taken)
+
+execute-requires : tie.Need-execute-requires Inv-loop μ-loop
+execute-requires c κs = rw (c .before .before .before .request-at .ensures) (request-inside (c .before .before .before .before .before .before .before .before .before .before .before .before .args .calls .now) _)
+
+loop-less : tie.Need-loop-less Inv-loop μ-loop
+loop-less c = laws.less (c .before .before .before .before .before .before .before .before .before .before .before .before .before .before .before .before .before .before .before .loop .inv .0) (c .before .before .before .before .before .before .before .before .before .before .before .before .before .before .before .before .before .if1 .taken) (c .before .before .before .before .before .before .before .before .before .before .before .before .before .before .before .before .if2 .left) (c .before .before .before .before .before .before .before .before .before .before .before .before .before .before .before .request-at .ensures) (c .before .before .before .before .before .before .before .before .before .before .before .execute .ensures) (c .before .before .before .before .put-line .ensures)
+
+loop-again : tie.Need-loop-again Inv-loop μ-loop
+loop-again c = (laws.again (c .before .before .before .before .before .before .before .before .before .before .before .before .before .before .before .before .before .before .before .loop .inv .0) (c .before .before .before .before .before .before .before .before .before .before .before .before .before .before .before .before .before .if1 .taken) (c .before .before .before .before .before .before .before .before .before .before .before .before .before .before .before .before .if2 .left) (c .before .before .before .before .before .before .before .before .before .before .before .before .before .before .before .request-at .ensures) (c .before .before .before .before .before .before .before .before .before .before .before .execute .ensures) (c .before .before .before .before .put-line .ensures) (c .next-line .ensures), (c .before .before .before .before .before .before .before .before .before .before .blocks2 .given) ∙ (c .before .before .before .before .before .before .before .before .before .before .before .before .before .before .before .before .before .before .before .loop .inv .1), (c .before .before .before .before .before .before .before .before .loans .given) ∙ (c .before .before .before .before .before .before .before .before .before .before .before .before .before .before .before .before .before .before .before .loop .inv .2))
+
+same-length-4 : tie.Need-same-length-4 Inv-loop μ-loop
+same-length-4 c = (c .before .before .loop .inv .1)
+
+same-length-5 : tie.Need-same-length-5 Inv-loop μ-loop
+same-length-5 c = (c .before .before .loop .inv .2)
+
+same-length-6 : tie.Need-same-length-6 Inv-loop μ-loop
+same-length-6 c = laws.same (c .before .before .loop .inv .0)
+
+returns-2 : tie.Need-returns-2 Inv-loop μ-loop
+returns-2 c = laws.ended (c .before .before .loop .inv .0) (c .if1 .left)
+
+pub put-lines-spec : {M : Type 1} → statement M
+put-lines-spec =
+    tie.close
+    (tie.spec
+    Inv-loop
+    μ-loop
+    loop-holds
+    sub-if2
+    same-length
+    same-length-2
+    same-length-3
+    returns
+    (λ c κs. search needs)
+    execute-requires
+    (λ c κs. search needs)
+    (λ c κs. search needs)
+    loop-less
+    loop-again
+    same-length-4
+    same-length-5
+    same-length-6
+    returns-2)

@@ -1,0 +1,2 @@
+-- Machines that share one processor, over lists of requests
+pub mod Runs

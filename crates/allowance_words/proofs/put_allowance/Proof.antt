@@ -1,0 +1,16 @@
+use Rattle.allowance_words.specs.Words.{withAllowance}
+use borrow.Author.Tests.{lt-ltb, le-ltb}
+use borrow.Author.Needs.{needs}
+use Rattle.allowance_words.proofs.put_allowance.Statement.{statement}
+use Rattle.allowance_words.proofs.put_allowance.Tie as tie
+
+returns : tie.Need-returns
+unfolding withAllowance
+returns c = rw (lt-ltb _ 14 ((c .if1 .taken)))
+
+returns-2 : tie.Need-returns-2
+unfolding withAllowance
+returns-2 c = rw (le-ltb _ 14 (c .before .before .before .before .before .before .before .before .before .before .before .before .before .before .before .before .before .before .before .before .before .before .before .before .before .before .before .before .if1 .left), (c .before .before .put-quota4 .ensures), (c .before .before .before .before .before .before .before .put-quota3 .ensures), (c .before .before .before .before .before .before .before .before .before .before .before .before .put-quota2 .ensures), (c .before .before .before .before .before .before .before .before .before .before .before .before .before .before .before .before .before .put-quota .ensures), (c .before .before .before .before .before .before .before .before .before .before .before .before .before .before .before .before .before .before .before .before .before .before .put2 .ensures), (c .before .before .before .before .before .before .before .before .before .before .before .before .before .before .before .before .before .before .before .before .before .before .before .before .before .before .put .ensures))
+
+pub put-allowance-spec : {M : Type 1} → statement M
+put-allowance-spec = tie.close (tie.spec returns (λ c κs. search needs) (λ c κs. search needs) (λ c. search needs) (λ c κs. search needs) (λ c. search needs) (λ c κs. search needs) (λ c. search needs) (λ c κs. search needs) (λ c. search needs) (λ c κs. search needs) (λ c. search needs) returns-2)

@@ -1,0 +1,3 @@
+-- The allowance in words of the caller
+pub mod Words
+pub mod Held

@@ -3,9 +3,11 @@
 
     tests/must_fail/reasons.py [CRATE..]      reads the logs that `rt must-fail` or `rt ci` left of the must-fail edits, of every crate or of those named
     tests/must_fail/reasons.py --self-test    reads the stored logs in samples/, whose names begin with what is to be found
+    tests/must_fail/reasons.py --form         reads the edits alone: whether `rt must-fail` can make each of them
 
 Reading logs, it prints a line for each edit that shows nothing and then a count, and fails if there is such an edit. `reason` is the rule;
-tests/mutation/mutate.py uses it too.
+tests/mutation/mutate.py uses it too. An edit has a line each for `file:`, `old:` and `new:`, and what stands after `old:` stands once in that file;
+`rt must-fail` says so too, after half an hour, and passes over lines of other forms.
 """
 import pathlib
 import re
@@ -13,6 +15,8 @@ import sys
 
 ROOT = pathlib.Path(__file__).resolve().parents[2]
 SAMPLES = pathlib.Path(__file__).resolve().parent / "samples"
+# Edits that the gate leaves out; wide.sh tries them.
+WIDE = pathlib.Path(__file__).resolve().parent / "wide"
 
 # What follows from another error says nothing by itself.
 CONSEQUENCE = re.compile(r"\b(was|were) not admitted\b")
@@ -86,6 +90,41 @@ def judge_edits(crates):
     return failures == 0
 
 
+def fault_of(edit):
+    """What is wrong with the form of an edit, if anything."""
+    crate = ROOT / "crates" / (edit.parts[-3] if edit.parts[-2] == "must-fail" else edit.parts[-2])
+    sources, file, old = {}, None, None
+    for line in edit.read_text().splitlines():
+        word, _, rest = line.partition(":")
+        if line.startswith("#") or not line:
+            continue
+        if word == "file":
+            file = crate / rest.strip()
+            if not file.is_file():
+                return f"no file {rest.strip()}"
+            sources.setdefault(file, file.read_text())
+        elif word == "old" and file:
+            old = rest.removeprefix(" ")
+            if sources[file].count(old) != 1:
+                return f"stands {sources[file].count(old)} times: {old}"
+        elif word == "new" and old:
+            sources[file], old = sources[file].replace(old, rest.removeprefix(" ")), None
+        else:
+            return f"a line of another form: {line}"
+    changed = any(text != path.read_text() for path, text in sources.items())
+    return None if changed and not old else "nothing is changed"
+
+
+def form_test():
+    """Reads the edits alone; true if each can be made."""
+    edits = sorted([*ROOT.glob("crates/*/must-fail/*.edit"), *WIDE.glob("*/*.edit")])
+    faults = [(edit, fault) for edit in edits if (fault := fault_of(edit))]
+    for edit, fault in faults:
+        print(f"{edit.relative_to(ROOT)}: {fault}")
+    print(f"{len(edits)} must-fail edits, {len(faults)} that cannot be made")
+    return bool(edits) and not faults
+
+
 def self_test():
     """Judges the stored logs; true if each has what its name begins with."""
     samples = sorted(SAMPLES.glob("*.log"))
@@ -97,4 +136,6 @@ def self_test():
 
 
 if __name__ == "__main__":
-    sys.exit(0 if (self_test() if sys.argv[1:] == ["--self-test"] else judge_edits(sys.argv[1:])) else 1)
+    tests = {"--self-test": self_test, "--form": form_test}
+    fine = tests[sys.argv[1]]() if sys.argv[1:2] and sys.argv[1] in tests else judge_edits(sys.argv[1:])
+    sys.exit(0 if fine else 1)

@@ -55,11 +55,13 @@ tell_refusal() {
     fi
 }
 
-# explain FOLDER [ARGUMENT..]: tells of a file that the program refuses, as a card, which line that is and why
+# explain FOLDER [ARGUMENT..]: tells of a file that the program refuses, as a card, which line that is and why. `card,1,refused,..` is of card1.txt
 explain() {
     local file
     if [[ "$(first_refusal "$@")" =~ ^([a-z]+)(,([0-9]+))?,refused,([0-9]+),([0-9]+)$ ]]; then
         file="${BASH_REMATCH[1]}${BASH_REMATCH[3]}.txt"
+        # a file that may be missing is missing here
+        [ -e "$1/$file" ] || [[ " $files " != *" [$file] "* ]] || look_at "${1%/}/$file"
         tell_refusal "$file" "$1/$file" "${BASH_REMATCH[4]}" "${BASH_REMATCH[5]}"
     fi
 }

@@ -56,10 +56,10 @@ is_built() {
     [ -x "$product" ] && { [ -d "$product" ] || [ -s "$product" ]; }
 }
 
-# Whether the program is there, and each of its crates proved.
+# is_proved CRATE: whether what it is built to is there, and each of its crates proved
 is_proved() {
     local name toolchain
-    is_built "$program" || return 1
+    is_built "$1" || return 1
     toolchain="$(rt version)"
     for name in "${crates[@]}"; do
         [ "$(cat "$target/stamp/$name" 2>/dev/null)" = "$(stamp_of "$name")" ] || return 1

@@ -58,9 +58,20 @@ def ask(card, calls, command="./bench FOLDER"):
 
 def ask_quoted(card, commands):
     """The same; a command of the repository may stand first, and the lines of the calls follow."""
+    if commands and commands[0].startswith("./machines "):
+        return ask_machines(card, commands[1:])
     if commands and commands[0].startswith("./"):
         return ask(card, commands[1:], commands[0])
     return ask(card, commands)
+
+
+def ask_machines(card, lines):
+    """The lines of machines.txt stand before the commands; machine 0 has the card."""
+    first = next((place for place, line in enumerate(lines) if not line.startswith("machine")), len(lines))
+    with tempfile.TemporaryDirectory() as room:
+        for name, text in (("machines.txt", lines[:first]), ("card0.txt", card), ("calls.txt", lines[first:])):
+            (pathlib.Path(room) / name).write_text("".join(line + "\n" for line in text))
+        return subprocess.run([ROOT / "target/bin/machines"], cwd=room, capture_output=True, text=True).stdout.splitlines()
 
 
 def blocks(path):
@@ -173,6 +184,17 @@ def refusals_of_listings():
         holds(f"example of refusal {number} of a listing", ask_quoted(CARD_K, commands), quoted(answer))
 
 
+def refusals_of_sweeps():
+    """Each row's example on card K, which has one process; or calls that are too long."""
+    table = rows("Refusals", "no. | of a sweep")
+    told = re.findall(r"`(?:calls|line,N|call,process),refused,(\d+)`", section("Sweeps"))
+    holds("a row for each refusal of a sweep", [row[0] for row in table], told)
+    for number, _, example, answer, _ in table:
+        long = re.search(r"([\d,]+) bytes", example)
+        commands = ["./sweep FOLDER 9 1", "x" * (int(long[1].replace(",", "")) - 1)] if long else quoted(example)
+        holds(f"example of refusal {number} of a sweep", ask_quoted(CARD_K, commands), quoted(answer))
+
+
 def refusals_of_dumps():
     """Each row's example: the dump of the page with a line changed, cut off, or with too many bytes."""
     [dump] = re.findall(r"^```text \./waves examples/card-k\n(.*?)^```", PAGE, re.M | re.S)
@@ -191,6 +213,29 @@ def refusals_of_dumps():
             (pathlib.Path(room) / "dump.vcd").write_text("".join(lines))
             ran = subprocess.run([ROOT / "target/bin/readings", "dump.vcd"], cwd=room, capture_output=True, text=True)
         holds(f"refused dump: {what}", ran.stdout.splitlines(), quoted(answer))
+
+
+def refusals_of_machines():
+    """Each row's example, of which machine 0 has card K; or a text that is too long."""
+    table = rows("Refusals", "no. | of machines")
+    holds("a row for each refusal of machines", [row[0] for row in table], ["1", "2", "5"])
+    for number, _, example, answer, _ in table:
+        long = re.search(r"([\d,]+) bytes", example)
+        lines = ["./machines FOLDER", "machine" + "x" * (int(long[1].replace(",", "")) - 8)] if long else quoted(example)
+        holds(f"example of refusal {number} of machines", ask_quoted(CARD_K, lines), quoted(answer))
+
+
+def commands_of_machines():
+    """Those of the bench program with the machine behind the verb, with the same refusals and 5, or 19 besides; and `turn`."""
+    single = {quoted(row[0])[0]: row[2:] for row in rows("Commands", "command")}
+    table = {quoted(row[0])[0]: row[2:] for row in rows("Several machines", "command")}
+    holds("the answer of turn", table.pop("turn", None), ["`taken`", ""])
+    wanted = {}
+    for command, (answers, refused) in single.items():
+        verb, rest = command.split(",", 1)
+        named = refused if refused.startswith("5") else f"5{';' if verb == 'change' else ','} {refused}"
+        wanted[f"{verb},machine,{rest}"] = [answers, named + ", 19" if verb in ("step", "trace") else named]
+    holds("a row for each command of machines", table, wanted)
 
 
 def others():
@@ -213,7 +258,10 @@ codes()
 refusals()
 refusals_of_changes()
 refusals_of_listings()
+refusals_of_sweeps()
 refusals_of_dumps()
+refusals_of_machines()
+commands_of_machines()
 others()
 print(f"page of formats: {checks} checks, {failures} failed")
 sys.exit(failures != 0)

@@ -75,15 +75,15 @@ launcher() {
 }
 
 mkdir -p "$work/bin" "$repository/docs" "$folder"
-cp -R "$top/tools" "$top/check" "$repository/"
+cp -R "$top/tools" "$top/check" "$top/library" "$top/include" "$repository/"
 cp "$top/docs/FORMATS.md" "$repository/docs/" || true
 sed 's/prove-and-run" bench/prove-and-run" program/' "$top/bench" >"$repository/program"
 chmod +x "$repository/program"
 cp "$top/schedules" "$repository/"
 launcher listing 'DIR L [M]' ''
 launcher reading 'DUMP [STEP]' ''
-printf '# layers\nbelow:\nbeside: below  # with a comment\nprogram: beside io\nlisting: below\nreading: below\nschedules: below\n' >"$repository/crates.txt"
-for name in below beside program listing reading schedules; do
+printf '# layers\nbelow:\nbeside: below  # with a comment\nprogram: beside io\nlisting: below\nreading: below\nschedules: below\nembedding: below\n' >"$repository/crates.txt"
+for name in below beside program listing reading schedules embedding; do
     mkdir -p "$repository/crates/$name/src"
     echo "$name" >"$repository/crates/$name/src/lib.rt"
 done
@@ -134,6 +134,11 @@ for name in below $([ "$2" != program ] || echo beside) "$2"; do
     fi
     cat "target/log/$name.out"
 done
+if [ "$1" = staticlib ]; then
+    [ ! -e refuse-archive ] || exit 1
+    mkdir -p target/staticlib
+    echo "archive of $(cat "target/stamp/$2")" >"target/staticlib/lib$2.a"
+fi
 STANDIN
 chmod +x "$work/bin/rt"
 
@@ -309,6 +314,48 @@ program_is 'echo dump,refused,2,1' reading
 call "$repository/reading" "$work/nowhere"
 holds "a file that is not there is told, and nothing more of it" ends 0 dump,refused,2,1 "reading: there is no $work/nowhere; it counts as empty"
 
+# ./sweep: steps and seed go to the program, which runs in the folder; how far it is may be told, a refused card too, and a wrong number is a wrong call
+cp "$top/sweep" "$repository/"
+echo 'sweep: below' >>"$repository/crates.txt"
+mkdir -p "$repository/crates/sweep/src"
+echo sweep >"$repository/crates/sweep/src/main.rt"
+program_is 'pwd; echo "$#: $@"; echo "4096 of 9999 steps" >&2' sweep
+call "$repository/sweep" "$folder" 9999 1
+call "$repository/sweep" "$folder" 9999 1
+holds "a sweep is told steps and seed, and tells how far it is" ends 0 "$(readlink -f "$folder")
+2: 9999 1" "4096 of 9999 steps"
+seq 1 4 | xargs -P 4 -I SEED sh -c "'$repository/sweep' '$folder' 9 SEED >'$work/night-SEED' 2>/dev/null"
+holds "sweeps run side by side" [ "$(cat "$work"/night-* | grep : | tr '\n' ' ')" = "2: 9 1 2: 9 2 2: 9 3 2: 9 4 " ]
+explained="usage: ./sweep DIR STEPS SEED
+$(sed -n '2,$s/^# \{0,1\}//p' "$top/sweep")"
+call "$repository/sweep" --help
+holds "help is given on sweeps" ends 0 "$explained" ""
+for arguments in '' "$folder" "$folder 1" "$folder 1 2 3"; do
+    # shellcheck disable=SC2086
+    call "$repository/sweep" $arguments
+    holds "a sweep takes a folder, steps and a seed" ends 2 "" "$explained"
+done
+program_is 'echo "usage: sweep STEPS SEED" >&2' sweep
+call "$repository/sweep" "$folder" 9 0
+holds "a wrong seed is a wrong call" ends 2 "" "usage: sweep STEPS SEED
+$explained"
+program_is '[ -e calls.txt ] || { echo line,1,refused,2; exit; }
+echo call,0,refused,6' sweep
+call "$repository/sweep" "$folder" 9 1
+holds "a refused call is an answer, and calls that are missing when it looks for a refused card are not spoken of" ends 0 call,0,refused,6 ""
+rm "$folder/calls.txt"
+call "$repository/sweep" "$folder" 9 1
+holds "missing calls are told of a sweep" ends 0 line,1,refused,2 "sweep: there is no $folder/calls.txt; it counts as empty"
+files 'card\nins,99,0,0,0\n' 'calls\n'
+program_is 'echo card,refused,4,2' sweep
+call "$repository/sweep" "$folder" 9 1
+holds "a refused card is told of a sweep" ends 0 card,refused,4,2 \
+    "sweep: card.txt, line 2, 'ins,99,0,0,0', is refused with 4: there is no such code; docs/FORMATS.md tells what to do"
+files 'card\n' 'calls\n'
+program_is 'echo steps,9; echo "sweep: the counts could not be written: No space left on device" >&2' sweep
+call "$repository/sweep" "$folder" 9 1
+holds "a sweep that could not be written makes it fail" ends 1 steps,9 "sweep: the counts could not be written: No space left on device"
+
 # what is wrong with the files: the session and the status stay as they are
 program_is '[ ! -e card.txt ] || ! grep -q "^ins,99" card.txt || { echo card,refused,4,2; exit; }
 [ ! -e calls.txt ] || echo session'
@@ -340,6 +387,91 @@ holds "a refused card is told by its line, and why" ends 0 card,refused,4,2 \
     "program: card.txt, line 2, 'ins,99,0,0,0', is refused with 4: there is no such code; docs/FORMATS.md tells what to do"
 files 'card\n' 'calls\n'
 
+# ./library: proves, has rt make the archive, and puts header, archive and description into a folder
+call "$repository/library" "$work/made"
+holds "a first library is proved, made and put into its folder" ends 0 "$work/made/lace_card.h
+$work/made/liblace_card.a
+$work/made/lace_card.pc" "$(sed 's/^program: 3/library: 2/; s/^program/library/' <<<"$opening")
+proving embedding
+proved 2 of 2: embedding (1 s)
+library: making liblace_card.a; its crate is proved once more for that"
+holds "the header is the repository's" cmp -s "$work/made/lace_card.h" "$repository/include/lace_card.h"
+holds "the archive is rt's" cmp -s "$work/made/liblace_card.a" "$repository/target/staticlib/libembedding.a"
+rm "$repository/asked"
+call "$repository/library" "$work/made"
+holds "a library that is made is only put into its folder" ends 0 "$work/made/lace_card.h
+$work/made/liblace_card.a
+$work/made/lace_card.pc" ""
+holds "rt is not asked for it" [ ! -e "$repository/asked" ]
+cd "$work"
+call "$repository/library" made/relative
+cd "$here"
+holds "a folder is where its caller stands" [ "$status: $(ls "$work/made/relative" | tr '\n' ' ')" = "0: lace_card.h lace_card.pc liblace_card.a " ]
+call "$repository/library"
+holds "without a folder it is put into target/library" [ "$status: $(ls "$repository/target/library" | tr '\n' ' ')" = "0: lace_card.h lace_card.pc liblace_card.a " ]
+echo changed >>"$repository/crates/embedding/src/lib.rt"
+call "$repository/library" "$work/made"
+holds "a changed library is made anew" cmp -s "$work/made/liblace_card.a" "$repository/target/staticlib/libembedding.a"
+echo changed >>"$repository/crates/embedding/src/lib.rt"
+: >"$repository/refuse-archive"
+call "$repository/library" "$work/made"
+rm "$repository/refuse-archive"
+holds "an archive that cannot be made is a failure" grep -q '^library: liblace_card.a could not be made; see ' "$SAID"
+holds "and a status of 1" [ "$status" -eq 1 ]
+call "$repository/library" "$folder/card.txt"
+holds "a folder that cannot be made is a failure" ends 1 "" "library: making liblace_card.a; its crate is proved once more for that
+library: the folder $folder/card.txt cannot be made"
+call "$top/library" --help
+holds "help is given on the library" [ "$status: $(head -n 1 "$work/output")" = "0: usage: ./library [DIR]" ]
+call "$repository/library" a b
+holds "the library takes one folder" [ "$status: $(head -n 1 "$SAID")" = "2: usage: ./library [DIR]" ]
+
+# ./machines: the cards of machines that are not there may be missing; a refused file is told by its name
+cp "$top/machines" "$repository/"
+echo 'machines: below' >>"$repository/crates.txt"
+mkdir -p "$repository/crates/machines/src"
+echo machines >"$repository/crates/machines/src/main.rt"
+files 'card\n' 'calls\n'
+printf 'machines\n' >"$folder/machines.txt"
+mv "$folder/card.txt" "$folder/card0.txt"
+program_is 'ls | tr "\n" " "; echo "$#"' machines
+call "$repository/machines" "$folder"
+call "$repository/machines" "$folder"
+holds "cards past the last machine may be missing" ends 0 "calls.txt card0.txt machines.txt 0" ""
+printf 'card' >"$folder/card2.txt"
+call "$repository/machines" "$folder"
+holds "one that is there is looked at" ends 0 "calls.txt card0.txt card2.txt machines.txt 0" \
+    "machines: $folder/card2.txt has no line end behind its last line; put one there"
+rm "$folder/card2.txt" "$folder/card0.txt"
+call "$repository/machines" "$folder"
+holds "the first card may not be missing" ends 0 "calls.txt machines.txt 0" "machines: there is no $folder/card0.txt; it counts as empty"
+printf 'card\n' >"$folder/card0.txt"
+program_is 'echo machines,refused,18,0' machines
+call "$repository/machines" "$folder"
+holds "refused machines are told by their number" ends 0 machines,refused,18,0 \
+    "machines: machines.txt is refused with 18: $(sed -n 's/^| 18 | \([^|]*\) |.*/\1/p' "$top/docs/FORMATS.md" | head -n 1); docs/FORMATS.md tells what to do"
+holds "18 has a meaning" grep -q 'is refused with 18: [a-z]' "$SAID"
+program_is 'echo machines,refused,2,1' machines
+call "$repository/machines" "$folder"
+holds "and by their line" ends 0 machines,refused,2,1 \
+    "machines: machines.txt, line 1, 'machines', is refused with 2: a line has the wrong form, is missing or is left over; docs/FORMATS.md tells what to do"
+printf 'card\nins,99,0,0,0\n' >"$folder/card1.txt"
+program_is '[ -e card1.txt ] && echo card,1,refused,4,2 || echo card,1,refused,2,1' machines
+call "$repository/machines" "$folder"
+holds "a refused card is told by its number" ends 0 card,1,refused,4,2 \
+    "machines: card1.txt, line 2, 'ins,99,0,0,0', is refused with 4: there is no such code; docs/FORMATS.md tells what to do"
+rm "$folder/card1.txt"
+call "$repository/machines" "$folder"
+holds "a card that is missing where a machine has none is told" ends 0 card,1,refused,2,1 "machines: there is no $folder/card1.txt; it counts as empty"
+explained="usage: ./machines DIR
+$(sed -n '2,$s/^# \{0,1\}//p' "$top/machines")"
+for arguments in '' "$folder 1"; do
+    # shellcheck disable=SC2086
+    call "$repository/machines" $arguments
+    holds "machines take a folder" ends 2 "" "$explained"
+done
+files 'card\n' 'calls\n'
+
 # wrong calls, and help
 explained="Runs the bench program on the card and the commands of a folder, and prints the session on standard output, a line for each command.
 DIR holds card.txt, the card, and calls.txt, the commands. docs/FORMATS.md tells how both are written and what the answers mean.
@@ -354,11 +486,11 @@ launch "$work/nowhere"
 holds "a folder that is not there is named" ends 2 "" "program: no such folder: $work/nowhere (./program --help tells what it should hold)"
 launch "$folder/card.txt"
 holds "a file in the place of a folder is named" ends 2 "" "program: $folder/card.txt is no folder (./program --help tells what belongs in one)"
-for usage in './bench DIR' './waits' './schedules DIR L' './waves DIR' './readings DUMP [STEP]'; do
+for usage in './bench DIR' './waits' './schedules DIR L' './waves DIR' './readings DUMP [STEP]' './machines DIR'; do
     call "$top/${usage%% *}" --help
     holds "$usage tells its usage" [ "$status: $(head -n 1 "$work/output")" = "0: usage: $usage" ]
 done
-for arguments in schedules 'schedules a' waves 'waves a b' readings 'readings a 1 2'; do
+for arguments in schedules 'schedules a' waves 'waves a b' readings 'readings a 1 2' machines 'machines a b'; do
     # shellcheck disable=SC2086
     call "$top"/$arguments
     holds "$arguments is a wrong call" [ "$status: $(head -n 1 "$SAID" | cut -c 1-9)" = "2: usage: ./" ]

@@ -40,17 +40,19 @@ def inside(text, start):
 
 
 def holders(sources):
-    """The names of the types that hold a card."""
+    """For each crate the names that stand for types that hold a card there: a name that a crate declares is its own type, any other may be another crate's."""
     parts = {}
-    for text in sources.values():
+    for (crate, _), text in sources.items():
+        own = parts.setdefault(crate, {})
         for match in TYPE.finditer(text):
-            parts.setdefault(match[1], set()).update(re.findall(r"\w+", inside(text, match.end() - 1)))
-    names = {"Card"}
+            own.setdefault(match[1], set()).update(re.findall(r"\w+", inside(text, match.end() - 1)))
+    held = {crate: {"Card"} for crate in parts}
     while True:
-        more = {name for name, words in parts.items() if words & names}
-        if more <= names:
-            return names
-        names |= more
+        anywhere = {name for crate in parts for name in held[crate] if name in parts[crate]} | {"Card"}
+        more = {crate: {name for name, words in own.items() if words & held[crate]} | (anywhere - own.keys()) for crate, own in parts.items()}
+        if all(more[crate] <= held[crate] for crate in parts):
+            return held
+        held = {crate: held[crate] | more[crate] for crate in parts}
 
 
 def names_any(text, names):
@@ -66,9 +68,9 @@ def found(sources):
         for match in FUNCTION.finditer(text):
             parameters = inside(text, match.end() - 1)
             result = RESULT.match(text, match.end() + len(parameters) + 1)
-            returned = result is not None and names_any(result[1], names)
-            lent = any(names_any(part, names) for part in re.findall(r"&\s*(?:'\w+\s+)?mut\b([^,]*)", parameters))
-            if lent or (returned and names_any(parameters, names)):
+            returned = result is not None and names_any(result[1], names[crate])
+            lent = any(names_any(part, names[crate]) for part in re.findall(r"&\s*(?:'\w+\s+)?mut\b([^,]*)", parameters))
+            if lent or (returned and names_any(parameters, names[crate])):
                 functions.add(f"{crate}::{match[1]}")
     return functions
 

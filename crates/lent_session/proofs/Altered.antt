@@ -9,12 +9,12 @@ use borrow.Author.Tests.{eq-eqb, ne-eqb}
 use lib.Dec.{eqb}
 use lib.ListN.{length, getD, set, drop}
 use lib.Seq.{drop-cons}
-use Rattle.report.specs.Random.{nextRandom}
+use Rattle.xorshift.specs.Xorshift.{next}
 use Rattle.lent_session.specs.Altering.{drawn, drawnLast, alteredLoan, lastDrawn, pattern, kept}
 
 -- words that are drawn
 pub draws-on :
-    (n k x y : ℕ) (l : List ℕ) → k < n → y ≡ nextRandom x →
+    (n k x y : ℕ) (l : List ℕ) → k < n → y ≡ next x →
     (drawn (n - k) k x l ≡ drawn (n - (k + 1)) (k + 1) y (set l k y)) × (drawnLast (n - k) x ≡ drawnLast (n - (k + 1)) y)
 unfolding drawn drawnLast
 draws-on n k x y l h e = let f : n - k ≡ suc (n - (k + 1)) = omega arith in (rw (f, e), rw (f, e))

@@ -4,16 +4,16 @@ use mathlib.Core.Bool.{Bool, true, cond, _&&_}
 use mathlib.Core.List.{List, [], _∷_}
 use lib.Dec.{eqb}
 use lib.ListN.{length, set}
-use Rattle.report.specs.Random.{nextRandom}
+use Rattle.xorshift.specs.Xorshift.{next}
 
 -- n words from word k on become the numbers that follow x, one after the other; and the last of these
 unfoldable pub drawn : ℕ → ℕ → ℕ → List ℕ → List ℕ
 drawn zero k x l = l
-drawn (suc n) k x l = drawn n (k + 1) (nextRandom x) (set l k (nextRandom x))
+drawn (suc n) k x l = drawn n (k + 1) (next x) (set l k (next x))
 
 unfoldable pub drawnLast : ℕ → ℕ → ℕ
 drawnLast zero x = x
-drawnLast (suc n) x = drawnLast n (nextRandom x)
+drawnLast (suc n) x = drawnLast n (next x)
 
 -- the first words of a loan, as far as it goes; 0 alters nothing
 abbrev pub alteredLoan : List ℕ → ℕ → ℕ → List ℕ

@@ -1,5 +1,5 @@
 // Other words in the loan, and the words past them.
-use report::random::next_random;
+use xorshift::next;
 ghost use mathlib.Core.Path.{_≡_};
 ghost use lib.ListN.{drop};
 ghost use Rattle.lent_session.specs.Altering.{alteredLoan, lastDrawn, kept};
@@ -18,7 +18,7 @@ pub(crate) fn alter(l: &mut [u64], words: usize, x: u64) -> u64
             if words <= k {
                 return drawn;
             }
-            drawn = next_random(drawn);
+            drawn = next(drawn);
             l[k] = drawn;
             k = k + 1;
         }

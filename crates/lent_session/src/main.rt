@@ -22,8 +22,7 @@ use grammar::reading::number_at;
 use libc::STDERR_FILENO;
 use libc::STDOUT_FILENO;
 use loan::dictionaries::loan_words;
-ghost use mathlib.Core.Path.{_≡_};
-ghost use mathlib.Core.Bool.{_&&_};
+use report::same::both;
 ghost use Rattle.io.specs.Counts.{Counts};
 
 // What was put into a buffer: its length, and where the next command stands.
@@ -53,12 +52,6 @@ fn number_of(argument: usize) -> u64 {
         return 0;
     };
     value
-}
-
-fn both(a: bool, b: bool) -> bool
-    ensures { λ r. ⌜ r ≡ (a && b) ⌝ }
-{
-    if a { b } else { false }
 }
 
 fn tell(kept: bool) {

@@ -1,4 +1,2 @@
 -- The definitions that the contracts cite
-pub mod Lines
-pub mod Entries
 pub mod Playing

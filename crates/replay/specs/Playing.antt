@@ -1,47 +1,26 @@
--- What playing entries does: the answers and cards of the requests (construction, specs/Requests), and the cards compared.
-use Prim.Native.Nat.{ℕ, zero, suc, _+_, _%_, _^_}
-use mathlib.Core.Bool.{Bool, cond, not, _&&_}
-use mathlib.Core.List.{List}
-use Rattle.construction.specs.declared.{Card.Card, Answer.Answer, Answered.Answered}
-use Rattle.construction.specs.Answers.{isRun}
-use Rattle.construction.specs.Requests.{call, requestExit, step, read}
-use Rattle.construction.specs.Tracing.{trace, untold}
+-- Where the texts of the input stand, and commands played with the cards before and after them compared.
+use Prim.Native.Nat.{ℕ, suc, _≤_}
+use mathlib.Core.Bool.{cond}
+use mathlib.Core.Path.{_≡_}
+use mathlib.Core.List.{List, [], _∷_}
+use lib.ListN.{length, drop}
+use lib.Dec.{eqb}
+use Rattle.session.specs.declared.State.{State}
+use Rattle.session.specs.Session.{Prints}
 use Rattle.report.specs.Same.{sameCard}
-use Rattle.replay.specs.declared.{Request.Request, Entry.Entry, Played.Played}
-use Rattle.replay.specs.Entries.{entryAt}
+use Rattle.replay.specs.declared.Played.{Played}
 
-unfoldable pub asked : Card → Request → Answered
-asked c (Request.Call i k inputs) = call c i k inputs
-asked c (Request.Exit i) = requestExit c i
-asked c (Request.Step i) = step c i
-asked c (Request.Trace i) = untold (trace c i)
-asked c (Request.Read v) = read c v
+-- the place of the next such byte, or the end of the text
+unfoldable pub placeOf : ℕ → ℕ → List ℕ → ℕ
+placeOf byte at [] = at
+placeOf byte at (x ∷ xs) = cond (eqb x byte) at (placeOf byte (suc at) xs)
 
--- a request: its answer, the card after it, and whether that is the card before it in every part
-abbrev pub comparedWith : Card → Answered → Played
-comparedWith c r = record { card = r .card; answer = r .answer; same = sameCard c (r .card) }
+pub record Finds (t : List ℕ) (byte start r : ℕ) : Type 0 where
+  pub place : r ≡ placeOf byte start (drop start t)
+  pub past : start ≤ r
+  pub within : r ≤ length t
 
-unfoldable pub played : Card → Request → Played
-played c r = comparedWith c (asked c r)
-
--- steps that run on and change the card are told together: how many there were before this answer and with it
-abbrev pub runsOn : Answer → Bool → Bool
-runsOn a same = not same && isRun a
-
-abbrev pub counted : ℕ → Bool → ℕ
-counted runs running = cond running ((runs + 1) % 2 ^ 64) 0
-
--- the card after a request made so many times
-unfoldable pub after : ℕ → Card → Request → Card
-after zero c r = c
-after (suc n) c r = played (after n c r) r .card
-
-unfoldable pub afterEntry : Card → Entry → Card
-afterEntry c (Entry.Requests r n) = after n c r
-afterEntry c (Entry.Cells v) = c
-afterEntry c Entry.Nothing = c
-
--- the card after the entries that follow the first n places of a text
-unfoldable pub afterEntries : List ℕ → ℕ → Card → Card
-afterEntries t zero c = c
-afterEntries t (suc n) c = afterEntry (afterEntries t n c) (entryAt t n)
+-- the lines of a session as the bench program prints them, and whether every part of the card is the same after them
+pub record Plays (t : List ℕ) (s : State) (b : List ℕ) (r : Played) (z : List ℕ) : Type 0 where
+  pub prints : Prints t s b (r .printed) z
+  pub same : r .same ≡ sameCard (s .card) (r .printed .state .card)

@@ -4,24 +4,22 @@ use mathlib.Core.Bool.{Bool, true, false, _&&_}
 use mathlib.Core.List.{List, []}
 use lib.Dec.{eqb}
 use lib.ListN.{getD}
-use Rattle.construction.specs.declared.{Yield.Yield, Record.Record, Instruction.Instruction, Encoded.Encoded, Program.Program, Item.Item, Dictionary.Dictionary, Simulation.Simulation, Place.Place, Task.Task, Operation.Operation, Card.Card}
-use Rattle.construction.specs.declared.Place.the-variants.{Idle, P1, P3, P5, P7, P10, C2, C4, P13, P14, P16, H21, H36, P19, P20, P21, P22, F1, F3}
+use Rattle.construction.specs.declared.{Yield.Yield, Record.Record, Instruction.Instruction, Program.Program, Item.Item, Dictionary.Dictionary, Simulation.Simulation, Task.Task, Operation.Operation, Card.Card}
 use Rattle.construction.specs.Cells.{sameBool, sameWords, sameGate, sameAnnouncement, sameRecord, openAnnouncement, openRecord}
-use Rattle.construction.specs.Instructions.{encode, noLine, started}
+use Rattle.construction.specs.Instructions.{noLine, started}
 use Rattle.construction.specs.Dictionary.{noItem}
-use Rattle.construction.specs.Parts.{idleTask, noOperation, noGate, announcementAt}
+use Rattle.construction.specs.Parts.{idleTask, noOperation, noGate}
+use Rattle.codes.specs.Codes.{instructionWord, placeWord}
+use Rattle.report.specs.declared.same.{Texts.Texts, Work.Work, Copies.Copies}
 
 -- a test holds of every number below n
 unfoldable pub allBelow : ℕ → (ℕ → Bool) → Bool
 allBelow zero test = true
 allBelow (suc n) test = allBelow n test && test n
 
--- an instruction is known by the four numbers of its line
-abbrev pub sameEncoded : Encoded → Encoded → Bool
-sameEncoded x y = eqb (x .code) (y .code) && (eqb (x .a) (y .a) && (eqb (x .b) (y .b) && eqb (x .c) (y .c)))
-
+-- an instruction is known by its word (`instruction-back`, crates/codes/proofs/Programs)
 abbrev pub sameInstruction : Instruction → Instruction → Bool
-sameInstruction a b = sameEncoded (encode a) (encode b)
+sameInstruction a b = eqb (instructionWord a) (instructionWord b)
 
 abbrev pub sameLineAt : Program → Program → ℕ → Bool
 sameLineAt a b k = sameInstruction (getD (a .lines) k noLine .instruction) (getD (b .lines) k noLine .instruction)
@@ -50,30 +48,9 @@ sameItemAt a b k = sameItem (getD (a .items) k noItem) (getD (b .items) k noItem
 unfoldable pub sameDictionary : Dictionary → Dictionary → Bool
 sameDictionary a b = eqb (a .length) (b .length) && allBelow 32 (sameItemAt a b)
 
--- a place is known by its number
-unfoldable pub placeNumber : Place → ℕ
-placeNumber Idle = 0
-placeNumber P1 = 1
-placeNumber P3 = 2
-placeNumber P5 = 3
-placeNumber P7 = 4
-placeNumber P10 = 5
-placeNumber C2 = 6
-placeNumber C4 = 7
-placeNumber P13 = 8
-placeNumber P14 = 9
-placeNumber P16 = 10
-placeNumber H21 = 11
-placeNumber H36 = 12
-placeNumber P19 = 13
-placeNumber P20 = 14
-placeNumber P21 = 15
-placeNumber P22 = 16
-placeNumber F1 = 17
-placeNumber F3 = 18
-
+-- a place is known by its word (`place-back`, crates/codes/proofs/Values)
 unfoldable pub sameTask : Task → Task → Bool
-sameTask a b = eqb (placeNumber (a .place)) (placeNumber (b .place)) && eqb (a .target) (b .target)
+sameTask a b = eqb (placeWord (a .place)) (placeWord (b .place)) && eqb (a .target) (b .target)
 
 unfoldable pub sameOperation : Operation → Operation → Bool
 sameOperation a b = eqb (a .program) (b .program) && sameWords (a .inputs) (b .inputs)
@@ -86,42 +63,57 @@ sameSimulation a b =
     eqb (a .counter) (b .counter)
     && (sameWords (a .registers) (b .registers) && sameYield (a .yields) (b .yields))
 
--- program i of an array, and the dictionary of process i
+-- the texts of program i: as it was opened, and as it was changed (document 02, order 11), the number of its last change, the earlier and the later text
 abbrev pub programAt : List Program → ℕ → Program
 programAt l i = getD l i (record { length = 0; lines = [] })
 
-abbrev pub dictionaryAt : Card → ℕ → Dictionary
-dictionaryAt c i = getD (c .dictionaries) i (record { length = 0; items = [] })
+abbrev pub textsAt : Card → ℕ → Texts
+textsAt c i =
+    record { opening = programAt (c .programs) i; from = getD (c .from) i 0; earlier = programAt (c .earlier) i; later = programAt (c .later) i }
 
--- the texts of program i: as it was opened, and as it was changed (document 02, order 11), the number of its last change, the earlier and the later text
-unfoldable pub sameTexts : Card → Card → ℕ → Bool
-sameTexts a b i =
-    sameProgram (programAt (a .programs) i) (programAt (b .programs) i)
-    && (eqb (getD (a .from) i 0) (getD (b .from) i 0)
-    && (sameProgram (programAt (a .earlier) i) (programAt (b .earlier) i)
-    && sameProgram (programAt (a .later) i) (programAt (b .later) i)))
+unfoldable pub sameTexts : Texts → Texts → Bool
+sameTexts a b =
+    sameProgram (a .opening) (b .opening)
+    && (eqb (a .from) (b .from) && (sameProgram (a .earlier) (b .earlier) && sameProgram (a .later) (b .later)))
 
 -- what the call of process i asked for and how far it came, and the set of the variables that it noted
-unfoldable pub sameWork : Card → Card → ℕ → Bool
-sameWork a b i =
-    sameTask (getD (a .tasks) i idleTask) (getD (b .tasks) i idleTask)
-    && (sameOperation (getD (a .operations) i noOperation) (getD (b .operations) i noOperation)
-    && (sameBool (getD (a .exits) i false) (getD (b .exits) i false)
-    && (eqb (getD (a .counts) i 0) (getD (b .counts) i 0) && eqb (getD (a .masks) i 0) (getD (b .masks) i 0))))
+abbrev pub workAt : Card → ℕ → Work
+workAt c i =
+    record {
+      task = getD (c .tasks) i idleTask;
+      operation = getD (c .operations) i noOperation;
+      exit = getD (c .exits) i false;
+      count = getD (c .counts) i 0;
+      mask = getD (c .masks) i 0;
+    }
 
--- what process i last read and what it simulates
-unfoldable pub sameCopies : Card → Card → ℕ → Bool
-sameCopies a b i =
-    sameGate (getD (a .gates) i noGate) (getD (b .gates) i noGate)
-    && (sameAnnouncement (getD (a .copies) i openAnnouncement) (getD (b .copies) i openAnnouncement)
-    && (sameSimulation (getD (a .simulations) i started) (getD (b .simulations) i started)
-    && sameDictionary (dictionaryAt a i) (dictionaryAt b i)))
+unfoldable pub sameWork : Work → Work → Bool
+sameWork a b =
+    sameTask (a .task) (b .task)
+    && (sameOperation (a .operation) (b .operation)
+    && (sameBool (a .exit) (b .exit) && (eqb (a .count) (b .count) && eqb (a .mask) (b .mask))))
+
+-- the announcement of process i, what it last read and what it simulates
+abbrev pub copiesAt : Card → ℕ → Copies
+copiesAt c i =
+    record {
+      announcement = getD (c .announcements) i openAnnouncement;
+      gate = getD (c .gates) i noGate;
+      copy = getD (c .copies) i openAnnouncement;
+      simulation = getD (c .simulations) i started;
+      dictionary = getD (c .dictionaries) i (record { length = 0; items = [] });
+    }
+
+unfoldable pub sameCopies : Copies → Copies → Bool
+sameCopies a b =
+    sameAnnouncement (a .announcement) (b .announcement)
+    && (sameGate (a .gate) (b .gate)
+    && (sameAnnouncement (a .copy) (b .copy) && (sameSimulation (a .simulation) (b .simulation) && sameDictionary (a .dictionary) (b .dictionary))))
 
 -- all that stands at place i of an array of eight: the texts of program i, the announcement of process i, and its own state
 unfoldable pub sameAt : Card → Card → ℕ → Bool
 sameAt a b i =
-    sameTexts a b i
-    && (sameAnnouncement (announcementAt a i) (announcementAt b i) && (sameWork a b i && sameCopies a b i))
+    sameTexts (textsAt a i) (textsAt b i) && (sameWork (workAt a i) (workAt b i) && sameCopies (copiesAt a i) (copiesAt b i))
 
 -- the fields that are no arrays
 unfoldable pub sameNumbers : Card → Card → Bool

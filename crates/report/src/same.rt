@@ -4,12 +4,15 @@ use cells::same_announcement;
 use cells::same_gate;
 use cells::same_record;
 use cells::same_words;
+use codes::instruction_word;
+use codes::place_word;
+use construction::Announcement;
 use construction::Card;
 use construction::Dictionary;
+use construction::Gate;
 use construction::Instruction;
 use construction::Item;
 use construction::Operation;
-use construction::Place;
 use construction::Program;
 use construction::Record;
 use construction::Simulation;
@@ -20,8 +23,34 @@ ghost use mathlib.Core.Bool.{_&&_};
 ghost use Prim.Native.Nat.{_<_};
 ghost use lib.Dec.{eqb};
 ghost use Rattle.construction.specs.Cells.{sameBool};
-ghost use Rattle.report.specs.Same.{sameInstruction, sameProgram, sameStarts, sameRecords, sameItem, sameDictionary, placeNumber};
-ghost use Rattle.report.specs.Same.{sameTask, sameOperation, sameYield, sameSimulation, sameTexts, sameWork, sameCopies, sameAt, sameNumbers, sameCard};
+ghost use Rattle.report.specs.Same.{sameInstruction, sameProgram, sameStarts, sameRecords, sameItem, sameDictionary, sameTask, sameOperation, sameYield, sameSimulation};
+ghost use Rattle.report.specs.Same.{textsAt, sameTexts, workAt, sameWork, copiesAt, sameCopies, sameAt, sameNumbers, sameCard};
+
+// The texts of a program: as it was opened, and as it was changed (document 02, order 11).
+struct Texts {
+    opening: Program,
+    from: u64,
+    earlier: Program,
+    later: Program,
+}
+
+// What the call of a process asked for and how far it came, and the variables that it noted.
+struct Work {
+    task: Task,
+    operation: Operation,
+    exit: bool,
+    count: u64,
+    mask: u64,
+}
+
+// The announcement of a process, what it last read and what it simulates.
+struct Copies {
+    announcement: Announcement,
+    gate: Gate,
+    copy: Announcement,
+    simulation: Simulation,
+    dictionary: Dictionary,
+}
 
 pub fn both(a: bool, b: bool) -> bool
     ensures { λ r. ⌜ r ≡ (a && b) ⌝ }
@@ -35,7 +64,7 @@ fn same_bool(a: bool, b: bool) -> bool
     if a { b } else { !b }
 }
 
-pub fn same_number(a: u64, b: u64) -> bool
+fn same_number(a: u64, b: u64) -> bool
     ensures { λ r. ⌜ r ≡ eqb a b ⌝ }
 {
     a == b
@@ -44,15 +73,7 @@ pub fn same_number(a: u64, b: u64) -> bool
 fn same_instruction(a: Instruction, b: Instruction) -> bool
     ensures { λ r. ⌜ r ≡ sameInstruction a b ⌝ }
 {
-    let x = writer::encode(a);
-    let y = writer::encode(b);
-    both(
-        same_number(x.code, y.code),
-        both(
-            same_number(x.a, y.a),
-            both(same_number(x.b, y.b), same_number(x.c, y.c)),
-        ),
-    )
+    same_number(instruction_word(a), instruction_word(b))
 }
 
 fn same_program(a: Program, b: Program) -> bool
@@ -111,39 +132,13 @@ fn same_dictionary(a: Dictionary, b: Dictionary) -> bool
     both(same_number(a.length as u64, b.length as u64), same)
 }
 
-fn place_number(place: Place) -> u64
-    ensures { λ r. ⌜ r ≡ placeNumber place ⌝ }
-{
-    match place {
-        Place::Idle => 0,
-        Place::P1 => 1,
-        Place::P3 => 2,
-        Place::P5 => 3,
-        Place::P7 => 4,
-        Place::P10 => 5,
-        Place::C2 => 6,
-        Place::C4 => 7,
-        Place::P13 => 8,
-        Place::P14 => 9,
-        Place::P16 => 10,
-        Place::H21 => 11,
-        Place::H36 => 12,
-        Place::P19 => 13,
-        Place::P20 => 14,
-        Place::P21 => 15,
-        Place::P22 => 16,
-        Place::F1 => 17,
-        Place::F3 => 18,
-    }
-}
-
 fn same_task(a: Task, b: Task) -> bool
     ensures { λ r. ⌜ r ≡ sameTask a b ⌝ }
 {
     let left = a.place;
     let right = b.place;
     both(
-        same_number(place_number(left), place_number(right)),
+        same_number(place_word(left), place_word(right)),
         same_number(a.target as u64, b.target as u64),
     )
 }
@@ -178,52 +173,101 @@ fn same_simulation(a: Simulation, b: Simulation) -> bool
     )
 }
 
-fn same_texts(a: Card, b: Card, i: usize) -> bool
+fn texts_at(card: Card, i: usize) -> Texts
     requires { ⌜ i < 8 ⌝ }
-    ensures { λ r. ⌜ r ≡ sameTexts a b i ⌝ }
+    ensures { λ r. ⌜ r ≡ textsAt card i ⌝ }
+{
+    let opening = card.programs[i];
+    let from = card.from[i];
+    let earlier = card.earlier[i];
+    let later = card.later[i];
+    Texts {
+        opening,
+        from,
+        earlier,
+        later,
+    }
+}
+
+fn same_texts(a: Texts, b: Texts) -> bool
+    ensures { λ r. ⌜ r ≡ sameTexts a b ⌝ }
 {
     both(
-        same_program(a.programs[i], b.programs[i]),
+        same_program(a.opening, b.opening),
         both(
-            same_number(a.from[i], b.from[i]),
+            same_number(a.from, b.from),
             both(
-                same_program(a.earlier[i], b.earlier[i]),
-                same_program(a.later[i], b.later[i]),
+                same_program(a.earlier, b.earlier),
+                same_program(a.later, b.later),
             ),
         ),
     )
 }
 
-fn same_work(a: Card, b: Card, i: usize) -> bool
+fn work_at(card: Card, i: usize) -> Work
     requires { ⌜ i < 8 ⌝ }
-    ensures { λ r. ⌜ r ≡ sameWork a b i ⌝ }
+    ensures { λ r. ⌜ r ≡ workAt card i ⌝ }
+{
+    let task = card.tasks[i];
+    let operation = card.operations[i];
+    let exit = card.exits[i];
+    let count = card.counts[i];
+    let mask = card.masks[i];
+    Work {
+        task,
+        operation,
+        exit,
+        count,
+        mask,
+    }
+}
+
+fn same_work(a: Work, b: Work) -> bool
+    ensures { λ r. ⌜ r ≡ sameWork a b ⌝ }
 {
     both(
-        same_task(a.tasks[i], b.tasks[i]),
+        same_task(a.task, b.task),
         both(
-            same_operation(a.operations[i], b.operations[i]),
+            same_operation(a.operation, b.operation),
             both(
-                same_bool(a.exits[i], b.exits[i]),
+                same_bool(a.exit, b.exit),
+                both(same_number(a.count, b.count), same_number(a.mask, b.mask)),
+            ),
+        ),
+    )
+}
+
+fn copies_at(card: Card, i: usize) -> Copies
+    requires { ⌜ i < 8 ⌝ }
+    ensures { λ r. ⌜ r ≡ copiesAt card i ⌝ }
+{
+    let announcement = card.announcements[i];
+    let gate = card.gates[i];
+    let copy = card.copies[i];
+    let simulation = card.simulations[i];
+    let dictionary = card.dictionaries[i];
+    Copies {
+        announcement,
+        gate,
+        copy,
+        simulation,
+        dictionary,
+    }
+}
+
+fn same_copies(a: Copies, b: Copies) -> bool
+    ensures { λ r. ⌜ r ≡ sameCopies a b ⌝ }
+{
+    both(
+        same_announcement(a.announcement, b.announcement),
+        both(
+            same_gate(a.gate, b.gate),
+            both(
+                same_announcement(a.copy, b.copy),
                 both(
-                    same_number(a.counts[i], b.counts[i]),
-                    same_number(a.masks[i], b.masks[i]),
+                    same_simulation(a.simulation, b.simulation),
+                    same_dictionary(a.dictionary, b.dictionary),
                 ),
-            ),
-        ),
-    )
-}
-
-fn same_copies(a: Card, b: Card, i: usize) -> bool
-    requires { ⌜ i < 8 ⌝ }
-    ensures { λ r. ⌜ r ≡ sameCopies a b i ⌝ }
-{
-    both(
-        same_gate(a.gates[i], b.gates[i]),
-        both(
-            same_announcement(a.copies[i], b.copies[i]),
-            both(
-                same_simulation(a.simulations[i], b.simulations[i]),
-                same_dictionary(a.dictionaries[i], b.dictionaries[i]),
             ),
         ),
     )
@@ -233,13 +277,10 @@ fn same_at(a: Card, b: Card, i: usize) -> bool
     requires { ⌜ i < 8 ⌝ }
     ensures { λ r. ⌜ r ≡ sameAt a b i ⌝ }
 {
-    both(
-        same_texts(a, b, i),
-        both(
-            same_announcement(a.announcements[i], b.announcements[i]),
-            both(same_work(a, b, i), same_copies(a, b, i)),
-        ),
-    )
+    let texts = same_texts(texts_at(a, i), texts_at(b, i));
+    let work = same_work(work_at(a, i), work_at(b, i));
+    let copies = same_copies(copies_at(a, i), copies_at(b, i));
+    both(texts, both(work, copies))
 }
 
 fn same_numbers(a: Card, b: Card) -> bool

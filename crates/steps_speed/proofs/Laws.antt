@@ -7,7 +7,7 @@ use borrow.Author.Tests.{not-true, not-false}
 use Rattle.construction.specs.declared.{Words.Words, Answered.Answered}
 use Rattle.construction.specs.Requests.{call, step}
 use Rattle.construction.specs.Answers.{isRun}
-use Rattle.report.specs.Random.{nextRandom}
+use Rattle.xorshift.specs.Xorshift.{next}
 use Rattle.steps_speed.specs.Runs.{inputsOf, calledFrom, again, runFrom}
 
 pub calls-on :
@@ -21,7 +21,7 @@ unfolding calledFrom
 calls-done n p a h = let e : n - p ≡ zero = omega arith in rw e
 
 pub runs-on :
-    (n k x y : ℕ) (a b d : Answered) → k < n → y ≡ nextRandom x → b ≡ step (a .card) (y % 8) → d ≡ again b (y % 8) (k % 4294967296) →
+    (n k x y : ℕ) (a b d : Answered) → k < n → y ≡ next x → b ≡ step (a .card) (y % 8) → d ≡ again b (y % 8) (k % 4294967296) →
     runFrom (n - k) k x a ≡ runFrom (n - (k + 1)) (k + 1) y d
 unfolding runFrom
 runs-on n k x y a b d h ey eb ed = let e : n - k ≡ suc (n - (k + 1)) = omega arith in rw (e, ed, eb, ey)

@@ -4,7 +4,7 @@ use mathlib.Core.Bool.{cond}
 use Rattle.construction.specs.declared.{Words.Words, Card.Card, Answer.Answer, Answered.Answered}
 use Rattle.construction.specs.Answers.{isRun}
 use Rattle.construction.specs.Requests.{call, step}
-use Rattle.report.specs.Random.{nextRandom}
+use Rattle.xorshift.specs.Xorshift.{next}
 
 abbrev pub seed : ℕ
 seed = 88172645463325252
@@ -33,4 +33,4 @@ again a process input = cond (isRun (a .answer)) a (called a process input)
 unfoldable pub runFrom : ℕ → ℕ → ℕ → Answered → Answered
 runFrom zero k random a = a
 runFrom (suc left) k random a =
-    let x = nextRandom random in runFrom left (k + 1) x (again (step (a .card) (x % 8)) (x % 8) (k % 4294967296))
+    let x = next random in runFrom left (k + 1) x (again (step (a .card) (x % 8)) (x % 8) (k % 4294967296))

@@ -10,7 +10,7 @@ use construction::Words;
 use grammar::Number;
 use grammar::reading::number_at;
 use libc::STDIN_FILENO;
-use report::random::next_random;
+use xorshift::next;
 ghost use mathlib.Core.Path.{_≡_};
 ghost use Rattle.steps_speed.specs.Runs.{seed, inputsOf, calledFrom, runFrom, opened};
 
@@ -49,7 +49,7 @@ fn run(start: Answered, count: u64) -> Answered
     let mut answered = start;
     let mut random: u64 = 88_172_645_463_325_252;
     for k in 0..count {
-        random = next_random(random);
+        random = next(random);
         let process = (random % 8) as u32;
         answered = card::step(answered.card, process);
         let answer = answered.answer;

@@ -1,15 +1,15 @@
-use borrow.Author.Needs.{needs}
-use mathlib.Core.Path.{_≡_}
+use Prim.Native.Nat.{_≤_, _-_}
 use lib.ListN.{length}
-use Prim.Native.Nat.{_-_}
+use native.Mathlib.Omega.{arith}
+use borrow.Author.Needs.{needs}
 use Rattle.replay.proofs.play_all.Statement.{statement}
 use Rattle.replay.proofs.play_all.Tie as tie
 
 abbrev Inv-loop : tie.InvT-loop
-Inv-loop input section₀ at₀ at-end section at = at-end ≡ length input
+Inv-loop input card-start₀ card-end₀ at₀ card-start card-end at = (card-start ≤ card-end) × (card-end ≤ length input)
 
 abbrev μ-loop : tie.MeasureT-loop
-μ-loop input section₀ at₀ at-end section at = at-end - at
+μ-loop input card-start₀ card-end₀ at₀ card-start card-end at = length input - at
 
 pub play-all-spec : {M : Type 1} → statement M
 play-all-spec =
@@ -17,13 +17,25 @@ play-all-spec =
     (tie.spec
     Inv-loop
     μ-loop
-    (λ c. search needs)
-    (λ c κs. search needs)
-    (λ c κs. search needs)
-    (λ c. search needs)
-    (λ c κs. search needs)
+    (λ c. (omega arith, omega arith))
     (λ c κs. search needs)
     (λ c. search needs)
     (λ c. search needs)
+    (λ c κs. search needs)
     (λ c. search needs)
+    (λ c κs. search needs)
+    (λ c. search needs)
+    (λ c. search needs)
+    (λ c. search needs)
+    (λ c. search needs)
+    (λ c. search needs)
+    (λ c. search needs)
+    (λ c. search needs)
+    (λ c. search needs)
+    (λ c. search needs)
+    (λ c κs. search needs)
+    (λ c. search needs)
+    (λ c. (omega arith, omega arith))
+    (λ c. search needs)
+    (λ c. (omega arith, omega arith))
     (λ c. search needs))

@@ -25,7 +25,7 @@ loop-again c =
     let drawn = stepped .before in
     let loop = drawn .before .before .loop in (
       loop .inv .0
-          ∙ laws.runs-on _ (loop .k) _ _ _ _ _ (omega arith) (drawn .next-random .ensures) (stepped .step .ensures)
+          ∙ laws.runs-on _ (loop .k) _ _ _ _ _ (omega arith) (drawn .next .ensures) (stepped .step .ensures)
           (⊎-elim
           (λ w. laws.called-again (stepped .step .result) _ (told .is-run .ensures) _ _ _ (w .0 .taken) _ (w .1 .ensures) (w .3 ∙ w .2 .ensures))
           (λ w. laws.goes-on (stepped .step .result) _ (told .is-run .ensures) _ _ _ (w .0 .left) (w .1))

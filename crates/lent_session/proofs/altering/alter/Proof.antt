@@ -41,7 +41,7 @@ loop-again c =
     let at = c .before .before .before in
     let a = at .before .before .before .args in
     let n = min (a .words) (length (a .l .now)) in
-    let on = altered.draws-on n (at .loop .k) _ _ (at .loop .l) (omega (arith, at .loop .inv .2)) (c .next-random .ensures) in
+    let on = altered.draws-on n (at .loop .k) _ _ (at .loop .l) (omega (arith, at .loop .inv .2)) (c .next .ensures) in
     (at .loop .inv .0 ∙ on .0, at .loop .inv .1 ∙ on .1, simp length-set (at .loop .inv .2), omega (arith, at .loop .inv .2))
 
 same-length-2 : tie.Need-same-length-2 Inv-loop μ-loop

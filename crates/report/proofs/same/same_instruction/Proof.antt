@@ -1,4 +1,3 @@
-use Rattle.report.proofs.Laws as laws
 use borrow.Author.Needs.{needs}
 use Rattle.report.proofs.same.same_instruction.Statement.{statement}
 use Rattle.report.proofs.same.same_instruction.Tie as tie
@@ -10,10 +9,4 @@ same-instruction-spec =
     (λ c κs. search needs)
     (λ c κs. search needs)
     (λ c κs. search needs)
-    (λ c κs. search needs)
-    (λ c κs. search needs)
-    (λ c κs. search needs)
-    (λ c κs. search needs)
-    (λ c κs. search needs)
-    (λ c κs. search needs)
-    (λ c. rw (← c .before .before .before .before .before .before .before .before .encode .ensures, ← c .before .before .before .before .before .before .before .encode2 .ensures) (laws.joins (c .both3 .ensures) (c .before .before .before .before .before .before .same-number .ensures) (laws.joins (c .before .both2 .ensures) (c .before .before .before .before .before .same-number2 .ensures) (laws.joins (c .before .before .both .ensures) (c .before .before .before .before .same-number3 .ensures) (c .before .before .before .same-number4 .ensures))))))
+    (λ c. rw (← c .before .before .instruction-word .ensures, ← c .before .instruction-word2 .ensures) (c .same-number .ensures)))

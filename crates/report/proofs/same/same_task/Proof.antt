@@ -16,4 +16,4 @@ same-task-spec =
     (λ c. search needs)
     (λ c κs. search needs)
     (λ c κs. search needs)
-    (λ c. rw (← c .before .before .before .before .before .before .place-number .ensures, ← c .before .before .before .before .before .place-number2 .ensures) (laws.joins (c .both .ensures) (c .before .before .before .before .same-number .ensures) (c .before .same-number2 .ensures))))
+    (λ c. rw (← c .before .before .before .before .before .before .place-word .ensures, ← c .before .before .before .before .before .place-word2 .ensures) (laws.joins (c .both .ensures) (c .before .before .before .before .same-number .ensures) (c .before .same-number2 .ensures))))

@@ -7,33 +7,17 @@ use Rattle.report.proofs.same.same_texts.Tie as tie
 returns : tie.Need-returns
 unfolding sameTexts
 returns c =
-    laws.joins (c .both3 .ensures) (c .before .before .before .before .before .before .before .before .before .before .before .before .same-program .ensures)
-    (laws.joins (c .before .both2 .ensures) (c .before .before .before .before .before .before .before .before .before .same-number .ensures)
-    (laws.joins (c .before .before .both .ensures) (c .before .before .before .before .before .before .same-program2 .ensures) (c .before .before .before .same-program3 .ensures)))
+    laws.joins (c .both3 .ensures) (c .before .before .before .before .before .before .same-program .ensures)
+    (laws.joins (c .before .both2 .ensures) (c .before .before .before .before .before .same-number .ensures)
+    (laws.joins (c .before .before .both .ensures) (c .before .before .before .before .same-program2 .ensures) (c .before .before .before .same-program3 .ensures)))
 
 pub same-texts-spec : {M : Type 1} → statement M
 same-texts-spec =
     tie.close
     (tie.spec
-    (λ c. search needs)
-    (λ c. search needs)
-    (λ c. search needs)
-    (λ c. search needs)
     (λ c κs. search needs)
-    (λ c. search needs)
-    (λ c. search needs)
-    (λ c. search needs)
-    (λ c. search needs)
     (λ c κs. search needs)
-    (λ c. search needs)
-    (λ c. search needs)
-    (λ c. search needs)
-    (λ c. search needs)
     (λ c κs. search needs)
-    (λ c. search needs)
-    (λ c. search needs)
-    (λ c. search needs)
-    (λ c. search needs)
     (λ c κs. search needs)
     (λ c κs. search needs)
     (λ c κs. search needs)

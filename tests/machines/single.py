@@ -3,7 +3,7 @@
 
 The card and the calls of a case, and what they print, become those of a single machine, and of machine 2 among four, with allowance for every step; the
 other machines have card K and stay idle. So every answer is that of the bench program with the machine's number put in behind the verb. The lines of a
-change's text, and lines without a comma, stay as they are; what was malformed stays malformed."""
+change's text, and lines without a comma, stay as they are; what was malformed stays malformed, so `turn`, which this program alone knows, is misspelt."""
 import pathlib
 import re
 import sys
@@ -20,6 +20,8 @@ def read(path):
 
 
 def put_in(line, machine):
+    if line.rstrip(b"\n") == b"turn":
+        return b"turns\n"
     return line.replace(b",", b",%d," % machine, 1)
 
 

@@ -2,49 +2,16 @@
 use crate::put_number;
 use construction::Cell;
 use construction::Label;
-use construction::LabelName;
 use construction::Report;
 use construction::Swap;
 use grammar::writing::put_byte;
 use grammar::writing::put_decimal;
+use labels::label_row;
 ghost use mathlib.Core.Path.{_≡_};
 ghost use mathlib.Core.List.{_∷_, []};
 ghost use Prim.Native.Nat.{_+_, _≤_};
 ghost use Rattle.grammar.specs.Writing.{Put};
-ghost use Rattle.construction.specs.Reports.{named as namedAs, nameOf, labelText, cellText, swapByte, reportText};
-
-fn named(letter: u8, number: u8) -> LabelName
-    ensures { λ r. ⌜ r ≡ namedAs letter number ⌝ }
-{
-    LabelName { letter, number }
-}
-
-// A label as the paper writes it, 0 and 0 where there is none.
-pub fn name_of(label: Label) -> LabelName
-    ensures { λ r. ⌜ r ≡ nameOf label ⌝ }
-{
-    match label {
-        Label::None => named(0, 0),
-        Label::P1 => named(b'P', 1),
-        Label::P3 => named(b'P', 3),
-        Label::P6 => named(b'P', 6),
-        Label::P7 => named(b'P', 7),
-        Label::P10 => named(b'P', 10),
-        Label::C2 => named(b'C', 2),
-        Label::C4 => named(b'C', 4),
-        Label::P13 => named(b'P', 13),
-        Label::P14 => named(b'P', 14),
-        Label::P16 => named(b'P', 16),
-        Label::H21 => named(b'H', 21),
-        Label::H36 => named(b'H', 36),
-        Label::P19 => named(b'P', 19),
-        Label::P20 => named(b'P', 20),
-        Label::P21 => named(b'P', 21),
-        Label::P22 => named(b'P', 22),
-        Label::F1 => named(b'F', 1),
-        Label::F3 => named(b'F', 3),
-    }
-}
+ghost use Rattle.construction.specs.Reports.{labelText, cellText, swapByte, reportText};
 
 // Whether a swap won, lost or was none: 1, 0 or -.
 pub fn swap_byte(swap: Swap) -> u8
@@ -69,9 +36,9 @@ fn put_letter(buffer: &mut [u8], at: usize, letter: u8) -> usize
 pub fn put_label(buffer: &mut [u8], at: usize, label: Label) -> usize
     ensures { λ r. ⌜ Put (now (buffer .entry)) at (labelText label) r (now (buffer .exit)) × (r ≤ at + 22) ⌝ }
 {
-    let name = name_of(label);
-    let next = put_letter(buffer, at, name.letter);
-    put_decimal(buffer, next, name.number as u64)
+    let row = label_row(label);
+    let next = put_letter(buffer, at, row.letter);
+    put_decimal(buffer, next, row.number as u64)
 }
 
 // A cell: the gate, or an announcement or a record with its number.
@@ -93,8 +60,8 @@ pub fn put_report(buffer: &mut [u8], at: usize, report: Report) -> usize
     let label = report.label;
     let cell = report.cell;
     let swap = report.swap;
-    let name = name_of(label);
-    if name.letter == 0 {
+    let row = label_row(label);
+    if row.letter == 0 {
         return at;
     }
     let i = put_label(buffer, at, label);

@@ -10,8 +10,8 @@ use codes::odd;
 use construction::Announcement;
 use construction::Gate;
 use construction::Holder;
+use construction::Label;
 use construction::Operation;
-use construction::Place;
 use construction::Simulation;
 use construction::Task;
 ghost use mathlib.Core.Path.{_≡_};
@@ -23,7 +23,7 @@ fn idle_task() -> Task
     ensures { λ r. ⌜ r ≡ idleTask ⌝ }
 {
     Task {
-        place: Place::Idle,
+        place: Label::Idle,
         target: 0,
     }
 }

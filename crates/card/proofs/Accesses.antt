@@ -11,7 +11,7 @@ use lib.Seq.{set-getD, getD-set-same}
 use borrow.Author.Tests.{ltb-true, ltb-false}
 use Rattle.opening.proofs.Laws.{inside}
 use Rattle.construction.specs.declared.{Gate.Gate, Words.Words, Announcement.Announcement, Record.Record, Program.Program, Dictionary.Dictionary, Simulation.Simulation, GateAccess.GateAccess, AnnouncementAccess.AnnouncementAccess, Access.Access, Task.Task, GateAccessed.GateAccessed, AnnouncementAccessed.AnnouncementAccessed, Began.Began, Helped.Helped, Writing.Writing, Card.Card, Answer.Answer, SwappedRecord.SwappedRecord}
-use Rattle.construction.specs.declared.Place.the-variants.{P1}
+use Rattle.construction.specs.declared.Label.the-variants.{P1}
 use Rattle.construction.specs.Cells.{openAnnouncement, openRecord}
 use Rattle.construction.specs.Instructions.{noProgram}
 use Rattle.construction.specs.Dictionary.{empty}

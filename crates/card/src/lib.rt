@@ -6,8 +6,8 @@ use construction::Access;
 use construction::Answer;
 use construction::Answered;
 use construction::Card;
+use construction::Label;
 use construction::Operation;
-use construction::Place;
 use construction::Refusal;
 use construction::Task;
 use construction::Words;
@@ -43,7 +43,7 @@ pub fn call(card: Card, process: u32, program: u32, inputs: Words) -> Answered
     let answer = judge_call(process, c.processCount, program, c.programCount, place);
     if !is_refused(answer) {
         c.tasks[i] = Task {
-            place: Place::P1,
+            place: Label::P1,
             target: 0,
         };
         c.operations[i] = Operation {

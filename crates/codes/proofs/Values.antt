@@ -6,7 +6,7 @@ use mathlib.Core.List.{List}
 use native.Mathlib.Omega.{arith}
 use lib.Dec.{eqb}
 use borrow.Author.Tests.{ne-eqb}
-use Rattle.codes.specs.Types.{Holder, Nobody, Process, Gate, Flag, Done, Active, Exit, Announcement, Record, Place, Idle, P1, P3, P5, P7, P10, C2, C4, P13, P14, P16, H21, H36, P19, P20, P21, P22, F1, F3, Words, Task, Operation, Simulation, Item}
+use Rattle.codes.specs.Types.{Holder, Nobody, Process, Gate, Flag, Done, Active, Exit, Announcement, Record, Label, Idle, P1, P3, P5, P7, P10, C2, C4, P13, P14, P16, H21, H36, P19, P20, P21, P22, F1, F3, P6, Words, Task, Operation, Simulation, Item}
 use Rattle.codes.specs.Parts.{wordAt}
 use Rattle.codes.specs.Codes.{byte, half, odd, bit, holderFrom, holderWord, flagFrom, flagWord, placeFrom, placeWord, gateOf, gateWords, taskOf, taskWords, announcementOf, announcementWords, recordOf, recordWords, operationOf, operationWords, simulationOf, simulationWords, pair, upper, itemOf, itemWords}
 
@@ -28,7 +28,7 @@ flag-back Done = refl
 flag-back Active = refl
 flag-back Exit = refl
 
-pub place-back : (p : Place) → placeFrom (placeWord p) ≡ p
+pub place-back : (p : Label) → placeFrom (placeWord p) ≡ p
 unfolding placeFrom
 place-back Idle = refl
 place-back P1 = refl
@@ -49,6 +49,7 @@ place-back P21 = refl
 place-back P22 = refl
 place-back F1 = refl
 place-back F3 = refl
+place-back P6 = refl
 
 pub odd-back : (t : Bool) → odd (bit t) ≡ t
 odd-back true = refl

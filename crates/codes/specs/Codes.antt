@@ -4,8 +4,9 @@ use mathlib.Core.Bool.{Bool, cond}
 use mathlib.Core.List.{List, [], _∷_}
 use lib.Dec.{eqb}
 use lib.ListN.{getD, set}
+use Rattle.construction.specs.Labels.{labelRow}
 use Rattle.construction.specs.Instructions.{encode, noLine}
-use Rattle.codes.specs.Types.{Encoded, Holder, Nobody, Process, Gate, Flag, Done, Active, Exit, Words, Announcement, Record, Place, Idle, P1, P3, P5, P7, P10, C2, C4, P13, P14, P16, H21, H36, P19, P20, P21, P22, F1, F3, Task, Operation, Simulation, Item, Instruction, Line, Program}
+use Rattle.codes.specs.Types.{Encoded, Holder, Nobody, Process, Gate, Flag, Done, Active, Exit, Words, Announcement, Record, Label, Idle, P1, P3, P5, P7, P10, C2, C4, P13, P14, P16, H21, H36, P19, P20, P21, P22, F1, F3, P6, Task, Operation, Simulation, Item, Instruction, Line, Program}
 use Rattle.codes.specs.Parts.{wordAt, table}
 
 abbrev pub byte : ℕ → ℕ
@@ -35,28 +36,11 @@ flagWord Done = 0
 flagWord Active = 1
 flagWord Exit = 2
 
-abbrev pub placeWord : Place → ℕ
-placeWord Idle = 0
-placeWord P1 = 1
-placeWord P3 = 2
-placeWord P5 = 3
-placeWord P7 = 4
-placeWord P10 = 5
-placeWord C2 = 6
-placeWord C4 = 7
-placeWord P13 = 8
-placeWord P14 = 9
-placeWord P16 = 10
-placeWord H21 = 11
-placeWord H36 = 12
-placeWord P19 = 13
-placeWord P20 = 14
-placeWord P21 = 15
-placeWord P22 = 16
-placeWord F1 = 17
-placeWord F3 = 18
+-- a place by the table of labels, and back
+abbrev pub placeWord : Label → ℕ
+placeWord place = labelRow place .word
 
-unfoldable pub placeFrom : ℕ → Place
+unfoldable pub placeFrom : ℕ → Label
 placeFrom w =
     cond (eqb w 1) P1
     (cond (eqb w 2) P3
@@ -76,7 +60,8 @@ placeFrom w =
     (cond (eqb w 16) P22
     (cond (eqb w 17) F1
     (cond (eqb w 18) F3
-    Idle)))))))))))))))))
+    (cond (eqb w 19) P6
+    Idle))))))))))))))))))
 
 -- four numbers of 32 bits each, from word k on
 

@@ -15,8 +15,8 @@ pub use Rattle.construction.specs.declared.Program.{Program}
 pub use Rattle.construction.specs.declared.Item.{Item}
 pub use Rattle.construction.specs.declared.Dictionary.{Dictionary}
 pub use Rattle.construction.specs.declared.Simulation.{Simulation}
-pub use Rattle.construction.specs.declared.Place.{Place}
-pub use Rattle.construction.specs.declared.Place.the-variants.{Idle, P1, P3, P5, P7, P10, C2, C4, P13, P14, P16, H21, H36, P19, P20, P21, P22, F1, F3}
+pub use Rattle.construction.specs.declared.Label.{Label}
+pub use Rattle.construction.specs.declared.Label.the-variants.{Idle, P1, P3, P5, P7, P10, C2, C4, P13, P14, P16, H21, H36, P19, P20, P21, P22, F1, F3, P6}
 pub use Rattle.construction.specs.declared.GateAccess.{GateAccess}
 pub use Rattle.construction.specs.declared.Task.{Task}
 pub use Rattle.construction.specs.declared.GateAccessed.{GateAccessed}

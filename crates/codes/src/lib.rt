@@ -1,10 +1,12 @@
 // Small values as words (document 02, order 10): a code for each place, flag, holder and instruction, and the value of every word. Every word is some
-// value, so that every block of words is some card. It rests on the crate construction (types).
+// value, so that every block of words is some card. It rests on the crates construction (types), labels
+// (the words of places) and writer (the numbers of an instruction).
 use construction::Encoded;
 use construction::Flag;
 use construction::Holder;
 use construction::Instruction;
-use construction::Place;
+use construction::Label;
+use labels::label_row;
 ghost use mathlib.Core.Path.{_≡_};
 ghost use Rattle.codes.specs.Codes.{byte, half, odd, bit, holderFrom, holderWord, flagFrom, flagWord, placeFrom, placeWord, instructionFrom, packed, instructionWord};
 
@@ -70,56 +72,38 @@ pub fn flag_word(flag: Flag) -> u64
     }
 }
 
-pub fn place_from(w: u64) -> Place
+pub fn place_from(w: u64) -> Label
     ensures { λ r. ⌜ r ≡ placeFrom w ⌝ }
 {
     match w {
-        1 => Place::P1,
-        2 => Place::P3,
-        3 => Place::P5,
-        4 => Place::P7,
-        5 => Place::P10,
-        6 => Place::C2,
-        7 => Place::C4,
-        8 => Place::P13,
-        9 => Place::P14,
-        10 => Place::P16,
-        11 => Place::H21,
-        12 => Place::H36,
-        13 => Place::P19,
-        14 => Place::P20,
-        15 => Place::P21,
-        16 => Place::P22,
-        17 => Place::F1,
-        18 => Place::F3,
-        _ => Place::Idle,
+        1 => Label::P1,
+        2 => Label::P3,
+        3 => Label::P5,
+        4 => Label::P7,
+        5 => Label::P10,
+        6 => Label::C2,
+        7 => Label::C4,
+        8 => Label::P13,
+        9 => Label::P14,
+        10 => Label::P16,
+        11 => Label::H21,
+        12 => Label::H36,
+        13 => Label::P19,
+        14 => Label::P20,
+        15 => Label::P21,
+        16 => Label::P22,
+        17 => Label::F1,
+        18 => Label::F3,
+        19 => Label::P6,
+        _ => Label::Idle,
     }
 }
 
-pub fn place_word(place: Place) -> u64
+pub fn place_word(place: Label) -> u64
     ensures { λ r. ⌜ r ≡ placeWord place ⌝ }
 {
-    match place {
-        Place::Idle => 0,
-        Place::P1 => 1,
-        Place::P3 => 2,
-        Place::P5 => 3,
-        Place::P7 => 4,
-        Place::P10 => 5,
-        Place::C2 => 6,
-        Place::C4 => 7,
-        Place::P13 => 8,
-        Place::P14 => 9,
-        Place::P16 => 10,
-        Place::H21 => 11,
-        Place::H36 => 12,
-        Place::P19 => 13,
-        Place::P20 => 14,
-        Place::P21 => 15,
-        Place::P22 => 16,
-        Place::F1 => 17,
-        Place::F3 => 18,
-    }
+    let row = label_row(place);
+    row.word
 }
 
 pub fn instruction_from(w: u64) -> Instruction

@@ -4,7 +4,8 @@ use mathlib.Core.Bool.{Bool, true, false, cond, not, _&&_, _||_}
 use mathlib.Core.List.{List}
 use lib.ListN.{length, getD}
 use lib.Dec.{eqb, ltb}
-use Rattle.construction.specs.Types.{Gate, Program, Place, Idle, P1, P3, P5, P7, P10, C2, C4, P13, P14, P16, H21, H36, P19, P20, P21, P22, F1, F3, Task, Card, Refusal, TooLong, Malformed, NoProgram, NotAhead, Unsettled, Answer, Answered, Contents, Verdict, ProgramReading}
+use Rattle.construction.specs.Types.{Gate, Program, Label, Idle, P1, Task, Card, Refusal, TooLong, Malformed, NoProgram, NotAhead, Unsettled, Answer, Answered, Contents, Verdict, ProgramReading}
+use Rattle.construction.specs.Labels.{sameLabel}
 use Rattle.construction.specs.Weight.{cardWeight}
 use Rattle.construction.specs.Parts.{idleTask, noGate, contentsOf, withRevision}
 use Rattle.construction.specs.Requests.{isProgram}
@@ -29,30 +30,12 @@ unfoldable pub changeRead : Contents → List ℕ → ProgramReading
 changeRead x t = programText (x .variableCount) (min 32 (cardWeight x)) t
 
 -- an operation under way that has read a gate number: it is past P1, also where it has not announced itself yet (P3), or is done and has not returned
-abbrev pub hasRead : Place → Bool
-hasRead Idle = false
-hasRead P1 = false
-hasRead P3 = true
-hasRead P5 = true
-hasRead P7 = true
-hasRead P10 = true
-hasRead C2 = true
-hasRead C4 = true
-hasRead P13 = true
-hasRead P14 = true
-hasRead P16 = true
-hasRead H21 = true
-hasRead H36 = true
-hasRead P19 = true
-hasRead P20 = true
-hasRead P21 = true
-hasRead P22 = true
-hasRead F1 = true
-hasRead F3 = true
+abbrev pub hasRead : Label → Bool
+hasRead place = not (sameLabel place Idle || sameLabel place P1)
 
 -- an operation under way last read a gate number below this one ('one that has read none doesn't count'), by the place of its process and the gate
 -- that it last read
-abbrev pub isBehind : Place → Gate → ℕ → Bool
+abbrev pub isBehind : Label → Gate → ℕ → Bool
 isBehind place gate number = hasRead place && ltb (gate .seq) number
 
 -- so it is with some of the p processes, among the first n places

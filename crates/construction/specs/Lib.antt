@@ -1,4 +1,5 @@
 pub mod Types
+pub mod Labels
 pub mod Cells
 pub mod Instructions
 pub mod Effects

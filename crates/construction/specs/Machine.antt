@@ -3,7 +3,7 @@ use Prim.Native.Nat.{ℕ, suc, _+_, _%_}
 use mathlib.Core.Bool.{Bool, true, false, cond, not, _&&_}
 use lib.Dec.{leb, ltb}
 use lib.ListN.{length, getD}
-use Rattle.construction.specs.Types.{Holder, Nobody, Process, Gate, Flag, Done, Active, Exit, Words, Yield, Announcement, Record, Program, Item, Dictionary, Simulation, Pause, Ended, Faulted, Lacks, Simulated, Place, Idle, P1, P3, P5, P7, P10, C2, C4, P13, P14, P16, H21, H36, P19, P20, P21, P22, F1, F3, GateAccess, AnnouncementAccess, Access, Cell, Swap, Task, GateAccessed, AnnouncementAccessed, Began, Helped, Writing, Operation, Card, SwappedRecord, Contents}
+use Rattle.construction.specs.Types.{Holder, Nobody, Process, Gate, Flag, Done, Active, Exit, Words, Yield, Announcement, Record, Program, Item, Dictionary, Simulation, Pause, Ended, Faulted, Lacks, Simulated, Label, Idle, P1, P3, P5, P7, P10, C2, C4, P13, P14, P16, H21, H36, P19, P20, P21, P22, F1, F3, P6, GateAccess, AnnouncementAccess, Access, Cell, Swap, Task, GateAccessed, AnnouncementAccessed, Began, Helped, Writing, Operation, Card, SwappedRecord, Contents}
 use Rattle.construction.specs.Cells.{isDone, sameHolder, swapGate, swapAnnouncement, swapRecord, released, rewritten}
 use Rattle.construction.specs.Instructions.{started}
 use Rattle.construction.specs.Dictionary.{noItem, empty, noted, itemOf, insert, nextWrite}
@@ -13,7 +13,7 @@ use Rattle.construction.specs.Parts.{Local, localAt, Texts, textsOf, ann
 
 -- 'The accesses are P1, P3, P6, P7, P10, C2, C4, P13, P14, P16, H21, H36, P19, P20, P21, P22, F1, F3': the access of each place.
 -- Line P5 is looked at here: with an exit request the access is P6, without one P10. 'After P7 the next is F1 if the flag is done, else P10.'
-unfoldable pub accessOf : Place → Bool → Access
+unfoldable pub accessOf : Label → Bool → Access
 accessOf Idle exit = Access.None
 accessOf P1 exit = Access.Gate (GateAccess.Read P3 P3)
 accessOf P3 exit = Access.Announcement AnnouncementAccess.Announce
@@ -33,18 +33,19 @@ accessOf P21 exit = Access.Gate (GateAccess.Release P22)
 accessOf P22 exit = Access.Announcement (AnnouncementAccess.ReadOwn F1 P5 Idle)
 accessOf F1 exit = Access.Gate GateAccess.ReadLast
 accessOf F3 exit = Access.Gate (GateAccess.Release Idle)
+accessOf P6 exit = Access.Announcement AnnouncementAccess.Withdraw
 
 -- a task at another place, with its target kept
-abbrev pub goTo : Task → Place → Task
+abbrev pub goTo : Task → Label → Task
 goTo t p = record { place = p; target = t .target }
 
 -- lines P11 and P15: by the holder of the gate
-abbrev pub byHolder : Holder → Place → Place → Place
+abbrev pub byHolder : Holder → Label → Label → Label
 byHolder Nobody held free = free
 byHolder (Process m) held free = held
 
 -- lines P4, P8, P23, C3 and C5: by the flag of an announcement
-abbrev pub byFlag : Flag → Place → Place → Place → Place
+abbrev pub byFlag : Flag → Label → Label → Label → Label
 byFlag Done done active exit = done
 byFlag Active done active exit = active
 byFlag Exit done active exit = exit
@@ -55,7 +56,7 @@ holderOf Nobody = 0
 holderOf (Process m) = m
 
 -- lines F2 and F4: a process that holds the gate releases it, any other returns
-abbrev pub afterLast : Holder → ℕ → Place
+abbrev pub afterLast : Holder → ℕ → Label
 afterLast h i = cond (sameHolder h (Process i)) F3 Idle
 
 -- line P13: the gate of a nominee
@@ -90,17 +91,17 @@ outcome won = cond won Swap.Won Swap.Lost
 -- THE ACCESSES: each is a function of one shared cell and of what its process keeps, and of nothing else.
 
 -- the gate, for process i that last read the gate g: it is read ..
-abbrev pub readGate : Gate → Task → Place → GateAccessed
+abbrev pub readGate : Gate → Task → Label → GateAccessed
 readGate cell task next = record { cell = cell; read = cell; task = goTo task next; swap = Swap.None }
 
 -- .. or swapped from g to another
-abbrev pub replaceGate : Gate → Gate → Task → Gate → Place → GateAccessed
+abbrev pub replaceGate : Gate → Gate → Task → Gate → Label → GateAccessed
 replaceGate cell g task new next =
     let swapped = swapGate cell g new in
     record { cell = swapped .cell; read = g; task = goTo task next; swap = outcome (swapped .won) }
 
 -- lines P1, P10, P14: the holder says where the process goes on
-abbrev pub readHolder : Gate → Task → Place → Place → GateAccessed
+abbrev pub readHolder : Gate → Task → Label → Label → GateAccessed
 readHolder cell task held free = readGate cell task (byHolder (cell .holder) held free)
 
 -- lines F1, F2, F4
@@ -112,7 +113,7 @@ abbrev pub nominate : Gate → Gate → Task → GateAccessed
 nominate cell g task = replaceGate cell g task (nominated g (task .target)) P14
 
 -- lines P21 and F3
-abbrev pub release : Gate → Gate → Task → Place → GateAccessed
+abbrev pub release : Gate → Gate → Task → Label → GateAccessed
 release cell g task next = replaceGate cell g task (released g) next
 
 unfoldable pub accessGate : GateAccess → ℕ → Gate → Gate → Task → GateAccessed
@@ -122,12 +123,12 @@ accessGate GateAccess.Nominate i cell g task = nominate cell g task
 accessGate (GateAccess.Release next) i cell g task = release cell g task next
 
 -- the announcement of process m, for a process that last read the announcement a: it is read ..
-abbrev pub readAnnouncement : Announcement → ℕ → Place → AnnouncementAccessed
+abbrev pub readAnnouncement : Announcement → ℕ → Label → AnnouncementAccessed
 readAnnouncement cell m next =
     record { cell = cell; read = cell; task = record { place = next; target = m }; swap = Swap.None }
 
 -- .. or swapped
-abbrev pub replaceAnnouncement : Announcement → Announcement → Task → Announcement → Announcement → Place → AnnouncementAccessed
+abbrev pub replaceAnnouncement : Announcement → Announcement → Task → Announcement → Announcement → Label → AnnouncementAccessed
 replaceAnnouncement cell a task expected new next =
     let swapped = swapAnnouncement cell expected new in
     record { cell = swapped .cell; read = a; task = goTo task next; swap = outcome (swapped .won) }
@@ -151,11 +152,11 @@ abbrev pub withdraw : Announcement → Operation → Announcement → Task → A
 withdraw cell operation a task = replaceAnnouncement cell a task a (withdrawn a operation) P7
 
 -- lines P7, C2, C4 with C6, P22: the flag says where the process goes on
-abbrev pub readFlag : Announcement → ℕ → Place → Place → Place → AnnouncementAccessed
+abbrev pub readFlag : Announcement → ℕ → Label → Label → Label → AnnouncementAccessed
 readFlag cell m done active exit = readAnnouncement cell m (byFlag (cell .flag) done active exit)
 
 -- lines P19, P20
-abbrev pub finish : Flag → Place → Announcement → Gate → Announcement → Yield → Task → AnnouncementAccessed
+abbrev pub finish : Flag → Label → Announcement → Gate → Announcement → Yield → Task → AnnouncementAccessed
 finish flag next cell g a y task = replaceAnnouncement cell a task (flagged a flag) (finished a g y) next
 
 unfoldable pub accessAnnouncement :

@@ -7,36 +7,13 @@ use mathlib.Core.Path.{_≡_}
 use mathlib.Core.List.{List, [], _∷_, _++_}
 use lib.Dec.{eqb}
 use Rattle.grammar.specs.Writing.{decimal}
-use Rattle.construction.specs.Types.{Cell, Swap, Label, LabelName, Report}
+use Rattle.construction.specs.Types.{Cell, Swap, Label, Report}
+use Rattle.construction.specs.Labels.{labelRow}
 use Rattle.construction.specs.Answers.{bytes, numbersText}
 
--- a label is the letter of its procedure (P, C, H or F: 80, 67, 72, 70) and the number of its line; 0 and 0 where there is none
-abbrev pub named : ℕ → ℕ → LabelName
-named letter number = record { letter = letter; number = number }
-
-unfoldable pub nameOf : Label → LabelName
-nameOf Label.None = named 0 0
-nameOf Label.P1 = named 80 1
-nameOf Label.P3 = named 80 3
-nameOf Label.P6 = named 80 6
-nameOf Label.P7 = named 80 7
-nameOf Label.P10 = named 80 10
-nameOf Label.C2 = named 67 2
-nameOf Label.C4 = named 67 4
-nameOf Label.P13 = named 80 13
-nameOf Label.P14 = named 80 14
-nameOf Label.P16 = named 80 16
-nameOf Label.H21 = named 72 21
-nameOf Label.H36 = named 72 36
-nameOf Label.P19 = named 80 19
-nameOf Label.P20 = named 80 20
-nameOf Label.P21 = named 80 21
-nameOf Label.P22 = named 80 22
-nameOf Label.F1 = named 70 1
-nameOf Label.F3 = named 70 3
-
+-- a label is the letter of its procedure and the number of its line, by the table
 abbrev pub labelText : Label → List ℕ
-labelText label = 44 ∷ nameOf label .letter ∷ decimal (nameOf label .number)
+labelText label = 44 ∷ labelRow label .letter ∷ decimal (labelRow label .number)
 
 unfoldable pub cellText : Cell → List ℕ
 cellText Cell.None = 44 ∷ 45 ∷ []
@@ -56,7 +33,7 @@ accessText r =
 
 -- nothing is printed of no access
 unfoldable pub reportText : Report → List ℕ
-reportText r = cond (eqb (nameOf (r .label) .letter) 0) [] (accessText r)
+reportText r = cond (eqb (labelRow (r .label) .letter) 0) [] (accessText r)
 
 -- the eighteen labels as the paper writes them
 pub record Spelt : Type 0 where

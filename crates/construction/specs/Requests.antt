@@ -2,10 +2,11 @@
 use Prim.Native.Nat.{ℕ}
 use mathlib.Core.Bool.{Bool, true, false, cond, not, _&&_}
 use lib.Dec.{eqb, ltb}
-use Rattle.construction.specs.Types.{Holder, Nobody, Process, Gate, Flag, Done, Active, Exit, Words, Announcement, Record, Place, P1, Access, Card, Refusal, NoProcess, NoProgram, Busy, NotBusy, NoPlace, LimitReached, Answer, Answered}
+use Rattle.construction.specs.Types.{Holder, Nobody, Process, Gate, Flag, Done, Active, Exit, Words, Announcement, Record, Label, Idle, P1, Card, Refusal, NoProcess, NoProgram, Busy, NotBusy, NoPlace, LimitReached, Answer, Answered}
+use Rattle.construction.specs.Labels.{sameLabel}
 use Rattle.construction.specs.Cells.{yieldOf, isDone, current, previous}
 use Rattle.construction.specs.Parts.{Local, localAt, announcementAt, recordAt, withLocal}
-use Rattle.construction.specs.Machine.{accessOf, holderOf, advance}
+use Rattle.construction.specs.Machine.{holderOf, advance}
 
 -- a card has room for 8 processes, 8 programs and 64 variables
 abbrev pub isProcess : Card → ℕ → Bool
@@ -17,17 +18,9 @@ isProgram c k = ltb k (c .programCount) && ltb k 8
 abbrev pub isVariable : Card → ℕ → Bool
 isVariable c v = ltb v (c .variableCount) && ltb v 64
 
--- a place that has no access is that of a process without an operation
-abbrev pub isNone : Access → Bool
-isNone Access.None = true
-isNone (Access.Gate a) = false
-isNone (Access.Announcement a) = false
-isNone Access.Help = false
-isNone Access.Note = false
-isNone Access.Write = false
-
-abbrev pub isIdle : Place → Bool
-isIdle l = isNone (accessOf l false)
+-- a process has no operation under way
+abbrev pub isIdle : Label → Bool
+isIdle place = sameLabel place Idle
 
 -- process i has an operation under way
 abbrev pub isBusy : Card → ℕ → Bool
@@ -94,7 +87,7 @@ returned a Active steps = Answer.Done (a .number) (yieldOf a) steps
 returned a Exit steps = Answer.Exited steps
 
 -- 'Returning is local work of the last access': the answer to a step, by the place after it, the announcement last read and the own steps; ..
-abbrev pub stepAnswer : Place → Announcement → ℕ → Answer
+abbrev pub stepAnswer : Label → Announcement → ℕ → Answer
 stepAnswer place a steps = cond (isIdle place) (returned a (a .flag) steps) Answer.Run
 
 -- .. of a process

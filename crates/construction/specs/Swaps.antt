@@ -46,8 +46,9 @@ SwapAt Label.P20 i l told c d =
 -- P21, F3: the gate, from g to nobody with the next number
 SwapAt Label.P21 i l told c d = GateSwapped told c d (l .gate) (released (l .gate))
 SwapAt Label.F3 i l told c d = GateSwapped told c d (l .gate) (released (l .gate))
--- every other access is no swap
-SwapAt Label.None i l told c d = told ≡ Swap.None
+-- line P5 is no access, and told of no step; every other access is no swap
+SwapAt Label.P5 i l told c d = ⊥
+SwapAt Label.Idle i l told c d = told ≡ Swap.None
 SwapAt Label.P1 i l told c d = told ≡ Swap.None
 SwapAt Label.P3 i l told c d = told ≡ Swap.None
 SwapAt Label.P7 i l told c d = told ≡ Swap.None

@@ -1,9 +1,10 @@
 -- The line behind each step (document 02, order 1): what is told of an accepted step, and the request `trace`.
 use Prim.Native.Nat.{ℕ}
 use mathlib.Core.Path.{_≡_}
-use mathlib.Core.Bool.{Bool, true, false, cond}
+use mathlib.Core.Bool.{Bool, cond}
 use lib.Count.{ones}
-use Rattle.construction.specs.Types.{Place, Idle, P1, P3, P5, P7, P10, C2, C4, P13, P14, P16, H21, H36, P19, P20, P21, P22, F1, F3, Cell, Swap, Card, Answered, Label, Report, Traced}
+use Rattle.construction.specs.Types.{Label, P5, P10, P6, Cell, Swap, Card, Answered, Report, Traced}
+use Rattle.construction.specs.Labels.{labelRow, sameLabel}
 use Rattle.construction.specs.Answers.{isRefused}
 use Rattle.construction.specs.Marks.{Marks}
 use Rattle.construction.specs.Parts.{localAt}
@@ -12,52 +13,12 @@ use Rattle.construction.specs.OneAccess.{touchedCell}
 use Rattle.construction.specs.Requests.{step}
 
 -- 'the label of the access made': that of a process's place, by its exit request at the top of the loop (line P5, which is no access)
-abbrev pub labelOf : Place → Bool → Label
-labelOf Idle exit = Label.None
-labelOf P1 exit = Label.P1
-labelOf P3 exit = Label.P3
-labelOf P5 exit = cond exit Label.P6 Label.P10
-labelOf P7 exit = Label.P7
-labelOf P10 exit = Label.P10
-labelOf C2 exit = Label.C2
-labelOf C4 exit = Label.C4
-labelOf P13 exit = Label.P13
-labelOf P14 exit = Label.P14
-labelOf P16 exit = Label.P16
-labelOf H21 exit = Label.H21
-labelOf H36 exit = Label.H36
-labelOf P19 exit = Label.P19
-labelOf P20 exit = Label.P20
-labelOf P21 exit = Label.P21
-labelOf P22 exit = Label.P22
-labelOf F1 exit = Label.F1
-labelOf F3 exit = Label.F3
-
--- 'from H21 to P20'
-abbrev pub isNoting : Label → Bool
-isNoting Label.None = false
-isNoting Label.P1 = false
-isNoting Label.P3 = false
-isNoting Label.P6 = false
-isNoting Label.P7 = false
-isNoting Label.P10 = false
-isNoting Label.C2 = false
-isNoting Label.C4 = false
-isNoting Label.P13 = false
-isNoting Label.P14 = false
-isNoting Label.P16 = false
-isNoting Label.H21 = true
-isNoting Label.H36 = true
-isNoting Label.P19 = true
-isNoting Label.P20 = true
-isNoting Label.P21 = false
-isNoting Label.P22 = false
-isNoting Label.F1 = false
-isNoting Label.F3 = false
+abbrev pub labelOf : Label → Bool → Label
+labelOf place exit = cond (sameLabel place P5) (cond exit P6 P10) place
 
 -- the word that is told: the variables noted; 'both are 0 except from H21 to P20'
 abbrev pub notedAt : Label → ℕ → ℕ
-notedAt label mask = cond (isNoting label) mask 0
+notedAt label mask = cond (labelRow label .noting) mask 0
 
 -- what is told of an access: the word is that of its process after it, and the count is the count of ones of the word
 abbrev pub reportWith : Label → Cell → Swap → ℕ → ℕ → Report
@@ -81,7 +42,7 @@ reportOf c i =
 
 -- no access
 abbrev pub noReport : Report
-noReport = record { label = Label.None; cell = Cell.None; swap = Swap.None; number = 0; noted = 0; count = 0 }
+noReport = record { label = Label.Idle; cell = Cell.None; swap = Swap.None; number = 0; noted = 0; count = 0 }
 
 -- `trace`: the card and the answer are those of `step`, with its refusals; an accepted step has its report, a refused one has none
 unfoldable pub trace : Card → ℕ → Traced
@@ -94,7 +55,7 @@ abbrev pub untold : Traced → Answered
 untold r = record { card = r .card; answer = r .answer }
 
 -- 'except from H21 to P20': the accesses of helping from its first read of a record on, by the paper's labels in their sequence. This list is no part
--- of what computes a report (`isNoting`)
+-- of what computes a report (`labelRow`)
 pub data FromH21ToP20 : Label → Type 0 where
   at-H21 : FromH21ToP20 Label.H21
   at-H36 : FromH21ToP20 Label.H36

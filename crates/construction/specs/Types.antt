@@ -24,8 +24,9 @@ pub use Rattle.construction.specs.declared.Simulation.{Simulation}
 pub use Rattle.construction.specs.declared.Pause.{Pause}
 pub use Rattle.construction.specs.declared.Pause.the-variants.{Ended, Faulted, Lacks}
 pub use Rattle.construction.specs.declared.Simulated.{Simulated}
-pub use Rattle.construction.specs.declared.Place.{Place}
-pub use Rattle.construction.specs.declared.Place.the-variants.{Idle, P1, P3, P5, P7, P10, C2, C4, P13, P14, P16, H21, H36, P19, P20, P21, P22, F1, F3}
+pub use Rattle.construction.specs.declared.Label.{Label}
+pub use Rattle.construction.specs.declared.Label.the-variants.{Idle, P1, P3, P5, P7, P10, C2, C4, P13, P14, P16, H21, H36, P19, P20, P21, P22, F1, F3, P6}
+pub use Rattle.construction.specs.declared.LabelRow.{LabelRow}
 pub use Rattle.construction.specs.declared.GateAccess.{GateAccess}
 pub use Rattle.construction.specs.declared.AnnouncementAccess.{AnnouncementAccess}
 pub use Rattle.construction.specs.declared.Access.{Access}
@@ -43,8 +44,6 @@ pub use Rattle.construction.specs.declared.Refusal.{Refusal}
 pub use Rattle.construction.specs.declared.Refusal.the-variants.{TooLong, Malformed, OutOfRange, UnknownCode, NoProcess, NoProgram, Busy, NotBusy, NoPlace, LimitReached, ShortBuffer, OperandOutOfRange, UnusedOperand, TooHeavy, NotAhead, Unsettled, TooLarge, BadTerms, NoAllowance}
 pub use Rattle.construction.specs.declared.Answer.{Answer}
 pub use Rattle.construction.specs.declared.Answered.{Answered}
-pub use Rattle.construction.specs.declared.Label.{Label}
-pub use Rattle.construction.specs.declared.LabelName.{LabelName}
 pub use Rattle.construction.specs.declared.Report.{Report}
 pub use Rattle.construction.specs.declared.Traced.{Traced}
 pub use Rattle.construction.specs.declared.SwappedGate.{SwappedGate}

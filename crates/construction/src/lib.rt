@@ -159,8 +159,9 @@ pub struct Simulated {
     pub dictionary: Dictionary,
 }
 
-// Where a process stands: the access that its next step makes. P5 is the top of the loop, whose access is P6 or P10.
-pub enum Place {
+// A label of the paper, which is both where a process stands, the access that its next step makes, and what is told of a step, the access made (document 01,
+// 'One step'). Idle is no access. P5 is the top of the loop, a place only: its access is P6 or P10. P6 is an access only, and the place of no process.
+pub enum Label {
     Idle,
     P1,
     P3,
@@ -180,15 +181,25 @@ pub enum Place {
     P22,
     F1,
     F3,
+    P6,
+}
+
+// A row of the table of labels: the letter of its procedure and the number of its line, as the paper writes them; whether the variables noted are told there; and
+// the word that stands for it in a block (document 02, order 10).
+pub struct LabelRow {
+    pub letter: u8,
+    pub number: u8,
+    pub noting: bool,
+    pub word: u64,
 }
 
 // An access of the gate: a read with the places that follow if the gate is held or free, the last read (F1),
 // a swap that gives the gate to the nominee (P13), or one that releases it (P21, F3).
 pub enum GateAccess {
-    Read { held: Place, free: Place },
+    Read { held: Label, free: Label },
     ReadLast,
     Nominate,
-    Release { next: Place },
+    Release { next: Label },
 }
 
 // An access of an announcement: the announcing write (P3), the exit request (P6), a read of one's own with the places that follow
@@ -197,14 +208,14 @@ pub enum AnnouncementAccess {
     Announce,
     Withdraw,
     ReadOwn {
-        done: Place,
-        active: Place,
-        exit: Place,
+        done: Label,
+        active: Label,
+        exit: Label,
     },
     ReadFirst,
     Finish {
         flag: Flag,
-        next: Place,
+        next: Label,
     },
 }
 
@@ -236,7 +247,7 @@ pub enum Swap {
 
 // The place of a process. The target is the nominee at P13, the variable at H21, the item of the dictionary at H36.
 pub struct Task {
-    pub place: Place,
+    pub place: Label,
     pub target: u8,
 }
 
@@ -369,35 +380,6 @@ pub enum Answer {
 pub struct Answered {
     pub card: Card,
     pub answer: Answer,
-}
-
-// The line of the paper that an access is of: the eighteen accesses of document 01, 'One step'; none where no access is made.
-pub enum Label {
-    None,
-    P1,
-    P3,
-    P6,
-    P7,
-    P10,
-    C2,
-    C4,
-    P13,
-    P14,
-    P16,
-    H21,
-    H36,
-    P19,
-    P20,
-    P21,
-    P22,
-    F1,
-    F3,
-}
-
-// A label as the paper writes it: the letter of its procedure and the number of its line.
-pub struct LabelName {
-    pub letter: u8,
-    pub number: u8,
 }
 
 // What is told of a step (document 02, order 1): the label of the access made, the cell touched, the swap, the gate number last read in that

@@ -4,11 +4,12 @@ use mathlib.Core.List.{List, [], _∷_}
 use mathlib.Core.Path.{_≡_, refl, _∙_, ap}
 use native.Mathlib.Omega.{arith}
 use borrow.Author.Tests.{ne-eqb}
-use Rattle.construction.specs.declared.{LabelName.LabelName, Report.Report}
+use Rattle.construction.specs.declared.{LabelRow.LabelRow, Report.Report}
 use Rattle.construction.specs.declared.Refusal.{Refusal}
 use Rattle.construction.specs.declared.Refusal.the-variants.{TooLong, Malformed, OutOfRange, UnknownCode, NoProcess, NoProgram, Busy, NotBusy, NoPlace, LimitReached, ShortBuffer, OperandOutOfRange, UnusedOperand, TooHeavy, NotAhead, Unsettled, TooLarge, BadTerms, NoAllowance}
 use Rattle.construction.specs.Answers.{numberOf}
-use Rattle.construction.specs.Reports.{nameOf, swapByte}
+use Rattle.construction.specs.Labels.{labelRow}
+use Rattle.construction.specs.Reports.{swapByte}
 use Rattle.codes.specs.Parts.{stores}
 use Rattle.embedding.specs.Numbers.{told, cellLetter, cellNumber, reportNumbers}
 
@@ -40,14 +41,14 @@ pub by-case : {A : Type 0} {a b : A} (status : A → ℕ) (numbers : A → List 
 by-case status numbers o z e p q = (rw e p, rw e q)
 
 -- no access, and an access put part by part
-pub told-none : (r : Report) (x : LabelName) (o : List ℕ) → x ≡ nameOf (r .label) → x .letter ≡ 0 → o ≡ told o (reportNumbers r)
+pub told-none : (r : Report) (x : LabelRow) (o : List ℕ) → x ≡ labelRow (r .label) → x .letter ≡ 0 → o ≡ told o (reportNumbers r)
 unfolding reportNumbers
 told-none r x o e z = rw (← e, z)
 
 pub told-access :
-    (r : Report) (x : LabelName) (o : List ℕ) {y z v : List ℕ} → x ≡ nameOf (r .label) → (x .letter ≡ 0 → ⊥) → y ≡ stores o 0 (x .letter ∷ x .number ∷ []) →
+    (r : Report) (x : LabelRow) (o : List ℕ) {y z v : List ℕ} → x ≡ labelRow (r .label) → (x .letter ≡ 0 → ⊥) → y ≡ stores o 0 (x .letter ∷ x .number ∷ []) →
     z ≡ stores y 2 (cellLetter (r .cell) ∷ cellNumber (r .cell) ∷ []) →
     v ≡ stores z 4 (swapByte (r .swap) ∷ r .number ∷ r .noted ∷ r .count ∷ []) → v ≡ told o (reportNumbers r)
 unfolding reportNumbers
 told-access r x o e n p q s =
-    rw (ne-eqb (nameOf (r .label) .letter) 0 (λ z. n (ap (λ (y : LabelName). y .letter) e ∙ z)), ← e, s, q, p)
+    rw (ne-eqb (labelRow (r .label) .letter) 0 (λ z. n (ap (λ (y : LabelRow). y .letter) e ∙ z)), ← e, s, q, p)

@@ -7,7 +7,8 @@ use mathlib.Core.List.{List, [], _∷_}
 use lib.Dec.{eqb}
 use Rattle.construction.specs.declared.{Answer.Answer, Cell.Cell, Report.Report, Verdict.Verdict, Written.Written}
 use Rattle.construction.specs.Answers.{numberOf, outputNumbers}
-use Rattle.construction.specs.Reports.{nameOf, swapByte}
+use Rattle.construction.specs.Labels.{labelRow}
+use Rattle.construction.specs.Reports.{swapByte}
 use Rattle.codes.specs.Parts.{stores}
 use Rattle.lent_sweep.specs.declared.Counts.{Counts}
 
@@ -73,8 +74,8 @@ cellNumber (Cell.Record v) = v
 
 abbrev pub accessNumbers : Report → List ℕ
 accessNumbers r =
-    nameOf (r .label) .letter
-    ∷ nameOf (r .label) .number
+    labelRow (r .label) .letter
+    ∷ labelRow (r .label) .number
     ∷ cellLetter (r .cell)
     ∷ cellNumber (r .cell)
     ∷ swapByte (r .swap)
@@ -84,7 +85,7 @@ accessNumbers r =
     ∷ []
 
 unfoldable pub reportNumbers : Report → List ℕ
-reportNumbers r = cond (eqb (nameOf (r .label) .letter) 0) [] (accessNumbers r)
+reportNumbers r = cond (eqb (labelRow (r .label) .letter) 0) [] (accessNumbers r)
 
 -- a run over a schedule (document 02, order 12): the accepted steps; the operations that were done, ended as faults and exited; the most own steps of one of them
 abbrev pub countNumbers : Counts → List ℕ

@@ -1,16 +1,16 @@
 // An answer as a status, and its numbers put into an array that the caller lends.
 use answers::number_of;
-use answers::reports::name_of;
 use answers::reports::swap_byte;
 use construction::Answer;
 use construction::Cell;
-use construction::LabelName;
+use construction::LabelRow;
 use construction::Refusal;
 use construction::Report;
 use construction::Verdict;
 use construction::Words;
 use construction::Written;
 use construction::Yield;
+use labels::label_row;
 use lent_steps::tracing::Told;
 use lent_sweep::Counts;
 ghost use mathlib.Core.Path.{_≡_};
@@ -169,11 +169,11 @@ fn cell_number(cell: Cell) -> u64
 }
 
 // The label: its letter and the number of its line.
-fn put_name(out: &mut [u64], name: LabelName)
-    ensures { λ r. ⌜ now (out .exit) ≡ stores (now (out .entry)) 0 (name .letter ∷ name .number ∷ []) ⌝ }
+fn put_name(out: &mut [u64], row: LabelRow)
+    ensures { λ r. ⌜ now (out .exit) ≡ stores (now (out .entry)) 0 (row .letter ∷ row .number ∷ []) ⌝ }
 {
-    put(out, 0, name.letter as u64);
-    put(out, 1, name.number as u64);
+    put(out, 0, row.letter as u64);
+    put(out, 1, row.number as u64);
 }
 
 // The cell: its letter and its number.
@@ -201,11 +201,11 @@ pub(crate) fn tell_report(out: &mut [u64], report: Report)
 {
     let label = report.label;
     let cell = report.cell;
-    let name = name_of(label);
-    if name.letter == 0 {
+    let row = label_row(label);
+    if row.letter == 0 {
         return;
     }
-    put_name(out, name);
+    put_name(out, row);
     put_cell(out, cell);
     put_rest(out, report);
 }

@@ -11,9 +11,9 @@ use lib.Dec.{eqb}
 use lib.Seq.{getD-set-same, getD-set-other, set-getD}
 use Rattle.construction.specs.declared.{Flag.Flag, Announcement.Announcement, Task.Task, Card.Card, Answered.Answered, Contents.Contents}
 use Rattle.construction.specs.declared.Flag.the-variants.{Done, Active, Exit}
-use Rattle.construction.specs.declared.Place.the-variants.{P1}
+use Rattle.construction.specs.declared.Label.the-variants.{P1}
 use Rattle.construction.specs.Parts.{idleTask, contentsOf, localAt, withLocal}
-use Rattle.construction.specs.Machine.{advance, accessOf}
+use Rattle.construction.specs.Machine.{advance}
 use Rattle.construction.specs.Requests.{isIdle, isBusy, answerOf, returned, invoked}
 use Rattle.construction.specs.Changes.{changeRead, changed}
 use Rattle.construction.specs.Opening.{opened}
@@ -147,7 +147,6 @@ module _ (o : Card) (m : Observation) (O : Consistent o m) (q : Notes o m) where
         (λ _. by-flag (localAt d i .announcement) (localAt d i .announcement .flag) (localAt d i .steps) j) (λ f. after-run f j)
 
   next : {e : Entry} {r : Answered} → Outcome c e r → Next e r
-  unfolding accessOf
   next (Outcome.turned-back e why) i U = calm c i refl (subst (λ (h : History). UnderWay h i) (quiet-entry c e) U)
   next (Outcome.called i k inputs lt f) j U = go (ℕ-discrete j i)
     where

@@ -9,7 +9,7 @@ use lib.ListN.{length, getD, take, length-take, List·getD-eq-default}
 use borrow.Author.Tests.{lt-ltb, le-ltb}
 use Rattle.construction.specs.declared.{Words.Words, Announcement.Announcement, Record.Record, Program.Program, Item.Item, Dictionary.Dictionary, Simulation.Simulation, Pause.Pause, Task.Task, Began.Began, Helped.Helped, Writing.Writing}
 use Rattle.construction.specs.declared.Pause.the-variants.{Ended, Faulted, Lacks}
-use Rattle.construction.specs.declared.Place.the-variants.{P19, P21}
+use Rattle.construction.specs.declared.Label.the-variants.{P19, P21}
 use Rattle.construction.specs.Instructions.{started}
 use Rattle.construction.specs.Dictionary.{noItem, empty, noted, itemOf, insert, nextWrite, unaltered}
 use Rattle.construction.specs.Marks.{withBit}

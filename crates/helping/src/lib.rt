@@ -8,8 +8,8 @@ use construction::Announcement;
 use construction::Began;
 use construction::Dictionary;
 use construction::Helped;
+use construction::Label;
 use construction::Pause;
-use construction::Place;
 use construction::Program;
 use construction::Record;
 use construction::Simulation;
@@ -47,12 +47,12 @@ pub fn write_from(next: u8, end: u8) -> Task
 {
     if next < end {
         return Task {
-            place: Place::H36,
+            place: Label::H36,
             target: next,
         };
     }
     Task {
-        place: Place::P19,
+        place: Label::P19,
         target: 0,
     }
 }
@@ -64,11 +64,11 @@ pub fn after_pause(pause: Pause, next: u8, end: u8) -> Task
     match pause {
         Pause::Ended => write_from(next, end),
         Pause::Faulted => Task {
-            place: Place::P19,
+            place: Label::P19,
             target: 0,
         },
         Pause::Lacks(variable) => Task {
-            place: Place::H21,
+            place: Label::H21,
             target: variable,
         },
     }
@@ -110,7 +110,7 @@ pub fn begin_help(
     Began {
         helps: false,
         task: Task {
-            place: Place::P21,
+            place: Label::P21,
             target: task.target,
         },
         simulation,
@@ -151,7 +151,7 @@ pub fn note(
     if number < cell.seq {
         return Helped {
             task: Task {
-                place: Place::P19,
+                place: Label::P19,
                 target: task.target,
             },
             simulation,
@@ -198,7 +198,7 @@ pub fn writing(number: u64, task: Task, dictionary: Dictionary) -> Writing
     Writing {
         item: opening::no_item(),
         task: Task {
-            place: Place::P19,
+            place: Label::P19,
             target: 0,
         },
     }

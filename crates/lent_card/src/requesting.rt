@@ -13,8 +13,8 @@ use block::own::put_operation;
 use block::own::put_task;
 use block::own::task;
 use construction::Answer;
+use construction::Label;
 use construction::Operation;
-use construction::Place;
 use construction::Refusal;
 use construction::Task;
 use construction::Words;
@@ -43,7 +43,7 @@ fn put_call(b: &mut [u64], i: u8, program: u8, inputs: Words)
         b,
         i,
         Task {
-            place: Place::P1,
+            place: Label::P1,
             target: 0,
         },
     );

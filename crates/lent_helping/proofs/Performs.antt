@@ -19,13 +19,13 @@ use Rattle.loan.proofs.Kept.{Only}
 use Rattle.lent_machine.specs.Accesses.{next, counted}
 use Rattle.lent_machine.proofs.Own.{task-placed, accepted}
 use Rattle.lent_machine.proofs.Keeping.{Kept, kept-self}
-use Rattle.lent_machine.proofs.Gates.{gate-step-kept, gate-step-is}
-use Rattle.lent_machine.proofs.Announcements.{announcement-step-kept, announcement-step-is}
-use Rattle.lent_helping.specs.Steps.{accessBlock, accessLoan}
+use Rattle.lent_machine.proofs.Gates.{gate-step-kept, gate-swap-is, gate-step-is}
+use Rattle.lent_machine.proofs.Announcements.{announcement-step-kept, announcement-swap-is, announcement-step-is}
+use Rattle.lent_helping.specs.Steps.{accessBlock, accessLoan, accessSwap}
 use Rattle.lent_helping.proofs.Keeps.{only-self, help-step-kept, note-step-kept, note-step-only, write-step-kept}
 use Rattle.lent_helping.proofs.Begins.{help-step-is}
 use Rattle.lent_helping.proofs.Notes.{note-step-is}
-use Rattle.lent_helping.proofs.Writes.{write-step-is}
+use Rattle.lent_helping.proofs.Writes.{write-swap-is, write-step-is}
 
 -- what it keeps, for every block and every loan
 pub access-kept : (a : Access) (b l : List ℕ) (i : ℕ) → Kept b (accessBlock a b l i)
@@ -86,6 +86,16 @@ module _ (b l : List ℕ) (long : 1456 ≤ length b) (i : ℕ) where
     access-is Access.Help room = help-step-is b l long i
     access-is Access.Note room = note-step-is b l long i h has (room refl)
     access-is Access.Write room = write-step-is b l i long (omega arith) has
+
+    -- its swap is the machine's
+    pub access-swap-is : (a : Access) → accessSwap a b l i ≡ perform a (cardOf b l) i .swap
+    unfolding accessSwap perform
+    access-swap-is Access.None = refl
+    access-swap-is (Access.Gate a) = sym (gate-swap-is b l i a)
+    access-swap-is (Access.Announcement a) = sym (announcement-swap-is b l i a)
+    access-swap-is Access.Help = refl
+    access-swap-is Access.Note = refl
+    access-swap-is Access.Write = sym (write-swap-is b l i long (omega arith) has)
 
     -- by the place and the exit request that stand in the block
     pub advance-is :

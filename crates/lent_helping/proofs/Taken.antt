@@ -5,10 +5,11 @@ use mathlib.Core.Bool.{Bool, true, false, cond}
 use mathlib.Core.List.{List}
 use lib.Dec.{ltb}
 use borrow.Author.Tests.{lt-ltb, le-ltb}
+use Rattle.construction.specs.declared.Swap.{Swap}
 use Rattle.construction.specs.declared.SwappedRecord.{SwappedRecord}
 use Rattle.construction.specs.declared.Writing.{Writing}
 use Rattle.construction.specs.Dictionary.{itemOf}
-use Rattle.construction.specs.Machine.{goTo, holderOf, helps, writing, write}
+use Rattle.construction.specs.Machine.{goTo, holderOf, helps, writing, write, outcome}
 use Rattle.codes.specs.Types.{Gate, Announcement, Record, Item, Task, P19}
 use Rattle.block.specs.Layout.{announcementIn, recordIn, taskIn, putTask, lastGateIn}
 use Rattle.loan.specs.Loans.{heldDictionary}
@@ -72,12 +73,15 @@ module _ (b l : List ℕ) (i : ℕ) {g : Gate} {task : Task} {cell : Record}
 
 -- line H36
 pub written-in :
-    (b l : List ℕ) (i : ℕ) {g : Gate} {task : Task} {x : Writing} {cell : Record} {s : SwappedRecord} {c e : List ℕ} →
+    (b l : List ℕ) (i : ℕ) {g : Gate} {task : Task} {x : Writing} {cell : Record} {s : SwappedRecord} {c e : List ℕ} {r : Swap} →
     g ≡ lastGateIn b i → task ≡ taskIn b i → x ≡ writing (g .seq) task (heldDictionary b l i) → cell ≡ recordIn b (x .item .variable) →
-    s ≡ write cell (x .item) (g .seq) → c ≡ recordSwapped b (x .item .variable) s → e ≡ putTask c i (x .task) → e ≡ writeStep b l i
+    s ≡ write cell (x .item) (g .seq) → c ≡ recordSwapped b (x .item .variable) s → e ≡ putTask c i (x .task) → r ≡ outcome (s .won) →
+    (e ≡ writeStep b l i) × (r ≡ outcome (writtenIn b l i .won))
 unfolding writeStep
-written-in b l i {g} {task} {x} {cell} {s} pg pt px pc ps pb pe =
+written-in b l i {g} {task} {x} {cell} {s} pg pt px pc ps pb pe pr =
     let item : x ≡ writingIn b l i = px ∙ (λ j. writing (pg j .seq) (pt j) (heldDictionary b l i)) in
     let found = pc ∙ (λ j. recordIn b (item j .item .variable)) in
-    let swapped : s ≡ writtenIn b l i = ps ∙ (λ j. write (found j) (item j .item) (pg j .seq)) in
-    pe ∙ (λ j. putTask (pb j) i (x .task)) ∙ λ j. putTask (recordSwapped b (item j .item .variable) (swapped j)) i (item j .task)
+    let swapped : s ≡ writtenIn b l i = ps ∙ (λ j. write (found j) (item j .item) (pg j .seq)) in (
+      pe ∙ (λ j. putTask (pb j) i (x .task)) ∙ λ j. putTask (recordSwapped b (item j .item .variable) (swapped j)) i (item j .task),
+      pr ∙ ap (λ (y : SwappedRecord). outcome (y .won)) swapped,
+    )

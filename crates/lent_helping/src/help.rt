@@ -7,7 +7,7 @@ use block::own::put_noted;
 use block::own::put_task;
 use block::own::task;
 use construction::Announcement;
-use construction::Place;
+use construction::Label;
 use construction::Task;
 use helping::helps;
 use loan::simulating::begin;
@@ -36,7 +36,7 @@ fn put_passed(b: &mut [u64], i: u8, cell: Announcement)
         b,
         i,
         Task {
-            place: Place::P21,
+            place: Label::P21,
             target: task.target,
         },
     );

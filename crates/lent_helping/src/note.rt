@@ -6,7 +6,7 @@ use block::own::put_mask;
 use block::own::put_task;
 use block::own::task;
 use construction::Item;
-use construction::Place;
+use construction::Label;
 use construction::Task;
 use dictionary::item_of;
 use dictionary::with_bit;
@@ -53,7 +53,7 @@ fn put_newer(b: &mut [u64], i: u8)
         b,
         i,
         Task {
-            place: Place::P19,
+            place: Label::P19,
             target: task.target,
         },
     );

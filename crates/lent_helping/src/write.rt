@@ -4,11 +4,14 @@ use block::cells::record;
 use block::own::last_gate;
 use block::own::put_task;
 use block::own::task;
+use construction::Swap;
 use construction::SwappedRecord;
 use loan::dictionaries::writing;
+use machine::outcome;
 use machine::record::write;
 ghost use mathlib.Core.Path.{_≡_};
-ghost use Rattle.lent_helping.specs.Helps.{recordSwapped, writeStep};
+ghost use Rattle.construction.specs.Machine.{outcome};
+ghost use Rattle.lent_helping.specs.Helps.{writtenIn, recordSwapped, writeStep};
 
 // The record of variable v is stored where its swap won.
 fn put_swapped(b: &mut [u64], v: u8, x: SwappedRecord)
@@ -21,8 +24,8 @@ fn put_swapped(b: &mut [u64], v: u8, x: SwappedRecord)
 }
 
 // The loan is only read.
-pub fn step_write(b: &mut [u64], l: &[u64], i: u8)
-    ensures { λ r. ⌜ now (b .exit) ≡ writeStep (now (b .entry)) (now (l .entry)) i ⌝ }
+pub fn step_write(b: &mut [u64], l: &[u64], i: u8) -> Swap
+    ensures { λ r. ⌜ (now (b .exit) ≡ writeStep (now (b .entry)) (now (l .entry)) i) × (r ≡ outcome (writtenIn (now (b .entry)) (now (l .entry)) i .won)) ⌝ }
 {
     let gate = last_gate(b, i);
     let writing = writing(b, l, i, gate.seq, task(b, i));
@@ -32,4 +35,5 @@ pub fn step_write(b: &mut [u64], l: &[u64], i: u8)
     let swapped = write(record(b, v), item, gate.seq);
     put_swapped(b, v, swapped);
     put_task(b, i, task);
+    outcome(swapped.won)
 }

@@ -10,7 +10,7 @@ use borrow.Author.Tests.{ltb-true}
 use Rattle.construction.specs.Cells.{sameAnnouncement, swapAnnouncement}
 use Rattle.construction.specs.Parts.{localAt, announcementAt, withAnnouncement, withSteps}
 use Rattle.construction.specs.Machine.{firstChoice, holderOf, announced, flagged, withdrawn, finished, announce, replaceAnnouncement, readFlag, whose, accessAnnouncement, perform}
-use Rattle.codes.specs.Types.{Yield, Gate, Announcement, AnnouncementAccess, AnnouncementAccessed, Access, Operation, Words, Flag, Done, Active, Exit, Place, C4, P7, P13, Card}
+use Rattle.codes.specs.Types.{Yield, Gate, Announcement, AnnouncementAccess, AnnouncementAccessed, Access, Operation, Words, Flag, Done, Active, Exit, Label, C4, P7, P13, Card}
 use Rattle.codes.proofs.Values.{FitsAnnouncement, FitsWords, FitsOperation}
 use Rattle.block.specs.Layout.{processCountIn, announcementIn, putAnnouncement, taskIn, operationIn, lastGateIn, lastIn, putLast, simulationIn}
 use Rattle.block.specs.Cards.{cardOf}
@@ -18,18 +18,9 @@ use Rattle.block.proofs.Gets.{process-count-is, announcement-is, task-is, opera
 use Rattle.block.proofs.Puts.{announcement-stored}
 use Rattle.block.proofs.Fitting.{process-count-fits, announcement-fits, task-fits, operation-fits, last-fits, simulation-fits}
 use Rattle.machine.proofs.Laws.{choice-small}
-use Rattle.lent_machine.specs.Accesses.{ifWon, announcementRead, announcementSwapped, announceStep, announcementStep, next, counted}
+use Rattle.lent_machine.specs.Accesses.{whoseIn, announcementAccessed, ifWon, announcementRead, announcementSwapped, announceStep, announcementStep, next, counted}
 use Rattle.lent_machine.proofs.Own.{taskPlaced, copyPlaced, accepted, task-put, copy-put, announcement-same, swap-stored}
 use Rattle.lent_machine.proofs.Keeping.{Kept, kept-twice, kept-if, announcement-kept, last-kept, task-kept}
-
--- whose announcement the access on a block is of, and the access on what is taken out of it
-abbrev pub whoseIn : AnnouncementAccess → List ℕ → ℕ → ℕ
-whoseIn a b i = whose a (processCountIn b) i (lastGateIn b i)
-
-abbrev pub announcementAccessed : AnnouncementAccess → List ℕ → ℕ → AnnouncementAccessed
-announcementAccessed a b i =
-    let m = whoseIn a b i in
-    accessAnnouncement a m (announcementIn b m) (operationIn b i) (lastGateIn b i) (lastIn b i) (simulationIn b i .yields) (taskIn b i)
 
 -- the card after an access of the announcement of process m by process i, but for the counts
 abbrev announcementCard : Card → ℕ → ℕ → AnnouncementAccessed → Card
@@ -109,7 +100,7 @@ module _ (b l : List ℕ) (i : ℕ) where
   module _ (long : 1456 ≤ length b) where
     -- the announcement of process m is read: it stays as it was
     read-is :
-        (m : ℕ) (done active exit : Place) → m < 256 →
+        (m : ℕ) (done active exit : Label) → m < 256 →
         let x = readFlag (announcementIn b m) m done active exit in cardOf (announcementRead b i x) l ≡ announcementCard (cardOf b l) i m x
     read-is m done active exit h =
         let x = readFlag (announcementIn b m) m done active exit in
@@ -117,7 +108,7 @@ module _ (b l : List ℕ) (i : ℕ) where
 
     -- it is swapped; what the process last read stays as it was
     swapped-is :
-        (m : ℕ) (expected new : Announcement) (place : Place) → FitsAnnouncement new →
+        (m : ℕ) (expected new : Announcement) (place : Label) → FitsAnnouncement new →
         let x = replaceAnnouncement (announcementIn b m) (lastIn b i) (taskIn b i) expected new place in
         cardOf (announcementSwapped b i m x) l ≡ announcementCard (cardOf b l) i m x
     unfolding swapAnnouncement

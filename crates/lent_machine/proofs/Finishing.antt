@@ -2,17 +2,20 @@
 use Prim.Native.Nat.{ℕ}
 use mathlib.Core.Path.{_≡_, ap, _∙_}
 use mathlib.Core.List.{List}
-use Rattle.construction.specs.Machine.{holderOf, finish}
-use Rattle.codes.specs.Types.{Flag, Place, Gate, Announcement, Simulation, Task, AnnouncementAccessed}
+use Rattle.construction.specs.declared.Swap.{Swap}
+use Rattle.construction.specs.Machine.{holderOf, finish, accessAnnouncement}
+use Rattle.codes.specs.Types.{Flag, Label, AnnouncementAccess, Gate, Announcement, Simulation, Task, AnnouncementAccessed}
 use Rattle.block.specs.Layout.{announcementIn, taskIn, lastGateIn, lastIn, simulationIn}
-use Rattle.lent_machine.specs.Accesses.{announcementSwapped, finishStep}
+use Rattle.lent_machine.specs.Accesses.{announcementAccessed, announcementSwapped, finishStep}
 
 pub finish-in :
-    (flag : Flag) (next : Place) (b : List ℕ) (i : ℕ) {g : Gate} {m : ℕ} {s : Simulation} {cell last : Announcement} {task : Task} {x : AnnouncementAccessed} {e : List ℕ} →
+    (flag : Flag) (next : Label) (b : List ℕ) (i : ℕ) {g : Gate} {m : ℕ} {s : Simulation} {cell last : Announcement} {task : Task} {x : AnnouncementAccessed} {e : List ℕ} {r : Swap} →
     g ≡ lastGateIn b i → m ≡ holderOf (g .holder) → s ≡ simulationIn b i → cell ≡ announcementIn b m → last ≡ lastIn b i → task ≡ taskIn b i →
-    x ≡ finish flag next cell g last (s .yields) task → e ≡ announcementSwapped b i m x → e ≡ finishStep flag next b i
+    x ≡ finish flag next cell g last (s .yields) task → (e ≡ announcementSwapped b i m x) × (r ≡ x .swap) →
+    (e ≡ finishStep flag next b i) × (r ≡ announcementAccessed (AnnouncementAccess.Finish flag next) b i .swap)
+unfolding accessAnnouncement
 finish-in flag next b i {g} {m} pg pm ps pc pa pt px pe =
     let holder : m ≡ holderOf (lastGateIn b i .holder) = pm ∙ ap (λ (z : Gate). holderOf (z .holder)) pg in
     let found = pc ∙ ap (λ (z : ℕ). announcementIn b z) holder in
-    pe ∙ (ap (λ (z : AnnouncementAccessed). announcementSwapped b i m z) px
-    ∙ λ j. announcementSwapped b i (holder j) (finish flag next (found j) (pg j) (pa j) (ps j .yields) (pt j)))
+    let access = px ∙ λ j. finish flag next (found j) (pg j) (pa j) (ps j .yields) (pt j) in
+    (pe .0 ∙ (λ j. announcementSwapped b i (holder j) (access j)), pe .1 ∙ ap (λ (z : AnnouncementAccessed). z .swap) access)

@@ -8,20 +8,16 @@ use lib.ListN.{length}
 use Rattle.construction.specs.Cells.{sameGate, swapGate, released}
 use Rattle.construction.specs.Parts.{localAt, withGate, withSteps}
 use Rattle.construction.specs.Machine.{byHolder, afterLast, nominated, readGate, replaceGate, accessGate, perform}
-use Rattle.codes.specs.Types.{Gate, GateAccess, GateAccessed, Access, Card, Place, P14}
+use Rattle.codes.specs.Types.{Gate, GateAccess, GateAccessed, Access, Card, Label, P14}
 use Rattle.codes.proofs.Values.{Fits, nobody-fits, process-fits}
 use Rattle.block.specs.Layout.{gateIn, putGate, taskIn, lastGateIn, putLastGate}
 use Rattle.block.specs.Cards.{cardOf}
 use Rattle.block.proofs.Gets.{gate-is, last-gate-is, task-is}
 use Rattle.block.proofs.Puts.{gate-stored}
 use Rattle.block.proofs.Fitting.{gate-fits, task-fits}
-use Rattle.lent_machine.specs.Accesses.{ifWon, gateRead, gateSwapped, gateStep, next, counted}
+use Rattle.lent_machine.specs.Accesses.{gateAccessed, ifWon, gateRead, gateSwapped, gateStep, next, counted}
 use Rattle.lent_machine.proofs.Own.{taskPlaced, gatePlaced, accepted, task-put, gate-put, gate-same, swap-stored}
 use Rattle.lent_machine.proofs.Keeping.{Kept, kept-twice, kept-if, gate-kept, last-gate-kept, task-kept}
-
--- the access on what is taken out of a block
-abbrev pub gateAccessed : GateAccess → List ℕ → ℕ → GateAccessed
-gateAccessed a b i = accessGate a i (gateIn b) (lastGateIn b i) (taskIn b i)
 
 -- the card after an access of the gate by process i, but for the counts
 abbrev gateCard : Card → ℕ → GateAccessed → Card
@@ -59,14 +55,14 @@ module _ (b l : List ℕ) (i : ℕ) where
   module _ (long : 1456 ≤ length b) where
     -- the gate is read: it stays as it was
     read-is :
-        (place : Place) → let x = readGate (gateIn b) (taskIn b i) place in cardOf (gateRead b i x) l ≡ gateCard (cardOf b l) i x
+        (place : Label) → let x = readGate (gateIn b) (taskIn b i) place in cardOf (gateRead b i x) l ≡ gateCard (cardOf b l) i x
     read-is place =
         let x = readGate (gateIn b) (taskIn b i) place in
         gate-put b l long i (x .read) (x .task) (gate-fits b) (task-fits b i) ∙ ap (λ (k : Card). gatePlaced k i (x .read) (x .task)) (gate-same b l)
 
     -- it is swapped from the gate last read, which stays as it was, to another
     swapped-is :
-        (new : Gate) (place : Place) → Fits (new .holder) →
+        (new : Gate) (place : Label) → Fits (new .holder) →
         let x = replaceGate (gateIn b) (lastGateIn b i) (taskIn b i) new place in cardOf (gateSwapped b i x) l ≡ gateCard (cardOf b l) i x
     unfolding swapGate
     swapped-is new place f =

@@ -3,9 +3,22 @@
 use Prim.Native.Nat.{ℕ, _+_, _%_}
 use mathlib.Core.List.{List}
 use Rattle.construction.specs.declared.Swap.{Swap}
-use Rattle.construction.specs.Machine.{firstChoice, holderOf, readHolder, readLast, nominate, release, announce, withdraw, readFlag, finish}
-use Rattle.codes.specs.Types.{Flag, Place, GateAccess, GateAccessed, AnnouncementAccess, AnnouncementAccessed, C4, P13}
+use Rattle.construction.specs.Machine.{firstChoice, holderOf, readHolder, readLast, nominate, release, accessGate, whose, announce, withdraw, readFlag, finish, accessAnnouncement}
+use Rattle.codes.specs.Types.{Flag, Label, GateAccess, GateAccessed, AnnouncementAccess, AnnouncementAccessed, C4, P13}
 use Rattle.block.specs.Layout.{processCountIn, stepsIn, putSteps, gateIn, putGate, announcementIn, putAnnouncement, taskIn, putTask, operationIn, countIn, putCount, lastGateIn, putLastGate, lastIn, putLast, simulationIn}
+
+-- the access of the gate by process i on what is taken out of a block; ..
+abbrev pub gateAccessed : GateAccess → List ℕ → ℕ → GateAccessed
+gateAccessed a b i = accessGate a i (gateIn b) (lastGateIn b i) (taskIn b i)
+
+-- .. whose announcement an access is of, and that access
+abbrev pub whoseIn : AnnouncementAccess → List ℕ → ℕ → ℕ
+whoseIn a b i = whose a (processCountIn b) i (lastGateIn b i)
+
+abbrev pub announcementAccessed : AnnouncementAccess → List ℕ → ℕ → AnnouncementAccessed
+announcementAccessed a b i =
+    let m = whoseIn a b i in
+    accessAnnouncement a m (announcementIn b m) (operationIn b i) (lastGateIn b i) (lastIn b i) (simulationIn b i .yields) (taskIn b i)
 
 -- one of two blocks, by whether a swap won
 abbrev pub ifWon : Swap → List ℕ → List ℕ → List ℕ
@@ -44,13 +57,13 @@ abbrev pub withdrawStep : List ℕ → ℕ → List ℕ
 withdrawStep b i = announcementSwapped b i i (withdraw (announcementIn b i) (operationIn b i) (lastIn b i) (taskIn b i))
 
 -- lines P19 and P20, of the gate's holder
-abbrev pub finishStep : Flag → Place → List ℕ → ℕ → List ℕ
+abbrev pub finishStep : Flag → Label → List ℕ → ℕ → List ℕ
 finishStep flag next b i =
     let m = holderOf (lastGateIn b i .holder) in
     announcementSwapped b i m (finish flag next (announcementIn b m) (lastGateIn b i) (lastIn b i) (simulationIn b i .yields) (taskIn b i))
 
 -- lines P7, C2, C4 and P22
-abbrev pub flagStep : List ℕ → ℕ → ℕ → Place → Place → Place → List ℕ
+abbrev pub flagStep : List ℕ → ℕ → ℕ → Label → Label → Label → List ℕ
 flagStep b i m done active exit = announcementRead b i (readFlag (announcementIn b m) m done active exit)
 
 unfoldable pub announcementStep : AnnouncementAccess → List ℕ → ℕ → List ℕ

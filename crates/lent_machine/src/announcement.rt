@@ -13,7 +13,7 @@ use construction::Announcement;
 use construction::AnnouncementAccess;
 use construction::AnnouncementAccessed;
 use construction::Flag;
-use construction::Place;
+use construction::Label;
 use construction::Swap;
 use machine::announcement::announce;
 use machine::announcement::finish;
@@ -24,7 +24,7 @@ use machine::places::holder_of;
 ghost use mathlib.Core.Path.{_≡_};
 ghost use Rattle.construction.specs.Machine.{firstChoice};
 ghost use Rattle.block.specs.Layout.{putAnnouncement, processCountIn, lastGateIn};
-ghost use Rattle.lent_machine.specs.Accesses.{ifWon, announcementRead, announcementSwapped, announceStep, withdrawStep, finishStep, flagStep, announcementStep};
+ghost use Rattle.lent_machine.specs.Accesses.{announcementAccessed, ifWon, announcementRead, announcementSwapped, announceStep, withdrawStep, finishStep, flagStep, announcementStep};
 
 // An announcement was read.
 fn put_read(b: &mut [u64], i: u8, x: AnnouncementAccessed)
@@ -48,14 +48,15 @@ fn put_won(b: &mut [u64], m: u8, swap: Swap, cell: Announcement)
 }
 
 // The announcement of process m was swapped.
-fn put_swapped(b: &mut [u64], i: u8, m: u8, x: AnnouncementAccessed)
-    ensures { λ r. ⌜ now (b .exit) ≡ announcementSwapped (now (b .entry)) i m x ⌝ }
+fn put_swapped(b: &mut [u64], i: u8, m: u8, x: AnnouncementAccessed) -> Swap
+    ensures { λ r. ⌜ (now (b .exit) ≡ announcementSwapped (now (b .entry)) i m x) × (r ≡ x .swap) ⌝ }
 {
     let swap = x.swap;
     let cell = x.cell;
     let task = x.task;
     put_won(b, m, swap, cell);
     put_task(b, i, task);
+    swap
 }
 
 // Lines P2 and P3.
@@ -69,15 +70,15 @@ fn step_announce(b: &mut [u64], i: u8)
 }
 
 // Line P6.
-fn step_withdraw(b: &mut [u64], i: u8)
-    ensures { λ r. ⌜ now (b .exit) ≡ withdrawStep (now (b .entry)) i ⌝ }
+fn step_withdraw(b: &mut [u64], i: u8) -> Swap
+    ensures { λ r. ⌜ (now (b .exit) ≡ withdrawStep (now (b .entry)) i) × (r ≡ announcementAccessed AnnouncementAccess.Withdraw (now (b .entry)) i .swap) ⌝ }
 {
     let x = withdraw(announcement(b, i), operation(b, i), last(b, i), task(b, i));
-    put_swapped(b, i, i, x);
+    put_swapped(b, i, i, x)
 }
 
 // Lines P7, C2, C4 and P22: the flag of the announcement of process m.
-fn step_flag(b: &mut [u64], i: u8, m: u8, done: Place, active: Place, exit: Place)
+fn step_flag(b: &mut [u64], i: u8, m: u8, done: Label, active: Label, exit: Label)
     ensures { λ r. ⌜ now (b .exit) ≡ flagStep (now (b .entry)) i m done active exit ⌝ }
 {
     let x = read_flag(announcement(b, m), m, done, active, exit);
@@ -93,8 +94,8 @@ fn first(b: &[u64], i: u8) -> u8
 }
 
 // Lines P19 and P20: the announcement of the gate's holder.
-fn step_finish(flag: Flag, next: Place, b: &mut [u64], i: u8)
-    ensures { λ r. ⌜ now (b .exit) ≡ finishStep flag next (now (b .entry)) i ⌝ }
+fn step_finish(flag: Flag, next: Label, b: &mut [u64], i: u8) -> Swap
+    ensures { λ r. ⌜ (now (b .exit) ≡ finishStep flag next (now (b .entry)) i) × (r ≡ announcementAccessed (AnnouncementAccess.Finish flag next) (now (b .entry)) i .swap) ⌝ }
 {
     let gate = last_gate(b, i);
     let holder = gate.holder;
@@ -110,26 +111,27 @@ fn step_finish(flag: Flag, next: Place, b: &mut [u64], i: u8)
         yields,
         task(b, i),
     );
-    put_swapped(b, i, m, x);
+    put_swapped(b, i, m, x)
 }
 
-pub fn step_announcement(access: AnnouncementAccess, b: &mut [u64], i: u8)
-    ensures { λ r. ⌜ now (b .exit) ≡ announcementStep access (now (b .entry)) i ⌝ }
+// Any of them, and its swap.
+pub fn step_announcement(access: AnnouncementAccess, b: &mut [u64], i: u8) -> Swap
+    ensures { λ r. ⌜ (now (b .exit) ≡ announcementStep access (now (b .entry)) i) × (r ≡ announcementAccessed access (now (b .entry)) i .swap) ⌝ }
 {
     match access {
-        AnnouncementAccess::Announce => step_announce(b, i),
+        AnnouncementAccess::Announce => {
+            step_announce(b, i);
+            Swap::None
+        }
         AnnouncementAccess::Withdraw => step_withdraw(b, i),
-        AnnouncementAccess::ReadOwn { done, active, exit } => step_flag(
-            b,
-            i,
-            i,
-            done,
-            active,
-            exit,
-        ),
+        AnnouncementAccess::ReadOwn { done, active, exit } => {
+            step_flag(b, i, i, done, active, exit);
+            Swap::None
+        }
         AnnouncementAccess::ReadFirst => {
             let m = first(b, i);
-            step_flag(b, i, m, Place::C4, Place::P13, Place::C4);
+            step_flag(b, i, m, Label::C4, Label::P13, Label::C4);
+            Swap::None
         }
         AnnouncementAccess::Finish { flag, next } => step_finish(flag, next, b, i),
     }

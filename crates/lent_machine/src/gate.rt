@@ -8,16 +8,16 @@ use block::own::task;
 use construction::Gate;
 use construction::GateAccess;
 use construction::GateAccessed;
-use construction::Place;
+use construction::Label;
 use construction::Swap;
 use machine::gate::nominate;
 use machine::gate::read_holder;
 use machine::gate::read_last;
 use machine::gate::release;
 ghost use mathlib.Core.Path.{_≡_};
-ghost use Rattle.construction.specs.Machine.{readHolder, readLast, nominate, release};
-ghost use Rattle.block.specs.Layout.{gateIn, putGate, taskIn, lastGateIn};
-ghost use Rattle.lent_machine.specs.Accesses.{ifWon, gateRead, gateSwapped, gateStep};
+ghost use Rattle.construction.specs.Machine.{readHolder, readLast};
+ghost use Rattle.block.specs.Layout.{gateIn, putGate, taskIn};
+ghost use Rattle.lent_machine.specs.Accesses.{gateAccessed, ifWon, gateRead, gateSwapped, gateStep};
 
 // The gate was read.
 fn put_read(b: &mut [u64], i: u8, x: GateAccessed)
@@ -41,18 +41,19 @@ fn put_won(b: &mut [u64], swap: Swap, cell: Gate)
 }
 
 // The gate was swapped.
-fn put_swapped(b: &mut [u64], i: u8, x: GateAccessed)
-    ensures { λ r. ⌜ now (b .exit) ≡ gateSwapped (now (b .entry)) i x ⌝ }
+fn put_swapped(b: &mut [u64], i: u8, x: GateAccessed) -> Swap
+    ensures { λ r. ⌜ (now (b .exit) ≡ gateSwapped (now (b .entry)) i x) × (r ≡ x .swap) ⌝ }
 {
     let swap = x.swap;
     let cell = x.cell;
     let task = x.task;
     put_won(b, swap, cell);
     put_task(b, i, task);
+    swap
 }
 
 // Lines P1, P10 and P14.
-fn step_read(b: &mut [u64], i: u8, held: Place, free: Place)
+fn step_read(b: &mut [u64], i: u8, held: Label, free: Label)
     ensures { λ r. ⌜ now (b .exit) ≡ gateRead (now (b .entry)) i (readHolder (gateIn (now (b .entry))) (taskIn (now (b .entry)) i) held free) ⌝ }
 {
     let x = read_holder(gate(b), task(b, i), held, free);
@@ -68,27 +69,34 @@ fn step_last(b: &mut [u64], i: u8)
 }
 
 // Line P13.
-fn step_nominate(b: &mut [u64], i: u8)
-    ensures { λ r. ⌜ now (b .exit) ≡ gateSwapped (now (b .entry)) i (nominate (gateIn (now (b .entry))) (lastGateIn (now (b .entry)) i) (taskIn (now (b .entry)) i)) ⌝ }
+fn step_nominate(b: &mut [u64], i: u8) -> Swap
+    ensures { λ r. ⌜ (now (b .exit) ≡ gateStep GateAccess.Nominate (now (b .entry)) i) × (r ≡ gateAccessed GateAccess.Nominate (now (b .entry)) i .swap) ⌝ }
 {
     let x = nominate(gate(b), last_gate(b, i), task(b, i));
-    put_swapped(b, i, x);
+    put_swapped(b, i, x)
 }
 
 // Lines P21 and F3.
-fn step_release(b: &mut [u64], i: u8, next: Place)
-    ensures { λ r. ⌜ now (b .exit) ≡ gateSwapped (now (b .entry)) i (release (gateIn (now (b .entry))) (lastGateIn (now (b .entry)) i) (taskIn (now (b .entry)) i) next) ⌝ }
+fn step_release(b: &mut [u64], i: u8, next: Label) -> Swap
+    ensures { λ r. ⌜ (now (b .exit) ≡ gateStep (GateAccess.Release next) (now (b .entry)) i) × (r ≡ gateAccessed (GateAccess.Release next) (now (b .entry)) i .swap) ⌝ }
 {
     let x = release(gate(b), last_gate(b, i), task(b, i), next);
-    put_swapped(b, i, x);
+    put_swapped(b, i, x)
 }
 
-pub fn step_gate(access: GateAccess, b: &mut [u64], i: u8)
-    ensures { λ r. ⌜ now (b .exit) ≡ gateStep access (now (b .entry)) i ⌝ }
+// Any of them, and its swap.
+pub fn step_gate(access: GateAccess, b: &mut [u64], i: u8) -> Swap
+    ensures { λ r. ⌜ (now (b .exit) ≡ gateStep access (now (b .entry)) i) × (r ≡ gateAccessed access (now (b .entry)) i .swap) ⌝ }
 {
     match access {
-        GateAccess::Read { held, free } => step_read(b, i, held, free),
-        GateAccess::ReadLast => step_last(b, i),
+        GateAccess::Read { held, free } => {
+            step_read(b, i, held, free);
+            Swap::None
+        }
+        GateAccess::ReadLast => {
+            step_last(b, i);
+            Swap::None
+        }
         GateAccess::Nominate => step_nominate(b, i),
         GateAccess::Release { next } => step_release(b, i, next),
     }

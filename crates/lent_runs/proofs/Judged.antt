@@ -15,7 +15,7 @@ use Rattle.construction.specs.Answers.{isRefused}
 use Rattle.construction.specs.Requests.{isIdle, refused, returned, answerOf, stepAnswer, step}
 use Rattle.construction.specs.Tracing.{noReport}
 use Rattle.requests.specs.Judging.{judged}
-use Rattle.codes.specs.Types.{Card, Place}
+use Rattle.codes.specs.Types.{Card, Label}
 use Rattle.block.specs.Layout.{processCountIn, limitIn, stepsIn, taskIn, countIn, lastIn}
 use Rattle.block.specs.Cards.{cardOf}
 use Rattle.block.proofs.Gets.{process-count-is, limit-is, steps-is, task-is}
@@ -30,7 +30,7 @@ accepts a Done k = (refl, refl)
 accepts a Active k = (refl, refl)
 accepts a Exit k = (refl, refl)
 
-pub answer-accepts : (place : Place) (a : Announcement) (k : ℕ) → (isRefused (stepAnswer place a k) ≡ false) × (isEleven (stepAnswer place a k) ≡ false)
+pub answer-accepts : (place : Label) (a : Announcement) (k : ℕ) → (isRefused (stepAnswer place a k) ≡ false) × (isEleven (stepAnswer place a k) ≡ false)
 answer-accepts place a k = go (isIdle place)
   where
     go : (t : Bool) → (isRefused (cond t (returned a (a .flag) k) Answer.Run) ≡ false) × (isEleven (cond t (returned a (a .flag) k) Answer.Run) ≡ false)

@@ -8,12 +8,12 @@ use mathlib.Core.List.{List}
 use lib.Dec.{ltb}
 use lib.ListN.{length, getD}
 use borrow.Author.Tests.{lt-ltb, le-ltb, ltb-true}
-use Rattle.construction.specs.declared.{Access.Access, Answer.Answer, Answered.Answered, Card.Card, Cell.Cell, Gate.Gate, Place.Place}
+use Rattle.construction.specs.declared.{Access.Access, Answer.Answer, Answered.Answered, Card.Card, Label.Label}
 use Rattle.construction.specs.declared.Refusal.the-variants.{NoProcess, NotBusy, LimitReached, ShortBuffer}
 use Rattle.construction.specs.Dictionary.{noItem}
-use Rattle.construction.specs.Parts.{localAt, announcementAt, recordAt}
+use Rattle.construction.specs.Parts.{localAt}
 use Rattle.construction.specs.Answers.{isRefused}
-use Rattle.construction.specs.Machine.{accessOf, accessIn, cellBy, writing, advance, swapOf}
+use Rattle.construction.specs.Machine.{accessOf, accessIn, cellBy, writing, perform, advance, swapOf}
 use Rattle.construction.specs.OneAccess.{touchedCell}
 use Rattle.construction.specs.Requests.{isIdle, refused, stepAnswer, answerOf, step}
 use Rattle.construction.specs.Tracing.{labelOf, reportWith, reportOf, noReport, trace}
@@ -21,17 +21,14 @@ use Rattle.construction.proofs.Basics.{and-true}
 use Rattle.construction.proofs.Statements.Tracing.{answers}
 use Rattle.requests.specs.Judging.{judged}
 use Rattle.requests.proofs.Arrays.{in-room}
-use Rattle.reports.specs.Pieces.{swapBy}
-use Rattle.reports.specs.Pieces as pieces
-use Rattle.reports.proofs.Swaps.{swap-is}
-use Rattle.block.specs.Layout.{processCountIn, limitIn, stepsIn, roomIn, announcementIn, recordIn, taskIn, exitIn, lastGateIn, maskIn, notedIn}
+use Rattle.block.specs.Layout.{processCountIn, limitIn, stepsIn, roomIn, taskIn, exitIn, lastGateIn, maskIn, notedIn}
 use Rattle.block.specs.Cards.{cardOf}
-use Rattle.block.proofs.Gets.{process-count-is, limit-is, steps-is, gate-is, announcement-is, record-is, task-is, exit-is, count-is, last-gate-is, last-is, operation-is, simulation-is, mask-is, dictionary-is}
+use Rattle.block.proofs.Gets.{process-count-is, limit-is, steps-is, task-is, exit-is, count-is, last-gate-is, last-is, mask-is, dictionary-is}
 use Rattle.loan.specs.Loans.{loanWords, hasItems, heldDictionary}
 use Rattle.loan.proofs.Kept.{held-is}
 use Rattle.lent_helping.specs.Steps.{accessLoan}
 use Rattle.lent_helping.proofs.Keeps.{has-items}
-use Rattle.lent_helping.proofs.Performs.{advance-is}
+use Rattle.lent_helping.proofs.Performs.{access-swap-is, advance-is}
 use Rattle.lent_card.proofs.Cards.{there-long}
 use Rattle.lent_steps.specs.Steps.{lentJudged, stepVerdict, accessAt, advanced, stepBlock, stepLoan, answerIn, answerTo, itemTo, cellTo, swapTo, reportTo}
 use Rattle.lent_steps.proofs.Judging.{judgedIn}
@@ -53,32 +50,33 @@ isNote Access.Help = false
 isNote Access.Note = true
 isNote Access.Write = false
 
-at-top : (exit : Bool) → isNote (accessOf Place.P5 exit) ≡ false
+at-top : (exit : Bool) → isNote (accessOf Label.P5 exit) ≡ false
 unfolding accessOf
 at-top true = refl
 at-top false = refl
 
-noting : (p : Place) (exit : Bool) → accessOf p exit ≡ Access.Note → p ≡ Place.H21
+noting : (p : Label) (exit : Bool) → accessOf p exit ≡ Access.Note → p ≡ Label.H21
 unfolding accessOf
-noting Place.H21 exit e = refl
-noting Place.Idle exit e = absurd (true≢false (sym (ap isNote e)))
-noting Place.P1 exit e = absurd (true≢false (sym (ap isNote e)))
-noting Place.P3 exit e = absurd (true≢false (sym (ap isNote e)))
-noting Place.P7 exit e = absurd (true≢false (sym (ap isNote e)))
-noting Place.P10 exit e = absurd (true≢false (sym (ap isNote e)))
-noting Place.C2 exit e = absurd (true≢false (sym (ap isNote e)))
-noting Place.C4 exit e = absurd (true≢false (sym (ap isNote e)))
-noting Place.P13 exit e = absurd (true≢false (sym (ap isNote e)))
-noting Place.P14 exit e = absurd (true≢false (sym (ap isNote e)))
-noting Place.P16 exit e = absurd (true≢false (sym (ap isNote e)))
-noting Place.H36 exit e = absurd (true≢false (sym (ap isNote e)))
-noting Place.P19 exit e = absurd (true≢false (sym (ap isNote e)))
-noting Place.P20 exit e = absurd (true≢false (sym (ap isNote e)))
-noting Place.P21 exit e = absurd (true≢false (sym (ap isNote e)))
-noting Place.P22 exit e = absurd (true≢false (sym (ap isNote e)))
-noting Place.F1 exit e = absurd (true≢false (sym (ap isNote e)))
-noting Place.F3 exit e = absurd (true≢false (sym (ap isNote e)))
-noting Place.P5 exit e = absurd (true≢false (sym (ap isNote e) ∙ at-top exit))
+noting Label.H21 exit e = refl
+noting Label.Idle exit e = absurd (true≢false (sym (ap isNote e)))
+noting Label.P1 exit e = absurd (true≢false (sym (ap isNote e)))
+noting Label.P3 exit e = absurd (true≢false (sym (ap isNote e)))
+noting Label.P7 exit e = absurd (true≢false (sym (ap isNote e)))
+noting Label.P10 exit e = absurd (true≢false (sym (ap isNote e)))
+noting Label.C2 exit e = absurd (true≢false (sym (ap isNote e)))
+noting Label.C4 exit e = absurd (true≢false (sym (ap isNote e)))
+noting Label.P13 exit e = absurd (true≢false (sym (ap isNote e)))
+noting Label.P14 exit e = absurd (true≢false (sym (ap isNote e)))
+noting Label.P16 exit e = absurd (true≢false (sym (ap isNote e)))
+noting Label.H36 exit e = absurd (true≢false (sym (ap isNote e)))
+noting Label.P19 exit e = absurd (true≢false (sym (ap isNote e)))
+noting Label.P20 exit e = absurd (true≢false (sym (ap isNote e)))
+noting Label.P21 exit e = absurd (true≢false (sym (ap isNote e)))
+noting Label.P22 exit e = absurd (true≢false (sym (ap isNote e)))
+noting Label.F1 exit e = absurd (true≢false (sym (ap isNote e)))
+noting Label.F3 exit e = absurd (true≢false (sym (ap isNote e)))
+noting Label.P6 exit e = absurd (true≢false (sym (ap isNote e)))
+noting Label.P5 exit e = absurd (true≢false (sym (ap isNote e) ∙ at-top exit))
 
 module _ (b l : List ℕ) (i : ℕ) where
   abbrev c : Card
@@ -144,7 +142,7 @@ module _ (b l : List ℕ) (i : ℕ) where
       let s = lt-ltb (length l) (loanWords b) h in
       (rw (e, s), rw (e, s), rw (e, s))
 
-  module _ (lent : loanWords b ≤ length l) (room : taskIn b i .place ≡ Place.H21 → notedIn b i < roomIn b) where
+  module _ (lent : loanWords b ≤ length l) (room : taskIn b i .place ≡ Label.H21 → notedIn b i < roomIn b) where
     items : ltb i (processCountIn b) && ltb i 8 ≡ true → hasItems b l i ≡ true
     items p = has-items b l i (ltb-true i (processCountIn b) (and-true (ltb i (processCountIn b)) (ltb i 8) p .0)) lent
 
@@ -193,26 +191,8 @@ module _ (b l : List ℕ) (i : ℕ) where
       swap-to-is : swapTo b l i ≡ swapOf c i
       unfolding swapOf
       swap-to-is =
-          let m = pieces.announcementIn (cellTo b l i) in
-          let v = pieces.recordIn (cellTo b l i) in
           let a = access-at-is in
-          let cell = gate-is b l in
-          let announced = announcement-is b l m in
-          let recorded = record-is b l v in
-          let g = last-gate-is b l i in
-          let last = last-is b l i in
-          let o = operation-is b l i in
-          let s = simulation-is b l i in
-          let t = task-is b l i in
-          let e = item-to-is in
-          let o' = localAt c i in
-          (λ j. swapBy (a j) i m (cell j) (announced j) (recorded j) (g j) (last j) (o j) (s j .yields) (t j) (e j))
-          ∙ ap
-          (λ (x : Cell).
-          swapBy (accessIn o') i (pieces.announcementIn x) (c .gate) (announcementAt c (pieces.announcementIn x)) (recordAt c (pieces.recordIn x)) (o' .gate)
-          (o' .announcement) (o' .operation) (o' .simulation .yields) (o' .task) (writing (o' .gate .seq) (o' .task) (o' .dictionary) .item))
-          cell-to-is
-          ∙ sym (swap-is c i (accessIn o'))
+          access-swap-is b l (there-long b 0 i (ltb i 8) p) i (in-room i (processCountIn b) 8 p) (items p) (accessAt b i) ∙ λ j. perform (a j) c i .swap
 
       told-is :
           reportWith (labelOf (taskIn b i .place) (exitIn b i)) (cellTo b l i) (swapTo b l i) (lastGateIn (advanced b l i) i .seq) (maskIn (advanced b l i) i)

@@ -1,27 +1,48 @@
 -- A step with its report by what code takes out of the block and the loan.
 use Prim.Native.Nat.{ℕ, min}
-use mathlib.Core.Path.{_≡_, sym, _∙_, ap}
+use mathlib.Core.Path.{_≡_, refl, sym, _∙_, ap}
 use mathlib.Core.Bool.{true, false}
-use mathlib.Core.List.{List}
+use mathlib.Core.List.{List, [], _∷_}
 use native.Mathlib.Omega.{arith}
-use Rattle.construction.specs.declared.{Access.Access, Announcement.Announcement, Answer.Answer, Cell.Cell, Gate.Gate, Item.Item, Label.Label, Operation.Operation, Record.Record, Report.Report, Simulation.Simulation, Swap.Swap, Task.Task}
+use lib.ListN.{getD}
+use types.Run.{OneOf, miss}
+use denote.Enum.Declared.{tagOf}
+use Rattle.construction.specs.declared.{Access.Access, Answer.Answer, Cell.Cell, Gate.Gate, Item.Item, Label.Label, Report.Report, Swap.Swap, Task.Task}
+use Rattle.construction.proofs.Access.{the-type}
+use Rattle.construction.specs.Dictionary.{noItem}
+use Rattle.construction.specs.Machine.{cellBy}
 use Rattle.construction.specs.Answers.{isRefused}
 use Rattle.construction.specs.Tracing.{labelOf, reportWith, noReport}
-use Rattle.reports.specs.Pieces.{swapBy}
-use Rattle.reports.specs.Pieces as pieces
-use Rattle.block.specs.Layout.{gateIn, announcementIn, recordIn, taskIn, operationIn, exitIn, lastGateIn, lastIn, simulationIn, maskIn}
+use Rattle.block.specs.Layout.{processCountIn, taskIn, exitIn, lastGateIn, maskIn}
+use Rattle.loan.specs.Loans.{heldDictionary}
 use Rattle.lent_helping.specs.Steps.{accessLoan}
 use Rattle.lent_steps.specs.Steps.{stepVerdict, accessAt, advanced, stepBlock, stepLoan, answerIn, answerTo, itemTo, cellTo, swapTo, reportTo}
 use Rattle.lent_steps.proofs.Judging.{accepted-small, step-refused, step-taken}
 
+-- the cell of an access: only line H36 looks at the item written
+unwritten :
+    (a : Access) (p i : ℕ) (g : Gate) (v x y : ℕ) → OneOf (0 ∷ 1 ∷ 2 ∷ 3 ∷ 4 ∷ []) (tagOf the-type a) → cellBy a p i g v x ≡ cellBy a p i g v y
+unwritten Access.None p i g v x y h = refl
+unwritten (Access.Gate a) p i g v x y h = refl
+unwritten (Access.Announcement a) p i g v x y h = refl
+unwritten Access.Help p i g v x y h = refl
+unwritten Access.Note p i g v x y h = refl
+unwritten Access.Write p i g v x y h = absurd (miss (0 ∷ 1 ∷ 2 ∷ 3 ∷ 4 ∷ []) 5 tt h)
+
 module _ (b l : List ℕ) (i : ℕ) where
-  pub swap-by :
-      {cell : Cell} {m v : ℕ} {s : Simulation} {access : Access} {held : Gate} {a : Announcement} {r : Record} {g : Gate} {last : Announcement}
-      {o : Operation} {t : Task} {e : Item} {x : Swap} →
-      cell ≡ cellTo b l i → m ≡ pieces.announcementIn cell → v ≡ pieces.recordIn cell → s ≡ simulationIn b i → access ≡ accessAt b i → held ≡ gateIn b →
-      a ≡ announcementIn b m → r ≡ recordIn b v → g ≡ lastGateIn b i → last ≡ lastIn b i → o ≡ operationIn b i → t ≡ taskIn b i → e ≡ itemTo b l i →
-      x ≡ swapBy access i m held a r g last o (s .yields) t e → x ≡ swapTo b l i
-  swap-by ecell em ev es eaccess eheld ea er eg elast eo et ee ex = rw (ee, et, eo, elast, eg, er, ea, eheld, eaccess, es, ev, em, ecell) at ex
+  pub cell-written :
+      {a : Access} {t : Task} {e : Item} → t ≡ taskIn b i → a ≡ accessAt b i → a ≡ Access.Write → e ≡ getD (heldDictionary b l i .items) (t .target) noItem →
+      Cell.Record (e .variable) ≡ cellTo b l i
+  cell-written et ea w ee =
+      let item : _ ≡ itemTo b l i = ee ∙ ap (λ (t : Task). getD (heldDictionary b l i .items) (t .target) noItem) et in
+      ap (λ (e : Item). Cell.Record (e .variable)) item
+      ∙ ap (λ (a : Access). cellBy a (processCountIn b) i (lastGateIn b i) (taskIn b i .target) (itemTo b l i .variable)) (sym w ∙ ea)
+
+  pub cell-other :
+      {a : Access} {t : Task} {p : ℕ} {g : Gate} {x : Cell} → t ≡ taskIn b i → a ≡ accessAt b i → OneOf (0 ∷ 1 ∷ 2 ∷ 3 ∷ 4 ∷ []) (tagOf the-type a) →
+      p ≡ processCountIn b → g ≡ lastGateIn b i → x ≡ cellBy a p i g (t .target) 0 → x ≡ cellTo b l i
+  cell-other {a} {t} {p} {g} et ea h ep eg ex =
+      ex ∙ unwritten a p i g (t .target) 0 (itemTo b l i .variable) h ∙ λ j. cellBy (ea j) (ep j) i (eg j) (et j .target) (itemTo b l i .variable)
 
   pub trace-refused :
       {x : Answer} {r : Report} → x ≡ stepVerdict b l i → isRefused x ≡ true → r ≡ noReport →

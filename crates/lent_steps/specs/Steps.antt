@@ -1,5 +1,6 @@
 -- Step, and step with its report (document 02, order 1), on a card that stands in a block and a loan (order 10): the answer, the block and the loan after it.
--- A refused step leaves both as they were. `accessBlock` and `accessLoan` (crate lent_helping) say what an access makes of them.
+-- A refused step leaves both as they were. `accessBlock` and `accessLoan` (crate lent_helping) say what an access makes of them,
+-- `accessSwap` its swap.
 use Prim.Native.Nat.{ℕ}
 use mathlib.Core.Bool.{Bool, cond}
 use mathlib.Core.List.{List}
@@ -13,12 +14,10 @@ use Rattle.construction.specs.Machine.{accessOf, cellBy}
 use Rattle.construction.specs.Requests.{stepAnswer}
 use Rattle.construction.specs.Tracing.{labelOf, reportWith, noReport}
 use Rattle.requests.specs.Judging.{stepJudged}
-use Rattle.reports.specs.Pieces.{swapBy}
-use Rattle.reports.specs.Pieces as pieces
-use Rattle.block.specs.Layout.{processCountIn, limitIn, stepsIn, gateIn, announcementIn, recordIn, taskIn, operationIn, exitIn, countIn, lastGateIn, lastIn, simulationIn, maskIn}
+use Rattle.block.specs.Layout.{processCountIn, limitIn, stepsIn, taskIn, exitIn, countIn, lastGateIn, lastIn, maskIn}
 use Rattle.loan.specs.Loans.{loanWords, heldDictionary}
 use Rattle.lent_machine.specs.Accesses.{counted}
-use Rattle.lent_helping.specs.Steps.{accessBlock, accessLoan}
+use Rattle.lent_helping.specs.Steps.{accessBlock, accessLoan, accessSwap}
 
 -- refusals 5, 8, 10; then 11: 'A step with a loan too short is turned back with 11, after 10', whether it would use the loan or not
 abbrev pub lentJudged : Answer → Bool → Answer
@@ -57,11 +56,7 @@ abbrev pub cellTo : List ℕ → List ℕ → ℕ → Cell
 cellTo b l i = cellBy (accessAt b i) (processCountIn b) i (lastGateIn b i) (taskIn b i .target) (itemTo b l i .variable)
 
 abbrev pub swapTo : List ℕ → List ℕ → ℕ → Swap
-swapTo b l i =
-    let m = pieces.announcementIn (cellTo b l i) in
-    let v = pieces.recordIn (cellTo b l i) in
-    swapBy (accessAt b i) i m (gateIn b) (announcementIn b m) (recordIn b v) (lastGateIn b i) (lastIn b i) (operationIn b i) (simulationIn b i .yields)
-    (taskIn b i) (itemTo b l i)
+swapTo b l i = accessSwap (accessAt b i) b l i
 
 unfoldable pub reportTo : List ℕ → List ℕ → ℕ → Report
 reportTo b l i =

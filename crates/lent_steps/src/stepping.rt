@@ -10,6 +10,7 @@ use block::own::task;
 use construction::Access;
 use construction::Answer;
 use construction::Refusal;
+use construction::Swap;
 use lent_card::narrow::narrow;
 use lent_helping::access::step_access;
 use lent_machine::counting::put_counted;
@@ -21,7 +22,7 @@ use requests::judging::judge_step;
 ghost use mathlib.Core.Path.{_≡_};
 ghost use Prim.Native.Nat.{min};
 ghost use Rattle.lent_helping.specs.Steps.{accessLoan};
-ghost use Rattle.lent_steps.specs.Steps.{stepVerdict, accessAt, advanced, stepBlock, stepLoan, answerIn, answerTo};
+ghost use Rattle.lent_steps.specs.Steps.{stepVerdict, accessAt, advanced, stepBlock, stepLoan, answerIn, answerTo, swapTo};
 
 // Whether a step is accepted: refusals 5, 8, 10, and then 11. The caller narrows the number of the process, so that the task is read once.
 pub(crate) fn judge(b: &[u64], l: &[u64], process: u32, i: u8) -> Answer
@@ -56,13 +57,14 @@ pub(crate) fn access_at(b: &[u64], i: u8) -> Access
     access_of(place, exit(b, i))
 }
 
-// An accepted step.
-pub fn advance(b: &mut [u64], l: &mut [u64], i: u8)
-    ensures { λ r. ⌜ (now (b .exit) ≡ advanced (now (b .entry)) (now (l .entry)) i) × (now (l .exit) ≡ accessLoan (accessAt (now (b .entry)) i) (now (b .entry)) (now (l .entry)) i) ⌝ }
+// An accepted step, and its swap.
+pub fn advance(b: &mut [u64], l: &mut [u64], i: u8) -> Swap
+    ensures { λ r. ⌜ (now (b .exit) ≡ advanced (now (b .entry)) (now (l .entry)) i) × (now (l .exit) ≡ accessLoan (accessAt (now (b .entry)) i) (now (b .entry)) (now (l .entry)) i) × (r ≡ swapTo (now (b .entry)) (now (l .entry)) i) ⌝ }
 {
     let access = access_at(b, i);
-    step_access(access, b, l, i);
+    let swap = step_access(access, b, l, i);
     put_counted(b, i);
+    swap
 }
 
 // The answer to a step of process i that was accepted.

@@ -1,39 +1,29 @@
-// Step with its report (document 02, order 1): the step itself is `step`; what is told of its access is read off what it goes by and off what it leaves.
+// Step with its report (document 02, order 1): the step itself is `step`, whose access tells its swap; the rest is read off what it goes by and off what it leaves.
 use crate::stepping::access_at;
 use crate::stepping::advance;
 use crate::stepping::answer_in;
 use crate::stepping::judge;
 use answers::kinds::is_refused;
-use block::cells::announcement;
-use block::cells::gate;
 use block::cells::process_count;
-use block::cells::record;
 use block::own::exit;
-use block::own::last;
 use block::own::last_gate;
 use block::own::mask;
-use block::own::operation;
-use block::own::simulation;
 use block::own::task;
+use construction::Access;
 use construction::Answer;
 use construction::Cell;
-use construction::Item;
 use construction::Label;
 use construction::Report;
-use construction::Swap;
 use lent_card::narrow::narrow;
 use loan::dictionaries::item;
-use reports::announcement_in;
 use reports::cell_of;
 use reports::label_of;
 use reports::no_report;
-use reports::record_in;
 use reports::report_with;
-use reports::swap_of;
 ghost use mathlib.Core.Path.{_≡_};
 ghost use Rattle.construction.specs.Tracing.{labelOf};
 ghost use Rattle.block.specs.Layout.{taskIn, exitIn};
-ghost use Rattle.lent_steps.specs.Steps.{stepBlock, stepLoan, answerTo, itemTo, cellTo, swapTo, reportTo};
+ghost use Rattle.lent_steps.specs.Steps.{stepBlock, stepLoan, answerTo, cellTo, reportTo};
 
 // The answer to a step, and what is told of it.
 pub struct Told {
@@ -50,52 +40,26 @@ fn label_at(b: &[u64], i: u8) -> Label
     label_of(place, exit(b, i))
 }
 
-// The item that line H36 would write.
-fn item_to(b: &[u64], l: &[u64], i: u8) -> Item
-    ensures { λ r. ⌜ r ≡ itemTo (now (b .entry)) (now (l .entry)) i ⌝ }
-{
-    let task = task(b, i);
-    item(b, l, i, task.target)
-}
-
-// The cell that the access of process i touches.
+// The cell that the access of process i touches: line H36 alone looks at the loan.
 fn cell_to(b: &[u64], l: &[u64], i: u8) -> Cell
     ensures { λ r. ⌜ r ≡ cellTo (now (b .entry)) (now (l .entry)) i ⌝ }
 {
     let task = task(b, i);
-    let written = item_to(b, l, i);
-    cell_of(
-        access_at(b, i),
-        process_count(b),
-        i,
-        last_gate(b, i),
-        task.target,
-        written.variable,
-    )
-}
-
-// Its swap.
-fn swap_to(b: &[u64], l: &[u64], i: u8) -> Swap
-    ensures { λ r. ⌜ r ≡ swapTo (now (b .entry)) (now (l .entry)) i ⌝ }
-{
-    let cell = cell_to(b, l, i);
-    let m = announcement_in(cell);
-    let v = record_in(cell);
-    let simulation = simulation(b, i);
-    swap_of(
-        access_at(b, i),
-        i,
-        m,
-        gate(b),
-        announcement(b, m),
-        record(b, v),
-        last_gate(b, i),
-        last(b, i),
-        operation(b, i),
-        simulation.yields,
-        task(b, i),
-        item_to(b, l, i),
-    )
+    let access = access_at(b, i);
+    match access {
+        Access::Write => {
+            let item = item(b, l, i, task.target);
+            Cell::Record(item.variable)
+        }
+        _ => cell_of(
+            access,
+            process_count(b),
+            i,
+            last_gate(b, i),
+            task.target,
+            0,
+        ),
+    }
 }
 
 // Step with its report.
@@ -112,8 +76,7 @@ pub fn trace(b: &mut [u64], l: &mut [u64], process: u32) -> Told
     }
     let label = label_at(b, i);
     let cell = cell_to(b, l, i);
-    let swap = swap_to(b, l, i);
-    advance(b, l, i);
+    let swap = advance(b, l, i);
     let read = last_gate(b, i);
     let report = report_with(label, cell, swap, read.seq, mask(b, i));
     Told {

@@ -5,7 +5,7 @@ use mathlib.Core.Bool.{Bool, true, false, cond}
 use mathlib.Core.List.{List, [], _∷_, _++_, append-assoc, append-nil}
 use native.Mathlib.Omega.{arith}
 use lib.ListN.{length}
-use Rattle.construction.specs.declared.{Announcement.Announcement, Answer.Answer, Answered.Answered, Card.Card, Flag.Flag, Place.Place, Words.Words}
+use Rattle.construction.specs.declared.{Announcement.Announcement, Answer.Answer, Answered.Answered, Card.Card, Flag.Flag, Label.Label, Words.Words}
 use Rattle.construction.specs.Parts.{localAt}
 use Rattle.construction.specs.Machine.{advance}
 use Rattle.construction.specs.Requests.{isIdle, returned, stepAnswer, call, step}
@@ -39,7 +39,7 @@ returned-counts k a Flag.Active steps = by (a .fault)
     by false = refl
 returned-counts k a Flag.Exit steps = refl
 
-pub answer-counts : (k : Counts) (place : Place) (a : Announcement) (steps : ℕ) → withAnswer k (stepAnswer place a steps) .accepted ≡ k .accepted + 1
+pub answer-counts : (k : Counts) (place : Label) (a : Announcement) (steps : ℕ) → withAnswer k (stepAnswer place a steps) .accepted ≡ k .accepted + 1
 answer-counts k place a steps = by (isIdle place)
   where
     by : (t : Bool) → withAnswer k (cond t (returned a (a .flag) steps) Answer.Run) .accepted ≡ k .accepted + 1

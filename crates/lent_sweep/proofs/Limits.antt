@@ -13,7 +13,7 @@ use lib.ListN.{length}
 use lib.Seq.{getD-set-same, getD-set-other}
 use borrow.Author.Tests.{lt-ltb, le-ltb, ltb-true, ltb-false}
 use Rattle.construction.specs.declared.{Announcement.Announcement, Answer.Answer, Answered.Answered, Card.Card, Contents.Contents, Flag.Flag, Task.Task}
-use Rattle.construction.specs.declared.Place.the-variants.{P1}
+use Rattle.construction.specs.declared.Label.the-variants.{P1}
 use Rattle.construction.specs.declared.Refusal.the-variants.{LimitReached}
 use Rattle.construction.specs.Parts.{idleTask, localAt, withLocal}
 use Rattle.construction.specs.Machine.{advance, accessOf}

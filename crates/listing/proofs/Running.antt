@@ -11,8 +11,8 @@ use lib.ListN.{length}
 use lib.Dec.{ltb, leb}
 use borrow.Author.Tests.{lt-ltb, ltb-true, leb-true}
 use Rattle.grammar.specs.Writing.{decimal}
-use Rattle.construction.specs.declared.{Place.Place, Task.Task, Card.Card, Answer.Answer, Answered.Answered, Contents.Contents}
-use Rattle.construction.specs.declared.Place.the-variants.{Idle, P1, P3, P5, P7, P10, C2, C4, P13, P14, P16, H21, H36, P19, P20, P21, P22, F1, F3}
+use Rattle.construction.specs.declared.{Label.Label, Task.Task, Card.Card, Answer.Answer, Answered.Answered, Contents.Contents}
+use Rattle.construction.specs.declared.Label.the-variants.{Idle, P1, P3, P5, P7, P10, C2, C4, P13, P14, P16, H21, H36, P19, P20, P21, P22, F1, F3, P6}
 use Rattle.construction.specs.Answers.{isRefused}
 use Rattle.construction.specs.Parts.{localAt}
 use Rattle.construction.specs.Machine.{accessOf, advance}
@@ -31,7 +31,7 @@ use Rattle.construction.proofs.Card.{the-type}
 use Rattle.listing.specs.Runs.{distance, placeAt, areFar, runsOn, runText, runsFrom, runsText}
 
 -- a step brings a return at most one step nearer
-closer : (p : Place) (exit : Bool) → isIdle p ≡ false → Leads (λ l. distance p ≤ suc (distance l)) (accessOf p exit)
+closer : (p : Label) (exit : Bool) → isIdle p ≡ false → Leads (λ l. distance p ≤ suc (distance l)) (accessOf p exit)
 unfolding accessOf
 closer Idle exit h = absurd (false≢true (sym h))
 closer P1 exit h = (omega arith, omega arith)
@@ -53,9 +53,9 @@ closer P21 exit h = omega arith
 closer P22 exit h = (omega arith, omega arith, omega arith)
 closer F1 exit h = (omega arith, omega arith)
 closer F3 exit h = omega arith
+closer P6 exit h = omega arith
 
-far-busy : (p : Place) → 0 < distance p → isIdle p ≡ false
-unfolding accessOf
+far-busy : (p : Label) → 0 < distance p → isIdle p ≡ false
 far-busy Idle h = absurd (omega arith)
 far-busy P1 h = refl
 far-busy P3 h = refl
@@ -75,6 +75,7 @@ far-busy P21 h = refl
 far-busy P22 h = refl
 far-busy F1 h = refl
 far-busy F3 h = refl
+far-busy P6 h = refl
 
 -- a card whose processes can make n steps within the limit
 pub record Steady (n : ℕ) (c : Card) : Type 0 where
@@ -142,7 +143,7 @@ module _ (n : ℕ) (c : Card) (k : ℕ) (S : Steady (suc n) c) (lt : k < c .proc
       go : Dec (i ≡ k) → n < distance (placeAt (d .tasks) i)
       go (yes e) = rw e nearer
       go (no ne) =
-          subst (λ (p : Place). n < distance p) (same-place i ne)
+          subst (λ (p : Label). n < distance p) (same-place i ne)
           (F i (omega (arith, processes)) (ap isIdle (same-place i ne) ∙ b))
 
   pub busy-next : isQuiet d (d .processCount) ≡ false

@@ -8,7 +8,7 @@ use native.Mathlib.Numerals.{add-one}
 use lib.ListN.{getD}
 use lib.Dec.{ltb}
 use borrow.Author.Tests.{lt-ltb, le-ltb, lt-leb, le-leb}
-use Rattle.construction.specs.declared.{Place.Place, Task.Task, Card.Card}
+use Rattle.construction.specs.declared.{Label.Label, Task.Task, Card.Card}
 use Rattle.construction.specs.Parts.{idleTask}
 use Rattle.construction.specs.Requests.{isIdle, isProgram, call}
 use Rattle.executions.specs.declared.{Request.Request}
@@ -58,9 +58,9 @@ module _ (n : ℕ) (l : List Task) where
   far-step zero h = absurd (omega arith)
   far-step (suc m) h = let e : suc m - 1 ≡ m = omega arith in rw e (far-suc m)
 
-  module _ (m : ℕ) {p : Place} {b : Bool} (h : 0 < m) (e : p ≡ placeAt l (m - 1)) (t : b ≡ (isIdle p || ltb n (distance p))) where
+  module _ (m : ℕ) {p : Label} {b : Bool} (h : 0 < m) (e : p ≡ placeAt l (m - 1)) (t : b ≡ (isIdle p || ltb n (distance p))) where
     far-told : (isIdle (placeAt l (m - 1)) || ltb n (distance (placeAt l (m - 1)))) ≡ b
-    far-told = ap (λ (q : Place). isIdle q || ltb n (distance q)) (sym e) ∙ sym t
+    far-told = ap (λ (q : Label). isIdle q || ltb n (distance q)) (sym e) ∙ sym t
 
     pub far-turn : b ≡ true → areFar n l m ≡ areFar n l (m - 1)
     far-turn f = far-step m h ∙ rw (far-told ∙ f)
@@ -74,9 +74,9 @@ module _ (n : ℕ) (l : List Task) where
   far-none (suc m) h = absurd (omega arith)
 
 -- the test whether a branch runs on, in its three parts
-module _ (left : ℕ) (l : List Task) (count k steps limit : ℕ) {p : Place} (e : p ≡ placeAt l k) {d : ℕ} (q : d ≡ distance p) where
+module _ (left : ℕ) (l : List Task) (count k steps limit : ℕ) {p : Label} (e : p ≡ placeAt l k) {d : ℕ} (q : d ≡ distance p) where
   near-told : distance (placeAt l k) ≡ d
-  near-told = ap (λ (r : Place). distance r) (sym e) ∙ sym q
+  near-told = ap (λ (r : Label). distance r) (sym e) ∙ sym q
 
   pub runs-near : d ≤ left → false ≡ runsOn left l count k steps limit
   unfolding runsOn

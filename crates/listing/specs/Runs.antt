@@ -6,14 +6,14 @@ use mathlib.Core.List.{List, [], _∷_, _++_}
 use lib.ListN.{getD}
 use lib.Dec.{ltb, leb}
 use Rattle.grammar.specs.Writing.{decimal}
-use Rattle.construction.specs.declared.{Place.Place, Task.Task, Answer.Answer}
-use Rattle.construction.specs.declared.Place.the-variants.{Idle, P1, P3, P5, P7, P10, C2, C4, P13, P14, P16, H21, H36, P19, P20, P21, P22, F1, F3}
+use Rattle.construction.specs.declared.{Label.Label, Task.Task, Answer.Answer}
+use Rattle.construction.specs.declared.Label.the-variants.{Idle, P1, P3, P5, P7, P10, C2, C4, P13, P14, P16, H21, H36, P19, P20, P21, P22, F1, F3, P6}
 use Rattle.construction.specs.Parts.{idleTask}
 use Rattle.construction.specs.Requests.{isIdle}
 use Rattle.executions.specs.Listings.{answerText}
 
 -- the fewest steps with which an operation at a place can return; nothing is under way at 0
-abbrev pub distance : Place → ℕ
+abbrev pub distance : Label → ℕ
 distance Idle = 0
 distance P1 = 5
 distance P3 = 4
@@ -33,8 +33,9 @@ distance P21 = 2
 distance P22 = 1
 distance F1 = 1
 distance F3 = 1
+distance P6 = 3
 
-abbrev pub placeAt : List Task → ℕ → Place
+abbrev pub placeAt : List Task → ℕ → Label
 placeAt l k = getD l k idleTask .place
 
 -- none of the first m processes can return with n steps

@@ -4,7 +4,7 @@ use crate::branches::is_idle_at;
 use crate::branches::put_line;
 use answers::put_answer;
 use construction::Answer;
-use construction::Place;
+use construction::Label;
 use construction::Task;
 use grammar::writing::put_decimal;
 use machine::places::is_idle;
@@ -18,34 +18,35 @@ ghost use Rattle.listing.specs.Prefixes.{Holds, longest, capacity, Lines
 ghost use Rattle.listing.specs.Runs.{distance, placeAt, areFar, runsOn, runText, runsText};
 
 // The fewest steps with which an operation at a place can return.
-fn distance(place: Place) -> u8
+fn distance(place: Label) -> u8
     ensures { λ r. ⌜ r ≡ distance place ⌝ }
 {
     match place {
-        Place::Idle => 0,
-        Place::P1 => 5,
-        Place::P3 => 4,
-        Place::P5 => 3,
-        Place::P7 => 2,
-        Place::P10 => 4,
-        Place::C2 => 3,
-        Place::C4 => 2,
-        Place::P13 => 3,
-        Place::P14 => 2,
-        Place::P16 => 3,
-        Place::H21 => 5,
-        Place::H36 => 5,
-        Place::P19 => 4,
-        Place::P20 => 3,
-        Place::P21 => 2,
-        Place::P22 => 1,
-        Place::F1 => 1,
-        Place::F3 => 1,
+        Label::Idle => 0,
+        Label::P1 => 5,
+        Label::P3 => 4,
+        Label::P5 => 3,
+        Label::P7 => 2,
+        Label::P10 => 4,
+        Label::C2 => 3,
+        Label::C4 => 2,
+        Label::P13 => 3,
+        Label::P14 => 2,
+        Label::P16 => 3,
+        Label::H21 => 5,
+        Label::H36 => 5,
+        Label::P19 => 4,
+        Label::P20 => 3,
+        Label::P21 => 2,
+        Label::P22 => 1,
+        Label::F1 => 1,
+        Label::F3 => 1,
+        Label::P6 => 3,
     }
 }
 
 // The place of process k, idle past the last.
-fn place_at(tasks: [Task; 8], k: u8) -> Place
+fn place_at(tasks: [Task; 8], k: u8) -> Label
     ensures { λ r. ⌜ r ≡ placeAt tasks k ⌝ }
 {
     let at = k as usize;
@@ -54,11 +55,11 @@ fn place_at(tasks: [Task; 8], k: u8) -> Place
         let place = task.place;
         return place;
     }
-    Place::Idle
+    Label::Idle
 }
 
 // Whether an operation at a place cannot return with n steps.
-fn is_far(n: u8, place: Place) -> bool
+fn is_far(n: u8, place: Label) -> bool
     ensures { λ r. ⌜ r ≡ (isIdle place || ltb n (distance place)) ⌝ }
 {
     if is_idle(place) {

@@ -10,8 +10,8 @@ use construction::AnnouncementAccessed;
 use construction::Answer;
 use construction::Flag;
 use construction::Gate;
+use construction::Label;
 use construction::Operation;
-use construction::Place;
 use construction::Swap;
 use construction::Task;
 use construction::Yield;
@@ -81,7 +81,7 @@ pub fn finished(last: Announcement, gate: Gate, yields: Yield) -> Announcement
 }
 
 // The announcement of process m is read.
-fn read_announcement(cell: Announcement, m: u8, next: Place) -> AnnouncementAccessed
+fn read_announcement(cell: Announcement, m: u8, next: Label) -> AnnouncementAccessed
     ensures { λ r. ⌜ r ≡ readAnnouncement cell m next ⌝ }
 {
     AnnouncementAccessed {
@@ -102,7 +102,7 @@ fn replace_announcement(
     task: Task,
     expected: Announcement,
     new: Announcement,
-    next: Place,
+    next: Label,
 ) -> AnnouncementAccessed
     ensures { λ r. ⌜ r ≡ replaceAnnouncement cell last task expected new next ⌝ }
 {
@@ -146,7 +146,7 @@ pub fn announce(operation: Operation, gate: Gate, task: Task) -> AnnouncementAcc
         cell: new,
         read: new,
         task: Task {
-            place: Place::P5,
+            place: Label::P5,
             target: task.target,
         },
         swap: Swap::None,
@@ -168,7 +168,7 @@ pub fn withdraw(
         task,
         last,
         withdrawn(last, operation),
-        Place::P7,
+        Label::P7,
     )
 }
 
@@ -176,9 +176,9 @@ pub fn withdraw(
 pub fn read_flag(
     cell: Announcement,
     m: u8,
-    done: Place,
-    active: Place,
-    exit: Place,
+    done: Label,
+    active: Label,
+    exit: Label,
 ) -> AnnouncementAccessed
     ensures { λ r. ⌜ r ≡ readFlag cell m done active exit ⌝ }
 {
@@ -189,7 +189,7 @@ pub fn read_flag(
 // Lines P19 and P20: the announcement of the gate's holder is swapped to done.
 pub fn finish(
     flag: Flag,
-    next: Place,
+    next: Label,
     cell: Announcement,
     gate: Gate,
     last: Announcement,
@@ -231,7 +231,7 @@ pub fn access_announcement(
             active,
             exit,
         ),
-        AnnouncementAccess::ReadFirst => read_flag(cell, m, Place::C4, Place::P13, Place::C4),
+        AnnouncementAccess::ReadFirst => read_flag(cell, m, Label::C4, Label::P13, Label::C4),
         AnnouncementAccess::Finish { flag, next } => finish(
             flag,
             next,

@@ -6,7 +6,7 @@ use construction::Gate;
 use construction::GateAccess;
 use construction::GateAccessed;
 use construction::Holder;
-use construction::Place;
+use construction::Label;
 use construction::Swap;
 use construction::Task;
 ghost use mathlib.Core.Path.{_≡_};
@@ -23,7 +23,7 @@ pub fn nominated(gate: Gate, nominee: u8) -> Gate
 }
 
 // The gate is read.
-fn read_gate(cell: Gate, task: Task, next: Place) -> GateAccessed
+fn read_gate(cell: Gate, task: Task, next: Label) -> GateAccessed
     ensures { λ r. ⌜ r ≡ readGate cell task next ⌝ }
 {
     GateAccessed {
@@ -38,7 +38,7 @@ fn read_gate(cell: Gate, task: Task, next: Place) -> GateAccessed
 }
 
 // The gate is swapped from the one last read to another.
-fn replace_gate(cell: Gate, last: Gate, task: Task, new: Gate, next: Place) -> GateAccessed
+fn replace_gate(cell: Gate, last: Gate, task: Task, new: Gate, next: Label) -> GateAccessed
     ensures { λ r. ⌜ r ≡ replaceGate cell last task new next ⌝ }
 {
     let swapped = cells::swap_gate(cell, last, new);
@@ -55,7 +55,7 @@ fn replace_gate(cell: Gate, last: Gate, task: Task, new: Gate, next: Place) -> G
 }
 
 // Lines P1, P10 and P14: the gate is read, and its holder says where the process goes on.
-pub fn read_holder(cell: Gate, task: Task, held: Place, free: Place) -> GateAccessed
+pub fn read_holder(cell: Gate, task: Task, held: Label, free: Label) -> GateAccessed
     ensures { λ r. ⌜ r ≡ readHolder cell task held free ⌝ }
 {
     let holder = cell.holder;
@@ -74,11 +74,11 @@ pub fn read_last(cell: Gate, task: Task, process: u8) -> GateAccessed
 pub fn nominate(cell: Gate, last: Gate, task: Task) -> GateAccessed
     ensures { λ r. ⌜ r ≡ nominate cell last task ⌝ }
 {
-    replace_gate(cell, last, task, nominated(last, task.target), Place::P14)
+    replace_gate(cell, last, task, nominated(last, task.target), Label::P14)
 }
 
 // Lines P21 and F3: the gate is released.
-pub fn release(cell: Gate, last: Gate, task: Task, next: Place) -> GateAccessed
+pub fn release(cell: Gate, last: Gate, task: Task, next: Label) -> GateAccessed
     ensures { λ r. ⌜ r ≡ release cell last task next ⌝ }
 {
     replace_gate(cell, last, task, cells::released(last), next)

@@ -4,34 +4,35 @@ use construction::AnnouncementAccess;
 use construction::Flag;
 use construction::GateAccess;
 use construction::Holder;
-use construction::Place;
+use construction::Label;
+use labels::same_label;
 ghost use mathlib.Core.Path.{_≡_};
 ghost use Rattle.construction.specs.Machine.{accessOf, byHolder, byFlag, holderOf, firstChoice, afterLast};
 ghost use Rattle.construction.specs.Requests.{isIdle};
 
 // Lines P1, P10 and P14: the gate is read.
-fn read_gate(held: Place, free: Place) -> Access
+fn read_gate(held: Label, free: Label) -> Access
     ensures { λ r. ⌜ r ≡ Access.Gate (GateAccess.Read held free) ⌝ }
 {
     Access::Gate(GateAccess::Read { held, free })
 }
 
 // Lines P21 and F3: the gate is released.
-fn release(next: Place) -> Access
+fn release(next: Label) -> Access
     ensures { λ r. ⌜ r ≡ Access.Gate (GateAccess.Release next) ⌝ }
 {
     Access::Gate(GateAccess::Release { next })
 }
 
 // Lines P7, C4 and P22: one's own announcement is read.
-fn read_own(done: Place, active: Place, exit: Place) -> Access
+fn read_own(done: Label, active: Label, exit: Label) -> Access
     ensures { λ r. ⌜ r ≡ Access.Announcement (AnnouncementAccess.ReadOwn done active exit) ⌝ }
 {
     Access::Announcement(AnnouncementAccess::ReadOwn { done, active, exit })
 }
 
 // Lines P19 and P20: the announcement of the gate's holder is swapped to done.
-fn finish(flag: Flag, next: Place) -> Access
+fn finish(flag: Flag, next: Label) -> Access
     ensures { λ r. ⌜ r ≡ Access.Announcement (AnnouncementAccess.Finish flag next) ⌝ }
 {
     Access::Announcement(AnnouncementAccess::Finish { flag, next })
@@ -39,53 +40,51 @@ fn finish(flag: Flag, next: Place) -> Access
 
 // Lines P5, P6 and P10: with an exit request P6, without one P10.
 fn top(exit: bool) -> Access
-    ensures { λ r. ⌜ r ≡ accessOf Place.P5 exit ⌝ }
+    ensures { λ r. ⌜ r ≡ accessOf Label.P5 exit ⌝ }
 {
     if exit {
         return Access::Announcement(AnnouncementAccess::Withdraw);
     }
-    read_gate(Place::P16, Place::C2)
+    read_gate(Label::P16, Label::C2)
 }
 
 // The access of each place.
-pub fn access_of(place: Place, exit: bool) -> Access
+pub fn access_of(place: Label, exit: bool) -> Access
     ensures { λ r. ⌜ r ≡ accessOf place exit ⌝ }
 {
     match place {
-        Place::Idle => Access::None,
-        Place::P1 => read_gate(Place::P3, Place::P3),
-        Place::P3 => Access::Announcement(AnnouncementAccess::Announce),
-        Place::P5 => top(exit),
-        Place::P7 => read_own(Place::F1, Place::P10, Place::P10),
-        Place::P10 => read_gate(Place::P16, Place::C2),
-        Place::C2 => Access::Announcement(AnnouncementAccess::ReadFirst),
-        Place::C4 => read_own(Place::F1, Place::P13, Place::P13),
-        Place::P13 => Access::Gate(GateAccess::Nominate),
-        Place::P14 => read_gate(Place::P16, Place::P22),
-        Place::P16 => Access::Help,
-        Place::H21 => Access::Note,
-        Place::H36 => Access::Write,
-        Place::P19 => finish(Flag::Active, Place::P20),
-        Place::P20 => finish(Flag::Exit, Place::P21),
-        Place::P21 => release(Place::P22),
-        Place::P22 => read_own(Place::F1, Place::P5, Place::Idle),
-        Place::F1 => Access::Gate(GateAccess::ReadLast),
-        Place::F3 => release(Place::Idle),
+        Label::Idle => Access::None,
+        Label::P1 => read_gate(Label::P3, Label::P3),
+        Label::P3 => Access::Announcement(AnnouncementAccess::Announce),
+        Label::P5 => top(exit),
+        Label::P7 => read_own(Label::F1, Label::P10, Label::P10),
+        Label::P10 => read_gate(Label::P16, Label::C2),
+        Label::C2 => Access::Announcement(AnnouncementAccess::ReadFirst),
+        Label::C4 => read_own(Label::F1, Label::P13, Label::P13),
+        Label::P13 => Access::Gate(GateAccess::Nominate),
+        Label::P14 => read_gate(Label::P16, Label::P22),
+        Label::P16 => Access::Help,
+        Label::H21 => Access::Note,
+        Label::H36 => Access::Write,
+        Label::P19 => finish(Flag::Active, Label::P20),
+        Label::P20 => finish(Flag::Exit, Label::P21),
+        Label::P21 => release(Label::P22),
+        Label::P22 => read_own(Label::F1, Label::P5, Label::Idle),
+        Label::F1 => Access::Gate(GateAccess::ReadLast),
+        Label::F3 => release(Label::Idle),
+        Label::P6 => Access::Announcement(AnnouncementAccess::Withdraw),
     }
 }
 
 // Whether a process at a place has no operation under way.
-pub fn is_idle(place: Place) -> bool
+pub fn is_idle(place: Label) -> bool
     ensures { λ r. ⌜ r ≡ isIdle place ⌝ }
 {
-    match place {
-        Place::Idle => true,
-        _ => false,
-    }
+    same_label(place, Label::Idle)
 }
 
 // Lines P11 and P15.
-pub fn by_holder(holder: Holder, held: Place, free: Place) -> Place
+pub fn by_holder(holder: Holder, held: Label, free: Label) -> Label
     ensures { λ r. ⌜ r ≡ byHolder holder held free ⌝ }
 {
     match holder {
@@ -95,7 +94,7 @@ pub fn by_holder(holder: Holder, held: Place, free: Place) -> Place
 }
 
 // Lines P4, P8, P23, C3 and C5.
-pub fn by_flag(flag: Flag, done: Place, active: Place, exit: Place) -> Place
+pub fn by_flag(flag: Flag, done: Label, active: Label, exit: Label) -> Label
     ensures { λ r. ⌜ r ≡ byFlag flag done active exit ⌝ }
 {
     match flag {
@@ -106,13 +105,13 @@ pub fn by_flag(flag: Flag, done: Place, active: Place, exit: Place) -> Place
 }
 
 // Lines F2 and F4.
-pub fn after_last(holder: Holder, process: u8) -> Place
+pub fn after_last(holder: Holder, process: u8) -> Label
     ensures { λ r. ⌜ r ≡ afterLast holder process ⌝ }
 {
     if cells::same_holder(holder, Holder::Process(process)) {
-        Place::F3
+        Label::F3
     } else {
-        Place::Idle
+        Label::Idle
     }
 }
 

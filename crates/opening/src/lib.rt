@@ -9,9 +9,9 @@ use construction::Gate;
 use construction::Holder;
 use construction::Instruction;
 use construction::Item;
+use construction::Label;
 use construction::Line;
 use construction::Operation;
-use construction::Place;
 use construction::Program;
 use construction::Record;
 use construction::Simulation;
@@ -154,7 +154,7 @@ pub fn fresh(contents: Contents) -> Card
         records: open_records(starts),
         steps: 0,
         tasks: [Task {
-            place: Place::Idle,
+            place: Label::Idle,
             target: 0,
         }; 8],
         operations: [Operation {

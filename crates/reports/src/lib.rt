@@ -1,5 +1,5 @@
 // What is told of a step (document 02, order 1), on small values: the label of an access, the cell that it touches, whether its swap won, and the report.
-// It rests on the crates construction (types and definitions), answers and machine; both representations of the card tell their steps by it.
+// It rests on the crates construction (types and definitions), answers, labels and machine; both representations of the card tell their steps by it.
 use answers::kinds::is_refused;
 use construction::Access;
 use construction::Announcement;
@@ -9,12 +9,13 @@ use construction::Gate;
 use construction::Item;
 use construction::Label;
 use construction::Operation;
-use construction::Place;
 use construction::Record;
 use construction::Report;
 use construction::Swap;
 use construction::Task;
 use construction::Yield;
+use labels::label_row;
+use labels::same_label;
 use machine::announcement::access_announcement;
 use machine::announcement::whose;
 use machine::gate::access_gate;
@@ -24,68 +25,18 @@ use machine::record::write;
 ghost use mathlib.Core.Path.{_≡_};
 ghost use mathlib.Core.Bool.{cond};
 ghost use Rattle.construction.specs.Machine.{cellBy};
-ghost use Rattle.construction.specs.Tracing.{labelOf, isNoting, notedAt, reportWith, noReport};
+ghost use Rattle.construction.specs.Tracing.{labelOf, notedAt, reportWith, noReport};
 ghost use Rattle.construction.specs.Answers.{isRefused};
 ghost use Rattle.reports.specs.Pieces.{announcementIn, recordIn, swapBy};
 
-// At the top of the loop: with an exit request P6, without one P10.
-fn top_label(exit: bool) -> Label
-    ensures { λ r. ⌜ r ≡ labelOf Place.P5 exit ⌝ }
-{
-    if exit { Label::P6 } else { Label::P10 }
-}
-
-// The label of the access of a place.
-pub fn label_of(place: Place, exit: bool) -> Label
+// The label of the access of a place: at the top of the loop P6 with an exit request, P10 without one.
+pub fn label_of(place: Label, exit: bool) -> Label
     ensures { λ r. ⌜ r ≡ labelOf place exit ⌝ }
 {
-    match place {
-        Place::Idle => Label::None,
-        Place::P1 => Label::P1,
-        Place::P3 => Label::P3,
-        Place::P5 => top_label(exit),
-        Place::P7 => Label::P7,
-        Place::P10 => Label::P10,
-        Place::C2 => Label::C2,
-        Place::C4 => Label::C4,
-        Place::P13 => Label::P13,
-        Place::P14 => Label::P14,
-        Place::P16 => Label::P16,
-        Place::H21 => Label::H21,
-        Place::H36 => Label::H36,
-        Place::P19 => Label::P19,
-        Place::P20 => Label::P20,
-        Place::P21 => Label::P21,
-        Place::P22 => Label::P22,
-        Place::F1 => Label::F1,
-        Place::F3 => Label::F3,
-    }
-}
-
-// Whether an access is one from H21 to P20.
-pub fn is_noting(label: Label) -> bool
-    ensures { λ r. ⌜ r ≡ isNoting label ⌝ }
-{
-    match label {
-        Label::None => false,
-        Label::P1 => false,
-        Label::P3 => false,
-        Label::P6 => false,
-        Label::P7 => false,
-        Label::P10 => false,
-        Label::C2 => false,
-        Label::C4 => false,
-        Label::P13 => false,
-        Label::P14 => false,
-        Label::P16 => false,
-        Label::H21 => true,
-        Label::H36 => true,
-        Label::P19 => true,
-        Label::P20 => true,
-        Label::P21 => false,
-        Label::P22 => false,
-        Label::F1 => false,
-        Label::F3 => false,
+    if same_label(place, Label::P5) {
+        if exit { Label::P6 } else { Label::P10 }
+    } else {
+        place
     }
 }
 
@@ -93,7 +44,8 @@ pub fn is_noting(label: Label) -> bool
 pub fn noted_at(label: Label, mask: u64) -> u64
     ensures { λ r. ⌜ r ≡ notedAt label mask ⌝ }
 {
-    if is_noting(label) { mask } else { 0 }
+    let row = label_row(label);
+    if row.noting { mask } else { 0 }
 }
 
 // The cell that an access of a process touches, on a card of so many processes: `target` is the variable of H21, `written` that of H36.
@@ -212,7 +164,7 @@ pub fn no_report() -> Report
     ensures { λ r. ⌜ r ≡ noReport ⌝ }
 {
     Report {
-        label: Label::None,
+        label: Label::Idle,
         cell: Cell::None,
         swap: Swap::None,
         number: 0,

@@ -4,7 +4,7 @@
 use Prim.Native.Nat.{ℕ}
 use mathlib.Core.Bool.{Bool, cond, not, _&&_, _||_}
 use lib.Dec.{ltb}
-use Rattle.construction.specs.declared.{Place.Place, Refusal.Refusal, Answer.Answer, Verdict.Verdict}
+use Rattle.construction.specs.declared.{Label.Label, Refusal.Refusal, Answer.Answer, Verdict.Verdict}
 use Rattle.construction.specs.declared.Refusal.the-variants.{NoProcess, NoProgram, Busy, NotBusy, LimitReached, NotAhead, Unsettled}
 use Rattle.construction.specs.Requests.{isIdle}
 
@@ -13,15 +13,15 @@ abbrev pub judged : Bool → Refusal → Bool → Refusal → Bool → Refusal �
 judged a r b s d t =
     cond (not a) (Answer.Refused r) (cond (not b) (Answer.Refused s) (cond (not d) (Answer.Refused t) Answer.Taken))
 
-abbrev pub callJudged : ℕ → ℕ → ℕ → ℕ → Place → Answer
+abbrev pub callJudged : ℕ → ℕ → ℕ → ℕ → Label → Answer
 callJudged i p k s place = judged (ltb i p && ltb i 8) NoProcess (ltb k s && ltb k 8) NoProgram (isIdle place) Busy
 
-abbrev pub exitJudged : ℕ → ℕ → Place → Answer
+abbrev pub exitJudged : ℕ → ℕ → Label → Answer
 exitJudged i p place =
     cond (not (ltb i p && ltb i 8)) (Answer.Refused NoProcess)
     (cond (not (not (isIdle place))) (Answer.Refused NotBusy) Answer.Taken)
 
-abbrev pub stepJudged : ℕ → ℕ → Place → ℕ → ℕ → Answer
+abbrev pub stepJudged : ℕ → ℕ → Label → ℕ → ℕ → Answer
 stepJudged i p place steps limit =
     judged (ltb i p && ltb i 8) NoProcess (not (isIdle place)) NotBusy (ltb steps limit) LimitReached
 

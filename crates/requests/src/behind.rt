@@ -1,49 +1,33 @@
 // Whether an operation under way is behind a gate number (document 02, order 11: 'some operation under way last read a gate number below it'), by the
 // places of the processes and the gates that they last read.
 use construction::Gate;
-use construction::Place;
+use construction::Label;
 use construction::Task;
+use labels::same_label;
 ghost use mathlib.Core.Path.{_≡_};
 ghost use mathlib.Core.Bool.{_&&_};
 ghost use lib.Dec.{ltb};
 ghost use Rattle.construction.specs.Changes.{hasRead, isBehind, someBehind};
 
 // Whether an operation has read a gate number: it is past P1.
-pub fn has_read(place: Place) -> bool
+pub fn has_read(place: Label) -> bool
     ensures { λ r. ⌜ r ≡ hasRead place ⌝ }
 {
-    match place {
-        Place::Idle => false,
-        Place::P1 => false,
-        Place::P3 => true,
-        Place::P5 => true,
-        Place::P7 => true,
-        Place::P10 => true,
-        Place::C2 => true,
-        Place::C4 => true,
-        Place::P13 => true,
-        Place::P14 => true,
-        Place::P16 => true,
-        Place::H21 => true,
-        Place::H36 => true,
-        Place::P19 => true,
-        Place::P20 => true,
-        Place::P21 => true,
-        Place::P22 => true,
-        Place::F1 => true,
-        Place::F3 => true,
+    if same_label(place, Label::Idle) {
+        return false;
     }
+    !same_label(place, Label::P1)
 }
 
 // Whether the operation of a process that stands at this place and last read this gate is behind a number.
-pub fn is_behind(place: Place, gate: Gate, number: u64) -> bool
+pub fn is_behind(place: Label, gate: Gate, number: u64) -> bool
     ensures { λ r. ⌜ r ≡ isBehind place gate number ⌝ }
 {
     has_read(place) && gate.seq < number
 }
 
 // The same of process i, on a card of so many processes.
-fn is_behind_at(i: u8, processCount: u8, place: Place, gate: Gate, number: u64) -> bool
+fn is_behind_at(i: u8, processCount: u8, place: Label, gate: Gate, number: u64) -> bool
     ensures { λ r. ⌜ r ≡ ltb i processCount && isBehind place gate number ⌝ }
 {
     i < processCount && is_behind(place, gate, number)

@@ -2,7 +2,7 @@
 // and 16), and the answer to a step that was.
 use construction::Announcement;
 use construction::Answer;
-use construction::Place;
+use construction::Label;
 use construction::Refusal;
 use construction::Task;
 use construction::Verdict;
@@ -27,7 +27,7 @@ pub fn judge_call(
     processCount: u8,
     program: u32,
     programCount: u8,
-    place: Place,
+    place: Label,
 ) -> Answer
     ensures { λ r. ⌜ r ≡ callJudged process processCount program programCount place ⌝ }
 {
@@ -44,7 +44,7 @@ pub fn judge_call(
 }
 
 // An exit request: refusals 5 and 8, or taken.
-pub fn judge_exit(process: u32, processCount: u8, place: Place) -> Answer
+pub fn judge_exit(process: u32, processCount: u8, place: Label) -> Answer
     ensures { λ r. ⌜ r ≡ exitJudged process processCount place ⌝ }
 {
     if !is_below(process, processCount, 8) {
@@ -57,7 +57,7 @@ pub fn judge_exit(process: u32, processCount: u8, place: Place) -> Answer
 }
 
 // A step: refusals 5, 8 and 10, or taken.
-pub fn judge_step(process: u32, processCount: u8, place: Place, steps: u64, limit: u64) -> Answer
+pub fn judge_step(process: u32, processCount: u8, place: Label, steps: u64, limit: u64) -> Answer
     ensures { λ r. ⌜ r ≡ stepJudged process processCount place steps limit ⌝ }
 {
     if !is_below(process, processCount, 8) {

@@ -7,7 +7,7 @@ use mathlib.Core.Logic.{_⊎_, inl, inr}
 use mathlib.Core.List.{List}
 use lib.Dec.{eqb, ltb}
 use borrow.Author.Tests.{ltb-false}
-use Rattle.construction.specs.declared.{Answer.Answer, Announcement.Announcement, Flag.Flag, Place.Place, Refusal.Refusal, Verdict.Verdict}
+use Rattle.construction.specs.declared.{Answer.Answer, Announcement.Announcement, Flag.Flag, Label.Label, Refusal.Refusal, Verdict.Verdict}
 use Rattle.construction.specs.declared.Flag.the-variants.{Done, Active, Exit}
 use Rattle.construction.specs.declared.Refusal.the-variants as refusals
 use Rattle.construction.specs.Answers.{refusedWith, numberOf, isRefused, answerFields}
@@ -81,7 +81,7 @@ returned-by a Done k = refl
 returned-by a Active k = refl
 returned-by a Exit k = refl
 
-answer-by : (place : Place) (a : Announcement) (k : ℕ) → isNineteen (stepAnswer place a k) ≡ false
+answer-by : (place : Label) (a : Announcement) (k : ℕ) → isNineteen (stepAnswer place a k) ≡ false
 answer-by place a k = go (isIdle place)
   where
     go : (t : Bool) → isNineteen (cond t (returned a (a .flag) k) Answer.Run) ≡ false

@@ -3,7 +3,7 @@ use Prim.Native.Nat.{ℕ, _+_, _%_, _≤_, _<_}
 use mathlib.Core.Path.{_≡_, refl}
 use mathlib.Core.List.{List}
 use native.Mathlib.Omega.{arith}
-use Rattle.construction.specs.Types.{Gate, Announcement, Record, Dictionary, Simulation, Place, Access, Task, Card}
+use Rattle.construction.specs.Types.{Gate, Announcement, Record, Dictionary, Simulation, Label, Access, Task, Card}
 use Rattle.construction.specs.Dictionary.{noted}
 use Rattle.construction.specs.Parts.{Local, localAt, withCells, withLocal, contentsOf, textsOf, programOf}
 use Rattle.construction.specs.Machine.{perform, after}
@@ -76,7 +76,7 @@ pub record Acted (c : Card) (w : World) (i : ℕ) (v : Card) : Type 0 where
   pub loc : Loc (frameOf c w) after i local
 
 -- from what it knows at the place l, process i comes by an access to what its next place asks for
-abbrev pub Step : Card → World → ℕ → Place → Access → Type 0
+abbrev pub Step : Card → World → ℕ → Label → Access → Type 0
 Step c w i l a = LocAt l (frameOf c w) (worldOf c w) i (localAt c i) → Acted c (worldOf c w) i (perform a c i .card)
 
 module _ {c : Card} {w : World} {i : ℕ} (B : Before c w i) where

@@ -8,7 +8,7 @@ use native.Mathlib.Nat.{mod-lt}
 use lib.ListN.{getD, set}
 use lib.Seq.{getD-set-same, set-getD}
 use borrow.Author.Tests.{lt-ltb}
-use Rattle.construction.specs.Types.{Process, Gate, Flag, Done, Active, Exit, Yield, Announcement, Place, Idle, P3, P5, P7, P10, C2, C4, P13, P19, P20, P21, P22, F1, AnnouncementAccess, Access, Operation, Card}
+use Rattle.construction.specs.Types.{Process, Gate, Flag, Done, Active, Exit, Yield, Announcement, Label, Idle, P3, P5, P7, P10, C2, C4, P13, P19, P20, P21, P22, F1, AnnouncementAccess, Access, Operation, Card}
 use Rattle.construction.specs.Cells.{openAnnouncement, sameAnnouncement, swapAnnouncement}
 use Rattle.construction.specs.Parts.{announcementAt, recordAt, withAnnouncement, localAt, Local, withLocal}
 use Rattle.construction.specs.Machine.{goTo, byFlag, holderOf, firstChoice, whose, announced, flagged, withdrawn, finished, accessAnnouncement, perform}
@@ -63,18 +63,18 @@ module _ {c : Card} {w : World} {i : ℕ} (B : Before c w i) where
       }
 
   -- process i with the announcement of m read, and at a place
-  abbrev read : ℕ → Place → Local
+  abbrev read : ℕ → Label → Local
   read m l = atAnnouncement (localAt c i) (announcementAt c m) (record { place = l; target = m })
 
   -- the announcement of m is read
   reads :
-      (m : ℕ) (l : Place) → Loc F W i (read m l) →
+      (m : ℕ) (l : Label) → Loc F W i (read m l) →
       Acted c W i (withLocal (withAnnouncement c m (announcementAt c m)) i (read m l))
   reads m l q = keeps B refl (set-getD (c .announcements) m openAnnouncement) refl _ refl (B .tidy) q
 
   -- lines P7, C4 and P22: by the flag that is read
   at-own :
-      (active exit : Place) → Mine (viewOf W i) (localAt c i .operation) → (announcementAt c i .flag ≡ Active → Loc F W i (read i active)) →
+      (active exit : Label) → Mine (viewOf W i) (localAt c i .operation) → (announcementAt c i .flag ≡ Active → Loc F W i (read i active)) →
       (announcementAt c i .flag ≡ Exit → Loc F W i (read i exit)) →
       Acted c W i (perform (Access.Announcement (AnnouncementAccess.ReadOwn F1 active exit)) c i .card)
   unfolding perform accessAnnouncement
@@ -128,15 +128,15 @@ module _ {c : Card} {w : World} {i : ℕ} (B : Before c w i) where
       reads m _ (read-C2 m (first-inside (c .processCount) i (localAt c i .gate) (B .inside)) (announcementAt c m .flag) refl q)
 
   -- process i at a place, and the card after a swap of announcement m
-  abbrev at : Place → Local
+  abbrev at : Label → Local
   at l = atTask (localAt c i) (goTo (localAt c i .task) l)
 
-  abbrev swapped : ℕ → Announcement → Place → Card
+  abbrev swapped : ℕ → Announcement → Label → Card
   swapped m a l = withLocal (withAnnouncement c m a) i (at l)
 
   -- a swap of the announcement of m, from a to b: won where a is the announcement, and else lost
   swaps :
-      (m : ℕ) (a b : Announcement) (l : Place) → (announcementAt c m ≡ a → Acted c W i (swapped m b l)) →
+      (m : ℕ) (a b : Announcement) (l : Label) → (announcementAt c m ≡ a → Acted c W i (swapped m b l)) →
       (sameAnnouncement (announcementAt c m) a ≡ false → Loc F W i (at l)) →
       Acted c W i (swapped m (swapAnnouncement (announcementAt c m) a b .cell) l)
   unfolding swapAnnouncement
@@ -172,7 +172,7 @@ module _ {c : Card} {w : World} {i : ℕ} (B : Before c w i) where
   helped = holderOf (localAt c i .gate .holder)
 
   -- a helper that swaps the flag to done, from the flag f that it expects
-  module _ (l : Place) (f : Flag) (nf : f ≢ Done) (helper : Helper F W i (localAt c i .operation) (localAt c i .gate))
+  module _ (l : Label) (f : Flag) (nf : f ≢ Done) (helper : Helper F W i (localAt c i .operation) (localAt c i .gate))
       (plan : Plan F W (localAt c i .gate) (localAt c i .announcement)) (rd : Ready F W (localAt c i .gate .seq) (localAt c i .simulation .yields)) where
     ends :
         announcementAt c helped ≡ flagged (localAt c i .announcement) f →

@@ -6,7 +6,7 @@ use mathlib.Core.Logic.{_≢_, _⊎_, inl, inr, ⊎-elim}
 use native.Mathlib.Omega.{arith}
 use lib.Dec.{eqb}
 use borrow.Author.Tests.{eqb-true, eqb-false, not-false}
-use Rattle.construction.specs.Types.{Holder, Nobody, Process, Flag, Done, Active, Exit, Announcement, Place, Idle, Card, Answer}
+use Rattle.construction.specs.Types.{Holder, Nobody, Process, Flag, Done, Active, Exit, Announcement, Label, Idle, Card, Answer}
 use Rattle.construction.specs.Cells.{isDone, current, previous}
 use Rattle.construction.specs.Parts.{announcementAt, recordAt, localAt, Local}
 use Rattle.construction.specs.Machine.{holderOf}
@@ -84,7 +84,7 @@ module _ {c : Card} {w : World} (I : CardInvariant c w) (i : ℕ) (lt : i < c .p
       go Exit e = inr (e, rw idle)
 
 module _ (F : Frame) (w : World) (i : ℕ) (t : Local) where
-  quiet-at : {l : Place} → Stage l → isAnnounced l ≡ false → LocAt l F w i t → Quiet w i
+  quiet-at : {l : Label} → Stage l → isAnnounced l ≡ false → LocAt l F w i t → Quiet w i
   quiet-at Stage.idle e q = q .0
   quiet-at Stage.called e q = q .0
   quiet-at Stage.numbered e q = q .0

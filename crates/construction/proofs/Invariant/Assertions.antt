@@ -7,7 +7,7 @@ use mathlib.Core.List.{List}
 use native.Mathlib.Omega.{arith}
 use lib.ListN.{length, getD}
 use lib.Seq.{getD-set-other}
-use Rattle.construction.specs.Types.{Nobody, Process, Gate, Active, Yield, Announcement, Program, Item, Dictionary, Simulation, Place, Idle, P1, P3, P5, P7, P10, C2, C4, P13, P14, P16, H21, H36, P19, P20, P21, P22, F1, F3, Operation}
+use Rattle.construction.specs.Types.{Nobody, Process, Gate, Active, Yield, Announcement, Program, Item, Dictionary, Simulation, Label, Idle, P1, P3, P5, P7, P10, C2, C4, P13, P14, P16, H21, H36, P19, P20, P21, P22, F1, F3, P6, Operation}
 use Rattle.construction.specs.Dictionary.{noItem, noted, valueUnder, altered}
 use Rattle.construction.specs.Machine.{holderOf}
 use Rattle.construction.proofs.Simulating.Dictionaries.{all-map}
@@ -75,7 +75,7 @@ pub record Writing (F : Frame) (w : World) (s : ℕ) (b : List Item) (k : ℕ) :
   pub before : (q : ℕ) → q < k → NoWriteDue w s (getD b q noItem)
 
 -- what process j with local state t knows at each place
-abbrev pub LocAt : Place → Frame → World → ℕ → Local → Type 0
+abbrev pub LocAt : Label → Frame → World → ℕ → Local → Type 0
 LocAt Idle F w j t = Quiet w j × Rested (announcementIn w j) (resultIn w j) (t .announcement)
 LocAt P1 F w j t = Quiet w j × (t .operation ≡ callIn w j)
 LocAt P3 F w j t =
@@ -114,6 +114,8 @@ LocAt P22 F w j t = Mine (viewOf w j) (t .operation) × Gone (viewOf w j) j
 LocAt F1 F w j t = Returning (announcementIn w j) (resultIn w j) (t .announcement)
 LocAt F3 F w j t =
     Returning (announcementIn w j) (resultIn w j) (t .announcement) × (t .gate .holder ≡ Process j) × Last (viewOf w j) j (t .gate .seq)
+-- the place of no process
+LocAt P6 F w j t = ⊥
 
 -- it does not depend on the exit request, on the count of own steps and on the set of the variables noted
 abbrev pub known : Local → Local
@@ -228,7 +230,7 @@ module _ {F : Frame} {i : ℕ} {w v : World} (G : WorldInvariant F w) (M : Move 
     abbrev C : Change j (viewOf w j) (viewOf v j)
     C = change G ne M
 
-    loc-at-stays : (l : Place) (t : Local) → LocAt l F w j t → LocAt l F v j t
+    loc-at-stays : (l : Label) (t : Local) → LocAt l F w j t → LocAt l F v j t
     loc-at-stays Idle t q = (silent-change C (q .0), rested-change (q .0 .free-of) C (q .1))
     loc-at-stays P1 t q = (silent-change C (q .0), q .1 ∙ call-change C)
     loc-at-stays P3 t q =
@@ -268,6 +270,7 @@ module _ {F : Frame} {i : ℕ} {w v : World} (G : WorldInvariant F w) (M : Move 
     loc-at-stays P22 t q = (mine-change C (q .0), gone-change C (q .1))
     loc-at-stays F1 t q = returning-change C q
     loc-at-stays F3 t q = (returning-change C (q .0), q .1, last-change (q .0 .done) C (q .2))
+    loc-at-stays P6 t q = absurd q
 
 pub loc-stays :
     {F : Frame} {i : ℕ} {w v : World} → WorldInvariant F w → Move F i w v → (j : ℕ) → j ≢ i → (t : Local) → Loc F w j t → Loc F v j t

@@ -9,7 +9,7 @@ use native.Mathlib.Decide.{ℕ-discrete}
 use lib.ListN.{length, getD, take, replicate, length-map, List·getD-map}
 use lib.Seq.{getD-set-same, getD-take, length-take-le}
 use borrow.Author.Tests.{not-true, not-false}
-use Rattle.construction.specs.Types.{Gate, Done, Words, Announcement, Record, Place, Idle, Task, Operation, Card, Contents, Program}
+use Rattle.construction.specs.Types.{Gate, Done, Words, Announcement, Record, Label, Idle, Task, Operation, Card, Contents, Program}
 use Rattle.construction.specs.Cells.{openAnnouncement, openRecord, current}
 use Rattle.construction.specs.Instructions.{noProgram}
 use Rattle.construction.specs.Dictionary.{empty}
@@ -185,7 +185,7 @@ pub at-rest :
     {c : Card} {w : World} (I : CardInvariant c w) (i : ℕ) →
     i < c .processCount → isBusy c i ≡ false → LocAt Idle (frameOf c w) w i (localAt c i)
 at-rest {c} {w} I i lt b =
-    subst (λ (l : Place). LocAt l (frameOf c w) w i (known (localAt c i))) (is-idle (stage (localAt c i .task .place)) (not-false _ b)) (I .locs i lt)
+    subst (λ (l : Label). LocAt l (frameOf c w) w i (known (localAt c i))) (is-idle (stage (localAt c i .task .place)) (not-false _ b)) (I .locs i lt)
 
 -- a call that is taken
 abbrev pub called : ℕ → Words → Operation
@@ -300,7 +300,7 @@ module _ (x : Contents) (few : x .processCount ≤ 8) (narrow : x .variableCount
       dictionaries = refl;
       masks = refl;
     };
-    locs = λ j h. subst (λ (l : Place). LocAt l (frameOf (fresh x) (firstWorld x)) (firstWorld x) j (known (localAt (fresh x) j)))
+    locs = λ j h. subst (λ (l : Label). LocAt l (frameOf (fresh x) (firstWorld x)) (firstWorld x) j (known (localAt (fresh x) j)))
         (sym (ap (λ (t : Task). t .place) (getD-replicate-same 8 j idleTask))) (
           record {
             not-active = λ a. active-not-done a (open-flag j);

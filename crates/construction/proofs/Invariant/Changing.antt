@@ -12,7 +12,7 @@ use lib.ListN.{length, getD, length-set}
 use lib.Seq.{getD-set-same, getD-set-other}
 use lib.Dec.{eqb, leb, ltb}
 use borrow.Author.Tests.{ltb-true, ltb-false, leb-true, eq-eqb, ne-eqb, lt-ltb, le-ltb, le-leb}
-use Rattle.construction.specs.Types.{Holder, Nobody, Process, Gate, Yield, Announcement, Program, Item, Dictionary, Simulation, Place, Idle, P1, P3, P5, P7, P10, C2, C4, P13, P14, P16, H21, H36, P19, P20, P21, P22, F1, F3, Operation, Card, Task}
+use Rattle.construction.specs.Types.{Holder, Nobody, Process, Gate, Yield, Announcement, Program, Item, Dictionary, Simulation, Label, Idle, P1, P3, P5, P7, P10, C2, C4, P13, P14, P16, H21, H36, P19, P20, P21, P22, F1, F3, P6, Operation, Card, Task}
 use Rattle.construction.specs.Sequential.{Ending}
 use Rattle.construction.specs.Weight.{weight, cardWeight}
 use Rattle.construction.specs.Dictionary.{noted}
@@ -123,7 +123,7 @@ module _ {F : Frame} {w : World} (x : ℕ → ℕ → Program) (G : WorldInvaria
     writing-same : (b : List Item) (k : ℕ) → Writing F w s b k → Writing K v s b k
     writing-same b k q = record { inside = q .inside; due = q .due; before = λ j h. record { fine = q .before j h .fine } }
 
-  loc-at-same : (l : Place) (j : ℕ) (t : Local) → LocAt l F w j t → LocAt l K v j t
+  loc-at-same : (l : Label) (j : ℕ) (t : Local) → LocAt l F w j t → LocAt l K v j t
   loc-at-same Idle j t q = q
   loc-at-same P1 j t q = q
   loc-at-same P3 j t q = q
@@ -150,6 +150,7 @@ module _ {F : Frame} {w : World} (x : ℕ → ℕ → Program) (G : WorldInvaria
   loc-at-same P22 j t q = q
   loc-at-same F1 j t q = q
   loc-at-same F3 j t q = q
+  loc-at-same P6 j t q = q
 
   pub loc-change : (j : ℕ) (t : Local) → Loc F w j t → Loc K v j t
   loc-change j t q = loc-at-same (t .task .place) j (known t) q

@@ -5,7 +5,7 @@ use mathlib.Core.Bool.{false}
 use mathlib.Core.Logic.{_≢_, inl, inr, ⊎-elim}
 use native.Mathlib.Omega.{arith}
 use native.Mathlib.Decide.{decLt}
-use Rattle.construction.specs.Types.{Holder, Nobody, Process, Gate, Done, Announcement, Place, Idle, P1, P3, P10, C2, P13, P14, P16, P21, P22, F1, F3, GateAccess, Access, Card}
+use Rattle.construction.specs.Types.{Holder, Nobody, Process, Gate, Done, Announcement, Label, Idle, P1, P3, P10, C2, P13, P14, P16, P21, P22, F1, F3, GateAccess, Access, Card}
 use Rattle.construction.specs.Cells.{sameHolder, sameGate, swapGate, released}
 use Rattle.construction.specs.Parts.{announcementAt, withGate, localAt, Local, withLocal}
 use Rattle.construction.specs.Machine.{goTo, byHolder, holderOf, accessGate, perform}
@@ -37,11 +37,11 @@ module _ {c : Card} {w : World} {i : ℕ} (B : Before c w i) where
   F = frameOf c w
 
   -- process i with the gate that it has read
-  abbrev read : Place → Local
+  abbrev read : Label → Local
   read l = atGate (localAt c i) (c .gate) (goTo (localAt c i .task) l)
 
   -- the gate is read
-  reads : (l : Place) → Loc F W i (read l) → Acted c W i (withLocal c i (read l))
+  reads : (l : Label) → Loc F W i (read l) → Acted c W i (withLocal c i (read l))
   reads l q = keeps B refl refl refl _ refl (B .tidy) q
 
   limit-now : Limit (viewOf W i) i (c .gate .seq)
@@ -59,7 +59,7 @@ module _ {c : Card} {w : World} {i : ℕ} (B : Before c w i) where
 
   -- lines P1, P10 and P14: by the holder that is read
   at-read :
-      (held nobody : Place) → ((m : ℕ) → c .gate .holder ≡ Process m → Loc F W i (read held)) →
+      (held nobody : Label) → ((m : ℕ) → c .gate .holder ≡ Process m → Loc F W i (read held)) →
       (c .gate .holder ≡ Nobody → Loc F W i (read nobody)) → Acted c W i (perform (Access.Gate (GateAccess.Read held nobody)) c i .card)
   unfolding perform accessGate
   at-read held nobody a b = reads _ (go (c .gate .holder) refl)
@@ -90,15 +90,15 @@ module _ {c : Card} {w : World} {i : ℕ} (B : Before c w i) where
       (λ e. reads Idle (rests W i q (λ z. true-false _ (rw z (sameHolder-refl (Process i))) e)))
 
   -- process i at a place, and the card after a swap of the gate
-  abbrev at : Place → Local
+  abbrev at : Label → Local
   at l = atTask (localAt c i) (goTo (localAt c i .task) l)
 
-  abbrev swapped : Gate → Place → Card
+  abbrev swapped : Gate → Label → Card
   swapped g l = withLocal (withGate c g) i (at l)
 
   -- a swap from the gate that was read to g: won where that is still the gate, and else lost
   swaps :
-      (g : Gate) (l : Place) → (c .gate ≡ localAt c i .gate → Acted c W i (swapped g l)) →
+      (g : Gate) (l : Label) → (c .gate ≡ localAt c i .gate → Acted c W i (swapped g l)) →
       (sameGate (c .gate) (localAt c i .gate) ≡ false → Loc F W i (at l)) →
       Acted c W i (swapped (swapGate (c .gate) (localAt c i .gate) g .cell) l)
   unfolding swapGate
@@ -108,7 +108,7 @@ module _ {c : Card} {w : World} {i : ℕ} (B : Before c w i) where
 
   -- a swap that released the gate
   frees :
-      (m : ℕ) (l : Place) → m < c .processCount → c .gate .holder ≡ Process m → announcementAt c m .flag ≡ Done →
+      (m : ℕ) (l : Label) → m < c .processCount → c .gate .holder ≡ Process m → announcementAt c m .flag ≡ Done →
       c .gate ≡ localAt c i .gate → Loc F (freeing W m) i (at l) →
       Acted c W i (swapped (released (localAt c i .gate)) l)
   unfolding released

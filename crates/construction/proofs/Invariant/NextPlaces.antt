@@ -4,7 +4,7 @@ use mathlib.Core.Path.{_≡_, refl, sym, subst}
 use lib.ListN.{length, getD, set}
 use lib.Seq.{getD-set-same}
 use lib.Dec.{ltb}
-use Rattle.construction.specs.Types.{Holder, Nobody, Process, Gate, Flag, Done, Active, Exit, Words, Yield, Announcement, Record, Program, Dictionary, Simulation, Pause, Ended, Faulted, Lacks, Simulated, Place, Idle, P1, P3, P5, P7, C4, P13, P14, H21, H36, P19, P21, F3, GateAccess, AnnouncementAccess, Access, Task, Began, Helped, Operation, Card}
+use Rattle.construction.specs.Types.{Holder, Nobody, Process, Gate, Flag, Done, Active, Exit, Words, Yield, Announcement, Record, Program, Dictionary, Simulation, Pause, Ended, Faulted, Lacks, Simulated, Label, Idle, P1, P3, P5, P7, C4, P13, P14, H21, H36, P19, P21, F3, GateAccess, AnnouncementAccess, Access, Task, Began, Helped, Operation, Card}
 use Rattle.construction.specs.Cells.{openAnnouncement, sameHolder}
 use Rattle.construction.specs.Dictionary.{noted, nextWrite, insert, itemOf, empty}
 use Rattle.construction.specs.Parts.{idleTask, announcementAt, localAt}
@@ -15,7 +15,7 @@ use Rattle.construction.specs.Helping.{simulate}
 use Rattle.construction.specs.Instructions.{started}
 
 -- what is so of every place that an access can lead to; no step makes the access None
-module _ (Q : Place → Type 0) where
+module _ (Q : Label → Type 0) where
   abbrev GateLeads : GateAccess → Type 0
   GateLeads (GateAccess.Read held free) = Q held × Q free
   GateLeads GateAccess.ReadLast = Q F3 × Q Idle
@@ -37,11 +37,11 @@ module _ (Q : Place → Type 0) where
   Leads Access.Note = Q P19 × Q H21 × Q H36
   Leads Access.Write = Q H36 × Q P19
 
-  by-holder : (h : Holder) (held free : Place) → Q held → Q free → Q (byHolder h held free)
+  by-holder : (h : Holder) (held free : Label) → Q held → Q free → Q (byHolder h held free)
   by-holder Nobody held free a b = b
   by-holder (Process m) held free a b = a
 
-  by-flag : (f : Flag) (done active exit : Place) → Q done → Q active → Q exit → Q (byFlag f done active exit)
+  by-flag : (f : Flag) (done active exit : Label) → Q done → Q active → Q exit → Q (byFlag f done active exit)
   by-flag Done done active exit a b c = a
   by-flag Active done active exit a b c = b
   by-flag Exit done active exit a b c = c

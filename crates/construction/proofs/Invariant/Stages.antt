@@ -3,7 +3,7 @@ use Prim.Native.Nat.{ℕ, _<_}
 use mathlib.Core.Path.{_≡_, refl, ap}
 use mathlib.Core.Bool.{Bool, true, false, not, false≢true}
 use mathlib.Core.Logic.{_⊎_, inl, inr}
-use Rattle.construction.specs.Types.{Gate, Announcement, Place, Idle, P1, P3, P5, P7, P10, C2, C4, P13, P14, P16, H21, H36, P19, P20, P21, P22, F1, F3, AnnouncementAccess, Access, Card}
+use Rattle.construction.specs.Types.{Gate, Announcement, Label, Idle, P1, P3, P5, P7, P10, C2, C4, P13, P14, P16, H21, H36, P19, P20, P21, P22, F1, F3, P6, AnnouncementAccess, Access, Card}
 use lib.ListN.{length, getD, set}
 use Rattle.construction.specs.Parts.{localAt, noGate}
 use Rattle.construction.specs.Machine.{accessOf, advance, perform, accessGate}
@@ -14,7 +14,7 @@ use lib.Seq.{getD-set-same}
 use Rattle.construction.specs.Changes.{hasRead}
 
 -- the places of an announced operation: after P3 until it returns
-abbrev pub isAnnounced : Place → Bool
+abbrev pub isAnnounced : Label → Bool
 isAnnounced Idle = false
 isAnnounced P1 = false
 isAnnounced P3 = false
@@ -34,6 +34,7 @@ isAnnounced P21 = true
 isAnnounced P22 = true
 isAnnounced F1 = true
 isAnnounced F3 = true
+isAnnounced P6 = true
 
 -- the access of line P3
 abbrev pub announces : AnnouncementAccess → Bool
@@ -52,7 +53,7 @@ isAnnouncing Access.Note = false
 isAnnouncing Access.Write = false
 
 -- an announced operation stays announced until it returns
-abbrev pub Onward : Place → Type 0
+abbrev pub Onward : Label → Type 0
 Onward l = (isAnnounced l ≡ true) ⊎ (l ≡ Idle)
 
 -- its access is not that of P3, and leads onward
@@ -60,13 +61,13 @@ abbrev Proceeds : Access → Type 0
 Proceeds a = (isAnnouncing a ≡ false) × Leads Onward a
 
 -- no operation under way; one that is called; one that has a number; one that is announced
-pub data Stage : Place → Type 0 where
+pub data Stage : Label → Type 0 where
   idle : Stage Idle
   called : Stage P1
   numbered : Stage P3
-  announced : (l : Place) → isAnnounced l ≡ true → isIdle l ≡ false → ((exit : Bool) → Proceeds (accessOf l exit)) → Stage l
+  announced : (l : Label) → isAnnounced l ≡ true → isIdle l ≡ false → ((exit : Bool) → Proceeds (accessOf l exit)) → Stage l
 
-pub stage : (l : Place) → Stage l
+pub stage : (l : Label) → Stage l
 unfolding accessOf
 stage Idle = Stage.idle
 stage P1 = Stage.called
@@ -87,9 +88,10 @@ stage P21 = Stage.announced P21 refl refl (λ _. (refl, inl refl))
 stage P22 = Stage.announced P22 refl refl (λ _. (refl, (inl refl, inl refl, inr refl)))
 stage F1 = Stage.announced F1 refl refl (λ _. (refl, (inl refl, inr refl)))
 stage F3 = Stage.announced F3 refl refl (λ _. (refl, inr refl))
+stage P6 = Stage.announced P6 refl refl (λ _. (refl, inl refl))
 
 -- an announced operation does not announce again, and goes onward
-pub proceeds : {l : Place} → Stage l → isAnnounced l ≡ true → (exit : Bool) → Proceeds (accessOf l exit)
+pub proceeds : {l : Label} → Stage l → isAnnounced l ≡ true → (exit : Bool) → Proceeds (accessOf l exit)
 proceeds Stage.idle t exit = absurd (false≢true t)
 proceeds Stage.called t exit = absurd (false≢true t)
 proceeds Stage.numbered t exit = absurd (false≢true t)
@@ -100,22 +102,19 @@ pub announced-next :
 unfolding advance
 announced-next c i lt e = leads Onward c i lt _ (proceeds (stage (localAt c i .task .place)) e (localAt c i .exit) .1)
 
-pub is-idle : {l : Place} → Stage l → isIdle l ≡ true → l ≡ Idle
-unfolding accessOf
+pub is-idle : {l : Label} → Stage l → isIdle l ≡ true → l ≡ Idle
 is-idle Stage.idle e = refl
 is-idle Stage.called e = absurd (false≢true e)
 is-idle Stage.numbered e = absurd (false≢true e)
 is-idle (Stage.announced l a b f) e = absurd (true-false _ e b)
 
-pub announced-busy : {l : Place} → Stage l → isAnnounced l ≡ true → not (isIdle l) ≡ true
-unfolding accessOf
+pub announced-busy : {l : Label} → Stage l → isAnnounced l ≡ true → not (isIdle l) ≡ true
 announced-busy Stage.idle t = t
 announced-busy Stage.called t = refl
 announced-busy Stage.numbered t = refl
 announced-busy (Stage.announced l a b f) t = ap not b
 
-pub busy-stage : {l : Place} → Stage l → not (isIdle l) ≡ true → (l ≡ P1) ⊎ (l ≡ P3) ⊎ (isAnnounced l ≡ true)
-unfolding accessOf
+pub busy-stage : {l : Label} → Stage l → not (isIdle l) ≡ true → (l ≡ P1) ⊎ (l ≡ P3) ⊎ (isAnnounced l ≡ true)
 busy-stage Stage.idle t = absurd (false≢true t)
 busy-stage Stage.called t = inl refl
 busy-stage Stage.numbered t = inr (inl refl)
@@ -123,7 +122,7 @@ busy-stage (Stage.announced l a b f) t = inr (inr a)
 
 -- a step reads the gate, or its process is past P1 and keeps the gate that it last read
 pub gate-read :
-    (c : Card) (i : ℕ) → i < length (c .gates) → (l : Place) (exit : Bool) → isIdle l ≡ false →
+    (c : Card) (i : ℕ) → i < length (c .gates) → (l : Label) (exit : Bool) → isIdle l ≡ false →
     (localAt (perform (accessOf l exit) c i .card) i .gate ≡ c .gate)
     ⊎ ((hasRead l ≡ true) × (localAt (perform (accessOf l exit) c i .card) i .gate ≡ localAt c i .gate))
 unfolding accessOf perform accessGate
@@ -132,7 +131,7 @@ gate-read c i lt = go
     put : (x : Gate) → getD (set (c .gates) i x) i noGate ≡ x
     put x = getD-set-same (c .gates) i x noGate lt
 
-    go : (l : Place) (exit : Bool) → isIdle l ≡ false →
+    go : (l : Label) (exit : Bool) → isIdle l ≡ false →
         (localAt (perform (accessOf l exit) c i .card) i .gate ≡ c .gate)
         ⊎ ((hasRead l ≡ true) × (localAt (perform (accessOf l exit) c i .card) i .gate ≡ localAt c i .gate))
     go Idle exit n = absurd (true-false _ refl n)
@@ -155,3 +154,4 @@ gate-read c i lt = go
     go P22 exit n = inr (refl, put _)
     go F1 exit n = inl (put _)
     go F3 exit n = inr (refl, put _)
+    go P6 exit n = inr (refl, put _)

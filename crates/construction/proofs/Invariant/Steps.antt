@@ -2,7 +2,7 @@
 use Prim.Native.Nat.{ℕ}
 use mathlib.Core.Path.{_≡_, refl}
 use mathlib.Core.Bool.{Bool, true, false, true≢false}
-use Rattle.construction.specs.Types.{Place, Idle, P1, P3, P5, P7, P10, C2, C4, P13, P14, P16, H21, H36, P19, P20, P21, P22, F1, F3, Card}
+use Rattle.construction.specs.Types.{Label, Idle, P1, P3, P5, P7, P10, C2, C4, P13, P14, P16, H21, H36, P19, P20, P21, P22, F1, F3, P6, Card}
 use Rattle.construction.specs.Machine.{accessOf, perform}
 use Rattle.construction.specs.Requests.{isIdle}
 use Rattle.construction.proofs.Invariant.World.{World, frameOf}
@@ -17,7 +17,7 @@ use Rattle.construction.specs.Changes.{hasRead}
 
 module _ {c : Card} {w : World} {i : ℕ} (B : Before c w i) where
   pub at-place :
-      (l : Place) (exit : Bool) → isIdle l ≡ false → (hasRead l ≡ true → Chosen c w i) → LocAt l (frameOf c w) (worldOf c w) i (known (localAt c i)) →
+      (l : Label) (exit : Bool) → isIdle l ≡ false → (hasRead l ≡ true → Chosen c w i) → LocAt l (frameOf c w) (worldOf c w) i (known (localAt c i)) →
       Acted c (worldOf c w) i (perform (accessOf l exit) c i .card)
   unfolding accessOf
   at-place Idle exit n z q = absurd (true≢false n)
@@ -40,3 +40,4 @@ module _ {c : Card} {w : World} {i : ℕ} (B : Before c w i) where
   at-place P22 exit n z q = at-P22 B q
   at-place F1 exit n z q = at-F1 B q
   at-place F3 exit n z q = at-F3 B q
+  at-place P6 exit n z q = absurd q

@@ -8,10 +8,10 @@ use native.Mathlib.Omega.{arith}
 use lib.ListN.{length, getD}
 use lib.Seq.{getD-set-same, getD-set-other, set-getD}
 use borrow.Author.Tests.{lt-ltb, not-true, ltb-true}
-use Rattle.construction.specs.Types.{Gate, Flag, Done, Active, Exit, Words, Announcement, Place, P1, P3, P5, Task, Card, Refusal, Answer, Answered, Contents, Program, Verdict}
+use Rattle.construction.specs.Types.{Gate, Flag, Done, Active, Exit, Words, Announcement, Label, P1, P3, P5, Task, Card, Refusal, Answer, Answered, Contents, Program, Verdict}
 use Rattle.construction.specs.Cells.{isDone, openAnnouncement}
 use Rattle.construction.specs.Parts.{idleTask, contentsOf, localAt, withLocal, Local, withRevision}
-use Rattle.construction.specs.Machine.{advance, accessOf}
+use Rattle.construction.specs.Machine.{advance}
 use Rattle.construction.specs.Requests.{isVariable, isIdle, isBusy, refused, answerOf, read, invoked, exiting, isProgram}
 use Rattle.construction.specs.History.{Entry, act, Steps, Invocation, History, turned, finishing, withFinish, withFinishes, Return, Event, eventOf, withResponse, withEntry, Observation, observe, Replacement, textAt}
 use Rattle.construction.proofs.Basics.{true-or-false, true-false, cond-false, and-true}
@@ -212,10 +212,10 @@ module _ (o : Card) (m : Observation) (O : Consistent o m) where
         let h : localAt d j .task .place ≡ localAt c j .task .place = ap (λ (t : Local). t .task .place) (S .elsewhere j ne) in
         rw h (refl, refl)
 
-    abbrev own-place : Place
+    abbrev own-place : Label
     own-place = localAt c i .task .place
 
-    abbrev next-place : Place
+    abbrev next-place : Label
     next-place = localAt d i .task .place
 
     -- the operation of i itself
@@ -237,11 +237,10 @@ module _ (o : Card) (m : Observation) (O : Consistent o m) where
 
     -- it was unannounced if it is so still
     unannounced : isBusy d i ≡ true → isAnnounced next-place ≡ false → isAnnounced own-place ≡ false
-    unfolding accessOf
     unannounced busy h =
         ⊎-elim (λ z. ap isAnnounced z)
         (⊎-elim (λ z. ap isAnnounced z)
-        (λ t. ⊎-elim (λ z. absurd (true-false _ z h)) (λ z. absurd (true-false _ busy (ap (λ (l : Place). not (isIdle l)) z)))
+        (λ t. ⊎-elim (λ z. absurd (true-false _ z h)) (λ z. absurd (true-false _ busy (ap (λ (l : Label). not (isIdle l)) z)))
         (announced-next c i (has-task lt) t))) own-stage
 
     -- it was announced before, or is active now
@@ -256,10 +255,9 @@ module _ (o : Card) (m : Observation) (O : Consistent o m) where
 
     -- one that returns was announced
     returning : isBusy d i ≡ false → isAnnounced own-place ≡ true
-    unfolding accessOf
     returning idle =
-        ⊎-elim (λ z. absurd (true-false _ (ap (λ (l : Place). not (isIdle l)) (at-P1 z)) idle))
-        (⊎-elim (λ z. absurd (true-false _ (ap (λ (l : Place). not (isIdle l)) (at-P3 z)) idle)) (λ z. z)) own-stage
+        ⊎-elim (λ z. absurd (true-false _ (ap (λ (l : Label). not (isIdle l)) (at-P1 z)) idle))
+        (⊎-elim (λ z. absurd (true-false _ (ap (λ (l : Label). not (isIdle l)) (at-P3 z)) idle)) (λ z. z)) own-stage
 
     text-moved : contentsOf d ≡ contentsOf o
     text-moved = sym (one-access c i .text .0) ∙ O .text

@@ -19,7 +19,6 @@ use Rattle.construction.proofs.Simulating.Sequential.{Short}
 use Rattle.construction.proofs.Invariant.World.{resultOf}
 use Rattle.construction.proofs.Invariant.Cards.{firstWorld, inv-fresh}
 use Rattle.construction.proofs.Observing.Consistency.{Consistent, entry-kept}
-use Rattle.construction.specs.Machine.{accessOf}
 use Rattle.construction.specs.Linearizability.{times, hasReturned}
 
 -- every list of entries, from the opened card on
@@ -32,7 +31,7 @@ short-code : (x : Contents) → Bounded x → (k : ℕ) → Short (x .variableCo
 short-code x B k = record { ends = omega (arith, B .lines k); light = B .weights k; some = B .some k }
 
 fresh-consistent : (x : Contents) → Bounded x → Consistent (fresh x) (opening (fresh x))
-unfolding fresh times hasReturned accessOf latestFinish textAt
+unfolding fresh times hasReturned latestFinish textAt
 fresh-consistent x B =
     record {
       world = firstWorld x;

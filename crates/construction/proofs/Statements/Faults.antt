@@ -6,7 +6,7 @@ use mathlib.Core.Logic.{_⊎_, inl, inr, ⊎-elim}
 use mathlib.Core.List.{List}
 use lib.ListN.{getD}
 use borrow.Author.Tests.{le-ltb}
-use Rattle.construction.specs.Types.{Done, Active, Announcement, Words, Program, Place, P3, Card, Answered}
+use Rattle.construction.specs.Types.{Done, Active, Announcement, Words, Program, Label, P3, Card, Answered}
 use Rattle.construction.specs.Cells.{openAnnouncement}
 use Rattle.construction.specs.Instructions.{word, load, store, effectOf}
 use Rattle.construction.specs.Parts.{announcementAt, localAt}
@@ -47,7 +47,7 @@ pub unmarked-reading : (t : List ℕ) (es : List Entry) → UnmarkedReading (run
 unmarked-reading t es i l e =
     let O = opened-consistent t es in
     let c = run (opened t .card) es .card in
-    (subst (λ (p : Place). LocAt p (frameOf c (O .world)) (O .world) i (known (localAt c i))) e (O .inv .locs i l)) .2 .core .unmarked
+    (subst (λ (p : Label). LocAt p (frameOf c (O .world)) (O .world) i (known (localAt c i))) e (O .inv .locs i l)) .2 .core .unmarked
 
 -- what a move of process i leaves of an announcement of j that is done
 module _ {F : Frame} {w : World} (G : WorldInvariant F w) (i j : ℕ) (d : announcementIn w j .flag ≡ Done) where

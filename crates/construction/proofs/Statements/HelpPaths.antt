@@ -9,7 +9,7 @@ use lib.Dec.{ltb}
 use lib.ListN.{length, getD, drop, length-take, length-drop, length-replicate}
 use lib.Seq.{getD-take, getD-drop, drop-drop}
 use borrow.Author.Tests.{ltb-true, ltb-false}
-use Rattle.construction.specs.Types.{Announcement, Record, Program, Item, Dictionary, Simulation, Pause, Ended, Faulted, Lacks, Simulated, Place, Idle, P1, P3, P5, P7, P10, C2, C4, P13, P14, P16, H21, H36, P19, P20, P21, P22, F1, F3, Cell, Task, Began, Helped}
+use Rattle.construction.specs.Types.{Announcement, Record, Program, Item, Dictionary, Simulation, Pause, Ended, Faulted, Lacks, Simulated, Label, Idle, P1, P3, P5, P7, P10, C2, C4, P13, P14, P16, H21, H36, P19, P20, P21, P22, F1, F3, P6, Cell, Task, Began, Helped}
 use Rattle.construction.specs.Instructions.{started}
 use Rattle.construction.specs.Dictionary.{noItem, empty, noted, insert, itemOf, altered, unaltered, nextWrite}
 use Rattle.construction.specs.Helping.{simulate}
@@ -79,7 +79,7 @@ pub record Reading (n : ℕ) (program : Program) (v number : ℕ) (a : Announcem
 
 -- what is known of a helping and of what is due there, by the place and the target of a process, the number, the announcement, the simulation and
 -- the dictionary that it keeps, and the program that it runs
-abbrev pub HelpAt : ℕ → Program → Place → ℕ → ℕ → Announcement → Simulation → Dictionary → Help → Due → Type 0
+abbrev pub HelpAt : ℕ → Program → Label → ℕ → ℕ → Announcement → Simulation → Dictionary → Help → Due → Type 0
 HelpAt n program Idle v number a s d h due = Unit
 HelpAt n program P1 v number a s d h due = Unit
 HelpAt n program P3 v number a s d h due = Unit
@@ -100,10 +100,11 @@ HelpAt n program P21 v number a s d h due = Unit
 HelpAt n program P22 v number a s d h due = Unit
 HelpAt n program F1 v number a s d h due = Unit
 HelpAt n program F3 v number a s d h due = Unit
+HelpAt n program P6 v number a s d h due = Unit
 
 -- only at H21 the program is looked at
 module _ (n : ℕ) {x y : Program} (v number : ℕ) (a : Announcement) (s : Simulation) (d : Dictionary) (h : Help) (due : Due) where
-  pub help-same : (p : Place) → (p ≡ H21 → x ≡ y) → HelpAt n x p v number a s d h due → HelpAt n y p v number a s d h due
+  pub help-same : (p : Label) → (p ≡ H21 → x ≡ y) → HelpAt n x p v number a s d h due → HelpAt n y p v number a s d h due
   help-same Idle e q = q
   help-same P1 e q = q
   help-same P3 e q = q
@@ -123,6 +124,7 @@ module _ (n : ℕ) {x y : Program} (v number : ℕ) (a : Announcement) (s : Simu
   help-same P22 e q = q
   help-same F1 e q = q
   help-same F3 e q = q
+  help-same P6 e q = q
 
 module _ (n : ℕ) (program : Program) (number : ℕ) (a : Announcement) where
   abbrev OnTask : Task → Simulation → Dictionary → Help → Due → Type 0

@@ -5,7 +5,7 @@ use mathlib.Core.Bool.{false}
 use mathlib.Core.List.{List, [], _∷_}
 use native.Mathlib.Omega.{arith}
 use lib.ListN.{length, getD}
-use Rattle.construction.specs.Types.{Item, Place, Program}
+use Rattle.construction.specs.Types.{Item, Label, Program}
 use Rattle.construction.specs.Dictionary.{noItem, noted}
 use Rattle.construction.specs.Parts.{localAt}
 use Rattle.construction.specs.Opening.{opened}
@@ -49,8 +49,8 @@ limits t es =
       items = λ i. I .tidy i .short;
       distinct = λ i. distinct (noted (localAt c i .dictionary)) (I .tidy i .keyed);
       texts = I .texts .held;
-      noting = λ i l e. subst (λ (p : Program). localAt c i .dictionary .length < weight p) (sym (I .texts .read i l (ap (λ (p : Place). hasRead p) e) _ _ (omega arith)))
-          ((subst (λ (p : Place). LocAt p (frameOf c (O .world)) (O .world) i (known (localAt c i))) e (I .locs i l)) .2 .fewer);
-      writing = λ i l e. subst (λ (p : Program). localAt c i .dictionary .length ≤ weight p) (sym (I .texts .read i l (ap (λ (p : Place). hasRead p) e) _ _ (omega arith)))
-          ((subst (λ (p : Place). LocAt p (frameOf c (O .world)) (O .world) i (known (localAt c i))) e (I .locs i l)) .2 .room .few);
+      noting = λ i l e. subst (λ (p : Program). localAt c i .dictionary .length < weight p) (sym (I .texts .read i l (ap (λ (p : Label). hasRead p) e) _ _ (omega arith)))
+          ((subst (λ (p : Label). LocAt p (frameOf c (O .world)) (O .world) i (known (localAt c i))) e (I .locs i l)) .2 .fewer);
+      writing = λ i l e. subst (λ (p : Program). localAt c i .dictionary .length ≤ weight p) (sym (I .texts .read i l (ap (λ (p : Label). hasRead p) e) _ _ (omega arith)))
+          ((subst (λ (p : Label). LocAt p (frameOf c (O .world)) (O .world) i (known (localAt c i))) e (I .locs i l)) .2 .room .few);
     }

@@ -10,7 +10,7 @@ use lib.Dec.{ltb}
 use lib.ListN.{length, getD, set}
 use lib.Seq.{getD-set-same, getD-set-other}
 use borrow.Author.Tests.{le-ltb}
-use Rattle.construction.specs.Types.{Gate, Words, Announcement, Record, Program, Dictionary, Simulation, Place, P5, H21, Access, Task, Helped, Card, Answered, Label}
+use Rattle.construction.specs.Types.{Gate, Words, Announcement, Record, Program, Dictionary, Simulation, Label, P5, H21, Access, Task, Helped, Card, Answered}
 use Rattle.construction.specs.Dictionary.{empty, noted, find, has, itemOf}
 use Rattle.construction.specs.Marks.{Marks}
 use Rattle.construction.specs.Parts.{Local, localAt, announcementAt, textsOf, programOf}
@@ -76,7 +76,7 @@ exit-notes-none false = elim [ ]
 
 module _ {c : Card} {w : World} (I : CardInvariant c w) (j : ℕ) where
   noting-at :
-      (l : Place) (exit : Bool) → LocAt l (frameOf c w) w j (known (localAt c j)) → Notes (accessOf l exit) →
+      (l : Label) (exit : Bool) → LocAt l (frameOf c w) w j (known (localAt c j)) → Notes (accessOf l exit) →
       Fits (localAt c j .task .target) (localAt c j .dictionary)
   unfolding accessOf
   noting-at P5 exit q n = absurd (exit-notes-none exit n)
@@ -151,9 +151,10 @@ noting-told Label.P19 word FromH21ToP20.at-P19 = refl
 noting-told Label.P20 word FromH21ToP20.at-P20 = refl
 
 silent-told : (l : Label) (word : ℕ) → (FromH21ToP20 l → ⊥) → notedAt l word ≡ 0
-silent-told Label.None word other = refl
+silent-told Label.Idle word other = refl
 silent-told Label.P1 word other = refl
 silent-told Label.P3 word other = refl
+silent-told Label.P5 word other = refl
 silent-told Label.P6 word other = refl
 silent-told Label.P7 word other = refl
 silent-told Label.P10 word other = refl

@@ -8,7 +8,7 @@ use native.Mathlib.Omega.{arith}
 use lib.Dec.{eqb, ltb}
 use lib.ListN.{length}
 use borrow.Author.Tests.{le-ltb, ltb-true, ltb-false, leb-true, leb-false, not-true, not-false, eqb-true, eqb-false}
-use Rattle.construction.specs.Types.{Holder, Nobody, Process, Gate, Flag, Done, Active, Exit, Words, Announcement, Record, Program, Dictionary, Simulation, Pause, Ended, Faulted, Lacks, Place, Idle, P1, P3, P5, P7, P10, C2, C4, P13, P14, P16, H21, H36, P19, P20, P21, P22, F1, F3, GateAccess, Access, Cell, Swap, Task, Began, Helped, Card, Refusal, Answer, Answered, Label, Contents}
+use Rattle.construction.specs.Types.{Holder, Nobody, Process, Gate, Flag, Done, Active, Exit, Words, Announcement, Record, Program, Dictionary, Simulation, Pause, Ended, Faulted, Lacks, Label, Idle, P1, P3, P5, P7, P10, C2, C4, P13, P14, P16, H21, H36, P19, P20, P21, P22, F1, F3, P6, GateAccess, Access, Cell, Swap, Task, Began, Helped, Card, Refusal, Answer, Answered, Contents}
 use Rattle.construction.specs.Cells.{isDone, sameHolder, swapGate, swapAnnouncement, swapRecord, released}
 use Rattle.construction.specs.Instructions.{started}
 use Rattle.construction.specs.Dictionary.{empty, noted, insert, itemOf, nextWrite}
@@ -43,14 +43,14 @@ settled a = eventOf (returned a (a .flag) 0)
 
 -- an access with this label, swap and finding leads on to a place, whatever wish its process has there; or the operation returns
 module _ (i number : ℕ) (label : Label) (s : Swap) (f : Found) (last : Announcement) where
-  abbrev Toward : Place → Type 0
+  abbrev Toward : Label → Type 0
   Toward l = (wish : Bool) → Edge i number label s f wish (labelOf l wish)
 
-  abbrev OntoBy : Bool → Place → Type 0
+  abbrev OntoBy : Bool → Label → Type 0
   OntoBy true l = End i label s f (settled last)
   OntoBy false l = Toward l
 
-  abbrev Onto : Place → Type 0
+  abbrev Onto : Label → Type 0
   Onto l = OntoBy (isIdle l) l
 
 -- the test of line P17
@@ -64,13 +64,13 @@ helps-false a number e =
     ⊎-elim (λ h. inl (isDone-true _ (not-false _ h))) (λ h. inr (leb-false _ _ (h .1))) (and-false (not (isDone (a .flag))) _ e)
 
 -- the choices that the lines make, with what was asked
-module _ (Q : Place → Type 0) where
-  on-holder : (h : Holder) (held free : Place) → (h ≢ Nobody → Q held) → (h ≡ Nobody → Q free) → Q (byHolder h held free)
+module _ (Q : Label → Type 0) where
+  on-holder : (h : Holder) (held free : Label) → (h ≢ Nobody → Q held) → (h ≡ Nobody → Q free) → Q (byHolder h held free)
   on-holder Nobody held free a b = b refl
   on-holder (Process m) held free a b = a (λ e. nobody-process e refl)
 
   on-flag :
-      (f : Flag) (done active exit : Place) → (f ≡ Done → Q done) → (f ≡ Active → Q active) → (f ≡ Exit → Q exit) →
+      (f : Flag) (done active exit : Label) → (f ≡ Done → Q done) → (f ≡ Active → Q active) → (f ≡ Exit → Q exit) →
       Q (byFlag f done active exit)
   on-flag Done done active exit a b c = a refl
   on-flag Active done active exit a b c = b refl
@@ -138,13 +138,13 @@ as-before Swap.Won n = refl
 
 -- what a process knows of the announcement last read where it is about to return, and of its dictionary and the program that it runs where it reads one
 -- record more
-abbrev Returning : Place → Flag → Type 0
+abbrev Returning : Label → Flag → Type 0
 Returning p f = (p ≡ F1) ⊎ (p ≡ F3) → f ≡ Done
 
 abbrev runs : Texts → Local → Program
 runs x l = programOf x (l .announcement .program) (l .gate .seq)
 
-abbrev Roomy : ℕ → Texts → Place → Local → Type 0
+abbrev Roomy : ℕ → Texts → Label → Local → Type 0
 Roomy n x p l = p ≡ H21 → (l .dictionary .length < 32) × Short n (runs x l)
 
 -- the top of the loop is no part of a helping
@@ -165,10 +165,10 @@ module _ (c : Card) (i : ℕ) (Z : Sizes c) (lt : i < 8) where
   abbrev own : Local
   own = localAt c i
 
-  abbrev found : Place → Bool → Found
+  abbrev found : Label → Bool → Found
   found p exit = foundIn c (cellOf (accessOf p exit) (contentsOf c) i own)
 
-  abbrev Lands : Place → Bool → Local → Type 0
+  abbrev Lands : Label → Bool → Local → Type 0
   Lands p exit l =
       Onto i (l .gate .seq) (labelOf p exit) (perform (accessOf p exit) c i .swap) (found p exit) (l .announcement) (l .task .place)
 
@@ -202,10 +202,10 @@ module _ (c : Card) (i : ℕ) (Z : Sizes c) (lt : i < 8) where
   left-exit Access.Write = refl
 
   -- where a read of the gate leads to, and one of the announcement of process m
-  abbrev GateRead : Label → Place → Type 0
+  abbrev GateRead : Label → Label → Type 0
   GateRead label = Onto i (c .gate .seq) label Swap.None (Found.gate (c .gate)) (own .announcement)
 
-  abbrev AnnouncementRead : Label → ℕ → Place → Type 0
+  abbrev AnnouncementRead : Label → ℕ → Label → Type 0
   AnnouncementRead label m =
       Onto i (own .gate .seq) label Swap.None (Found.announcement (announcementAt c m)) (announcementAt c m)
 
@@ -213,7 +213,7 @@ module _ (c : Card) (i : ℕ) (Z : Sizes c) (lt : i < 8) where
   abbrev Settles : Label → Swap → Found → Announcement → Flag → Type 0
   Settles label s f a flag = End i label s f (eventOf (returned a flag 0))
 
-  lands : (p : Place) (exit : Bool) → isIdle p ≡ false → Returning p (own .announcement .flag) → Lands p exit (leaves (accessOf p exit))
+  lands : (p : Label) (exit : Bool) → isIdle p ≡ false → Returning p (own .announcement .flag) → Lands p exit (leaves (accessOf p exit))
   unfolding accessOf perform accessGate accessAnnouncement writing
   lands Idle exit n q = absurd (true≢false n)
   lands P1 exit n q =
@@ -263,7 +263,7 @@ module _ (c : Card) (i : ℕ) (Z : Sizes c) (lt : i < 8) where
       top e true = Edge.P22-P6 e
       top e false = Edge.P22-P10 e
   lands F1 exit n q =
-      (on-test (GateRead Label.F1) (sameHolder (c .gate .holder) (Process i)) (λ e _. Edge.F1-F3 (sameHolder-true _ _ e))
+      (on-test (GateRead Label.F1) (sameHolder (c .gate .holder) (Process i)) {x = F3} {y = Idle} (λ e _. Edge.F1-F3 (sameHolder-true _ _ e))
       (λ e. subst (Settles Label.F1 Swap.None (Found.gate (c .gate)) (own .announcement)) (sym (q (inl refl))) (End.F1 (not-held e))))
     where
       not-held : sameHolder (c .gate .holder) (Process i) ≡ false → c .gate .holder ≢ Process i
@@ -271,6 +271,7 @@ module _ (c : Card) (i : ℕ) (Z : Sizes c) (lt : i < 8) where
   lands F3 exit n q =
       subst (Settles Label.F3 (perform (accessOf F3 exit) c i .swap) (Found.gate (c .gate)) (own .announcement)) (sym (q (inr refl)))
       (End.F3 (gate-swapped (c .gate) (own .gate) (released (own .gate))))
+  lands P6 exit n q = λ _. Edge.P6-P7 (announcement-swapped _ _ _)
 
   -- the gate number last read: that of the gate where the access reads it, else the one read before
   abbrev number-after : Access → ℕ → ℕ
@@ -291,16 +292,16 @@ module _ (c : Card) (i : ℕ) (Z : Sizes c) (lt : i < 8) where
   number-is Access.Write n h = sym (h (λ e. clash (cc))) ∙ sym (as-before (perform Access.Write c i .swap) n)
 
   -- the helping, and what is due there, once the access is made
-  abbrev help-after : Place → Bool → Help → ℕ → Help
+  abbrev help-after : Label → Bool → Help → ℕ → Help
   help-after p exit h number =
       helpAfter (found p exit) (perform (accessOf p exit) c i .swap) number (cellOf (accessOf p exit) (contentsOf c) i own)
       (helpOf c number (found p exit)) h
 
-  abbrev due-after : Place → Bool → Help → Due → ℕ → Due
+  abbrev due-after : Label → Bool → Help → Due → ℕ → Due
   due-after p exit h due number = dueAfter (found p exit) (perform (accessOf p exit) c i .swap) number (dueOf number (help-after p exit h number)) due
 
   -- as it is known at a place, of the own state that an access leaves
-  abbrev HelpNext : Place → Bool → Help → Due → Place → Type 0
+  abbrev HelpNext : Label → Bool → Help → Due → Label → Type 0
   HelpNext p exit h due next =
       let l = leaves (accessOf p exit) in
       HelpAt (c .variableCount) (runs (textsOf c) l) next (l .task .target) (l .gate .seq) (l .announcement) (l .simulation) (l .dictionary)
@@ -309,7 +310,7 @@ module _ (c : Card) (i : ℕ) (Z : Sizes c) (lt : i < 8) where
   module _ (h : Help) (due : Due) where
     -- the access that is made was due
     was-due :
-        (p : Place) (exit : Bool) →
+        (p : Label) (exit : Bool) →
         HelpAt (c .variableCount) (runs (textsOf c) own) p (own .task .target) (own .gate .seq) (own .announcement) (own .simulation) (own .dictionary) h due →
         FromH21ToP19 (labelOf p exit) → Comes due (labelOf p exit) (cellOf (accessOf p exit) (contentsOf c) i own)
     unfolding accessOf writing
@@ -320,7 +321,7 @@ module _ (c : Card) (i : ℕ) (Z : Sizes c) (lt : i < 8) where
 
     -- what is due next is what the place it leads to does
     stays-due :
-        (p : Place) (exit : Bool) → isIdle p ≡ false → Roomy (c .variableCount) (textsOf c) p own →
+        (p : Label) (exit : Bool) → isIdle p ≡ false → Roomy (c .variableCount) (textsOf c) p own →
         HelpAt (c .variableCount) (runs (textsOf c) own) p (own .task .target) (own .gate .seq) (own .announcement) (own .simulation) (own .dictionary) h due →
         HelpNext p exit h due (leaves (accessOf p exit) .task .place)
     unfolding accessOf perform accessGate accessAnnouncement writing
@@ -351,13 +352,14 @@ module _ (c : Card) (i : ℕ) (Z : Sizes c) (lt : i < 8) where
     stays-due P22 exit n room q = on-flag (HelpNext P22 exit h due) (announcementAt c i .flag) F1 P5 Idle (λ _. tt) (λ _. tt) (λ _. tt)
     stays-due F1 exit n room q = on-test (HelpNext F1 exit h due) (sameHolder (c .gate .holder) (Process i)) (λ _. tt) (λ _. tt)
     stays-due F3 exit n room q = tt
+    stays-due P6 exit n room q = tt
 
 -- the edges to a place that is not idle, and the end at one that is
 module _ (i number : ℕ) (label : Label) (s : Swap) (f : Found) (last : Announcement) where
-  toward : (p : Place) → isIdle p ≡ false → Onto i number label s f last p → Toward i number label s f last p
+  toward : (p : Label) → isIdle p ≡ false → Onto i number label s f last p → Toward i number label s f last p
   toward p e q = subst (λ (b : Bool). OntoBy i number label s f last b p) e q
 
-  at-end : (p : Place) → isIdle p ≡ true → Onto i number label s f last p → End i label s f (settled last)
+  at-end : (p : Label) → isIdle p ≡ true → Onto i number label s f last p → End i label s f (settled last)
   at-end p e q = subst (λ (b : Bool). OntoBy i number label s f last b p) e q
 
 -- the answer of a step, by the place and the flag that it leaves
@@ -386,7 +388,7 @@ record Stands (t : Contents) (x : Texts) (i : ℕ) (l : Local) (n : Noticed) : T
 -- one access more, at which a wish had been taken or not
 module _ (c : Card) (i : ℕ) (Z : Sizes c) (lt : i < 8) (busy : isIdle (localAt c i .task .place) ≡ false) (known : Returning (localAt c i .task .place) (localAt c i .announcement .flag))
     (room : Roomy (c .variableCount) (textsOf c) (localAt c i .task .place) (localAt c i)) (taken : Bool) (ms : List Made) where
-  abbrev place : Place
+  abbrev place : Label
   place = localAt c i .task .place
 
   abbrev wish : Bool
@@ -408,7 +410,7 @@ module _ (c : Card) (i : ℕ) (Z : Sizes c) (lt : i < 8) (busy : isIdle (localAt
   numbered h =
       ap (λ (l : Local). l .gate .seq) next-is
       ∙ number-is c i Z lt (accessOf place wish) (lastNumber ms)
-      (λ other. ⊎-elim (λ (e : place ≡ P1). absurd (other (ap (λ (p : Place). accessOf p wish) e))) (λ e. e) h)
+      (λ other. ⊎-elim (λ (e : place ≡ P1). absurd (other (ap (λ (p : Label). accessOf p wish) e))) (λ e. e) h)
 
   whole : Whole i (made c i taken ∷ ms)
   unfolding made reportOf swapOf
@@ -448,8 +450,8 @@ module _ (c : Card) (i : ℕ) (Z : Sizes c) (lt : i < 8) (busy : isIdle (localAt
   wish-stays : next .exit ≡ wish
   wish-stays = ap (λ (l : Local). l .exit) next-is ∙ left-exit c i Z lt (accessOf place wish)
 
-first-label : {p : Place} (exit : Bool) → p ≡ P1 → labelOf p exit ≡ Label.P1
-first-label exit e = ap (λ (p : Place). labelOf p exit) e
+first-label : {p : Label} (exit : Bool) → p ≡ P1 → labelOf p exit ≡ Label.P1
+first-label exit e = ap (λ (p : Label). labelOf p exit) e
 
 -- the path with it
 module _ (c : Card) (i : ℕ) (Z : Sizes c) (lt : i < 8) (busy : isIdle (localAt c i .task .place) ≡ false) (known : Returning (localAt c i .task .place) (localAt c i .announcement .flag))
@@ -494,18 +496,18 @@ module _ (c : Card) (i : ℕ) (Z : Sizes c) (lt : i < 8) (busy : isIdle (localAt
       }
 
 -- what a process knows at a place, of the announcement last read
-returning : (p : Place) (F : Frame) (w : World) (i : ℕ) (l : Local) → LocAt p F w i l → Returning p (l .announcement .flag)
+returning : (p : Label) (F : Frame) (w : World) (i : ℕ) (l : Local) → LocAt p F w i l → Returning p (l .announcement .flag)
 returning p F w i l q =
     ⊎-elim (λ (e : p ≡ F1). let k = at F1 e in ap (λ (a : Announcement). a .flag) (sym (k .same)) ∙ k .done)
     (λ (e : p ≡ F3). let k = at F3 e .0 in ap (λ (a : Announcement). a .flag) (sym (k .same)) ∙ k .done)
   where
-    at : (x : Place) → p ≡ x → LocAt x F w i l
-    at x e = subst (λ (y : Place). LocAt y F w i l) e q
+    at : (x : Label) → p ≡ x → LocAt x F w i l
+    at x e = subst (λ (y : Label). LocAt y F w i l) e q
 
 -- what a helper knows that reads one record more, ..
 module _ {c : Card} {w : World} (I : CardInvariant c w) (i : ℕ) (lt : i < c .processCount) (e : localAt c i .task .place ≡ H21) where
   reading : LocAt H21 (frameOf c w) w i (known (localAt c i))
-  reading = subst (λ (x : Place). LocAt x (frameOf c w) w i (known (localAt c i))) e (I .locs i lt)
+  reading = subst (λ (x : Label). LocAt x (frameOf c w) w i (known (localAt c i))) e (I .locs i lt)
 
   has-read : hasRead (localAt c i .task .place) ≡ true
   has-read = ap hasRead e
@@ -648,7 +650,7 @@ all-stand o m i n (e ∷ es) O S =
 opened-stands :
     (t : List ℕ) (es : List Entry) (i : ℕ) → let d = run (opened t .card) es .card in
     Stands (contentsOf d) (textsOf d) i (localAt d i) (noticedFrom (opened t .card) i unnoticed es)
-unfolding opened fresh observeAll accessOf
+unfolding opened fresh observeAll
 opened-stands t es i =
     all-stand (opened t .card) (opening (opened t .card)) i unnoticed es (opened-consistent t [])
     (record {

@@ -6,7 +6,7 @@ use mathlib.Core.Logic.{_≢_}
 use mathlib.Core.List.{List}
 use lib.ListN.{getD, set}
 use lib.Seq.{set-getD}
-use Rattle.construction.specs.Types.{Gate, Announcement, Record, Place, Idle, P1, P3, P5, P7, P10, C2, C4, P13, P14, P16, H21, H36, P19, P20, P21, P22, F1, F3, Card}
+use Rattle.construction.specs.Types.{Gate, Announcement, Record, Label, Idle, P1, P3, P5, P7, P10, C2, C4, P13, P14, P16, H21, H36, P19, P20, P21, P22, F1, F3, P6, Card}
 use Rattle.construction.specs.Cells.{sameGate, sameAnnouncement, sameRecord, swapGate, swapAnnouncement, swapRecord, openAnnouncement, openRecord}
 use Rattle.construction.specs.Parts.{localAt, withSteps}
 use Rattle.construction.specs.Machine.{accessOf, accessGate, accessAnnouncement, outcome, writing, perform, advance, swapOf}
@@ -57,7 +57,7 @@ module _ (c : Card) (i : ℕ) where
 
   -- the access of each place, whatever count of steps follows
   told-at :
-      (p : Place) (exit : Bool) (k : ℕ) → let x = perform (accessOf p exit) c i in
+      (p : Label) (exit : Bool) (k : ℕ) → let x = perform (accessOf p exit) c i in
       SwapAt (labelOf p exit) i (localAt c i) (x .swap) c (withSteps (x .card) k)
   unfolding accessOf perform accessGate accessAnnouncement writing
   told-at Idle exit k = refl
@@ -80,6 +80,7 @@ module _ (c : Card) (i : ℕ) where
   told-at P22 exit k = refl
   told-at F1 exit k = refl
   told-at F3 exit k = gate-told _ _
+  told-at P6 exit k = announcement-told i _ _
 
 pub tells-swap : (c : Card) (i : ℕ) → TellsSwap c i
 unfolding reportOf advance swapOf

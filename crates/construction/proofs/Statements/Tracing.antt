@@ -9,7 +9,7 @@ use Rattle.construction.specs.Machine.{advance}
 use Rattle.construction.specs.Requests.{isProcess, isBusy, isIdle, returned, answerOf, step}
 use Rattle.construction.specs.Answers.{isRefused}
 use Rattle.construction.specs.Tracing.{reportOf, noReport, trace, untold}
-use Rattle.construction.specs.Reports.{nameOf, AllSpelt, labels}
+use Rattle.construction.specs.Reports.{AllSpelt, labels}
 use Rattle.construction.proofs.Basics.{on-test, cond-true, cond-false}
 use Rattle.construction.proofs.Statements.Refusals.{step-accepted}
 
@@ -44,5 +44,5 @@ trace-accepted c i p b l =
 
 -- the eighteen labels are printed as the paper writes them
 pub labels-spelt : AllSpelt labels
-unfolding nameOf decimal decimals
+unfolding decimal decimals
 labels-spelt = (refl, (refl, (refl, (refl, (refl, (refl, (refl, (refl, (refl, (refl, (refl, (refl, (refl, (refl, (refl, (refl, (refl, (refl, tt))))))))))))))))))

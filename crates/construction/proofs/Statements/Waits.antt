@@ -8,7 +8,7 @@ use native.Mathlib.Decide.{decLt}
 use lib.ListN.{getD, set}
 use lib.Seq.{getD-set-same}
 use borrow.Author.Tests.{lt-ltb, le-ltb, not-true}
-use Rattle.construction.specs.Types.{Flag, Done, Active, Exit, Announcement, Place, Access, Card, Refusal, LimitReached, Answer, Answered, Contents}
+use Rattle.construction.specs.Types.{Flag, Done, Active, Exit, Announcement, Label, Access, Card, Refusal, LimitReached, Answer, Answered, Contents}
 use Rattle.construction.specs.Parts.{localAt, contentsOf, announcementAt}
 use Rattle.construction.specs.Machine.{accessIn, perform, advance}
 use Rattle.construction.specs.Requests.{isProcess, isIdle, isBusy, returned, step}
@@ -96,7 +96,7 @@ module _ (o : Card) (m : Observation) (O : Consistent o m) (W : AllWait (content
           let X : Waits (contentsOf c) (advance c i) i = wait-step (O .inv) (here o m O W) l b h i l in
           let q : localAt (advance c i) i .steps ≤ allowed (contentsOf c) (localAt (advance c i) i) =
           subst
-          (λ (p : Place).
+          (λ (p : Label).
           CourseAt p (c .processCount) (cardWeight (contentsOf c)) (advance c i .gate) (announcementAt (advance c i) i) (X .tally) (localAt (advance c i) i))
           (is-idle (stage (localAt (advance c i) i .task .place)) e) (X .course) in
           subst (λ (x : Contents). localAt (advance c i) i .steps ≤ allowed x (localAt c i)) (O .text)

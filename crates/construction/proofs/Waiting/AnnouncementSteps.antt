@@ -7,7 +7,7 @@ use mathlib.Core.List.{List}
 use native.Mathlib.Omega.{arith}
 use lib.ListN.{getD, set}
 use lib.Seq.{getD-set-same, set-getD}
-use Rattle.construction.specs.Types.{Flag, Done, Active, Exit, Announcement, Place, Idle, P3, P5, P7, P10, C2, C4, P13, P19, P20, P21, P22, F1, AnnouncementAccess, Access, Card}
+use Rattle.construction.specs.Types.{Flag, Done, Active, Exit, Announcement, Label, Idle, P3, P5, P7, P10, C2, C4, P13, P19, P20, P21, P22, F1, AnnouncementAccess, Access, Card}
 use Rattle.construction.specs.Cells.{openAnnouncement, sameAnnouncement, swapAnnouncement}
 use Rattle.construction.specs.Parts.{Local, localAt, contentsOf, announcementAt, withAnnouncement, withLocal}
 use Rattle.construction.specs.Machine.{goTo, byFlag, whose, announced, withdrawn, accessAnnouncement, perform}
@@ -36,7 +36,7 @@ module _ {c : Card} {w : World} {i : ℕ} (B : Before c w i) (small : localAt c 
   heavy = cardWeight (contentsOf c)
 
   -- the course at a place with the own state t, while the announcement of i is a
-  abbrev At : Place → Announcement → Tally → Local → Type 0
+  abbrev At : Label → Announcement → Tally → Local → Type 0
   At l a y t = CourseAt l p heavy (c .gate) a y t
 
   -- the announcement of i after it was set
@@ -58,11 +58,11 @@ module _ {c : Card} {w : World} {i : ℕ} (B : Before c w i) (small : localAt c 
       ))
 
   -- process i with the announcement of m read, and at a place
-  abbrev read : ℕ → Place → Local
+  abbrev read : ℕ → Label → Local
   read m l = atAnnouncement (localAt c i) (announcementAt c m) (record { place = l; target = m })
 
   reads :
-      (m : ℕ) (l : Place) (y : Tally) → At l (announcementAt c i) y (read m l) →
+      (m : ℕ) (l : Label) (y : Tally) → At l (announcementAt c i) y (read m l) →
       CourseIn c i y (withLocal (withAnnouncement c m (announcementAt c m)) i (read m l))
   reads m l y q =
       put-course B (c .gate) (set (c .announcements) m (announcementAt c m)) (c .records) (read m l) y
@@ -71,7 +71,7 @@ module _ {c : Card} {w : World} {i : ℕ} (B : Before c w i) (small : localAt c 
 
   -- lines P7 and C4: by the flag that is read
   at-own :
-      (next : Place) → At F1 (announcementAt c i) x (read i F1) → At next (announcementAt c i) x (read i next) →
+      (next : Label) → At F1 (announcementAt c i) x (read i F1) → At next (announcementAt c i) x (read i next) →
       Went c i x (Access.Announcement (AnnouncementAccess.ReadOwn F1 next next))
   unfolding perform accessAnnouncement
   at-own next d a = Went.went x refl refl refl (reads i _ x (go (announcementAt c i .flag)))
@@ -126,10 +126,10 @@ module _ {c : Card} {w : World} {i : ℕ} (B : Before c w i) (small : localAt c 
       go Exit = one-more small q _ 3 (omega arith) (omega arith) _ _ _ _ _ _
 
   -- process i at a place, and its course after a swap of the announcement of m
-  abbrev at : Place → Local
+  abbrev at : Label → Local
   at l = atTask (localAt c i) (goTo (localAt c i .task) l)
 
-  abbrev swapped : ℕ → Announcement → Place → Card
+  abbrev swapped : ℕ → Announcement → Label → Card
   swapped m a l = withLocal (withAnnouncement c m a) i (at l)
 
   pub at-P6 : localAt c i .exit ≡ true → Now c i x P5 → Went c i x (Access.Announcement AnnouncementAccess.Withdraw)
@@ -162,7 +162,7 @@ module _ {c : Card} {w : World} {i : ℕ} (B : Before c w i) (small : localAt c 
 
   -- lines P19 and P20
   at-finish :
-      (f : Flag) (l : Place) → ((a : Announcement) → At l a x (at l)) → Went c i x (Access.Announcement (AnnouncementAccess.Finish f l))
+      (f : Flag) (l : Label) → ((a : Announcement) → At l a x (at l)) → Went c i x (Access.Announcement (AnnouncementAccess.Finish f l))
   unfolding perform accessAnnouncement
   at-finish f l q =
       let s : List Announcement = perform (Access.Announcement (AnnouncementAccess.Finish f l)) c i .card .announcements in

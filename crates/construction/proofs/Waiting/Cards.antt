@@ -8,7 +8,7 @@ use native.Mathlib.Omega.{arith}
 use native.Mathlib.Decide.{ℕ-discrete}
 use lib.ListN.{getD}
 use borrow.Author.Tests.{not-true}
-use Rattle.construction.specs.Types.{Gate, Active, Words, Announcement, Place, Task, Card, Contents, Program}
+use Rattle.construction.specs.Types.{Gate, Active, Words, Announcement, Label, Task, Card, Contents, Program}
 use Rattle.construction.specs.Cells.{openAnnouncement}
 use Rattle.construction.specs.Parts.{idleTask, Local, localAt, contentsOf, announcementAt, withLocal, withRevision}
 use Rattle.construction.specs.Machine.{accessIn, advance}
@@ -218,7 +218,7 @@ wait-fresh x j lj = record {
   due = λ e. absurd (active-not-done e (ap (λ (a : Announcement). a .flag) (getD-replicate-same 8 j openAnnouncement)));
   course =
       subst
-      (λ (l : Place).
+      (λ (l : Label).
       CourseAt l (x .processCount) (cardWeight x) (fresh x .gate) (announcementAt (fresh x) j) (record { turn = 0; laps = 0; spent = 0 }) (localAt (fresh x) j))
       (sym (ap (λ (t : Task). t .place) (getD-replicate-same 8 j idleTask)))
       (rw (getD-replicate-same {A = ℕ} 8 j 0) (omega arith));

@@ -4,7 +4,7 @@ use mathlib.Core.Path.{_≡_, refl, sym, subst, ap, _∙_}
 use mathlib.Core.Bool.{Bool, true, false, true≢false}
 use mathlib.Core.Logic.{_≢_, _⊎_}
 use native.Mathlib.Omega.{arith}
-use Rattle.construction.specs.Types.{Nobody, Process, Gate, Flag, Done, Active, Exit, Place, Idle, P1, P3, P5, P7, P10, C2, C4, P13, P14, P16, H21, H36, P19, P20, P21, P22, F1, F3, AnnouncementAccess, Access, Card}
+use Rattle.construction.specs.Types.{Nobody, Process, Gate, Flag, Done, Active, Exit, Label, Idle, P1, P3, P5, P7, P10, C2, C4, P13, P14, P16, H21, H36, P19, P20, P21, P22, F1, F3, P6, AnnouncementAccess, Access, Card}
 use Rattle.construction.specs.Parts.{Local, localAt, announcementAt, withAnnouncement, withLocal}
 use Rattle.construction.specs.Machine.{byFlag, firstChoice, whose, accessOf, accessAnnouncement, perform}
 use Rattle.construction.specs.Requests.{isIdle}
@@ -16,16 +16,16 @@ use Rattle.construction.proofs.Invariant.Assertions.{LocAt, known}
 use Rattle.construction.proofs.Invariant.NextPlaces.{Leads, leads}
 
 -- the places of a chooser that has yet to look at its own announcement, or to nominate
-pub data Chooser : Place → Type 0 where
+pub data Chooser : Label → Type 0 where
   unsure : Chooser C4
   nominating : Chooser P13
 
 -- a chooser that has read the gate h and nominates m chooses j, where the gate is g
-abbrev pub Picks : {l : Place} → Chooser l → ℕ → Gate → Gate → ℕ → Type 0
+abbrev pub Picks : {l : Label} → Chooser l → ℕ → Gate → Gate → ℕ → Type 0
 Picks Chooser.unsure j g h m = h ≢ g
 Picks Chooser.nominating j g h m = h ≡ g → m ≡ j
 
-abbrev pub Chooses : Place → ℕ → Gate → Gate → ℕ → Type 0
+abbrev pub Chooses : Label → ℕ → Gate → Gate → ℕ → Type 0
 Chooses l j g h m = (c : Chooser l) → Picks c j g h m
 
 abbrev pub ChoosesIn : ℕ → Gate → Local → Type 0
@@ -42,7 +42,7 @@ pub record Due (p : ℕ) (g : Gate) (T : ℕ → Local) (j turn : ℕ) : Type 0 
 -- a chooser read a free gate, with a number not above that of now
 module _ (F : Frame) (w : World) (q j : ℕ) (g : Gate) (t : Local)
     (other : t .gate .holder ≡ Nobody → t .gate .seq ≤ w .gate .seq → t .gate ≢ g) where
-  pub apart : (l : Place) → LocAt l F w q (known t) → Chooses l j g (t .gate) (t .task .target)
+  pub apart : (l : Label) → LocAt l F w q (known t) → Chooses l j g (t .gate) (t .task .target)
   apart C4 k Chooser.unsure = other (k .1) (k .2)
   apart P13 k Chooser.nominating = λ e. absurd (other (k .1) (k .3 .below) e)
 
@@ -54,18 +54,18 @@ module _ (c : Card) (i j turn : ℕ) (sizes : Sizes c) (few : i < 8) (lt : i < c
   Choosing d = d .gate .seq ≡ turn → ChoosesIn j (d .gate) (localAt d i)
 
   -- the places that no chooser stands at
-  abbrev Aside : Place → Type 0
+  abbrev Aside : Label → Type 0
   Aside l = Chooser l → ⊥
 
   aside : (a : Access) → Leads Aside a → Choosing (perform a c i .card)
   aside a q _ s = absurd (leads Aside c i (omega (arith, sizes .tasks)) a q s)
 
   -- process i with the announcement of m read, and at a place
-  abbrev read : ℕ → Place → Local
+  abbrev read : ℕ → Label → Local
   read m l = atAnnouncement (localAt c i) (announcementAt c m) (record { place = l; target = m })
 
   reads :
-      (m : ℕ) (l : Place) → Chooses l j (c .gate) (localAt c i .gate) m →
+      (m : ℕ) (l : Label) → Chooses l j (c .gate) (localAt c i .gate) m →
       ChoosesIn j (c .gate) (localAt (withLocal (withAnnouncement c m (announcementAt c m)) i (read m l)) i)
   reads m l q =
       subst (ChoosesIn j (c .gate))
@@ -96,14 +96,14 @@ module _ (c : Card) (i j turn : ℕ) (sizes : Sizes c) (few : i < 8) (lt : i < c
   choose-C4 at e = reads i _ (go (announcementAt c i .flag))
     where
       late : localAt c i .gate ≢ c .gate
-      late = subst (λ (l : Place). Chooses l j (c .gate) (localAt c i .gate) (localAt c i .task .target)) at (D .chosen e i lt) Chooser.unsure
+      late = subst (λ (l : Label). Chooses l j (c .gate) (localAt c i .gate) (localAt c i .task .target)) at (D .chosen e i lt) Chooser.unsure
 
       go : (f : Flag) → Chooses (byFlag f F1 P13 P13) j (c .gate) (localAt c i .gate) i
       go Active Chooser.nominating = λ z. absurd (late z)
       go Exit Chooser.nominating = λ z. absurd (late z)
 
   -- every place
-  pub chooses : (l : Place) (exit : Bool) → localAt c i .task .place ≡ l → isIdle l ≡ false → Choosing (perform (accessOf l exit) c i .card)
+  pub chooses : (l : Label) (exit : Bool) → localAt c i .task .place ≡ l → isIdle l ≡ false → Choosing (perform (accessOf l exit) c i .card)
   unfolding accessOf
   chooses Idle exit at n = absurd (true≢false n)
   chooses P1 exit at n = aside _ (elim [ ], elim [ ])
@@ -125,3 +125,4 @@ module _ (c : Card) (i j turn : ℕ) (sizes : Sizes c) (few : i < 8) (lt : i < c
   chooses P22 exit at n = aside _ (elim [ ], elim [ ], elim [ ])
   chooses F1 exit at n = aside _ (elim [ ], elim [ ])
   chooses F3 exit at n = aside _ (elim [ ])
+  chooses P6 exit at n = aside _ (elim [ ])

@@ -5,7 +5,7 @@ use mathlib.Core.Bool.{Bool, true, false}
 use mathlib.Core.Logic.{_⊎_, inl, ⊎-elim}
 use native.Mathlib.Omega.{arith}
 use native.Mathlib.Nat.{mul-le-mul-right}
-use Rattle.construction.specs.Types.{Nobody, Gate, Active, Announcement, Place, Idle, P1, P3, P5, P7, P10, C2, C4, P13, P14, P16, H21, H36, P19, P20, P21, P22, F1, F3}
+use Rattle.construction.specs.Types.{Nobody, Gate, Active, Announcement, Label, Idle, P1, P3, P5, P7, P10, C2, C4, P13, P14, P16, H21, H36, P19, P20, P21, P22, F1, F3, P6}
 use Rattle.construction.specs.Parts.{Local}
 use Rattle.construction.specs.Requests.{exiting, withRequest}
 use Rattle.construction.specs.Waits.{longestWait, extra}
@@ -33,7 +33,7 @@ abbrev pub Ahead : ℕ → Gate → Tally → Type 0
 Ahead p g x = x .turn + suc (x .laps) ≤ g .seq + p
 
 -- a process with own state t and announcement a, while the gate is g
-abbrev pub CourseAt : Place → ℕ → ℕ → Gate → Announcement → Tally → Local → Type 0
+abbrev pub CourseAt : Label → ℕ → ℕ → Gate → Announcement → Tally → Local → Type 0
 CourseAt Idle p w g a x t = t .steps ≤ longestWait p w + extra (t .exit)
 CourseAt P1 p w g a x t = t .steps ≤ 0
 CourseAt P3 p w g a x t = t .steps ≤ 1
@@ -53,6 +53,7 @@ CourseAt P21 p w g a x t = Loop p w (t .gate .seq) (9 + 2 * w) x t
 CourseAt P22 p w g a x t = Loop p w (g .seq) (10 + 2 * w) x t × Ahead p g x
 CourseAt F1 p w g a x t = t .steps + 2 ≤ longestWait p w + extra (t .exit)
 CourseAt F3 p w g a x t = t .steps + 1 ≤ longestWait p w + extra (t .exit)
+CourseAt P6 p w g a x t = ⊥
 
 -- the gate's number does not fall, and a gate that is free was free before or has another number
 pub record Onward (g h : Gate) : Type 0 where
@@ -69,7 +70,7 @@ module _ (p w : ℕ) {g h : Gate} {a b : Announcement} (x : Tally) (t : Local) (
   now : {k : ℕ} → Loop p w (g .seq) k x t → Loop p w (h .seq) k x (withRequest t exit)
   now q = record { few = q .few; low = omega (arith, q .low, O .above); wished = omega (arith, q .wished); cost = q .cost }
 
-  course-on : (l : Place) → CourseAt l p w g a x t → CourseAt l p w h b x (withRequest t exit)
+  course-on : (l : Label) → CourseAt l p w g a x t → CourseAt l p w h b x (withRequest t exit)
   course-on Idle q = omega (arith, q)
   course-on P1 q = q
   course-on P3 q = q
@@ -92,9 +93,10 @@ module _ (p w : ℕ) {g h : Gate} {a b : Announcement} (x : Tally) (t : Local) (
   course-on P22 q = (now (q .0), omega (arith, q .1, O .above))
   course-on F1 q = omega (arith, q)
   course-on F3 q = omega (arith, q)
+  course-on P6 q = absurd q
 
 pub course-stays :
-    (l : Place) (p w : ℕ) {g h : Gate} {a b : Announcement} (x : Tally) (t : Local) → Onward g h → (b .flag ≡ Active → b ≡ a) →
+    (l : Label) (p w : ℕ) {g h : Gate} {a b : Announcement} (x : Tally) (t : Local) → Onward g h → (b .flag ≡ Active → b ≡ a) →
     CourseAt l p w g a x t → CourseAt l p w h b x t
 course-stays l p w x t O s q = course-on p w x t (t .exit) O s (omega arith) l q
 
@@ -103,7 +105,7 @@ extra-most : (exit : Bool) → extra exit ≤ 2
 extra-most true = omega arith
 extra-most false = omega arith
 
-pub course-exits : (l : Place) (p w : ℕ) (g : Gate) (a : Announcement) (x : Tally) (t : Local) → CourseAt l p w g a x t → CourseAt l p w g a x (exiting t)
+pub course-exits : (l : Label) (p w : ℕ) (g : Gate) (a : Announcement) (x : Tally) (t : Local) → CourseAt l p w g a x t → CourseAt l p w g a x (exiting t)
 course-exits l p w g a x t q =
     course-on p w x t true (record { above = omega arith; freed = inl }) (λ _. refl) (extra-most (t .exit)) l q
 

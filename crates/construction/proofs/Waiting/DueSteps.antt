@@ -9,7 +9,7 @@ use native.Mathlib.Omega.{arith}
 use native.Mathlib.Decide.{ℕ-discrete}
 use native.Mathlib.Nat.{eq-or-lt-of-le}
 use borrow.Author.Tests.{not-true}
-use Rattle.construction.specs.Types.{Nobody, Process, Gate, Done, Active, Announcement, Place, Card}
+use Rattle.construction.specs.Types.{Nobody, Process, Gate, Done, Active, Announcement, Label, Card}
 use Rattle.construction.specs.Cells.{openAnnouncement}
 use Rattle.construction.specs.Parts.{localAt, announcementAt}
 use Rattle.construction.specs.Machine.{advance}
@@ -88,7 +88,7 @@ module _ {c : Card} {w : World} {i : ℕ} (I : CardInvariant c w) (lt : i < c .p
       mine : c .gate .seq ≡ turn → m ≡ j
       mine e =
           sym (N .target)
-          ∙ subst (λ (l : Place). Chooses l j (c .gate) (localAt c i .gate) (localAt c i .task .target)) (N .place) (D .chosen e i lt) Chooser.nominating (N .gate)
+          ∙ subst (λ (l : Label). Chooses l j (c .gate) (localAt c i .gate) (localAt c i .task .target)) (N .place) (D .chosen e i lt) Chooser.nominating (N .gate)
 
   -- the gate is given back for m, which is done, and so not at the turn of j
   due-freed :

@@ -4,7 +4,7 @@ use mathlib.Core.Path.{_≡_, refl, sym, ap, _∙_}
 use mathlib.Core.Bool.{false}
 use mathlib.Core.Logic.{_≢_}
 use native.Mathlib.Omega.{arith}
-use Rattle.construction.specs.Types.{Holder, Nobody, Process, Gate, Place, Idle, P1, P3, P10, C2, P13, P14, P16, P21, P22, F1, F3, GateAccess, Access, Card}
+use Rattle.construction.specs.Types.{Holder, Nobody, Process, Gate, Label, Idle, P1, P3, P10, C2, P13, P14, P16, P21, P22, F1, F3, GateAccess, Access, Card}
 use Rattle.construction.specs.Cells.{sameHolder, sameGate, swapGate, released}
 use Rattle.construction.specs.Parts.{Local, localAt, contentsOf, announcementAt, withGate, withLocal}
 use Rattle.construction.specs.Machine.{goTo, byHolder, nominated, accessGate, perform}
@@ -18,16 +18,16 @@ use Rattle.construction.proofs.Waiting.Going.{CourseIn, Knows, Now, Wen
 
 module _ {c : Card} {w : World} {i : ℕ} (B : Before c w i) (small : localAt c i .steps ≤ 1000000000000000000) (x : Tally) where
   -- the course at a place with the own state t, while the gate is g
-  abbrev At : Place → Gate → Local → Type 0
+  abbrev At : Label → Gate → Local → Type 0
   At l g t = CourseAt l (c .processCount) (cardWeight (contentsOf c)) g (announcementAt c i) x t
 
   -- process i with the gate that it has read
-  abbrev read : Place → Local
+  abbrev read : Label → Local
   read l = atGate (localAt c i) (c .gate) (goTo (localAt c i .task) l)
 
   -- lines P1, P10 and P14: by the holder that is read
   at-read :
-      (held nobody : Place) → ((m : ℕ) → c .gate .holder ≡ Process m → At held (c .gate) (read held)) →
+      (held nobody : Label) → ((m : ℕ) → c .gate .holder ≡ Process m → At held (c .gate) (read held)) →
       (c .gate .holder ≡ Nobody → At nobody (c .gate) (read nobody)) → Went c i x (Access.Gate (GateAccess.Read held nobody))
   unfolding perform accessGate
   at-read held nobody a b =
@@ -60,10 +60,10 @@ module _ {c : Card} {w : World} {i : ℕ} (B : Before c w i) (small : localAt c 
       (λ _. put-course B (c .gate) (c .announcements) (c .records) (read Idle) x (omega (arith, q))))
 
   -- process i at a place, and the course after a swap of the gate
-  abbrev at : Place → Local
+  abbrev at : Label → Local
   at l = atTask (localAt c i) (goTo (localAt c i .task) l)
 
-  swapped : (g : Gate) (l : Place) → At l g (at l) → CourseIn c i x (withLocal (withGate c g) i (at l))
+  swapped : (g : Gate) (l : Label) → At l g (at l) → CourseIn c i x (withLocal (withGate c g) i (at l))
   swapped g l q = put-course B g (c .announcements) (c .records) (at l) x q
 
   pub at-P13 : Knows c w i P13 → Now c i x P13 → Went c i x (Access.Gate GateAccess.Nominate)

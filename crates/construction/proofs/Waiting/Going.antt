@@ -6,7 +6,7 @@ use mathlib.Core.Logic.{_≢_}
 use mathlib.Core.List.{List}
 use native.Mathlib.Omega.{arith}
 use lib.ListN.{getD}
-use Rattle.construction.specs.Types.{Gate, Active, Announcement, Record, Dictionary, Simulation, Place, Access, Task, Card}
+use Rattle.construction.specs.Types.{Gate, Active, Announcement, Record, Dictionary, Simulation, Label, Access, Task, Card}
 use Rattle.construction.specs.Cells.{openAnnouncement}
 use Rattle.construction.specs.Parts.{Local, localAt, contentsOf, announcementAt, withCells, withLocal}
 use Rattle.construction.specs.Machine.{after, firstChoice, perform}
@@ -24,10 +24,10 @@ CourseIn c i y d =
     CourseAt (localAt d i .task .place) (c .processCount) (cardWeight (contentsOf c)) (d .gate) (announcementAt d i) y (localAt d i)
 
 -- what process i knows at a place, and its course there, on the card as it is
-abbrev pub Knows : Card → World → ℕ → Place → Type 0
+abbrev pub Knows : Card → World → ℕ → Label → Type 0
 Knows c w i l = LocAt l (frameOf c w) (worldOf c w) i (localAt c i)
 
-abbrev pub Now : Card → ℕ → Tally → Place → Type 0
+abbrev pub Now : Card → ℕ → Tally → Label → Type 0
 Now c i x l = CourseAt l (c .processCount) (cardWeight (contentsOf c)) (c .gate) (announcementAt c i) x (localAt c i)
 
 -- what an access comes to for a process with the tally x: it announces its operation (P3), asks to exit (P6), or neither

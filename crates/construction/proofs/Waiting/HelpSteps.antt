@@ -7,7 +7,7 @@ use native.Mathlib.Omega.{arith}
 use native.Mathlib.Nat.{le-trans}
 use lib.ListN.{length, getD, set, length-take}
 use lib.Dec.{ltb}
-use Rattle.construction.specs.Types.{Announcement, Record, Program, Dictionary, Simulation, Pause, Ended, Faulted, Lacks, Simulated, Place, P16, H21, H36, P19, P21, Access, Task, Began, Helped, Card}
+use Rattle.construction.specs.Types.{Announcement, Record, Program, Dictionary, Simulation, Pause, Ended, Faulted, Lacks, Simulated, Label, P16, H21, H36, P19, P21, Access, Task, Began, Helped, Card}
 use Rattle.construction.specs.Cells.{openAnnouncement}
 use Rattle.construction.specs.Instructions.{started}
 use Rattle.construction.specs.Dictionary.{empty, noted, nextWrite, itemOf, insert}
@@ -32,7 +32,7 @@ module _ {c : Card} {w : World} {i : ℕ} (B : Before c w i) (small : localAt c 
   s = localAt c i .gate .seq
 
   -- a helper's course does not depend on the shared cells
-  abbrev At : Place → Local → Type 0
+  abbrev At : Label → Local → Type 0
   At l t = (a : Announcement) → CourseAt l (c .processCount) heavy (c .gate) a x t
 
   -- a helper that goes on with a task

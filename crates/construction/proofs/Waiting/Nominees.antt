@@ -2,7 +2,7 @@
 use Prim.Native.Nat.{ℕ}
 use mathlib.Core.Path.{_≡_, refl, sym}
 use mathlib.Core.Bool.{Bool, true, false}
-use Rattle.construction.specs.Types.{Nobody, Process, Gate, Place, P5, P13, GateAccess, Access, Card}
+use Rattle.construction.specs.Types.{Nobody, Process, Gate, Label, P5, P13, GateAccess, Access, Card}
 use Rattle.construction.specs.Cells.{sameGate, swapGate, released}
 use Rattle.construction.specs.Parts.{localAt}
 use Rattle.construction.specs.Machine.{accessOf, accessGate, perform}
@@ -17,14 +17,14 @@ unfolding accessOf
 exit-gives-none true = elim [ ]
 exit-gives-none false = elim [ ]
 
-at-P13 : (l : Place) (exit : Bool) → Gives (accessOf l exit) → l ≡ P13
+at-P13 : (l : Label) (exit : Bool) → Gives (accessOf l exit) → l ≡ P13
 unfolding accessOf
 at-P13 P5 exit g = absurd (exit-gives-none exit g)
 at-P13 P13 exit Gives.gives = refl
 
 -- a step of process i, after which m holds the gate that nobody held
 module _ (c : Card) (i m : ℕ) (hn : c .gate .holder ≡ Nobody) where
-  pub record Nominee (l : Place) : Type 0 where
+  pub record Nominee (l : Label) : Type 0 where
     pub place : l ≡ P13
     pub gate : localAt c i .gate ≡ c .gate
     pub target : localAt c i .task .target ≡ m
@@ -52,5 +52,5 @@ module _ (c : Card) (i m : ℕ) (hn : c .gate .holder ≡ Nobody) where
   giving Access.Note = never _
   giving Access.Write = never _
 
-  pub nominee : (l : Place) (exit : Bool) → perform (accessOf l exit) c i .card .gate .holder ≡ Process m → Nominee l
+  pub nominee : (l : Label) (exit : Bool) → perform (accessOf l exit) c i .card .gate .holder ≡ Process m → Nominee l
   nominee l exit h = let x = giving (accessOf l exit) h in record { place = at-P13 l exit (x .0); gate = x .1; target = x .2 }

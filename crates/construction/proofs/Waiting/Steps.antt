@@ -5,7 +5,7 @@ use mathlib.Core.Bool.{Bool, true, false, true≢false}
 use native.Mathlib.Omega.{arith}
 use native.Mathlib.Nat.{le-trans}
 use lib.ListN.{length-take}
-use Rattle.construction.specs.Types.{Gate, Active, Announcement, Place, Idle, P1, P3, P5, P7, P10, C2, C4, P13, P14, P16, H21, H36, P19, P20, P21, P22, F1, F3, Card}
+use Rattle.construction.specs.Types.{Gate, Active, Announcement, Label, Idle, P1, P3, P5, P7, P10, C2, C4, P13, P14, P16, H21, H36, P19, P20, P21, P22, F1, F3, P6, Card}
 use Rattle.construction.specs.Parts.{Local, localAt, announcementAt}
 use Rattle.construction.specs.Machine.{accessOf}
 use Rattle.construction.specs.Requests.{isIdle}
@@ -23,7 +23,7 @@ use Rattle.construction.proofs.Waiting.HelpSteps.{at-P16, at-H21, at-H3
 module _ {c : Card} {w : World} {i : ℕ} (B : Before c w i) (small : localAt c i .steps ≤ 1000000000000000000) (x : Tally)
     (due : announcementAt c i .flag ≡ Active → (x .spent ≡ 0) × (c .gate .seq ≤ x .turn)) where
   pub at-place :
-      (l : Place) (exit : Bool) → localAt c i .exit ≡ exit → isIdle l ≡ false → LocAt l (frameOf c w) (worldOf c w) i (known (localAt c i)) →
+      (l : Label) (exit : Bool) → localAt c i .exit ≡ exit → isIdle l ≡ false → LocAt l (frameOf c w) (worldOf c w) i (known (localAt c i)) →
       Now c i x l → Went c i x (accessOf l exit)
   unfolding accessOf
   at-place Idle exit e n k q = absurd (true≢false n)
@@ -46,6 +46,7 @@ module _ {c : Card} {w : World} {i : ℕ} (B : Before c w i) (small : localAt c 
   at-place P22 exit e n k q = at-P22 B small x due q
   at-place F1 exit e n k q = at-F1 B small x q
   at-place F3 exit e n k q = at-F3 B small x q
+  at-place P6 exit e n k q = absurd k
 
 -- an operation under way has made fewer steps than it may take
 module _ (F : Frame) (heavy : ℕ) (light : (k number : ℕ) → weight (F .programAt k number) ≤ heavy) (w : World) (j : ℕ) (g : Gate) (a : Announcement) (x : Tally) (t : Local) where
@@ -55,8 +56,7 @@ module _ (F : Frame) (heavy : ℕ) (light : (k number : ℕ) → weight (F .prog
   in-loop : {n k : ℕ} → Loop (F .processCount) heavy n k x t → k ≤ 10 + 2 * heavy → Left
   in-loop q h = omega (arith, last-lap q h)
 
-  pub left : (l : Place) → isIdle l ≡ false → LocAt l F w j (known t) → CourseAt l (F .processCount) heavy g a x t → Left
-  unfolding accessOf
+  pub left : (l : Label) → isIdle l ≡ false → LocAt l F w j (known t) → CourseAt l (F .processCount) heavy g a x t → Left
   left Idle n k q = absurd (true≢false n)
   left P1 n k q = omega (arith, q)
   left P3 n k q = omega (arith, q)
@@ -81,3 +81,4 @@ module _ (F : Frame) (heavy : ℕ) (light : (k number : ℕ) → weight (F .prog
   left P22 n k q = in-loop (q .0) (omega arith)
   left F1 n k q = omega (arith, q)
   left F3 n k q = omega (arith, q)
+  left P6 n k q = absurd k

@@ -12,9 +12,8 @@ use lib.Seq.{getD-set-other}
 use borrow.Author.Tests.{lt-ltb}
 use Rattle.executions.specs.declared.Request.{Request}
 use Rattle.construction.specs.declared.{Task.Task, Card.Card, Answer.Answer, Answered.Answered, Contents.Contents}
-use Rattle.construction.specs.declared.Place.the-variants.{P1}
+use Rattle.construction.specs.declared.Label.the-variants.{P1}
 use Rattle.construction.specs.Parts.{idleTask, contentsOf, localAt, withLocal}
-use Rattle.construction.specs.Machine.{accessOf}
 use Rattle.construction.specs.Requests.{isProcess, isProgram, isIdle, isBusy, call, invoked}
 use Rattle.construction.specs.Opening.{fresh, opened}
 use Rattle.construction.specs.History.{Entry, run}
@@ -122,7 +121,7 @@ calls-from x calls few (suc m) k c t e P I =
 
 pub calls-taken :
     (x : Contents) (calls : List Request) → x .processCount ≤ 8 → Callable (fresh x) calls → AllTaken (fresh x) (callsOf (fresh x) calls)
-unfolding fresh accessOf
+unfolding fresh
 calls-taken x calls few h =
     calls-from x calls few (x .processCount) 0 (fresh x) refl (omega arith) (λ j le lt. h j (omega arith))
     (λ j le. ap (λ (t : Task). not (isIdle (t .place))) (getD-replicate-same 8 j idleTask))

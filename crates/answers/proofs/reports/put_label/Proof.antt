@@ -5,7 +5,7 @@ use Rattle.answers.proofs.reports.put_label.Statement.{statement}
 use Rattle.answers.proofs.reports.put_label.Tie as tie
 
 returns : tie.Need-returns
-returns c = laws.put-label _ _ (c .before .before .before .before .before .before .before .before .before .name-of .ensures) (omega arith) (omega arith) (c .before .before .before .before .before .before .before .put-letter .ensures) (c .before .before .put-decimal .ensures)
+returns c = laws.put-label (c .before .before .before .before .before .before .before .before .before .before .before .args .label) _ (c .before .before .before .before .before .before .before .before .before .label-row .ensures) (omega arith) (omega arith) (c .before .before .before .before .before .before .before .put-letter .ensures) (c .before .before .put-decimal .ensures)
 
 pub put-label-spec : {M : Type 1} → statement M
 put-label-spec =

@@ -1,5 +1,5 @@
 use mathlib.Core.Path.{refl}
-use Rattle.lent_helping.specs.Steps.{accessBlock, accessLoan}
+use Rattle.lent_helping.specs.Steps.{accessBlock, accessLoan, accessSwap}
 use borrow.Author.Needs.{needs}
 use Rattle.lent_helping.proofs.access.step_access.Statement.{statement}
 use Rattle.lent_helping.proofs.access.step_access.Tie as tie
@@ -38,29 +38,29 @@ step-write-requires : tie.Need-step-write-requires
 step-write-requires c κs = search needs
 
 returns : tie.Need-returns
-unfolding accessBlock accessLoan
-returns c = rw ((c .enum-told .given .1)) (refl, refl)
+unfolding accessBlock accessLoan accessSwap
+returns c = rw ((c .enum-told .given .1)) (refl, refl, refl)
 
 same-length : tie.Need-same-length
 same-length c = search needs
 
 returns-2 : tie.Need-returns-2
-unfolding accessBlock accessLoan
-returns-2 c = rw ((c .before .before .before .before .before .access .given .1)) ((c .before .before .step-gate .ensures), refl)
+unfolding accessBlock accessLoan accessSwap
+returns-2 c = rw ((c .before .before .before .before .before .access .given .1)) (c .before .before .step-gate .ensures .0, refl, c .before .before .step-gate .ensures .1)
 
 same-length-2 : tie.Need-same-length-2
 same-length-2 c = search needs
 
 returns-3 : tie.Need-returns-3
-unfolding accessBlock accessLoan
-returns-3 c = rw ((c .before .before .before .before .before .access2 .given .1)) ((c .before .before .step-announcement .ensures), refl)
+unfolding accessBlock accessLoan accessSwap
+returns-3 c = rw ((c .before .before .before .before .before .access2 .given .1)) (c .before .before .step-announcement .ensures .0, refl, c .before .before .step-announcement .ensures .1)
 
 same-length-3 : tie.Need-same-length-3
 same-length-3 c = search needs
 
 returns-4 : tie.Need-returns-4
-unfolding accessBlock accessLoan
-returns-4 c = rw ((c .before .before .before .before .enum-told2 .given .1)) ((c .before .before .step-help .ensures), refl)
+unfolding accessBlock accessLoan accessSwap
+returns-4 c = rw ((c .before .before .before .before .enum-told2 .given .1)) (c .before .before .step-help .ensures, refl, refl)
 
 same-length-4 : tie.Need-same-length-4
 same-length-4 c = search needs
@@ -69,8 +69,8 @@ same-length-5 : tie.Need-same-length-5
 same-length-5 c = search needs
 
 returns-5 : tie.Need-returns-5
-unfolding accessBlock accessLoan
-returns-5 c = rw ((c .before .before .before .before .before .before .before .enum-told3 .given .1)) (c .before .before .before .before .step-note .ensures)
+unfolding accessBlock accessLoan accessSwap
+returns-5 c = rw ((c .before .before .before .before .before .before .before .enum-told3 .given .1)) (c .before .before .before .before .step-note .ensures .0, c .before .before .before .before .step-note .ensures .1, refl)
 
 same-length-6 : tie.Need-same-length-6
 same-length-6 c = search needs
@@ -79,8 +79,8 @@ same-length-7 : tie.Need-same-length-7
 same-length-7 c = search needs
 
 returns-6 : tie.Need-returns-6
-unfolding accessBlock accessLoan
-returns-6 c = rw ((c .before .before .before .before .before .enum-told4 .given .1)) ((c .before .before .step-write .ensures), refl)
+unfolding accessBlock accessLoan accessSwap
+returns-6 c = rw ((c .before .before .before .before .before .enum-told4 .given .1)) (c .before .before .step-write .ensures .0, refl, c .before .before .step-write .ensures .1)
 
 pub step-access-spec : {M : Type 1} → statement M
 step-access-spec =

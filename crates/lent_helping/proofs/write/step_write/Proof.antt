@@ -24,11 +24,14 @@ put-swapped-requires c κs = search needs
 put-task-requires : tie.Need-put-task-requires
 put-task-requires c κs = search needs
 
+outcome-requires : tie.Need-outcome-requires
+outcome-requires c κs = search needs
+
 same-length : tie.Need-same-length
 same-length c = search needs
 
 returns : tie.Need-returns
-returns c = taken.written-in ((c .before .before .before .before .before .before .before .before .before .before .before .before .before .before .before .before .before .before .before .before .args .b .now)) ((c .before .before .before .before .before .before .before .before .before .before .before .before .before .before .before .before .before .before .before .before .args .l .now)) ((c .before .before .before .before .before .before .before .before .before .before .before .before .before .before .before .before .before .before .before .before .args .i)) (c .before .before .before .before .before .before .before .before .before .before .before .before .before .before .before .before .last-gate .ensures) (c .before .before .before .before .before .before .before .before .before .before .before .before .before .before .task .ensures) (c .before .before .before .before .before .before .before .before .before .before .before .before .before .writing .ensures) (c .before .before .before .before .before .before .before .before .before .«record» .ensures) (c .before .before .before .before .before .before .before .before .write .ensures) (c .before .before .before .before .before .before .put-swapped .ensures) (c .before .before .put-task .ensures)
+returns c = taken.written-in ((c .before .before .before .before .before .before .before .before .before .before .before .before .before .before .before .before .before .before .before .before .before .args .b .now)) ((c .before .before .before .before .before .before .before .before .before .before .before .before .before .before .before .before .before .before .before .before .before .args .l .now)) ((c .before .before .before .before .before .before .before .before .before .before .before .before .before .before .before .before .before .before .before .before .before .args .i)) (c .before .before .before .before .before .before .before .before .before .before .before .before .before .before .before .before .before .last-gate .ensures) (c .before .before .before .before .before .before .before .before .before .before .before .before .before .before .before .task .ensures) (c .before .before .before .before .before .before .before .before .before .before .before .before .before .before .writing .ensures) (c .before .before .before .before .before .before .before .before .before .before .«record» .ensures) (c .before .before .before .before .before .before .before .before .before .write .ensures) (c .before .before .before .before .before .before .before .put-swapped .ensures) (c .before .before .before .put-task .ensures) (c .outcome .ensures)
 
 pub step-write-spec : {M : Type 1} → statement M
 step-write-spec =
@@ -41,5 +44,6 @@ step-write-spec =
     write-requires
     put-swapped-requires
     put-task-requires
+    outcome-requires
     same-length
     returns)

@@ -1,3 +1,5 @@
+use mathlib.Core.Path.{refl}
+use Rattle.construction.specs.Machine.{accessAnnouncement}
 use Rattle.lent_machine.specs.Accesses.{announcementStep}
 use borrow.Author.Needs.{needs}
 use Rattle.lent_machine.proofs.announcement.step_announcement.Statement.{statement}
@@ -60,8 +62,8 @@ same-length c = search needs
 
 -- src/announcement.rt:116:1
 returns : tie.Need-returns
-unfolding announcementStep
-returns c = rw ((c .before .before .before .before .enum-told .given) .1) ((c .before .before .step-announce .ensures))
+unfolding announcementStep accessAnnouncement
+returns c = rw ((c .before .before .before .before .enum-told .given) .1) (c .before .before .step-announce .ensures, refl)
 
 -- src/announcement.rt:116:1
 same-length-2 : tie.Need-same-length-2
@@ -69,7 +71,7 @@ same-length-2 c = search needs
 
 -- src/announcement.rt:116:1
 returns-2 : tie.Need-returns-2
-unfolding announcementStep
+unfolding announcementStep accessAnnouncement
 returns-2 c = rw ((c .before .before .before .before .enum-told2 .given) .1) ((c .before .before .step-withdraw .ensures))
 
 -- src/announcement.rt:116:1
@@ -78,8 +80,8 @@ same-length-3 c = search needs
 
 -- src/announcement.rt:116:1
 returns-3 : tie.Need-returns-3
-unfolding announcementStep
-returns-3 c = rw ((c .before .before .before .before .before .access .given) .1) ((c .before .before .step-flag .ensures))
+unfolding announcementStep accessAnnouncement
+returns-3 c = rw ((c .before .before .before .before .before .access .given) .1) (c .before .before .step-flag .ensures, refl)
 
 -- src/announcement.rt:116:1
 same-length-4 : tie.Need-same-length-4
@@ -87,8 +89,8 @@ same-length-4 c = search needs
 
 -- src/announcement.rt:116:1
 returns-4 : tie.Need-returns-4
-unfolding announcementStep
-returns-4 c = rw ((c .before .before .before .before .before .before .enum-told3 .given) .1, ← (c .before .before .before .before .first .ensures)) ((c .before .before .step-flag2 .ensures))
+unfolding announcementStep accessAnnouncement
+returns-4 c = rw ((c .before .before .before .before .before .before .enum-told3 .given) .1, ← (c .before .before .before .before .first .ensures)) (c .before .before .step-flag2 .ensures, refl)
 
 -- src/announcement.rt:116:1
 same-length-5 : tie.Need-same-length-5
@@ -96,7 +98,7 @@ same-length-5 c = search needs
 
 -- src/announcement.rt:116:1
 returns-5 : tie.Need-returns-5
-unfolding announcementStep
+unfolding announcementStep accessAnnouncement
 returns-5 c = rw ((c .before .before .before .before .before .access2 .given) .1) ((c .before .before .step-finish .ensures))
 
 pub step-announcement-spec : {M : Type 1} → statement M

@@ -1,3 +1,4 @@
+use Rattle.construction.specs.Machine.{accessAnnouncement}
 use borrow.Author.Needs.{needs}
 use Rattle.lent_machine.proofs.announcement.step_withdraw.Statement.{statement}
 use Rattle.lent_machine.proofs.announcement.step_withdraw.Tie as tie
@@ -40,7 +41,8 @@ same-length c = search needs
 
 -- src/announcement.rt:72:1
 returns : tie.Need-returns
-returns c = rw ((c .before .before .before .before .withdraw .ensures), (c .before .before .before .before .before .task .ensures), (c .before .before .before .before .before .before .before .last .ensures), (c .before .before .before .before .before .before .before .before .before .operation .ensures), (c .before .before .before .before .before .before .before .before .before .before .before .announcement .ensures)) at ((c .before .before .put-swapped .ensures))
+unfolding accessAnnouncement
+returns c = (rw ((c .before .before .before .before .withdraw .ensures), (c .before .before .before .before .before .task .ensures), (c .before .before .before .before .before .before .before .last .ensures), (c .before .before .before .before .before .before .before .before .before .operation .ensures), (c .before .before .before .before .before .before .before .before .before .before .before .announcement .ensures)) at (c .before .before .put-swapped .ensures .0), rw ((c .before .before .before .before .withdraw .ensures), (c .before .before .before .before .before .before .before .last .ensures), (c .before .before .before .before .before .before .before .before .before .operation .ensures), (c .before .before .before .before .before .before .before .before .before .before .before .announcement .ensures)) at (c .before .before .put-swapped .ensures .1))
 
 pub step-withdraw-spec : {M : Type 1} → statement M
 step-withdraw-spec =

@@ -1,3 +1,4 @@
+use mathlib.Core.Path.{refl}
 use borrow.Author.Needs.{needs}
 use Rattle.lent_machine.proofs.gate.put_swapped.Statement.{statement}
 use Rattle.lent_machine.proofs.gate.put_swapped.Tie as tie
@@ -20,7 +21,7 @@ same-length c = search needs
 
 -- src/gate.rt:44:1
 returns : tie.Need-returns
-returns c = rw (← (c .before .before .before .before .before .before .put-won .ensures)) ((c .before .before .put-task .ensures))
+returns c = (rw (← (c .before .before .before .before .before .before .put-won .ensures)) ((c .before .before .put-task .ensures)), refl)
 
 pub put-swapped-spec : {M : Type 1} → statement M
 put-swapped-spec = tie.close (tie.spec put-won-requires put-task-requires same-length returns)

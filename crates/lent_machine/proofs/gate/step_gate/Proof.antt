@@ -1,3 +1,5 @@
+use mathlib.Core.Path.{refl}
+use Rattle.construction.specs.Machine.{accessGate}
 use Rattle.lent_machine.specs.Accesses.{gateStep}
 use borrow.Author.Needs.{needs}
 use Rattle.lent_machine.proofs.gate.step_gate.Statement.{statement}
@@ -47,8 +49,8 @@ same-length c = search needs
 
 -- src/gate.rt:86:1
 returns : tie.Need-returns
-unfolding gateStep
-returns c = rw ((c .before .before .before .before .before .access .given) .1) ((c .before .before .step-read .ensures))
+unfolding gateStep accessGate
+returns c = rw ((c .before .before .before .before .before .access .given) .1) (c .before .before .step-read .ensures, refl)
 
 -- src/gate.rt:86:1
 same-length-2 : tie.Need-same-length-2
@@ -56,8 +58,8 @@ same-length-2 c = search needs
 
 -- src/gate.rt:86:1
 returns-2 : tie.Need-returns-2
-unfolding gateStep
-returns-2 c = rw ((c .before .before .before .before .enum-told .given) .1) ((c .before .before .step-last .ensures))
+unfolding gateStep accessGate
+returns-2 c = rw ((c .before .before .before .before .enum-told .given) .1) (c .before .before .step-last .ensures, refl)
 
 -- src/gate.rt:86:1
 same-length-3 : tie.Need-same-length-3
@@ -65,7 +67,6 @@ same-length-3 c = search needs
 
 -- src/gate.rt:86:1
 returns-3 : tie.Need-returns-3
-unfolding gateStep
 returns-3 c = rw ((c .before .before .before .before .enum-told2 .given) .1) ((c .before .before .step-nominate .ensures))
 
 -- src/gate.rt:86:1
@@ -74,7 +75,6 @@ same-length-4 c = search needs
 
 -- src/gate.rt:86:1
 returns-4 : tie.Need-returns-4
-unfolding gateStep
 returns-4 c = rw ((c .before .before .before .before .before .access2 .given) .1) ((c .before .before .step-release .ensures))
 
 pub step-gate-spec : {M : Type 1} → statement M

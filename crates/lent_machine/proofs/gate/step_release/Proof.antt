@@ -1,3 +1,5 @@
+use Rattle.construction.specs.Machine.{accessGate}
+use Rattle.lent_machine.specs.Accesses.{gateStep}
 use borrow.Author.Needs.{needs}
 use Rattle.lent_machine.proofs.gate.step_release.Statement.{statement}
 use Rattle.lent_machine.proofs.gate.step_release.Tie as tie
@@ -35,7 +37,8 @@ same-length c = search needs
 
 -- src/gate.rt:79:1
 returns : tie.Need-returns
-returns c = rw ((c .before .before .before .before .release .ensures), (c .before .before .before .before .before .task .ensures), (c .before .before .before .before .before .before .before .last-gate .ensures), (c .before .before .before .before .before .before .before .before .before .gate .ensures)) at ((c .before .before .put-swapped .ensures))
+unfolding gateStep accessGate
+returns c = (rw ((c .before .before .before .before .release .ensures), (c .before .before .before .before .before .task .ensures), (c .before .before .before .before .before .before .before .last-gate .ensures), (c .before .before .before .before .before .before .before .before .before .gate .ensures)) at (c .before .before .put-swapped .ensures .0), rw ((c .before .before .before .before .release .ensures), (c .before .before .before .before .before .before .before .last-gate .ensures), (c .before .before .before .before .before .before .before .before .before .gate .ensures)) at (c .before .before .put-swapped .ensures .1))
 
 pub step-release-spec : {M : Type 1} → statement M
 step-release-spec =

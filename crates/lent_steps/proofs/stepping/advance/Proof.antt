@@ -29,7 +29,7 @@ same-length-2 c = search needs
 
 -- src/stepping.rt:51:1
 returns : tie.Need-returns
-returns c = (rw ((c .before .before .before .before .before .before .before .before .step-access .ensures .0), (c .before .before .before .before .before .before .before .before .before .before .before .access-at .ensures)) at (c .before .before .put-counted .ensures), rw (c .before .before .before .before .before .before .before .before .before .before .before .access-at .ensures) at ((c .before .before .before .before .before .before .before .before .step-access .ensures .1)))
+returns c = (rw ((c .before .before .before .before .before .before .before .before .step-access .ensures .0), (c .before .before .before .before .before .before .before .before .before .before .before .access-at .ensures)) at (c .before .before .put-counted .ensures), rw (c .before .before .before .before .before .before .before .before .before .before .before .access-at .ensures) at ((c .before .before .before .before .before .before .before .before .step-access .ensures .1)), rw (c .before .before .before .before .before .before .before .before .before .before .before .access-at .ensures) at (c .before .before .before .before .before .before .before .before .step-access .ensures .2))
 
 pub advance-spec : {M : Type 1} → statement M
 advance-spec =

@@ -1,4 +1,3 @@
-use Rattle.construction.specs.Machine.{accessOf}
 use Rattle.construction.specs.Parts.{idleTask}
 use native.Mathlib.Omega.{arith}
 use lib.ListN.{List·getD-eq-default}
@@ -7,7 +6,6 @@ use Rattle.listing.proofs.branches.is_idle_at.Statement.{statement}
 use Rattle.listing.proofs.branches.is_idle_at.Tie as tie
 
 returns-2 : tie.Need-returns-2
-unfolding accessOf
 returns-2 c = rw (List·getD-eq-default (c .before .args .t1) idleTask {n = c .before .args .k} (omega arith))
 
 pub is-idle-at-spec : {M : Type 1} → statement M

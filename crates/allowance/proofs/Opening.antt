@@ -8,8 +8,8 @@ use native.Mathlib.Omega.{arith}
 use lib.ListN.{getD, take}
 use lib.Dec.{leb}
 use borrow.Author.Tests.{leb-true, le-leb}
-use Rattle.construction.specs.declared.Answer.{Answer}
-use Rattle.construction.specs.declared.Refusal.the-variants.{BadTerms}
+use Rattle.construction.specs.declared.answers.Answer.{Answer}
+use Rattle.construction.specs.declared.answers.Refusal.the-variants.{BadTerms}
 use Rattle.construction.specs.Answers.{refusedWith, answerFields}
 use Rattle.construction.proofs.Basics.{and-true, true-or-false, clash}
 use Rattle.construction.proofs.Statements.AnswerFields.{answer-known}

@@ -16,7 +16,8 @@ use Rattle.allowance.specs.Opening.{opened, isAccepted, allowance}
 use Rattle.allowance.specs.Requests.{Kind, Request, Outcome, Machines, Answered, kept, acted, request, after, log}
 use Rattle.allowance.specs.Counting.{counted, usedBy, stepsOf, usedByAll, stepsOfAll, withUsed}
 use Rattle.allowance.specs.Projecting.{answersAlone, stateAlone, withRequest, requestsOf, withAnswer, answersOf}
-use Rattle.allowance.proofs.Allowing.{Rule, allowed-rule, rule-allowed, used-reserved, getD-unused, usedSum-unused, Sound, on-spend, allowed-there, spend-sound, spend-used, turn-sound, opened-usedSum, accepted-sound, accepted-unused}
+use Rattle.allowance.proofs.Allowing.{Rule, allowed-rule, rule-allowed, used-reserved, getD-unused, usedSum-unused, Sound, on-spend, allowed-there}
+use Rattle.allowance.proofs.Allowing.{spend-sound, spend-used, turn-sound, opened-usedSum, accepted-sound, accepted-unused}
 use Rattle.allowance.proofs.Cases.{on-request}
 
 -- the terms of an allowance, which no request alters

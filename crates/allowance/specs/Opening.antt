@@ -4,8 +4,8 @@ use mathlib.Core.Bool.{Bool, true, cond, _&&_}
 use mathlib.Core.List.{List, [], _∷_}
 use lib.ListN.{getD, take}
 use lib.Dec.{leb}
-use Rattle.construction.specs.declared.Answer.{Answer}
-use Rattle.construction.specs.declared.Refusal.the-variants.{BadTerms}
+use Rattle.construction.specs.declared.answers.Answer.{Answer}
+use Rattle.construction.specs.declared.answers.Refusal.the-variants.{BadTerms}
 use Rattle.allowance.specs.Types.{Quota, Allowance, Opened}
 use Rattle.allowance.specs.Allowing.{empty, unused}
 

@@ -1,8 +1,8 @@
 // Machines that share one processor (document 02, order 14): the allowance of steps per shaft turn, by value. What a machine is, its requests and its
 // answers are parameters of the definitions (specs/) and theorems (proofs/), which speak of every list of requests to all machines; the functions are the
 // rule, a turn and the opening. It rests on the crate construction (answers and refusals).
-use construction::Answer;
-use construction::Refusal;
+use construction::answers::Answer;
+use construction::answers::Refusal;
 ghost use mathlib.Core.Path.{_≡_};
 ghost use mathlib.Core.Bool.{true, cond, _&&_};
 ghost use Prim.Native.Nat.{_+_};

@@ -35,7 +35,11 @@ held (x0 ∷ x1 ∷ x2 ∷ x3 ∷ x4 ∷ x5 ∷ x6 ∷ x7 ∷ x8 ∷ x9 ∷ x10 
 held (x0 ∷ x1 ∷ x2 ∷ x3 ∷ x4 ∷ x5 ∷ x6 ∷ x7 ∷ x8 ∷ x9 ∷ x10 ∷ x11 ∷ []) a h e = absurd (omega arith)
 held (x0 ∷ x1 ∷ x2 ∷ x3 ∷ x4 ∷ x5 ∷ x6 ∷ x7 ∷ x8 ∷ x9 ∷ x10 ∷ x11 ∷ x12 ∷ []) a h e = absurd (omega arith)
 held (x0 ∷ x1 ∷ x2 ∷ x3 ∷ x4 ∷ x5 ∷ x6 ∷ x7 ∷ x8 ∷ x9 ∷ x10 ∷ x11 ∷ x12 ∷ x13 ∷ l) a h e =
-    rw (le-ltb (length (x0 ∷ x1 ∷ x2 ∷ x3 ∷ x4 ∷ x5 ∷ x6 ∷ x7 ∷ x8 ∷ x9 ∷ x10 ∷ x11 ∷ x12 ∷ x13 ∷ l)) 14 h, le-ltb (length (x0 ∷ x1 ∷ x2 ∷ x3 ∷ x4 ∷ x5 ∷ x6 ∷ x7 ∷ x8 ∷ x9 ∷ x10 ∷ x11 ∷ x12 ∷ x13 ∷ l)) 14 h)
+    rw (
+      le-ltb (length (x0 ∷ x1 ∷ x2 ∷ x3 ∷ x4 ∷ x5 ∷ x6 ∷ x7 ∷ x8 ∷ x9 ∷ x10 ∷ x11 ∷ x12 ∷ x13 ∷ l)) 14 h,
+      le-ltb
+          (length (x0 ∷ x1 ∷ x2 ∷ x3 ∷ x4 ∷ x5 ∷ x6 ∷ x7 ∷ x8 ∷ x9 ∷ x10 ∷ x11 ∷ x12 ∷ x13 ∷ l)) 14 h,
+    )
     (λ i. record { steps = a .steps; count = a .count; quotas = sym (four empty (a .quotas) e) i })
 
 -- of too few, no machines
@@ -121,7 +125,8 @@ module _ {S R A : Type 0} (k : Kind S R A) where
   requested : (x : Lent S) (q : Request R) → machinesOf (lentAfter k x q) ≡ request k (machinesOf x) q .machines
   requested x q =
       let y = request k (machinesOf x) q .machines in
-      let e = either (x .words) (y .allowance) (request-four (machinesOf x) q (in-four (x .words))) (λ h. request-none (machinesOf x) q (in-none (x .words) h)) in
+      let e = either (x .words) (y .allowance) (request-four (machinesOf x) q (in-four (x .words)))
+      (λ h. request-none (machinesOf x) q (in-none (x .words) h)) in
       λ i. record { allowance = e i; states = y .states }
 
   machines-held : (x : Lent S) (qs : List (Request R)) → machinesOf (afterAll k x qs) ≡ after k (machinesOf x) qs

@@ -6,7 +6,7 @@ use native.Mathlib.Omega.{arith}
 use borrow.Author.Tests.{ne-eqb}
 use Rattle.grammar.specs.Writing.{decimal, largest, Put}
 use Rattle.grammar.proofs.Puts.{Room, rest-all, rest-step, rest-last, put-both}
-use Rattle.construction.specs.declared.{Label.Label, LabelRow.LabelRow, Report.Report}
+use Rattle.construction.specs.declared.{accesses.Label.Label, accesses.LabelRow.LabelRow, answers.Report.Report}
 use Rattle.construction.specs.Answers.{numbersText}
 use Rattle.construction.specs.Labels.{labelRow}
 use Rattle.construction.specs.Reports.{labelText, cellText, swapByte, reportText}
@@ -23,7 +23,8 @@ module _ {b : List ℕ} {at i j : ℕ} {y z : List ℕ} where
   put-label l x e h k p q = rw (← e) (put-word-number (44 ∷ x .letter ∷ []) (x .number) h k (p .0) q)
 
 -- no access
-pub put-none : {b : List ℕ} {at : ℕ} {x : LabelRow} (r : Report) → x ≡ labelRow (r .label) → x .letter ≡ 0 → at ≤ largest → PutWithin b at (reportText r) at b 109
+pub put-none : {b : List ℕ} {at : ℕ} {x : LabelRow} (r : Report) → x ≡ labelRow (r .label) → x .letter ≡ 0 → at ≤ largest →
+    PutWithin b at (reportText r) at b 109
 unfolding reportText
 put-none r e z h = rw (← e, z) (record { place = omega arith; bytes = refl }, omega arith)
 

@@ -10,7 +10,7 @@ use borrow.Author.Tests.{ltb-true, ltb-false}
 use Rattle.grammar.specs.Writing.{decimal, largest, Put}
 use Rattle.grammar.proofs.Decimals.{decimal-one, decimal-more}
 use Rattle.grammar.proofs.Puts.{Room, rest-all, rest-step, rest-last, put-both}
-use Rattle.construction.specs.declared.{Words.Words, Yield.Yield, Answer.Answer}
+use Rattle.construction.specs.declared.{cells.Words.Words, cells.Yield.Yield, answers.Answer.Answer}
 use Rattle.construction.specs.Answers.{bytes, fields, refusedWith, wordText, doneWord, outputNumbers, answerFields, numbersText, fieldsText}
 
 -- ---- how long a number is: below `tens k` it has at most k + 1 digits

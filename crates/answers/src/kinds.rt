@@ -1,5 +1,5 @@
 // Of which kind an answer is (construction, specs/Answers): run, refused.
-use construction::Answer;
+use construction::answers::Answer;
 ghost use mathlib.Core.Path.{_≡_};
 ghost use Rattle.construction.specs.Answers.{isRun, isRefused};
 

@@ -4,13 +4,13 @@
 pub mod reports; // reports.rt: what is printed of a report
 pub mod kinds; // kinds.rt: whether an answer is taken, run or refused
 
-use construction::Answer;
-use construction::Refusal;
-use construction::RowSwap;
-use construction::Verdict;
-use construction::Words;
-use construction::Written;
-use construction::Yield;
+use construction::answers::Answer;
+use construction::answers::Refusal;
+use construction::cells::RowSwap;
+use construction::cells::Words;
+use construction::cells::Yield;
+use construction::texts::Verdict;
+use construction::texts::Written;
 use grammar::writing::put_decimal;
 use grammar::writing::put_word;
 ghost use mathlib.Core.Path.{_≡_};
@@ -18,7 +18,7 @@ ghost use mathlib.Core.List.{_++_, _∷_, []};
 ghost use Prim.Native.Nat.{_+_, _≤_};
 ghost use lib.ListN.{length};
 ghost use Rattle.grammar.specs.Writing.{decimal, Put};
-ghost use Rattle.construction.specs.declared.Answer.{Answer as AnswerOf};
+ghost use Rattle.construction.specs.declared.answers.Answer.{Answer as AnswerOf};
 ghost use Rattle.construction.specs.Answers.{numberOf, refusedWith, fields, bytes, wordText, doneWord, outputNumbers, answerFields, verdictFields, writtenFields, rowFields, numbersText, fieldsText};
 
 // The number of a refusal.

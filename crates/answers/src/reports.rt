@@ -1,9 +1,9 @@
 // What is printed of a report (construction, specs/Reports), put into a buffer.
 use crate::put_number;
-use construction::Cell;
-use construction::Label;
-use construction::Report;
-use construction::Swap;
+use construction::accesses::Cell;
+use construction::accesses::Label;
+use construction::accesses::Swap;
+use construction::answers::Report;
 use grammar::writing::put_byte;
 use grammar::writing::put_decimal;
 use labels::label_row;

@@ -54,7 +54,10 @@ argument-only [] n = λ e. clash (cc)
 argument-only (x ∷ xs) n =
     on-test (λ (a : Argument). a ≡ Argument.Value n → (x ∷ xs ≡ decimal n) × (n ≤ largest)) (beginsWrong (x ∷ xs))
     (λ _ e. clash (cc))
-    (λ f e. first-text x xs n (λ l q. let z : beginsWrong (x ∷ xs) ≡ true = rw (le-ltb (suc (length xs)) 1 (omega arith), q, lt-ltb 1 (suc (length xs)) (omega arith)) in clash (cc)) e)
+    (λ f e. first-text x xs n
+    (λ l q. let z : beginsWrong (x ∷ xs) ≡ true = rw (le-ltb (suc (length xs)) 1 (omega arith), q, lt-ltb 1 (suc (length xs)) (omega arith)) in
+    clash (cc))
+    e)
 
 -- ---- every decimal of 64 bits is taken
 digits-cons : (v w x : ℕ) (xs : List ℕ) → 48 ≤ x → x ≤ 57 → w ≡ grown v x → w ≤ largest → digitsOf v (x ∷ xs) ≡ digitsOf w xs
@@ -67,7 +70,8 @@ digits-read = decimal-induction (λ n. n ≤ largest → (r : List ℕ) → digi
     one : (n : ℕ) → n < 10 → n ≤ largest → (r : List ℕ) → digitsOf 0 (decimal n ++ r) ≡ digitsOf n r
     one n p l r = rw (decimal-one n p) (digits-cons 0 n (48 + n) r (omega arith) (omega arith) (omega arith) l)
 
-    more : (n : ℕ) → 10 ≤ n → (n / 10 ≤ largest → (r : List ℕ) → digitsOf 0 (decimal (n / 10) ++ r) ≡ digitsOf (n / 10) r) → n ≤ largest → (r : List ℕ) → digitsOf 0 (decimal n ++ r) ≡ digitsOf n r
+    more : (n : ℕ) → 10 ≤ n → (n / 10 ≤ largest → (r : List ℕ) → digitsOf 0 (decimal (n / 10) ++ r) ≡ digitsOf (n / 10) r) → n ≤ largest → (r : List ℕ) →
+        digitsOf 0 (decimal n ++ r) ≡ digitsOf n r
     more n p ih l r =
         rw (decimal-more n p)
         (ap (λ (t : List ℕ). digitsOf 0 t) (append-assoc (decimal (n / 10)) ((48 + n % 10) ∷ []) r)

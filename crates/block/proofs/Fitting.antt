@@ -9,15 +9,17 @@ use lib.ListN.{getD, replicate}
 use Rattle.construction.specs.Cells.{openGate, openAnnouncement, openRecord}
 use Rattle.construction.specs.Instructions.{started, noProgram}
 use Rattle.construction.specs.Dictionary.{noItem}
-use Rattle.construction.specs.Parts.{idleTask, noOperation, noGate}
+use Rattle.construction.specs.Parts.{idleControl, noOperation, noGate}
 use Rattle.construction.proofs.Basics.{getD-replicate-same}
 use Rattle.codes.specs.Types.{Item}
 use Rattle.codes.specs.Parts.{wordAt, part, table}
-use Rattle.codes.specs.Codes.{gateOf, taskOf, announcementOf, recordOf, operationOf, simulationOf, programOf}
+use Rattle.codes.specs.Codes.{gateOf, controlOf, announcementOf, recordOf, operationOf, simulationOf, programOf}
 use Rattle.codes.proofs.Values as values
-use Rattle.codes.proofs.Values.{Fits, nobody-fits, from-fits, FitsAnnouncement, FitsItem, FitsRecord, FitsWords, FitsOperation, FitsSimulation, half-fits, byte-fits}
+use Rattle.codes.proofs.Values.{Fits, nobody-fits, from-fits, FitsAnnouncement, FitsItem, FitsRecord, FitsWords, FitsOperation, FitsSimulation, half-fits}
+use Rattle.codes.proofs.Values.{byte-fits}
 use Rattle.codes.proofs.Programs.{FitsProgram, program-fits, no-program-fits}
-use Rattle.block.specs.Layout.{isRoom, rowAt, numberAt, processCountIn, variableCountIn, programCountIn, roomIn, notedIn, gateIn, announcementIn, recordIn, taskIn, operationIn, lastGateIn, lastIn, simulationIn, startIn, openingText, earlierText, laterText}
+use Rattle.block.specs.Layout.{isRoom, rowAt, numberAt, processCountIn, variableCountIn, programCountIn, roomIn, notedIn, gateIn, announcementIn}
+use Rattle.block.specs.Layout.{recordIn, controlIn, operationIn, lastGateIn, lastIn, simulationIn, startIn, openingText, earlierText, laterText}
 use Rattle.block.specs.Cards.{itemPlace, itemAt, dictionaryAt, textIn}
 
 -- what every value of words has, and what stands where there is no part, every part has
@@ -66,8 +68,8 @@ module _ (b : List ℕ) where
     pub record-fits : FitsRecord (recordIn b i)
     record-fits = row-fits FitsRecord b 80 4 64 recordOf (openRecord 0) i values.record-fits (record { val0 = omega arith; val1 = omega arith })
 
-    pub task-fits : taskIn b i .target < 256
-    task-fits = row-fits (λ t. t .target < 256) b 336 2 8 taskOf idleTask i (λ w. byte-fits (wordAt w 1)) (omega arith)
+    pub control-fits : controlIn b i .target < 256
+    control-fits = row-fits (λ t. t .target < 256) b 336 2 8 controlOf idleControl i (λ w. byte-fits (wordAt w 1)) (omega arith)
 
     pub operation-fits : FitsOperation (operationIn b i)
     operation-fits = row-fits FitsOperation b 352 5 8 operationOf noOperation i values.operation-fits (record { program = omega arith; inputs = no-words })
@@ -80,7 +82,8 @@ module _ (b : List ℕ) where
 
     pub simulation-fits : FitsSimulation (simulationIn b i)
     simulation-fits =
-        row-fits FitsSimulation b 496 10 8 simulationOf started i values.simulation-fits (record { counter = omega arith; registers = no-words; outputs = no-words })
+        row-fits FitsSimulation b 496 10 8 simulationOf started i values.simulation-fits
+        (record { counter = omega arith; registers = no-words; outputs = no-words })
 
     pub start-fits : startIn b i < 4294967296
     start-fits = half-fits (numberAt b 592 64 i)

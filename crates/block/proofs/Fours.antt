@@ -20,7 +20,8 @@ module _ (b : List ℕ) (at k : ℕ) where
 
   pub halves-in :
       {x : Words} → x ≡ halves b (at + k) →
-      x ≡ record { w0 = half (wordAt b (at + k)); w1 = half (wordAt b (at + (k + 1))); w2 = half (wordAt b (at + (k + 2))); w3 = half (wordAt b (at + (k + 3))) }
+      x ≡ record
+      { w0 = half (wordAt b (at + k)); w1 = half (wordAt b (at + (k + 1))); w2 = half (wordAt b (at + (k + 2))); w3 = half (wordAt b (at + (k + 3))) }
   halves-in e =
       e ∙ (λ j. record { w0 = half (wordAt b (at + k)); w1 = half (wordAt b (one j)); w2 = half (wordAt b (two j)); w3 = half (wordAt b (three j)) })
 
@@ -43,7 +44,8 @@ module _ (b : List ℕ) (at : ℕ) {c : List ℕ} where
       (λ j. set (put j) (at + 8) (g j)) ∙ rw f
 
   pub simulation-put :
-      (s : Simulation) {d : List ℕ} {fault : ℕ} → d ≡ putHalves (set b at (s .counter)) (at + 1) (s .registers) → c ≡ putHalves d (at + 5) (s .yields .outputs) →
+      (s : Simulation) {d : List ℕ} {fault : ℕ} → d ≡ putHalves (set b at (s .counter)) (at + 1) (s .registers) →
+      c ≡ putHalves d (at + 5) (s .yields .outputs) →
       fault ≡ bit (s .yields .fault) → set c (at + 9) fault ≡ stores b at (simulationWords s)
   simulation-put s {d} e f g =
       let first = e ∙ put-in (set b at (s .counter)) at 1 (s .registers) in

@@ -13,13 +13,15 @@ use Rattle.construction.specs.Instructions.{started, noProgram}
 use Rattle.construction.specs.Dictionary.{empty}
 use Rattle.construction.specs.Opening.{fresh, noContents}
 use Rattle.construction.specs.Parts as construction
-use Rattle.construction.specs.Parts.{idleTask, noOperation, noGate, announcementAt, recordAt, localAt, textsOf}
+use Rattle.construction.specs.Parts.{idleControl, noOperation, noGate, announcementAt, recordAt, localAt, textsOf}
 use Rattle.construction.proofs.Basics.{getD-replicate-same}
-use Rattle.codes.specs.Types.{Gate, Announcement, Record, Task, Operation, Simulation, Dictionary, Program, Card}
+use Rattle.codes.specs.Types.{Gate, Announcement, Record, Control, Operation, Simulation, Dictionary, Program, Card}
 use Rattle.codes.specs.Parts.{wordAt, part, table, rows}
-use Rattle.codes.specs.Codes.{byte, half, odd, gateOf, taskOf, announcementOf, recordOf, operationOf, simulationOf, programOf}
+use Rattle.codes.specs.Codes.{byte, half, odd, gateOf, controlOf, announcementOf, recordOf, operationOf, simulationOf, programOf}
 use Rattle.codes.proofs.Blocks.{getD-table, table-or}
-use Rattle.block.specs.Layout.{isRoom, rowAt, numberAt, processCountIn, variableCountIn, programCountIn, limitIn, stepsIn, roomIn, notedIn, gateIn, announcementIn, recordIn, taskIn, operationIn, exitIn, countIn, lastGateIn, lastIn, simulationIn, maskIn, startIn, openingText, fromIn, earlierText, laterText}
+use Rattle.block.specs.Layout.{isRoom, rowAt, numberAt, processCountIn, variableCountIn, programCountIn, limitIn, stepsIn, roomIn, notedIn, gateIn}
+use Rattle.block.specs.Layout.{announcementIn, recordIn, controlIn, operationIn, exitIn, countIn, lastGateIn, lastIn, simulationIn, maskIn, startIn}
+use Rattle.block.specs.Layout.{openingText, fromIn, earlierText, laterText}
 use Rattle.block.specs.Cards.{dictionaryAt, dictionaryIn, textIn, numbers, standing, cardOf}
 
 pub empty-at : (l : List ℕ) (base : ℕ) → dictionaryAt l base 0 ≡ empty
@@ -95,9 +97,9 @@ module _ (b l : List ℕ) where
   record-is = row-is (λ c. c .records) 80 4 64 recordOf (openRecord 0) refl refl
 
   -- what a process keeps
-  pub task-is : (i : ℕ) → taskIn b i ≡ localAt (cardOf b l) i .task
+  pub control-is : (i : ℕ) → controlIn b i ≡ localAt (cardOf b l) i .control
   unfolding standing fresh
-  task-is = row-is (λ c. c .tasks) 336 2 8 taskOf idleTask refl refl
+  control-is = row-is (λ c. c .controls) 336 2 8 controlOf idleControl refl refl
 
   pub operation-is : (i : ℕ) → operationIn b i ≡ localAt (cardOf b l) i .operation
   unfolding standing fresh
@@ -113,11 +115,11 @@ module _ (b l : List ℕ) where
 
   pub last-gate-is : (i : ℕ) → lastGateIn b i ≡ localAt (cardOf b l) i .gate
   unfolding standing fresh
-  last-gate-is = row-is (λ c. c .gates) 408 2 8 gateOf noGate refl refl
+  last-gate-is = row-is (λ c. c .gatesRead) 408 2 8 gateOf noGate refl refl
 
   pub last-is : (i : ℕ) → lastIn b i ≡ localAt (cardOf b l) i .announcement
   unfolding standing fresh
-  last-is = row-is (λ c. c .copies) 424 9 8 announcementOf openAnnouncement refl refl
+  last-is = row-is (λ c. c .announcementsRead) 424 9 8 announcementOf openAnnouncement refl refl
 
   pub simulation-is : (i : ℕ) → simulationIn b i ≡ localAt (cardOf b l) i .simulation
   unfolding standing fresh

@@ -15,14 +15,20 @@ use Rattle.construction.specs.Dictionary.{empty}
 use Rattle.construction.specs.Instructions.{noProgram}
 use Rattle.construction.specs.Opening.{fresh, noContents}
 use Rattle.construction.specs.Parts.{withCells, withGate, withAnnouncement, withRecord, withOwn, withSteps, withRevision}
-use Rattle.codes.specs.Types.{Gate, Announcement, Record, Task, Operation, Simulation, Dictionary, Program, Card}
+use Rattle.codes.specs.Types.{Gate, Announcement, Record, Control, Operation, Simulation, Dictionary, Program, Card}
 use Rattle.codes.specs.Parts.{wordAt, part, stores, table, rows}
-use Rattle.codes.specs.Codes.{byte, half, odd, bit, gateOf, gateWords, taskOf, taskWords, announcementOf, announcementWords, recordOf, recordWords, operationOf, operationWords, simulationOf, simulationWords, programOf, programWords}
+use Rattle.codes.specs.Codes.{byte, half, odd, bit, gateOf, gateWords, controlOf, controlWords, announcementOf, announcementWords, recordOf, recordWords}
+use Rattle.codes.specs.Codes.{operationOf, operationWords, simulationOf, simulationWords, programOf, programWords}
 use Rattle.codes.proofs.Blocks.{length-stores, length-table, inside, table-same, table-set, rows-set}
-use Rattle.codes.proofs.Values.{Fits, gate-back, task-back, FitsAnnouncement, announcement-back, FitsRecord, record-back, FitsOperation, operation-back, FitsSimulation, simulation-back, odd-back}
+use Rattle.codes.proofs.Values.{Fits, gate-back, control-back, FitsAnnouncement, announcement-back, FitsRecord, record-back, FitsOperation, operation-back}
+use Rattle.codes.proofs.Values.{FitsSimulation, simulation-back, odd-back}
 use Rattle.codes.proofs.Programs.{FitsProgram, program-back}
-use Rattle.block.specs.Layout.{isRoom, rowAt, putRow, numberAt, putNumber, roomIn, putProcessCount, putVariableCount, putProgramCount, putLimit, putRoom, putStart, putSteps, putGate, putAnnouncement, putRecord, putTask, putOperation, putExit, putCount, putLastGate, putLast, putSimulation, putNoted, putMask, putFrom, putOpening, putEarlier, putLater, keepLater}
-use Rattle.block.specs.Cards.{dictionaryAt, dictionaryIn, numbers, standing, cardOf, withTask, withOperation, withExit, withCount, withGateRead, withCopy, withSimulation, withDictionary, withMask, withHead, withProcessCount, withVariableCount, withProgramCount, withLimit, withStart, withTexts, withOpening, withFrom, withEarlier, withLater}
+use Rattle.block.specs.Layout.{isRoom, rowAt, putRow, numberAt, putNumber, roomIn, putProcessCount, putVariableCount, putProgramCount, putLimit, putRoom}
+use Rattle.block.specs.Layout.{putStart, putSteps, putGate, putAnnouncement, putRecord, putControl, putOperation, putExit, putCount, putLastGate, putLast}
+use Rattle.block.specs.Layout.{putSimulation, putNoted, putMask, putFrom, putOpening, putEarlier, putLater, keepLater}
+use Rattle.block.specs.Cards.{dictionaryAt, dictionaryIn, numbers, standing, cardOf, withControl, withOperation, withExit, withCount, withGateRead}
+use Rattle.block.specs.Cards.{withCopy, withSimulation, withDictionary, withMask, withHead, withProcessCount, withVariableCount, withProgramCount}
+use Rattle.block.specs.Cards.{withLimit, withStart, withTexts, withOpening, withFrom, withEarlier, withLater}
 use Rattle.block.proofs.Rooms.{room-true}
 use Rattle.block.proofs.Gets.{long-card, later-text-is, empty-at}
 use Rattle.block.proofs.Standing.{Only, only-stores, only-set, number-same, standing-only}
@@ -88,7 +94,7 @@ unfolding numberAt
 number-of b base n i h p = rw (room-true b i n h p)
 
 abbrev withDictionaries : Card → List Dictionary → Card
-withDictionaries c xs = withOwn c (c .tasks) (c .operations) (c .exits) (c .counts) (c .gates) (c .copies) (c .simulations) xs (c .masks)
+withDictionaries c xs = withOwn c (c .controls) (c .operations) (c .exits) (c .counts) (c .gatesRead) (c .announcementsRead) (c .simulations) xs (c .masks)
 
 row-of :
     {A : Type 0} (b : List ℕ) (base size n i : ℕ) (decode : List ℕ → A) (none : A) → 1456 ≤ length b → i < n →
@@ -252,60 +258,60 @@ module _ (b l : List ℕ) (long : 1456 ≤ length b) where
       (λ h. record-back r p) (omega arith) (λ c. refl) (λ c o e. standing-only 80 336 b c l o e)
 
   -- what a process keeps
-  pub task-stored : (i : ℕ) (t : Task) → t .target < 256 → cardOf (putTask b i t) l ≡ withTask (cardOf b l) i t
+  pub control-stored : (i : ℕ) (t : Control) → t .target < 256 → cardOf (putControl b i t) l ≡ withControl (cardOf b l) i t
   unfolding standing
-  task-stored i t p =
-      row-put (λ c. c .tasks)
-      (λ c xs. withOwn c xs (c .operations) (c .exits) (c .counts) (c .gates) (c .copies) (c .simulations) (c .dictionaries) (c .masks))
-      refl i t 336 8 taskOf (taskWords t) (λ h. task-back t p) (omega arith) (λ c. refl) (λ c o e. standing-only 336 352 b c l o e)
+  control-stored i t p =
+      row-put (λ c. c .controls)
+      (λ c xs. withOwn c xs (c .operations) (c .exits) (c .counts) (c .gatesRead) (c .announcementsRead) (c .simulations) (c .dictionaries) (c .masks))
+      refl i t 336 8 controlOf (controlWords t) (λ h. control-back t p) (omega arith) (λ c. refl) (λ c o e. standing-only 336 352 b c l o e)
 
   pub operation-stored : (i : ℕ) (o : Operation) → FitsOperation o → cardOf (putOperation b i o) l ≡ withOperation (cardOf b l) i o
   unfolding standing
   operation-stored i o p =
       row-put (λ c. c .operations)
-      (λ c xs. withOwn c (c .tasks) xs (c .exits) (c .counts) (c .gates) (c .copies) (c .simulations) (c .dictionaries) (c .masks))
+      (λ c xs. withOwn c (c .controls) xs (c .exits) (c .counts) (c .gatesRead) (c .announcementsRead) (c .simulations) (c .dictionaries) (c .masks))
       refl i o 352 8 operationOf (operationWords o) (λ h. operation-back o p) (omega arith) (λ c. refl) (λ c h e. standing-only 352 392 b c l h e)
 
   pub exit-stored : (i : ℕ) (t : Bool) → cardOf (putExit b i t) l ≡ withExit (cardOf b l) i t
   unfolding standing
   exit-stored i t =
       number-put (λ c. c .exits)
-      (λ c xs. withOwn c (c .tasks) (c .operations) xs (c .counts) (c .gates) (c .copies) (c .simulations) (c .dictionaries) (c .masks))
+      (λ c xs. withOwn c (c .controls) (c .operations) xs (c .counts) (c .gatesRead) (c .announcementsRead) (c .simulations) (c .dictionaries) (c .masks))
       refl i t 392 8 odd (bit t) (odd-back t) (omega arith) (λ c. refl) (λ c o e. standing-only 392 400 b c l o e)
 
   pub count-stored : (i k : ℕ) → cardOf (putCount b i k) l ≡ withCount (cardOf b l) i k
   unfolding standing
   count-stored i k =
       number-put (λ c. c .counts)
-      (λ c xs. withOwn c (c .tasks) (c .operations) (c .exits) xs (c .gates) (c .copies) (c .simulations) (c .dictionaries) (c .masks))
+      (λ c xs. withOwn c (c .controls) (c .operations) (c .exits) xs (c .gatesRead) (c .announcementsRead) (c .simulations) (c .dictionaries) (c .masks))
       refl i k 400 8 (λ w. w) k refl (omega arith) (λ c. refl) (λ c o e. standing-only 400 408 b c l o e)
 
   pub last-gate-stored : (i : ℕ) (g : Gate) → Fits (g .holder) → cardOf (putLastGate b i g) l ≡ withGateRead (cardOf b l) i g
   unfolding standing
   last-gate-stored i g p =
-      row-put (λ c. c .gates)
-      (λ c xs. withOwn c (c .tasks) (c .operations) (c .exits) (c .counts) xs (c .copies) (c .simulations) (c .dictionaries) (c .masks))
+      row-put (λ c. c .gatesRead)
+      (λ c xs. withOwn c (c .controls) (c .operations) (c .exits) (c .counts) xs (c .announcementsRead) (c .simulations) (c .dictionaries) (c .masks))
       refl i g 408 8 gateOf (gateWords g) (λ h. gate-back g p) (omega arith) (λ c. refl) (λ c o e. standing-only 408 424 b c l o e)
 
   pub last-stored : (i : ℕ) (a : Announcement) → FitsAnnouncement a → cardOf (putLast b i a) l ≡ withCopy (cardOf b l) i a
   unfolding standing
   last-stored i a p =
-      row-put (λ c. c .copies)
-      (λ c xs. withOwn c (c .tasks) (c .operations) (c .exits) (c .counts) (c .gates) xs (c .simulations) (c .dictionaries) (c .masks))
+      row-put (λ c. c .announcementsRead)
+      (λ c xs. withOwn c (c .controls) (c .operations) (c .exits) (c .counts) (c .gatesRead) xs (c .simulations) (c .dictionaries) (c .masks))
       refl i a 424 8 announcementOf (announcementWords a) (λ h. announcement-back a p) (omega arith) (λ c. refl) (λ c o e. standing-only 424 496 b c l o e)
 
   pub simulation-stored : (i : ℕ) (s : Simulation) → FitsSimulation s → cardOf (putSimulation b i s) l ≡ withSimulation (cardOf b l) i s
   unfolding standing
   simulation-stored i s p =
       row-put (λ c. c .simulations)
-      (λ c xs. withOwn c (c .tasks) (c .operations) (c .exits) (c .counts) (c .gates) (c .copies) xs (c .dictionaries) (c .masks))
+      (λ c xs. withOwn c (c .controls) (c .operations) (c .exits) (c .counts) (c .gatesRead) (c .announcementsRead) xs (c .dictionaries) (c .masks))
       refl i s 496 8 simulationOf (simulationWords s) (λ h. simulation-back s p) (omega arith) (λ c. refl) (λ c o e. standing-only 496 576 b c l o e)
 
   pub mask-stored : (i k : ℕ) → cardOf (putMask b i k) l ≡ withMask (cardOf b l) i k
   unfolding standing
   mask-stored i k =
       number-put (λ c. c .masks)
-      (λ c xs. withOwn c (c .tasks) (c .operations) (c .exits) (c .counts) (c .gates) (c .copies) (c .simulations) (c .dictionaries) xs)
+      (λ c xs. withOwn c (c .controls) (c .operations) (c .exits) (c .counts) (c .gatesRead) (c .announcementsRead) (c .simulations) (c .dictionaries) xs)
       refl i k 584 8 (λ w. w) k refl (omega arith) (λ c. refl) (λ c o e. standing-only 584 592 b c l o e)
 
   -- the length of a dictionary, with a loan that has other items for it and the old ones for every other process
@@ -353,7 +359,8 @@ module _ (b l : List ℕ) (long : 1456 ≤ length b) where
       (omega arith) (λ c. refl) (λ c o e. standing-only 656 920 b c l o e)
 
   -- words of an earlier text, as they come from a program or from the later text
-  earlier-put : (k : ℕ) (words : List ℕ) (y : Program) → length words ≡ 33 → (k < 8 → programOf words ≡ y) → cardOf (putRow b 928 33 8 k words) l ≡ withEarlier (cardOf b l) k y
+  earlier-put : (k : ℕ) (words : List ℕ) (y : Program) → length words ≡ 33 → (k < 8 → programOf words ≡ y) →
+      cardOf (putRow b 928 33 8 k words) l ≡ withEarlier (cardOf b l) k y
   unfolding standing
   earlier-put k words y size back =
       rw (sym size)
@@ -372,7 +379,8 @@ module _ (b l : List ℕ) (long : 1456 ≤ length b) where
 
   pub later-kept : (k : ℕ) → cardOf (keepLater b k) l ≡ withEarlier (cardOf b l) k (getD (cardOf b l .later) k noProgram)
   later-kept k =
-      earlier-put k (part b (1192 + 33 * k) 33) (getD (cardOf b l .later) k noProgram) refl (λ h. row-of b 1192 33 8 k programOf noProgram long h ∙ later-text-is b l k)
+      earlier-put k (part b (1192 + 33 * k) 33) (getD (cardOf b l .later) k noProgram) refl
+      (λ h. row-of b 1192 33 8 k programOf noProgram long h ∙ later-text-is b l k)
 
 -- a change of program k: its later text becomes the earlier one, and y the later one
 pub revision-stored :

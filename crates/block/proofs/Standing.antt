@@ -11,7 +11,7 @@ use borrow.Author.Tests.{leb-true}
 use lib.ListN.{length, set}
 use Rattle.codes.specs.Types.{Card}
 use Rattle.codes.specs.Parts.{wordAt, part, stores, table, rows}
-use Rattle.codes.specs.Codes.{byte, half, odd, gateOf, taskOf, announcementOf, recordOf, operationOf, simulationOf, programOf}
+use Rattle.codes.specs.Codes.{byte, half, odd, gateOf, controlOf, announcementOf, recordOf, operationOf, simulationOf, programOf}
 use Rattle.codes.proofs.Blocks.{kept, part-same, table-same, rows-same}
 use Rattle.block.specs.Layout.{isRoom, numberAt, roomIn, notedIn}
 use Rattle.block.specs.Cards.{dictionaryAt, dictionaryIn, numbers, standing}
@@ -69,12 +69,12 @@ module _ (low high : ℕ) (b c l : List ℕ) where
         announcements = one 8 80 (λ x. rows x 8 9 8 announcementOf);
         records = one 80 336 (λ x. rows x 80 4 64 recordOf);
         steps = one 4 5 (λ x. wordAt x 4);
-        tasks = one 336 352 (λ x. rows x 336 2 8 taskOf);
+        controls = one 336 352 (λ x. rows x 336 2 8 controlOf);
         operations = one 352 392 (λ x. rows x 352 5 8 operationOf);
         exits = one 392 400 (λ x. numbers x 392 8 odd);
         counts = one 400 408 (λ x. numbers x 400 8 (λ w. w));
-        gates = one 408 424 (λ x. rows x 408 2 8 gateOf);
-        copies = one 424 496 (λ x. rows x 424 9 8 announcementOf);
+        gatesRead = one 408 424 (λ x. rows x 408 2 8 gateOf);
+        announcementsRead = one 424 496 (λ x. rows x 424 9 8 announcementOf);
         simulations = one 496 576 (λ x. rows x 496 10 8 simulationOf);
         dictionaries = cond (away low high 7 8 && away low high 576 584) (table 8 (λ i. dictionaryIn b l i)) (table 8 (λ i. dictionaryIn c l i));
         masks = one 584 592 (λ x. numbers x 584 8 (λ w. w));
@@ -130,12 +130,12 @@ module _ (low high : ℕ) (b c l : List ℕ) where
         let gate = picked (away low high 5 7) (gateOf (part b 5 2)) (gateOf (part c 5 2)) (λ e. ap gateOf (part-same b c 5 2 (λ q r s. outside 5 7 q e r s))) in
         let announcements = many 8 9 8 announcementOf in
         let records = many 80 4 64 recordOf in
-        let tasks = many 336 2 8 taskOf in
+        let controls = many 336 2 8 controlOf in
         let operations = many 352 5 8 operationOf in
         let exits = each 392 8 odd in
         let counts = each 400 8 (λ (w : ℕ). w) in
-        let gates = many 408 2 8 gateOf in
-        let copies = many 424 9 8 announcementOf in
+        let gatesRead = many 408 2 8 gateOf in
+        let announcementsRead = many 424 9 8 announcementOf in
         let simulations = many 496 10 8 simulationOf in
         let masks = each 584 8 (λ (w : ℕ). w) in
         let dictionaries = dictionaries-picked in
@@ -153,12 +153,12 @@ module _ (low high : ℕ) (b c l : List ℕ) where
           announcements = announcements j;
           records = records j;
           steps = steps j;
-          tasks = tasks j;
+          controls = controls j;
           operations = operations j;
           exits = exits j;
           counts = counts j;
-          gates = gates j;
-          copies = copies j;
+          gatesRead = gatesRead j;
+          announcementsRead = announcementsRead j;
           simulations = simulations j;
           dictionaries = dictionaries j;
           masks = masks j;

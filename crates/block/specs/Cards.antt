@@ -8,9 +8,9 @@ use lib.ListN.{length, set, replicate}
 use Rattle.construction.specs.Dictionary.{noItem}
 use Rattle.construction.specs.Opening.{fresh, noContents}
 use Rattle.construction.specs.Parts.{withOwn}
-use Rattle.codes.specs.Types.{Gate, Announcement, Record, Task, Operation, Simulation, Dictionary, Program, Item, Card}
+use Rattle.codes.specs.Types.{Gate, Announcement, Record, Control, Operation, Simulation, Dictionary, Program, Item, Card}
 use Rattle.codes.specs.Parts.{wordAt, part, table, rows}
-use Rattle.codes.specs.Codes.{byte, half, odd, gateOf, taskOf, announcementOf, recordOf, operationOf, simulationOf, itemOf, programOf}
+use Rattle.codes.specs.Codes.{byte, half, odd, gateOf, controlOf, announcementOf, recordOf, operationOf, simulationOf, itemOf, programOf}
 use Rattle.block.specs.Layout.{roomIn, notedIn, fromIn, earlierText, laterText}
 
 -- item k from item `base` on in a loan, three words an item
@@ -53,12 +53,12 @@ standing b l =
       announcements = rows b 8 9 8 announcementOf;
       records = rows b 80 4 64 recordOf;
       steps = wordAt b 4;
-      tasks = rows b 336 2 8 taskOf;
+      controls = rows b 336 2 8 controlOf;
       operations = rows b 352 5 8 operationOf;
       exits = numbers b 392 8 odd;
       counts = numbers b 400 8 (λ w. w);
-      gates = rows b 408 2 8 gateOf;
-      copies = rows b 424 9 8 announcementOf;
+      gatesRead = rows b 408 2 8 gateOf;
+      announcementsRead = rows b 424 9 8 announcementOf;
       simulations = rows b 496 10 8 simulationOf;
       dictionaries = table 8 (λ i. dictionaryIn b l i);
       masks = numbers b 584 8 (λ w. w);
@@ -69,32 +69,32 @@ unfoldable pub cardOf : List ℕ → List ℕ → Card
 cardOf b l = cond (leb 1456 (length b)) (standing b l) (fresh noContents)
 
 -- the card with one part of what process i keeps replaced
-abbrev pub withTask : Card → ℕ → Task → Card
-withTask c i x = withOwn c (set (c .tasks) i x) (c .operations) (c .exits) (c .counts) (c .gates) (c .copies) (c .simulations) (c .dictionaries) (c .masks)
+abbrev pub withControl : Card → ℕ → Control → Card
+withControl c i x = withOwn c (set (c .controls) i x) (c .operations) (c .exits) (c .counts) (c .gatesRead) (c .announcementsRead) (c .simulations) (c .dictionaries) (c .masks)
 
 abbrev pub withOperation : Card → ℕ → Operation → Card
-withOperation c i x = withOwn c (c .tasks) (set (c .operations) i x) (c .exits) (c .counts) (c .gates) (c .copies) (c .simulations) (c .dictionaries) (c .masks)
+withOperation c i x = withOwn c (c .controls) (set (c .operations) i x) (c .exits) (c .counts) (c .gatesRead) (c .announcementsRead) (c .simulations) (c .dictionaries) (c .masks)
 
 abbrev pub withExit : Card → ℕ → Bool → Card
-withExit c i x = withOwn c (c .tasks) (c .operations) (set (c .exits) i x) (c .counts) (c .gates) (c .copies) (c .simulations) (c .dictionaries) (c .masks)
+withExit c i x = withOwn c (c .controls) (c .operations) (set (c .exits) i x) (c .counts) (c .gatesRead) (c .announcementsRead) (c .simulations) (c .dictionaries) (c .masks)
 
 abbrev pub withCount : Card → ℕ → ℕ → Card
-withCount c i x = withOwn c (c .tasks) (c .operations) (c .exits) (set (c .counts) i x) (c .gates) (c .copies) (c .simulations) (c .dictionaries) (c .masks)
+withCount c i x = withOwn c (c .controls) (c .operations) (c .exits) (set (c .counts) i x) (c .gatesRead) (c .announcementsRead) (c .simulations) (c .dictionaries) (c .masks)
 
 abbrev pub withGateRead : Card → ℕ → Gate → Card
-withGateRead c i x = withOwn c (c .tasks) (c .operations) (c .exits) (c .counts) (set (c .gates) i x) (c .copies) (c .simulations) (c .dictionaries) (c .masks)
+withGateRead c i x = withOwn c (c .controls) (c .operations) (c .exits) (c .counts) (set (c .gatesRead) i x) (c .announcementsRead) (c .simulations) (c .dictionaries) (c .masks)
 
 abbrev pub withCopy : Card → ℕ → Announcement → Card
-withCopy c i x = withOwn c (c .tasks) (c .operations) (c .exits) (c .counts) (c .gates) (set (c .copies) i x) (c .simulations) (c .dictionaries) (c .masks)
+withCopy c i x = withOwn c (c .controls) (c .operations) (c .exits) (c .counts) (c .gatesRead) (set (c .announcementsRead) i x) (c .simulations) (c .dictionaries) (c .masks)
 
 abbrev pub withSimulation : Card → ℕ → Simulation → Card
-withSimulation c i x = withOwn c (c .tasks) (c .operations) (c .exits) (c .counts) (c .gates) (c .copies) (set (c .simulations) i x) (c .dictionaries) (c .masks)
+withSimulation c i x = withOwn c (c .controls) (c .operations) (c .exits) (c .counts) (c .gatesRead) (c .announcementsRead) (set (c .simulations) i x) (c .dictionaries) (c .masks)
 
 abbrev pub withDictionary : Card → ℕ → Dictionary → Card
-withDictionary c i x = withOwn c (c .tasks) (c .operations) (c .exits) (c .counts) (c .gates) (c .copies) (c .simulations) (set (c .dictionaries) i x) (c .masks)
+withDictionary c i x = withOwn c (c .controls) (c .operations) (c .exits) (c .counts) (c .gatesRead) (c .announcementsRead) (c .simulations) (set (c .dictionaries) i x) (c .masks)
 
 abbrev pub withMask : Card → ℕ → ℕ → Card
-withMask c i x = withOwn c (c .tasks) (c .operations) (c .exits) (c .counts) (c .gates) (c .copies) (c .simulations) (c .dictionaries) (set (c .masks) i x)
+withMask c i x = withOwn c (c .controls) (c .operations) (c .exits) (c .counts) (c .gatesRead) (c .announcementsRead) (c .simulations) (c .dictionaries) (set (c .masks) i x)
 
 -- the card with other texts of its programs: the opening ones, the numbers from which the later ones hold, the earlier and the later ones
 abbrev pub withTexts : Card → List Program → List ℕ → List Program → List Program → Card
@@ -113,12 +113,12 @@ withTexts c programs from earlier later =
       announcements = c .announcements;
       records = c .records;
       steps = c .steps;
-      tasks = c .tasks;
+      controls = c .controls;
       operations = c .operations;
       exits = c .exits;
       counts = c .counts;
-      gates = c .gates;
-      copies = c .copies;
+      gatesRead = c .gatesRead;
+      announcementsRead = c .announcementsRead;
       simulations = c .simulations;
       dictionaries = c .dictionaries;
       masks = c .masks;
@@ -153,12 +153,12 @@ withHead c p n s limit starts =
       announcements = c .announcements;
       records = c .records;
       steps = c .steps;
-      tasks = c .tasks;
+      controls = c .controls;
       operations = c .operations;
       exits = c .exits;
       counts = c .counts;
-      gates = c .gates;
-      copies = c .copies;
+      gatesRead = c .gatesRead;
+      announcementsRead = c .announcementsRead;
       simulations = c .simulations;
       dictionaries = c .dictionaries;
       masks = c .masks;

@@ -5,7 +5,7 @@
 --   7           w, the room of each dictionary
 --   8           announcements, 8 of                      9 words: program, flag, seq, number, four words, fault mark
 --   80          records, 64 of                           4 words: val[0], val[1], toggle, seq
---   336         tasks, 8 of                              2 words: place, target
+--   336         controls, 8 of                              2 words: place, target
 --   352         operations, 8 of                         5 words: program, four inputs
 --   392, 400    exit requests; own steps                 8 words each
 --   408         gates last read, 8 of                    2 words
@@ -23,10 +23,11 @@ use lib.Dec.{leb, ltb}
 use lib.ListN.{length, set}
 use Rattle.construction.specs.Cells.{openGate, openAnnouncement, openRecord}
 use Rattle.construction.specs.Instructions.{started, noProgram}
-use Rattle.construction.specs.Parts.{idleTask, noOperation, noGate}
-use Rattle.codes.specs.Types.{Gate, Announcement, Record, Task, Operation, Simulation, Program}
+use Rattle.construction.specs.Parts.{idleControl, noOperation, noGate}
+use Rattle.codes.specs.Types.{Gate, Announcement, Record, Control, Operation, Simulation, Program}
 use Rattle.codes.specs.Parts.{wordAt, part, stores}
-use Rattle.codes.specs.Codes.{byte, half, odd, bit, gateOf, gateWords, taskOf, taskWords, announcementOf, announcementWords, recordOf, recordWords, operationOf, operationWords, simulationOf, simulationWords, programOf, programWords}
+use Rattle.codes.specs.Codes.{byte, half, odd, bit, gateOf, gateWords, controlOf, controlWords, announcementOf, announcementWords, recordOf, recordWords}
+use Rattle.codes.specs.Codes.{operationOf, operationWords, simulationOf, simulationWords, programOf, programWords}
 
 -- whether there is a part i of n: a block that is too short holds nothing
 unfoldable pub isRoom : List ℕ → ℕ → ℕ → Bool
@@ -78,8 +79,8 @@ abbrev pub recordIn : List ℕ → ℕ → Record
 recordIn b v = rowAt b 80 4 64 recordOf (openRecord 0) v
 
 -- what a process keeps
-abbrev pub taskIn : List ℕ → ℕ → Task
-taskIn b i = rowAt b 336 2 8 taskOf idleTask i
+abbrev pub controlIn : List ℕ → ℕ → Control
+controlIn b i = rowAt b 336 2 8 controlOf idleControl i
 
 abbrev pub operationIn : List ℕ → ℕ → Operation
 operationIn b i = rowAt b 352 5 8 operationOf noOperation i
@@ -153,8 +154,8 @@ putAnnouncement b m a = putRow b 8 9 8 m (announcementWords a)
 abbrev pub putRecord : List ℕ → ℕ → Record → List ℕ
 putRecord b v r = putRow b 80 4 64 v (recordWords r)
 
-abbrev pub putTask : List ℕ → ℕ → Task → List ℕ
-putTask b i t = putRow b 336 2 8 i (taskWords t)
+abbrev pub putControl : List ℕ → ℕ → Control → List ℕ
+putControl b i t = putRow b 336 2 8 i (controlWords t)
 
 abbrev pub putOperation : List ℕ → ℕ → Operation → List ℕ
 putOperation b i o = putRow b 352 5 8 i (operationWords o)

@@ -7,22 +7,22 @@ use crate::parts;
 use codes::bit;
 use codes::byte;
 use codes::odd;
-use construction::Announcement;
-use construction::Gate;
-use construction::Holder;
-use construction::Label;
-use construction::Operation;
-use construction::Simulation;
-use construction::Task;
+use construction::accesses::Control;
+use construction::accesses::Label;
+use construction::card::Operation;
+use construction::cells::Announcement;
+use construction::cells::Gate;
+use construction::cells::Holder;
+use construction::simulations::Simulation;
 ghost use mathlib.Core.Path.{_≡_};
-ghost use Rattle.construction.specs.Parts.{idleTask, noOperation, noGate};
-ghost use Rattle.block.specs.Layout.{taskIn, putTask, operationIn, putOperation, exitIn, putExit, countIn, putCount, lastGateIn, putLastGate, lastIn, putLast, simulationIn, putSimulation, maskIn, putMask, notedIn, putNoted};
+ghost use Rattle.construction.specs.Parts.{idleControl, noOperation, noGate};
+ghost use Rattle.block.specs.Layout.{controlIn, putControl, operationIn, putOperation, exitIn, putExit, countIn, putCount, lastGateIn, putLastGate, lastIn, putLast, simulationIn, putSimulation, maskIn, putMask, notedIn, putNoted};
 
 // A process without an operation.
-fn idle_task() -> Task
-    ensures { λ r. ⌜ r ≡ idleTask ⌝ }
+fn idle_control() -> Control
+    ensures { λ r. ⌜ r ≡ idleControl ⌝ }
 {
-    Task {
+    Control {
         place: Label::Idle,
         target: 0,
     }
@@ -46,21 +46,21 @@ fn no_gate() -> Gate
     }
 }
 
-// The task of a process.
-pub fn task(b: &[u64], i: u8) -> Task
-    ensures { λ r. ⌜ r ≡ taskIn (now (b .entry)) i ⌝ }
+// The control of a process.
+pub fn control(b: &[u64], i: u8) -> Control
+    ensures { λ r. ⌜ r ≡ controlIn (now (b .entry)) i ⌝ }
 {
     if is_room(b, i, 8) {
-        return parts::task_at(b, 336 + 2 * (i as usize));
+        return parts::control_at(b, 336 + 2 * (i as usize));
     }
-    idle_task()
+    idle_control()
 }
 
-pub fn put_task(b: &mut [u64], i: u8, value: Task)
-    ensures { λ r. ⌜ now (b .exit) ≡ putTask (now (b .entry)) i value ⌝ }
+pub fn put_control(b: &mut [u64], i: u8, value: Control)
+    ensures { λ r. ⌜ now (b .exit) ≡ putControl (now (b .entry)) i value ⌝ }
 {
     if is_room(b, i, 8) {
-        parts::put_task(b, 336 + 2 * (i as usize), value);
+        parts::put_control(b, 336 + 2 * (i as usize), value);
     }
 }
 

@@ -9,19 +9,19 @@ use codes::holder_word;
 use codes::odd;
 use codes::place_from;
 use codes::place_word;
-use construction::Announcement;
-use construction::Gate;
-use construction::Operation;
-use construction::Record;
-use construction::Simulation;
-use construction::Task;
-use construction::Words;
-use construction::Yield;
+use construction::accesses::Control;
+use construction::card::Operation;
+use construction::cells::Announcement;
+use construction::cells::Gate;
+use construction::cells::Record;
+use construction::cells::Words;
+use construction::cells::Yield;
+use construction::simulations::Simulation;
 ghost use mathlib.Core.Path.{_≡_};
 ghost use Prim.Native.Nat.{_+_, _<_, _≤_};
 ghost use lib.ListN.{length};
 ghost use Rattle.codes.specs.Parts.{part, stores};
-ghost use Rattle.codes.specs.Codes.{halves, putHalves, gateOf, gateWords, taskOf, taskWords, announcementOf, announcementWords, recordOf, recordWords, operationOf, operationWords, simulationOf, simulationWords};
+ghost use Rattle.codes.specs.Codes.{halves, putHalves, gateOf, gateWords, controlOf, controlWords, announcementOf, announcementWords, recordOf, recordWords, operationOf, operationWords, simulationOf, simulationWords};
 
 // Four numbers of 32 bits each.
 fn words_at(b: &[u64], at: usize) -> Words
@@ -65,23 +65,23 @@ pub(crate) fn put_gate(b: &mut [u64], at: usize, gate: Gate)
     b[at + 1] = gate.seq;
 }
 
-pub(crate) fn task_at(b: &[u64], at: usize) -> Task
+pub(crate) fn control_at(b: &[u64], at: usize) -> Control
     requires { ⌜ (at < 1000000) × (at + 2 ≤ length (now b)) ⌝ }
-    ensures { λ r. ⌜ r ≡ taskOf (part (now (b .entry)) at 2) ⌝ }
+    ensures { λ r. ⌜ r ≡ controlOf (part (now (b .entry)) at 2) ⌝ }
 {
-    Task {
+    Control {
         place: place_from(b[at]),
         target: byte(b[at + 1]),
     }
 }
 
-pub(crate) fn put_task(b: &mut [u64], at: usize, task: Task)
+pub(crate) fn put_control(b: &mut [u64], at: usize, control: Control)
     requires { ⌜ (at < 1000000) × (at + 2 ≤ length (now b)) ⌝ }
-    ensures { λ r. ⌜ now (b .exit) ≡ stores (now (b .entry)) at (taskWords task) ⌝ }
+    ensures { λ r. ⌜ now (b .exit) ≡ stores (now (b .entry)) at (controlWords control) ⌝ }
 {
-    let place = task.place;
+    let place = control.place;
     b[at] = place_word(place);
-    b[at + 1] = task.target as u64;
+    b[at + 1] = control.target as u64;
 }
 
 pub(crate) fn announcement_at(b: &[u64], at: usize) -> Announcement

@@ -39,19 +39,22 @@ read-none t p = record { rest = simp unary-clauses refl; inside = omega arith }
 
 module _ {t : List ℕ} {p : ℕ} {words : List ℕ} {at i : ℕ} (read : ReadTo t p words at i) where
   -- one line more, if one is left
-  line : i < p → callsOf t p ≡ ifRequested (requested (command t at .command) i) (wrongLine words i) (λ x. callsFrom (p - suc i) t (suc i) (command t at .next) (withRequest words i x))
+  line : i < p → callsOf t p ≡ ifRequested (requested (command t at .command) i) (wrongLine words i)
+      (λ x. callsFrom (p - suc i) t (suc i) (command t at .next) (withRequest words i x))
   unfolding callsFrom
   line below = let e : p - i ≡ suc (p - suc i) = omega arith in rw e at (read .rest)
 
   pub read-on :
-      {y : Parsed} {f : Found} {x : Request} {more : List ℕ} → i < p → y ≡ command t at → f ≡ requested (y .command) i → f ≡ Found.Call x → more ≡ withRequest words i x →
+      {y : Parsed} {f : Found} {x : Request} {more : List ℕ} → i < p → y ≡ command t at → f ≡ requested (y .command) i → f ≡ Found.Call x →
+      more ≡ withRequest words i x →
       ReadTo t p more (y .next) (i + 1)
   read-on {y} {f} {x} below ey ef ex em =
       let e : requested (command t at .command) i ≡ Found.Call x = rw ey at (sym ef) ∙ ex in
       record { rest = rw (add-one, em, ey) (rw e at (line below)); inside = omega arith }
 
   pub read-wrong :
-      {y : Parsed} {f : Found} → i < p → y ≡ command t at → f ≡ requested (y .command) i → f ≡ Found.Other → record { words = words; line = i + 1 } ≡ callsOf t p
+      {y : Parsed} {f : Found} → i < p → y ≡ command t at → f ≡ requested (y .command) i → f ≡ Found.Other →
+      record { words = words; line = i + 1 } ≡ callsOf t p
   read-wrong {y} {f} below ey ef eo =
       let e : requested (command t at .command) i ≡ Found.Other = rw ey at (sym ef) ∙ eo in
       rw add-one (sym (rw e at (line below)))

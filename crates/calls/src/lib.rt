@@ -2,7 +2,7 @@
 // `call,i,SHEET,I0,I1,I2,I3` on line i + 1. It rests on the crates grammar, construction, answers, commands (the lines) and executions (what a call asks for).
 pub mod reading; // reading.rt: the table of a text
 
-use construction::Words;
+use construction::cells::Words;
 use executions::Request;
 ghost use mathlib.Core.Path.{_≡_};
 ghost use lib.ListN.{getD};

@@ -4,7 +4,7 @@ use answers::put_number;
 use answers::put_refusal;
 use commands::Command;
 use commands::reading::command_at;
-use construction::Refusal;
+use construction::answers::Refusal;
 use executions::Request;
 use grammar::writing::put_byte;
 ghost use mathlib.Core.Path.{_≡_};

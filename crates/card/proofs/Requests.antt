@@ -6,12 +6,14 @@ use native.Mathlib.Nat.{mod-eq-of-lt}
 use lib.Dec.{ltb}
 use lib.ListN.{length, getD}
 use borrow.Author.Tests.{not-false}
-use Rattle.construction.specs.declared.{Words.Words, Announcement.Announcement, Task.Task, Card.Card, Refusal.Refusal, Answer.Answer, Answered.Answered}
-use Rattle.construction.specs.declared.Refusal.the-variants.{NoProcess, NoProgram, Busy, NotBusy, NoPlace, LimitReached}
+use Rattle.construction.specs.declared.{cells.Words.Words, cells.Announcement.Announcement, accesses.Control.Control, card.Card.Card, answers.Refusal.Refusal}
+use Rattle.construction.specs.declared.{answers.Answer.Answer, answers.Answered.Answered}
+use Rattle.construction.specs.declared.answers.Refusal.the-variants.{NoProcess, NoProgram, Busy, NotBusy, NoPlace, LimitReached}
 use Rattle.construction.specs.Cells.{openAnnouncement}
-use Rattle.construction.specs.Parts.{idleTask, recordAt, localAt, withLocal}
+use Rattle.construction.specs.Parts.{idleControl, recordAt, localAt, withLocal}
 use Rattle.construction.specs.Machine.{holderOf, advance}
-use Rattle.construction.specs.Requests.{isProcess, isProgram, isIdle, refused, invoked, exiting, answerOf, isVariable, shown, valueOf, call, requestExit, step, read}
+use Rattle.construction.specs.Requests.{isProcess, isProgram, isIdle, refused, invoked, exiting, answerOf, isVariable, shown, valueOf, call, requestExit, step}
+use Rattle.construction.specs.Requests.{read}
 use Rattle.construction.specs.Answers.{isRefused}
 use Rattle.requests.specs.Judging.{judged, callJudged, exitJudged, stepJudged}
 use Rattle.requests.proofs.Arrays.{found, in-room, judged-there}
@@ -54,62 +56,68 @@ module _ (c : Card) (r s t : Refusal) where
   passes true true false x e h = absurd (apart x t e h)
 
 module _ (c : Card) (i : ℕ) where
-  -- the task that is judged stands at place i mod 8: where that is another, process i is not there
-  abbrev judgedTask : Task
-  judgedTask = getD (c .tasks) (i % 8) idleTask
+  -- the control that is judged stands at place i mod 8: where that is another, process i is not there
+  abbrev judgedControl : Control
+  judgedControl = getD (c .controls) (i % 8) idleControl
 
-  same-task : {A : Type 0} (none : A) (f : Task → A) → cond (not (isProcess c i)) none (f judgedTask) ≡ cond (not (isProcess c i)) none (f (localAt c i .task))
-  same-task none f = judged-there (c .tasks) i (c .processCount) 8 idleTask none f
+  same-control : {A : Type 0} (none : A) (f : Control → A) →
+      cond (not (isProcess c i)) none (f judgedControl) ≡ cond (not (isProcess c i)) none (f (localAt c i .control))
+  same-control none f = judged-there (c .controls) i (c .processCount) 8 idleControl none f
 
-  module _ (k : ℕ) (x : Answer) (told : x ≡ callJudged i (c .processCount) k (c .programCount) (judgedTask .place)) where
-    call-told : x ≡ callJudged i (c .processCount) k (c .programCount) (localAt c i .task .place)
-    call-told = told ∙ same-task (Answer.Refused NoProcess) (λ (t : Task). cond (not (isProgram c k)) (Answer.Refused NoProgram) (cond (not (isIdle (t .place))) (Answer.Refused Busy) Answer.Taken))
+  module _ (k : ℕ) (x : Answer) (told : x ≡ callJudged i (c .processCount) k (c .programCount) (judgedControl .place)) where
+    call-told : x ≡ callJudged i (c .processCount) k (c .programCount) (localAt c i .control .place)
+    call-told = told ∙ same-control (Answer.Refused NoProcess)
+        (λ (t : Control). cond (not (isProgram c k)) (Answer.Refused NoProgram) (cond (not (isIdle (t .place))) (Answer.Refused Busy) Answer.Taken))
 
     pub call-refused : (inputs : Words) → isRefused x ≡ true → record { card = c; answer = x } ≡ call c i k inputs
     unfolding call
-    call-refused inputs h = refuses c NoProcess NoProgram Busy (isProcess c i) (isProgram c k) (isIdle (localAt c i .task .place)) x _ call-told h
+    call-refused inputs h = refuses c NoProcess NoProgram Busy (isProcess c i) (isProgram c k) (isIdle (localAt c i .control .place)) x _ call-told h
 
     pub call-taken :
         (inputs : Words) → isRefused x ≡ false → (d : Card) → (i < 8 → d ≡ withLocal c i (invoked (localAt c i) k inputs)) →
         record { card = d; answer = x } ≡ call c i k inputs
     unfolding call
     call-taken inputs h d e =
-        let p = passes c NoProcess NoProgram Busy (isProcess c i) (isProgram c k) (isIdle (localAt c i .task .place)) x call-told h in
+        let p = passes c NoProcess NoProgram Busy (isProcess c i) (isProgram c k) (isIdle (localAt c i .control .place)) x call-told h in
         rw (p .first, p .next, p .last, p .taken, e (in-room i (c .processCount) 8 (p .first)))
 
     pub small-program : isRefused x ≡ false → k < 8
     small-program h =
-        let p = passes c NoProcess NoProgram Busy (isProcess c i) (isProgram c k) (isIdle (localAt c i .task .place)) x call-told h in
+        let p = passes c NoProcess NoProgram Busy (isProcess c i) (isProgram c k) (isIdle (localAt c i .control .place)) x call-told h in
         in-room k (c .programCount) 8 (p .next)
 
-  module _ (x : Answer) (told : x ≡ exitJudged i (c .processCount) (judgedTask .place)) where
-    exit-told : x ≡ exitJudged i (c .processCount) (localAt c i .task .place)
-    exit-told = told ∙ same-task (Answer.Refused NoProcess) (λ (t : Task). cond (not (not (isIdle (t .place)))) (Answer.Refused NotBusy) Answer.Taken)
+  module _ (x : Answer) (told : x ≡ exitJudged i (c .processCount) (judgedControl .place)) where
+    exit-told : x ≡ exitJudged i (c .processCount) (localAt c i .control .place)
+    exit-told = told ∙ same-control (Answer.Refused NoProcess) (λ (t : Control). cond (not (not (isIdle (t .place)))) (Answer.Refused NotBusy) Answer.Taken)
 
     pub exit-refused : isRefused x ≡ true → record { card = c; answer = x } ≡ requestExit c i
     unfolding requestExit
-    exit-refused h = refuses c NoProcess NotBusy NotBusy (isProcess c i) (not (isIdle (localAt c i .task .place))) true x _ exit-told h
+    exit-refused h = refuses c NoProcess NotBusy NotBusy (isProcess c i) (not (isIdle (localAt c i .control .place))) true x _ exit-told h
 
     pub exit-taken :
         isRefused x ≡ false → (d : Card) → (i < 8 → d ≡ withLocal c i (exiting (localAt c i))) →
         record { card = d; answer = x } ≡ requestExit c i
     unfolding requestExit
     exit-taken h d e =
-        let p = passes c NoProcess NotBusy NotBusy (isProcess c i) (not (isIdle (localAt c i .task .place))) true x exit-told h in
+        let p = passes c NoProcess NotBusy NotBusy (isProcess c i) (not (isIdle (localAt c i .control .place))) true x exit-told h in
         rw (p .first, p .next, p .taken, e (in-room i (c .processCount) 8 (p .first)))
 
-  module _ (x : Answer) (told : x ≡ stepJudged i (c .processCount) (judgedTask .place) (c .steps) (c .limit)) where
-    step-told : x ≡ stepJudged i (c .processCount) (localAt c i .task .place) (c .steps) (c .limit)
-    step-told = told ∙ same-task (Answer.Refused NoProcess) (λ (t : Task). cond (not (not (isIdle (t .place)))) (Answer.Refused NotBusy) (cond (not (ltb (c .steps) (c .limit))) (Answer.Refused LimitReached) Answer.Taken))
+  module _ (x : Answer) (told : x ≡ stepJudged i (c .processCount) (judgedControl .place) (c .steps) (c .limit)) where
+    step-told : x ≡ stepJudged i (c .processCount) (localAt c i .control .place) (c .steps) (c .limit)
+    step-told = told ∙ same-control (Answer.Refused NoProcess)
+        (λ (t : Control). cond (not (not (isIdle (t .place)))) (Answer.Refused NotBusy)
+        (cond (not (ltb (c .steps) (c .limit))) (Answer.Refused LimitReached) Answer.Taken))
 
     pub step-refused : isRefused x ≡ true → record { card = c; answer = x } ≡ step c i
     unfolding step
-    step-refused h = refuses c NoProcess NotBusy LimitReached (isProcess c i) (not (isIdle (localAt c i .task .place))) (ltb (c .steps) (c .limit)) x _ step-told h
+    step-refused h = refuses c NoProcess NotBusy LimitReached (isProcess c i) (not (isIdle (localAt c i .control .place))) (ltb (c .steps) (c .limit)) x _
+        step-told h
 
     pub step-taken : isRefused x ≡ false → (y : Answered) → y ≡ steppedAt c (i % 8) → y ≡ step c i
     unfolding step
     step-taken h y e =
-        let p = passes c NoProcess NotBusy LimitReached (isProcess c i) (not (isIdle (localAt c i .task .place))) (ltb (c .steps) (c .limit)) x step-told h in
+        let p = passes c NoProcess NotBusy LimitReached (isProcess c i) (not (isIdle (localAt c i .control .place))) (ltb (c .steps) (c .limit)) x step-told
+        h in
         e ∙ rw (p .first, p .next, p .last, mod-eq-of-lt (in-room i (c .processCount) 8 (p .first)))
 
 -- a read by the pieces that it looks at

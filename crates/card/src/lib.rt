@@ -2,15 +2,15 @@
 // and the change (crate changing) these alone take and give a card: each takes the pieces that it needs out of it, has functions on small values judge
 // them and work on them, and puts back what changed. It rests on the crates construction (types and definitions), answers, helping, machine, opening and requests.
 use answers::kinds::is_refused;
-use construction::Access;
-use construction::Answer;
-use construction::Answered;
-use construction::Card;
-use construction::Label;
-use construction::Operation;
-use construction::Refusal;
-use construction::Task;
-use construction::Words;
+use construction::accesses::Access;
+use construction::accesses::Control;
+use construction::accesses::Label;
+use construction::answers::Answer;
+use construction::answers::Answered;
+use construction::answers::Refusal;
+use construction::card::Card;
+use construction::card::Operation;
+use construction::cells::Words;
 use helping::begin_help;
 use helping::note;
 use helping::writing;
@@ -25,10 +25,10 @@ use requests::judging::is_below;
 use requests::judging::judge_call;
 use requests::judging::judge_exit;
 use requests::judging::judge_step;
+use requests::lookups::announcement_at;
+use requests::lookups::program_at;
+use requests::lookups::record_at;
 use requests::reading::value_of;
-use requests::rooms::announcement_at;
-use requests::rooms::program_at;
-use requests::rooms::record_at;
 ghost use mathlib.Core.Path.{_≡_};
 ghost use Rattle.construction.specs.Requests.{call, requestExit, step, read};
 
@@ -38,11 +38,11 @@ pub fn call(card: Card, process: u32, program: u32, inputs: Words) -> Answered
 {
     let mut c = card;
     let i = (process % 8) as usize;
-    let task = c.tasks[i];
-    let place = task.place;
+    let control = c.controls[i];
+    let place = control.place;
     let answer = judge_call(process, c.processCount, program, c.programCount, place);
     if !is_refused(answer) {
-        c.tasks[i] = Task {
+        c.controls[i] = Control {
             place: Label::P1,
             target: 0,
         };
@@ -62,8 +62,8 @@ pub fn request_exit(card: Card, process: u32) -> Answered
 {
     let mut c = card;
     let i = (process % 8) as usize;
-    let task = c.tasks[i];
-    let place = task.place;
+    let control = c.controls[i];
+    let place = control.place;
     let answer = judge_exit(process, c.processCount, place);
     if !is_refused(answer) {
         c.exits[i] = true;
@@ -79,8 +79,8 @@ pub fn step(card: Card, process: u32) -> Answered
     let mut c = card;
     let id = (process % 8) as u8;
     let i = id as usize;
-    let task = c.tasks[i];
-    let place = task.place;
+    let control = c.controls[i];
+    let place = control.place;
     let judged = judge_step(process, c.processCount, place, c.steps, c.limit);
     if is_refused(judged) {
         return Answered {
@@ -88,23 +88,23 @@ pub fn step(card: Card, process: u32) -> Answered
             answer: judged,
         };
     }
-    let gate = c.gates[i];
-    let last = c.copies[i];
+    let gate = c.gatesRead[i];
+    let last = c.announcementsRead[i];
     let steps = std::num::wrapping_add_u64(c.counts[i], 1);
     c.steps = std::num::wrapping_add_u64(c.steps, 1);
     c.counts[i] = steps;
     let access = access_of(place, c.exits[i]);
     let answer = match access {
-        Access::None => answer_of(task, last, steps),
+        Access::None => answer_of(control, last, steps),
         Access::Gate(access) => {
-            let after = access_gate(access, id, c.gate, gate, task);
+            let after = access_gate(access, id, c.gate, gate, control);
             let stored = after.cell;
             let read = after.read;
-            let task = after.task;
+            let control = after.control;
             c.gate = stored;
-            c.gates[i] = read;
-            c.tasks[i] = task;
-            answer_of(task, last, steps)
+            c.gatesRead[i] = read;
+            c.controls[i] = control;
+            answer_of(control, last, steps)
         }
         Access::Announcement(access) => {
             let m = whose(access, c.processCount, id, gate);
@@ -118,14 +118,14 @@ pub fn step(card: Card, process: u32) -> Answered
                 gate,
                 last,
                 simulation.yields,
-                task,
+                control,
             );
             let stored = after.cell;
             let read = after.read;
-            let task = after.task;
-            c.copies[i] = read;
-            c.tasks[i] = task;
-            let answer = answer_of(task, read, steps);
+            let control = after.control;
+            c.announcementsRead[i] = read;
+            c.controls[i] = control;
+            let answer = answer_of(control, read, steps);
             if m < 8 {
                 c.announcements[at] = stored;
             }
@@ -147,15 +147,15 @@ pub fn step(card: Card, process: u32) -> Answered
                 program_at(k, stored),
                 cell,
                 gate.seq,
-                task,
+                control,
                 c.simulations[i],
             );
             let state = began.simulation;
-            let task = began.task;
-            c.copies[i] = cell;
+            let control = began.control;
+            c.announcementsRead[i] = cell;
             c.simulations[i] = state;
-            c.tasks[i] = task;
-            let answer = answer_of(task, cell, steps);
+            c.controls[i] = control;
+            let answer = answer_of(control, cell, steps);
             if began.helps {
                 c.dictionaries[i] = opening::empty();
                 c.masks[i] = 0;
@@ -163,7 +163,7 @@ pub fn step(card: Card, process: u32) -> Answered
             answer
         }
         Access::Note => {
-            let v = task.target;
+            let v = control.target;
             let k = last.program;
             let at = (k % 8) as usize;
             let held = if gate.seq < c.from[at] {
@@ -177,30 +177,30 @@ pub fn step(card: Card, process: u32) -> Answered
                 last.words,
                 record_at(v, c.records[(v % 64) as usize]),
                 gate.seq,
-                task,
+                control,
                 c.simulations[i],
                 c.dictionaries[i],
                 c.masks[i],
             );
             let state = helped.simulation;
             let noted = helped.dictionary;
-            let task = helped.task;
+            let control = helped.control;
             c.simulations[i] = state;
             c.dictionaries[i] = noted;
             c.masks[i] = helped.mask;
-            c.tasks[i] = task;
-            answer_of(task, last, steps)
+            c.controls[i] = control;
+            answer_of(control, last, steps)
         }
         Access::Write => {
-            let written = writing(gate.seq, task, c.dictionaries[i]);
+            let written = writing(gate.seq, control, c.dictionaries[i]);
             let item = written.item;
-            let task = written.task;
+            let control = written.control;
             let v = item.variable;
             let at = (v % 64) as usize;
             let swapped = write(record_at(v, c.records[at]), item, gate.seq);
             let stored = swapped.cell;
-            c.tasks[i] = task;
-            let answer = answer_of(task, last, steps);
+            c.controls[i] = control;
+            let answer = answer_of(control, last, steps);
             if v < 64 {
                 c.records[at] = stored;
             }

@@ -3,7 +3,7 @@ use mathlib.Core.Bool.{Bool, true, false, Bool·beq}
 use mathlib.Core.Path.{_≡_}
 use lib.Dec.{eqb}
 use borrow.Author.Tests.{eq-eqb}
-use Rattle.construction.specs.declared.{Announcement.Announcement, Record.Record}
+use Rattle.construction.specs.declared.{cells.Announcement.Announcement, cells.Record.Record}
 use Rattle.construction.specs.Cells.{sameFlag, sameBool, sameWords, sameAnnouncement, sameRecord}
 
 same-toggle : (a b : Bool) {t : Bool} → Bool·beq a b ≡ t → sameBool a b ≡ t

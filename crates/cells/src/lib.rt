@@ -1,14 +1,14 @@
 // The shared cells of document 01 by value: whole-cell equality, swaps, and the new cells that steps store.
 // It rests on the crate construction, which declares the types and defines each result.
-use construction::Announcement;
-use construction::Flag;
-use construction::Gate;
-use construction::Holder;
-use construction::Record;
-use construction::SwappedAnnouncement;
-use construction::SwappedGate;
-use construction::SwappedRecord;
-use construction::Words;
+use construction::cells::Announcement;
+use construction::cells::Flag;
+use construction::cells::Gate;
+use construction::cells::Holder;
+use construction::cells::Record;
+use construction::cells::SwappedAnnouncement;
+use construction::cells::SwappedGate;
+use construction::cells::SwappedRecord;
+use construction::cells::Words;
 ghost use mathlib.Core.Path.{_≡_};
 ghost use Rattle.construction.specs.Cells.{sameHolder, sameFlag, sameWords, sameGate, sameAnnouncement, sameRecord};
 ghost use Rattle.construction.specs.Cells.{swapGate, swapAnnouncement, swapRecord, released, current, previous, rewritten, isDone};

@@ -6,8 +6,9 @@ use mathlib.Core.Path.{_≡_, refl, sym, _∙_}
 use native.Mathlib.Nat.{mod-eq-of-lt}
 use lib.Dec.{ltb}
 use lib.ListN.{length, getD, set}
-use Rattle.construction.specs.declared.{Program.Program, Card.Card, Answer.Answer, Answered.Answered, Verdict.Verdict, ProgramReading.ProgramReading}
-use Rattle.construction.specs.declared.Refusal.the-variants.{NoProgram, NotAhead, Unsettled}
+use Rattle.construction.specs.declared.{programs.Program.Program, card.Card.Card, answers.Answer.Answer, answers.Answered.Answered, texts.Verdict.Verdict}
+use Rattle.construction.specs.declared.{texts.ProgramReading.ProgramReading}
+use Rattle.construction.specs.declared.answers.Refusal.the-variants.{NoProgram, NotAhead, Unsettled}
 use Rattle.construction.specs.Weight.{heaviest}
 use Rattle.construction.specs.Instructions.{noProgram}
 use Rattle.construction.specs.Parts.{withTexts, contentsOf, withRevision}
@@ -53,14 +54,14 @@ module _
     (c : Card) (k from : ℕ) (t : List ℕ)
     (w : ℕ) (weighed : w ≡ min 32 (heaviest (c .programs)))
     (r : ProgramReading) (read : r ≡ programText (c .variableCount) w t)
-    (behind : Bool) (compared : behind ≡ someBehind (c .tasks) (c .gates) (c .processCount) (getD (c .from) (k % 8) 0) 8)
+    (behind : Bool) (compared : behind ≡ someBehind (c .controls) (c .gatesRead) (c .processCount) (getD (c .from) (k % 8) 0) 8)
     (x : Answer) (judged : x ≡ changeJudged k (c .programCount) (r .verdict) (c .gate .seq) from (getD (c .from) (k % 8) 0) behind)
   where
     told : x ≡ answered (isProgram c k) (r .verdict) (ltb (c .gate .seq) from) (isUnsettled c k)
     told =
         judged ∙ rw compared (judged-there (c .from) k (c .programCount) 8 0 (Answer.RefusedAt NoProgram 0)
         (λ (last : ℕ). ifTextAccepted (r .verdict) (cond (not (ltb (c .gate .seq) from)) (Answer.RefusedAt NotAhead 0)
-        (cond (ltb (c .gate .seq) last || someBehind (c .tasks) (c .gates) (c .processCount) last 8) (Answer.RefusedAt Unsettled 0) Answer.Taken))))
+        (cond (ltb (c .gate .seq) last || someBehind (c .controls) (c .gatesRead) (c .processCount) last 8) (Answer.RefusedAt Unsettled 0) Answer.Taken))))
 
     text-read : r ≡ changeRead (contentsOf c) t
     unfolding changeRead

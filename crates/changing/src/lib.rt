@@ -2,9 +2,9 @@
 // on small values judge the change, and the text is put into the card if the change is taken. It rests on the crates construction (types and
 // definitions), answers, opening, programs, reader and requests.
 use answers::kinds::is_refused;
-use construction::Answered;
-use construction::Card;
-use construction::Program;
+use construction::answers::Answered;
+use construction::card::Card;
+use construction::programs::Program;
 use programs::weights::heaviest;
 use reader::changes::read_change;
 use requests::behind::some_behind;
@@ -32,13 +32,13 @@ pub fn change(card: Card, program: u32, from: u64, text: &[u8]) -> Answered
     let mut c = card;
     let at = (program % 8) as usize;
     let programs = c.programs;
-    let tasks = c.tasks;
-    let gates = c.gates;
+    let controls = c.controls;
+    let gatesRead = c.gatesRead;
     let gate = c.gate;
     let last = c.from[at];
     let read = read_change(c.variableCount, most_weight(programs), text);
     let verdict = read.verdict;
-    let behind = some_behind(tasks, gates, c.processCount, last);
+    let behind = some_behind(controls, gatesRead, c.processCount, last);
     let answer = judge_change(
         program,
         c.programCount,

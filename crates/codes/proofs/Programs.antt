@@ -174,7 +174,8 @@ program-fits w =
     go false k = tt
 
 pub no-program-fits : FitsProgram noProgram
-no-program-fits = record { size = omega arith; lines = λ k. subst (λ (x : Line). FitsInstruction (x .instruction)) (sym (getD-replicate-same 32 k noLine)) tt; count = refl }
+no-program-fits = record
+    { size = omega arith; lines = λ k. subst (λ (x : Line). FitsInstruction (x .instruction)) (sym (getD-replicate-same 32 k noLine)) tt; count = refl }
 
 -- and so does what is fetched of it
 pub fetch-fits : (y : Program) → FitsProgram y → (k : ℕ) → FitsInstruction (fetch y k)

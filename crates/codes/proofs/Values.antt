@@ -6,9 +6,12 @@ use mathlib.Core.List.{List}
 use native.Mathlib.Omega.{arith}
 use lib.Dec.{eqb}
 use borrow.Author.Tests.{ne-eqb}
-use Rattle.codes.specs.Types.{Holder, Nobody, Process, Gate, Flag, Done, Active, Exit, Announcement, Record, Label, Idle, P1, P3, P5, P7, P10, C2, C4, P13, P14, P16, H21, H36, P19, P20, P21, P22, F1, F3, P6, Words, Task, Operation, Simulation, Item}
+use Rattle.codes.specs.Types.{Holder, Nobody, Process, Gate, Flag, Done, Active, Exit, Announcement, Record, Label, Idle, P1, P3, P5, P7, P10, C2, C4}
+use Rattle.codes.specs.Types.{P13, P14, P16, H21, H36, P19, P20, P21, P22, F1, F3, P6, Words, Control, Operation, Simulation, Item}
 use Rattle.codes.specs.Parts.{wordAt}
-use Rattle.codes.specs.Codes.{byte, half, odd, bit, holderFrom, holderWord, flagFrom, flagWord, placeFrom, placeWord, gateOf, gateWords, taskOf, taskWords, announcementOf, announcementWords, recordOf, recordWords, operationOf, operationWords, simulationOf, simulationWords, pair, upper, itemOf, itemWords}
+use Rattle.codes.specs.Codes.{byte, half, odd, bit, holderFrom, holderWord, flagFrom, flagWord, placeFrom, placeWord, gateOf, gateWords, controlOf}
+use Rattle.codes.specs.Codes.{controlWords, announcementOf, announcementWords, recordOf, recordWords, operationOf, operationWords, simulationOf}
+use Rattle.codes.specs.Codes.{simulationWords, pair, upper, itemOf, itemWords}
 
 -- a number that fits so many is its own remainder
 pub small : (m x : ℕ) → x < 256 → byte x ≡ x
@@ -80,8 +83,8 @@ from-fits w = go (eqb w 0)
 pub gate-back : (g : Gate) → Fits (g .holder) → gateOf (gateWords g) ≡ g
 gate-back g p = let h = holder-back (g .holder) (p .byte) in λ j. record { holder = h j; seq = g .seq }
 
-pub task-back : (t : Task) → t .target < 256 → taskOf (taskWords t) ≡ t
-task-back t p =
+pub control-back : (t : Control) → t .target < 256 → controlOf (controlWords t) ≡ t
+control-back t p =
     let place = place-back (t .place) in
     let target : byte (t .target) ≡ t .target = omega arith in
     λ j. record { place = place j; target = target j }
@@ -217,7 +220,14 @@ halves-fit f = record { w0 = half-fits (f .w0); w1 = half-fits (f .w1); w2 = hal
 module _ (w : List ℕ) where
   pub announcement-fits : FitsAnnouncement (announcementOf w)
   announcement-fits =
-      record { program = byte-fits (wordAt w 0); w0 = half-fits (wordAt w 4); w1 = half-fits (wordAt w 5); w2 = half-fits (wordAt w 6); w3 = half-fits (wordAt w 7) }
+      record {
+        program = byte-fits (wordAt w 0);
+        w0 = half-fits (wordAt w 4);
+        w1 = half-fits (wordAt w 5);
+        w2 = half-fits (wordAt w 6);
+        w3 =
+            half-fits (wordAt w 7);
+      }
 
   pub record-fits : FitsRecord (recordOf w)
   record-fits = record { val0 = half-fits (wordAt w 0); val1 = half-fits (wordAt w 1) }

@@ -6,7 +6,9 @@ use lib.Dec.{eqb}
 use lib.ListN.{getD, set}
 use Rattle.construction.specs.Labels.{labelRow}
 use Rattle.construction.specs.Instructions.{encode, noLine}
-use Rattle.codes.specs.Types.{Encoded, Holder, Nobody, Process, Gate, Flag, Done, Active, Exit, Words, Announcement, Record, Label, Idle, P1, P3, P5, P7, P10, C2, C4, P13, P14, P16, H21, H36, P19, P20, P21, P22, F1, F3, P6, Task, Operation, Simulation, Item, Instruction, Line, Program}
+use Rattle.codes.specs.Types.{Encoded, Holder, Nobody, Process, Gate, Flag, Done, Active, Exit, Words, Announcement, Record, Label, Idle, P1, P3, P5, P7}
+use Rattle.codes.specs.Types.{P10, C2, C4, P13, P14, P16, H21, H36, P19, P20, P21, P22, F1, F3, P6, Control, Operation, Simulation, Item, Instruction}
+use Rattle.codes.specs.Types.{Line, Program}
 use Rattle.codes.specs.Parts.{wordAt, table}
 
 abbrev pub byte : ℕ → ℕ
@@ -79,11 +81,11 @@ gateOf w = record { holder = holderFrom (wordAt w 0); seq = wordAt w 1 }
 abbrev pub gateWords : Gate → List ℕ
 gateWords g = holderWord (g .holder) ∷ g .seq ∷ []
 
-abbrev pub taskOf : List ℕ → Task
-taskOf w = record { place = placeFrom (wordAt w 0); target = byte (wordAt w 1) }
+abbrev pub controlOf : List ℕ → Control
+controlOf w = record { place = placeFrom (wordAt w 0); target = byte (wordAt w 1) }
 
-abbrev pub taskWords : Task → List ℕ
-taskWords t = placeWord (t .place) ∷ t .target ∷ []
+abbrev pub controlWords : Control → List ℕ
+controlWords t = placeWord (t .place) ∷ t .target ∷ []
 
 abbrev pub announcementOf : List ℕ → Announcement
 announcementOf w =

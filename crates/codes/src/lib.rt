@@ -1,11 +1,11 @@
 // Small values as words (document 02, order 10): a code for each place, flag, holder and instruction, and the value of every word. Every word is some
 // value, so that every block of words is some card. It rests on the crates construction (types), labels
 // (the words of places) and writer (the numbers of an instruction).
-use construction::Encoded;
-use construction::Flag;
-use construction::Holder;
-use construction::Instruction;
-use construction::Label;
+use construction::accesses::Label;
+use construction::cells::Flag;
+use construction::cells::Holder;
+use construction::programs::Encoded;
+use construction::programs::Instruction;
 use labels::label_row;
 ghost use mathlib.Core.Path.{_≡_};
 ghost use Rattle.codes.specs.Codes.{byte, half, odd, bit, holderFrom, holderWord, flagFrom, flagWord, placeFrom, placeWord, instructionFrom, packed, instructionWord};

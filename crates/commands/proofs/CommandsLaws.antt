@@ -13,7 +13,8 @@ use Rattle.grammar.specs.Reading.{field, hasWord}
 use Rattle.grammar.proofs.Cases.{clash, on-test}
 use Rattle.grammar.proofs.Fields.{field-within}
 use Rattle.commands.specs.declared.{Word.Word, Verb.Verb, Found.Found, Command.Command, Parsed.Parsed}
-use Rattle.commands.specs.Commands.{callWord, wishWord, stepWord, lookWord, traceWord, changeWord, lineEnd, linesEnd, malformed, limited, word, withWord, callAt, changeAt, Inside, found, fieldsAt, command, commandsFrom, commands}
+use Rattle.commands.specs.Commands.{callWord, wishWord, stepWord, lookWord, traceWord, changeWord, lineEnd, linesEnd, malformed, limited, word, withWord}
+use Rattle.commands.specs.Commands.{callAt, changeAt, Inside, found, fieldsAt, command, commandsFrom, commands}
 
 -- the place past a field, 0 where there is none
 abbrev nextOf : Word → ℕ

@@ -4,7 +4,7 @@ use Prim.Native.Nat.{ℕ}
 use mathlib.Core.Bool.{Bool, true, false}
 use mathlib.Core.List.{List, [], _∷_, _++_}
 use lib.ListN.{getD}
-use Rattle.construction.specs.declared.{Answer.Answer, Report.Report, Verdict.Verdict}
+use Rattle.construction.specs.declared.{answers.Answer.Answer, answers.Report.Report, texts.Verdict.Verdict}
 use Rattle.construction.specs.Answers.{bytes, Fields, fields, refusedWith, answerFields, verdictFields, numbersText, fieldsText}
 use Rattle.construction.specs.Reports.{reportText}
 use Rattle.commands.specs.declared.Command.{Command}

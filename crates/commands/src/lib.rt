@@ -5,7 +5,7 @@
 pub mod reading; // reading.rt: the command at a place of a calls text
 pub mod printing; // printing.rt: the printed lines
 
-use construction::Words;
+use construction::cells::Words;
 
 // A field of a command: its value and the place past its separator.
 pub enum Word {

@@ -6,16 +6,16 @@ use answers::put_number;
 use answers::put_refusal;
 use answers::put_verdict;
 use answers::reports::put_report;
-use construction::Answer;
-use construction::Refusal;
-use construction::Report;
-use construction::Verdict;
+use construction::answers::Answer;
+use construction::answers::Refusal;
+use construction::answers::Report;
+use construction::texts::Verdict;
 use grammar::writing::put_byte;
 use grammar::writing::put_word;
 ghost use mathlib.Core.Path.{_≡_};
 ghost use Prim.Native.Nat.{_+_, _≤_};
 ghost use Rattle.grammar.specs.Writing.{Put};
-ghost use Rattle.construction.specs.declared.Verdict.{Verdict as VerdictOf};
+ghost use Rattle.construction.specs.declared.texts.Verdict.{Verdict as VerdictOf};
 ghost use Rattle.commands.specs.Printing.{isMalformed, verbOf, firstOf, headText, lineText, longest, cardRefusal, callsRefusal};
 
 // Whether a command is malformed.

@@ -4,7 +4,7 @@ use crate::Found;
 use crate::Parsed;
 use crate::Verb;
 use crate::Word;
-use construction::Words;
+use construction::cells::Words;
 use grammar::Number;
 use grammar::reading::field_at;
 use grammar::reading::has_word;

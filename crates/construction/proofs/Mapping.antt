@@ -7,7 +7,8 @@ use lib.Seq.{take-suc, take-suc-set, take-all}
 use native.Mathlib.Numerals.{add-one}
 
 module _ {A B : Type 0} (f : A → B) where
-  pub map-turn : (l : List A) (z : List B) (k : ℕ) (d : A) (b : B) → k < length l → k < length z → b ≡ f (getD l k d) → take k z ≡ map f (take k l) → take (k + 1) (set z k b) ≡ map f (take (k + 1) l)
+  pub map-turn : (l : List A) (z : List B) (k : ℕ) (d : A) (b : B) → k < length l → k < length z → b ≡ f (getD l k d) → take k z ≡ map f (take k l) →
+      take (k + 1) (set z k b) ≡ map f (take (k + 1) l)
   map-turn l z k d b p q e h =
       rw (add-one k, take-suc-set z k b q, take-suc l k d p)
       (ap (λ (y : List B). y ++ (b ∷ [])) h

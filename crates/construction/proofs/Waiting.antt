@@ -1,7 +1,7 @@
 -- Wait freedom (document 02, order 3), apart from safety: what an operation has cost at each place, that its turn comes, and that every step keeps both.
 pub mod Turns
 pub mod Courses
-pub mod Going
+pub mod CourseSteps
 pub mod GateSteps
 pub mod AnnouncementSteps
 pub mod HelpSteps

@@ -7,7 +7,9 @@ use mathlib.Core.Path.{_≡_}
 use mathlib.Core.Bool.{Bool, true, false}
 use mathlib.Core.List.{List, [], _∷_, _++_}
 use Rattle.grammar.specs.Writing.{decimal}
-use Rattle.construction.specs.Types.{Words, Decoded, Encoded, Card, Refusal, TooLong, Malformed, OutOfRange, UnknownCode, NoProcess, NoProgram, Busy, NotBusy, NoPlace, LimitReached, ShortBuffer, OperandOutOfRange, UnusedOperand, TooHeavy, NotAhead, Unsettled, TooLarge, BadTerms, NoAllowance, Answer, Answered, RowSwap, CardLine, VarLine, SheetLine, InsLine, Verdict, Written}
+use Rattle.construction.specs.Types.{Words, Decoded, Encoded, Card, Refusal, TooLong, Malformed, OutOfRange, UnknownCode, NoProcess, NoProgram, Busy}
+use Rattle.construction.specs.Types.{NotBusy, NoPlace, LimitReached, ShortBuffer, OperandOutOfRange, UnusedOperand, TooHeavy, NotAhead, Unsettled}
+use Rattle.construction.specs.Types.{TooLarge, BadTerms, NoAllowance, Answer, Answered, RowSwap, CardLine, VarLine, SheetLine, InsLine, Verdict, Written}
 use Rattle.construction.specs.Instructions.{encode}
 
 -- the bytes of a text

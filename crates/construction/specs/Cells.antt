@@ -2,7 +2,8 @@
 use Prim.Native.Nat.{ℕ, _+_, _%_}
 use mathlib.Core.Bool.{Bool, true, false, cond, not, _&&_}
 use lib.Dec.{eqb}
-use Rattle.construction.specs.Types.{Holder, Nobody, Process, Gate, Flag, Done, Active, Exit, Words, Yield, Announcement, Record, SwappedGate, SwappedAnnouncement, SwappedRecord}
+use Rattle.construction.specs.Types.{Holder, Nobody, Process, Gate, Flag, Done, Active, Exit, Words, Yield, Announcement, Record, SwappedGate}
+use Rattle.construction.specs.Types.{SwappedAnnouncement, SwappedRecord}
 
 -- four zeros
 abbrev pub zeros : Words

@@ -4,10 +4,11 @@ use mathlib.Core.Bool.{Bool, true, false, cond, not, _&&_, _||_}
 use mathlib.Core.List.{List}
 use lib.ListN.{length, getD}
 use lib.Dec.{eqb, ltb}
-use Rattle.construction.specs.Types.{Gate, Program, Label, Idle, P1, Task, Card, Refusal, TooLong, Malformed, NoProgram, NotAhead, Unsettled, Answer, Answered, Contents, Verdict, ProgramReading}
+use Rattle.construction.specs.Types.{Gate, Program, Label, Idle, P1, Control, Card, Refusal, TooLong, Malformed, NoProgram, NotAhead, Unsettled, Answer}
+use Rattle.construction.specs.Types.{Answered, Contents, Verdict, ProgramReading}
 use Rattle.construction.specs.Labels.{sameLabel}
 use Rattle.construction.specs.Weight.{cardWeight}
-use Rattle.construction.specs.Parts.{idleTask, noGate, contentsOf, withRevision}
+use Rattle.construction.specs.Parts.{idleControl, noGate, contentsOf, withRevision}
 use Rattle.construction.specs.Requests.{isProgram}
 use Rattle.construction.specs.Opening.{programRefusedAt, readProgram}
 
@@ -39,16 +40,16 @@ abbrev pub isBehind : Label → Gate → ℕ → Bool
 isBehind place gate number = hasRead place && ltb (gate .seq) number
 
 -- so it is with some of the p processes, among the first n places
-unfoldable pub someBehind : List Task → List Gate → ℕ → ℕ → ℕ → Bool
-someBehind tasks gates p number zero = false
-someBehind tasks gates p number (suc i) =
-    (ltb i p && isBehind (getD tasks i idleTask .place) (getD gates i noGate) number) || someBehind tasks gates p number i
+unfoldable pub someBehind : List Control → List Gate → ℕ → ℕ → ℕ → Bool
+someBehind controls gatesRead p number zero = false
+someBehind controls gatesRead p number (suc i) =
+    (ltb i p && isBehind (getD controls i idleControl .place) (getD gatesRead i noGate) number) || someBehind controls gatesRead p number i
 
 -- refusal 16: 'the last change of that sheet lies above the gate's number or some operation under way last read a gate number below it'
 abbrev pub isUnsettled : Card → ℕ → Bool
 isUnsettled c k =
     let from = getD (c .from) k 0 in
-    ltb (c .gate .seq) from || someBehind (c .tasks) (c .gates) (c .processCount) from 8
+    ltb (c .gate .seq) from || someBehind (c .controls) (c .gatesRead) (c .processCount) from 8
 
 -- 'A refused change gives the text's line, or 0 with 1, 6, 15 and 16', and leaves the card as it was
 abbrev pub unchanged : Card → Refusal → ℕ → Answered

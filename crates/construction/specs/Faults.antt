@@ -33,7 +33,7 @@ MarkedDone c =
 -- an entry at which process i announces its next operation (lines P2, P3)
 pub record Announces (c : Card) (e : Entry) (i : ℕ) : Type 0 where
   pub step : Steps e i
-  pub place : localAt c i .task .place ≡ P3
+  pub place : localAt c i .control .place ≡ P3
 
 -- The converse: an operation that the bench ended as a fault has its mark in the announcement from its finishing on, returned or not, until
 -- its process announces the next one; and one that it did not has none.
@@ -50,4 +50,4 @@ pub record YieldsKept (m : Observation) : Type 0 where
 -- a helper that still reads has no mark, so that one that meets a greater seq goes to P19 without it
 abbrev pub UnmarkedReading : Card → Type 0
 UnmarkedReading c =
-    (i : ℕ) → i < c .processCount → localAt c i .task .place ≡ H21 → localAt c i .simulation .yields .fault ≡ false
+    (i : ℕ) → i < c .processCount → localAt c i .control .place ≡ H21 → localAt c i .simulation .yields .fault ≡ false

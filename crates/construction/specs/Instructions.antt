@@ -4,7 +4,8 @@ use mathlib.Core.Bool.{Bool, true, cond, not, _&&_}
 use mathlib.Core.List.{List, [], _∷_}
 use lib.Dec.{eqb, leb, ltb}
 use lib.ListN.{getD, replicate}
-use Rattle.construction.specs.Types.{Words, Instruction, OperandKind, Unused, Register, Word, Variable, Skip, Format, Unknown, Known, Decoded, Encoded, Line, Program, Effect, Simulation, UnknownCode, OperandOutOfRange, UnusedOperand}
+use Rattle.construction.specs.Types.{Words, Instruction, OperandKind, Unused, Register, Word, Variable, Skip, Format, Unknown, Known, Decoded, Encoded}
+use Rattle.construction.specs.Types.{Line, Program, Effect, Simulation, UnknownCode, OperandOutOfRange, UnusedOperand}
 use Rattle.construction.specs.Cells.{zeros, noYield, faultYield}
 
 -- word k of four

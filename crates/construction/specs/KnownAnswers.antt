@@ -3,7 +3,8 @@
 use Prim.Native.Nat.{ℕ}
 use mathlib.Core.Path.{_≡_}
 use Rattle.construction.specs.Types.{CardLine, VarLine, SheetLine, InsLine}
-use Rattle.construction.specs.Answers.{Fields, numberOf, answerFields, verdictFields, writtenFields, rowFields, cardLineFields, varLineFields, sheetLineFields, decodedFields, insLineFields}
+use Rattle.construction.specs.Answers.{Fields, numberOf, answerFields, verdictFields, writtenFields, rowFields, cardLineFields, varLineFields}
+use Rattle.construction.specs.Answers.{sheetLineFields, decodedFields, insLineFields}
 
 -- the place past a line, 0 where it is refused
 abbrev pub cardLineEnd : CardLine → ℕ

@@ -27,8 +27,8 @@ pub record Limited (c : Card) : Type 0 where
   pub texts : (k number : ℕ) → weight (programOf (textsOf c) k number) ≤ cardWeight (contentsOf c)
   -- while helping, it holds at most the weight of the program helped, and has room for what H21 reads
   pub noting :
-      (i : ℕ) → i < c .processCount → localAt c i .task .place ≡ H21 →
+      (i : ℕ) → i < c .processCount → localAt c i .control .place ≡ H21 →
       localAt c i .dictionary .length < weight (programOf (textsOf c) (localAt c i .announcement .program) (localAt c i .gate .seq))
   pub writing :
-      (i : ℕ) → i < c .processCount → localAt c i .task .place ≡ H36 →
+      (i : ℕ) → i < c .processCount → localAt c i .control .place ≡ H36 →
       localAt c i .dictionary .length ≤ weight (programOf (textsOf c) (localAt c i .announcement .program) (localAt c i .gate .seq))

@@ -3,13 +3,17 @@ use Prim.Native.Nat.{ℕ, suc, _+_, _%_}
 use mathlib.Core.Bool.{Bool, true, false, cond, not, _&&_}
 use lib.Dec.{leb, ltb}
 use lib.ListN.{length, getD}
-use Rattle.construction.specs.Types.{Holder, Nobody, Process, Gate, Flag, Done, Active, Exit, Words, Yield, Announcement, Record, Program, Item, Dictionary, Simulation, Pause, Ended, Faulted, Lacks, Simulated, Label, Idle, P1, P3, P5, P7, P10, C2, C4, P13, P14, P16, H21, H36, P19, P20, P21, P22, F1, F3, P6, GateAccess, AnnouncementAccess, Access, Cell, Swap, Task, GateAccessed, AnnouncementAccessed, Began, Helped, Writing, Operation, Card, SwappedRecord, Contents}
+use Rattle.construction.specs.Types.{Holder, Nobody, Process, Gate, Flag, Done, Active, Exit, Words, Yield, Announcement, Record, Program, Item}
+use Rattle.construction.specs.Types.{Dictionary, Simulation, Pause, Ended, Faulted, Lacks, Simulated, Label, Idle, P1, P3, P5, P7, P10, C2, C4, P13, P14}
+use Rattle.construction.specs.Types.{P16, H21, H36, P19, P20, P21, P22, F1, F3, P6, GateAccess, AnnouncementAccess, Access, Cell, Swap, Control}
+use Rattle.construction.specs.Types.{GateAccessed, AnnouncementAccessed, Began, Helped, Writing, Operation, Card, SwappedRecord, Contents}
 use Rattle.construction.specs.Cells.{isDone, sameHolder, swapGate, swapAnnouncement, swapRecord, released, rewritten}
 use Rattle.construction.specs.Instructions.{started}
 use Rattle.construction.specs.Dictionary.{noItem, empty, noted, itemOf, insert, nextWrite}
 use Rattle.construction.specs.Marks.{withBit}
 use Rattle.construction.specs.Helping.{simulate}
-use Rattle.construction.specs.Parts.{Local, localAt, Texts, textsOf, announcementAt, recordAt, programOf, withGate, withAnnouncement, withRecord, withSteps, withLocal}
+use Rattle.construction.specs.Parts.{Local, localAt, Texts, textsOf, announcementAt, recordAt, programOf, withGate, withAnnouncement, withRecord}
+use Rattle.construction.specs.Parts.{withSteps, withLocal}
 
 -- 'The accesses are P1, P3, P6, P7, P10, C2, C4, P13, P14, P16, H21, H36, P19, P20, P21, P22, F1, F3': the access of each place.
 -- Line P5 is looked at here: with an exit request the access is P6, without one P10. 'After P7 the next is F1 if the flag is done, else P10.'
@@ -35,8 +39,8 @@ accessOf F1 exit = Access.Gate GateAccess.ReadLast
 accessOf F3 exit = Access.Gate (GateAccess.Release Idle)
 accessOf P6 exit = Access.Announcement AnnouncementAccess.Withdraw
 
--- a task at another place, with its target kept
-abbrev pub goTo : Task → Label → Task
+-- a control at another place, with its target kept
+abbrev pub goTo : Control → Label → Control
 goTo t p = record { place = p; target = t .target }
 
 -- lines P11 and P15: by the holder of the gate
@@ -91,47 +95,47 @@ outcome won = cond won Swap.Won Swap.Lost
 -- THE ACCESSES: each is a function of one shared cell and of what its process keeps, and of nothing else.
 
 -- the gate, for process i that last read the gate g: it is read ..
-abbrev pub readGate : Gate → Task → Label → GateAccessed
-readGate cell task next = record { cell = cell; read = cell; task = goTo task next; swap = Swap.None }
+abbrev pub readGate : Gate → Control → Label → GateAccessed
+readGate cell control next = record { cell = cell; read = cell; control = goTo control next; swap = Swap.None }
 
 -- .. or swapped from g to another
-abbrev pub replaceGate : Gate → Gate → Task → Gate → Label → GateAccessed
-replaceGate cell g task new next =
+abbrev pub replaceGate : Gate → Gate → Control → Gate → Label → GateAccessed
+replaceGate cell g control new next =
     let swapped = swapGate cell g new in
-    record { cell = swapped .cell; read = g; task = goTo task next; swap = outcome (swapped .won) }
+    record { cell = swapped .cell; read = g; control = goTo control next; swap = outcome (swapped .won) }
 
 -- lines P1, P10, P14: the holder says where the process goes on
-abbrev pub readHolder : Gate → Task → Label → Label → GateAccessed
-readHolder cell task held free = readGate cell task (byHolder (cell .holder) held free)
+abbrev pub readHolder : Gate → Control → Label → Label → GateAccessed
+readHolder cell control held free = readGate cell control (byHolder (cell .holder) held free)
 
 -- lines F1, F2, F4
-abbrev pub readLast : Gate → Task → ℕ → GateAccessed
-readLast cell task i = readGate cell task (afterLast (cell .holder) i)
+abbrev pub readLast : Gate → Control → ℕ → GateAccessed
+readLast cell control i = readGate cell control (afterLast (cell .holder) i)
 
 -- line P13
-abbrev pub nominate : Gate → Gate → Task → GateAccessed
-nominate cell g task = replaceGate cell g task (nominated g (task .target)) P14
+abbrev pub nominate : Gate → Gate → Control → GateAccessed
+nominate cell g control = replaceGate cell g control (nominated g (control .target)) P14
 
 -- lines P21 and F3
-abbrev pub release : Gate → Gate → Task → Label → GateAccessed
-release cell g task next = replaceGate cell g task (released g) next
+abbrev pub release : Gate → Gate → Control → Label → GateAccessed
+release cell g control next = replaceGate cell g control (released g) next
 
-unfoldable pub accessGate : GateAccess → ℕ → Gate → Gate → Task → GateAccessed
-accessGate (GateAccess.Read held free) i cell g task = readHolder cell task held free
-accessGate GateAccess.ReadLast i cell g task = readLast cell task i
-accessGate GateAccess.Nominate i cell g task = nominate cell g task
-accessGate (GateAccess.Release next) i cell g task = release cell g task next
+unfoldable pub accessGate : GateAccess → ℕ → Gate → Gate → Control → GateAccessed
+accessGate (GateAccess.Read held free) i cell g control = readHolder cell control held free
+accessGate GateAccess.ReadLast i cell g control = readLast cell control i
+accessGate GateAccess.Nominate i cell g control = nominate cell g control
+accessGate (GateAccess.Release next) i cell g control = release cell g control next
 
 -- the announcement of process m, for a process that last read the announcement a: it is read ..
 abbrev pub readAnnouncement : Announcement → ℕ → Label → AnnouncementAccessed
 readAnnouncement cell m next =
-    record { cell = cell; read = cell; task = record { place = next; target = m }; swap = Swap.None }
+    record { cell = cell; read = cell; control = record { place = next; target = m }; swap = Swap.None }
 
 -- .. or swapped
-abbrev pub replaceAnnouncement : Announcement → Announcement → Task → Announcement → Announcement → Label → AnnouncementAccessed
-replaceAnnouncement cell a task expected new next =
+abbrev pub replaceAnnouncement : Announcement → Announcement → Control → Announcement → Announcement → Label → AnnouncementAccessed
+replaceAnnouncement cell a control expected new next =
     let swapped = swapAnnouncement cell expected new in
-    record { cell = swapped .cell; read = a; task = goTo task next; swap = outcome (swapped .won) }
+    record { cell = swapped .cell; read = a; control = goTo control next; swap = outcome (swapped .won) }
 
 -- whose announcement an access of process i is of, if it last read the gate g: at P3, P6, P7, C4 and P22 its own, at C2 by turn (line C1),
 -- at P19 and P20 that of the gate's holder
@@ -143,55 +147,55 @@ whose AnnouncementAccess.ReadFirst p i g = firstChoice (g .seq) p
 whose (AnnouncementAccess.Finish flag next) p i g = holderOf (g .holder)
 
 -- lines P2, P3
-abbrev pub announce : Operation → Gate → Task → AnnouncementAccessed
-announce operation g task =
-    record { cell = announced operation g; read = announced operation g; task = goTo task P5; swap = Swap.None }
+abbrev pub announce : Operation → Gate → Control → AnnouncementAccessed
+announce operation g control =
+    record { cell = announced operation g; read = announced operation g; control = goTo control P5; swap = Swap.None }
 
 -- line P6
-abbrev pub withdraw : Announcement → Operation → Announcement → Task → AnnouncementAccessed
-withdraw cell operation a task = replaceAnnouncement cell a task a (withdrawn a operation) P7
+abbrev pub withdraw : Announcement → Operation → Announcement → Control → AnnouncementAccessed
+withdraw cell operation a control = replaceAnnouncement cell a control a (withdrawn a operation) P7
 
 -- lines P7, C2, C4 with C6, P22: the flag says where the process goes on
 abbrev pub readFlag : Announcement → ℕ → Label → Label → Label → AnnouncementAccessed
 readFlag cell m done active exit = readAnnouncement cell m (byFlag (cell .flag) done active exit)
 
 -- lines P19, P20
-abbrev pub finish : Flag → Label → Announcement → Gate → Announcement → Yield → Task → AnnouncementAccessed
-finish flag next cell g a y task = replaceAnnouncement cell a task (flagged a flag) (finished a g y) next
+abbrev pub finish : Flag → Label → Announcement → Gate → Announcement → Yield → Control → AnnouncementAccessed
+finish flag next cell g a y control = replaceAnnouncement cell a control (flagged a flag) (finished a g y) next
 
 unfoldable pub accessAnnouncement :
-    AnnouncementAccess → ℕ → Announcement → Operation → Gate → Announcement → Yield → Task → AnnouncementAccessed
-accessAnnouncement AnnouncementAccess.Announce m cell operation g a y task = announce operation g task
-accessAnnouncement AnnouncementAccess.Withdraw m cell operation g a y task = withdraw cell operation a task
-accessAnnouncement (AnnouncementAccess.ReadOwn done active exit) m cell operation g a y task = readFlag cell m done active exit
+    AnnouncementAccess → ℕ → Announcement → Operation → Gate → Announcement → Yield → Control → AnnouncementAccessed
+accessAnnouncement AnnouncementAccess.Announce m cell operation g a y control = announce operation g control
+accessAnnouncement AnnouncementAccess.Withdraw m cell operation g a y control = withdraw cell operation a control
+accessAnnouncement (AnnouncementAccess.ReadOwn done active exit) m cell operation g a y control = readFlag cell m done active exit
 -- line C2, by C3
-accessAnnouncement AnnouncementAccess.ReadFirst m cell operation g a y task = readFlag cell m C4 P13 C4
-accessAnnouncement (AnnouncementAccess.Finish flag next) m cell operation g a y task = finish flag next cell g a y task
+accessAnnouncement AnnouncementAccess.ReadFirst m cell operation g a y control = readFlag cell m C4 P13 C4
+accessAnnouncement (AnnouncementAccess.Finish flag next) m cell operation g a y control = finish flag next cell g a y control
 
 -- lines H31 and H32: the write of item `next` of so many, or P19 past the last; ..
-abbrev pub writeTask : ℕ → ℕ → Task
-writeTask next end = cond (ltb next end) (record { place = H36; target = next }) (record { place = P19; target = 0 })
+abbrev pub writeControl : ℕ → ℕ → Control
+writeControl next end = cond (ltb next end) (record { place = H36; target = next }) (record { place = P19; target = 0 })
 
 -- .. the next write from item k on
-abbrev pub writeFrom : ℕ → Dictionary → ℕ → Task
-writeFrom number d k = writeTask (nextWrite number d k) (length (noted d))
+abbrev pub writeFrom : ℕ → Dictionary → ℕ → Control
+writeFrom number d k = writeControl (nextWrite number d k) (length (noted d))
 
 -- a simulation that lacks a variable reads its record; one that ended writes what it altered, from item `next` of so many on; one that ended as
 -- a fault writes nothing; ..
-abbrev pub pauseTask : Pause → ℕ → ℕ → Task
-pauseTask Ended next end = writeTask next end
-pauseTask Faulted next end = record { place = P19; target = 0 }
-pauseTask (Lacks v) next end = record { place = H21; target = v }
+abbrev pub pauseControl : Pause → ℕ → ℕ → Control
+pauseControl Ended next end = writeControl next end
+pauseControl Faulted next end = record { place = P19; target = 0 }
+pauseControl (Lacks v) next end = record { place = H21; target = v }
 
 -- .. with its dictionary
-abbrev pub afterPause : ℕ → Dictionary → Pause → Task
-afterPause number d p = pauseTask p (nextWrite number d 0) (length (noted d))
+abbrev pub afterPause : ℕ → Dictionary → Pause → Control
+afterPause number d p = pauseControl p (nextWrite number d 0) (length (noted d))
 
 -- a helper goes on as its simulation stands
 abbrev pub helped : ℕ → Simulated → ℕ → Helped
 helped number x mask =
     record {
-      task = afterPause number (x .dictionary) (x .pause);
+      control = afterPause number (x .dictionary) (x .pause);
       simulation = x .simulation;
       dictionary = x .dictionary;
       mask = mask;
@@ -202,27 +206,27 @@ abbrev pub helps : Announcement → ℕ → Bool
 helps a number = not (isDone (a .flag)) && leb (a .seq) number
 
 -- lines P16 to P18, H1: the announcement of the gate's holder is read, and its program begins on the empty dictionary
-unfoldable pub beginHelp : ℕ → Program → Announcement → ℕ → Task → Simulation → Began
-beginHelp n program cell number task s =
+unfoldable pub beginHelp : ℕ → Program → Announcement → ℕ → Control → Simulation → Began
+beginHelp n program cell number control s =
     let x = helped number (simulate n program (cell .words) started empty) 0 in
     cond (helps cell number)
-    (record { helps = true; task = x .task; simulation = x .simulation })
-    (record { helps = false; task = goTo task P21; simulation = s })
+    (record { helps = true; control = x .control; simulation = x .simulation })
+    (record { helps = false; control = goTo control P21; simulation = s })
 
--- lines H21 to H25: the record of the task's variable is read and noted, and the program with the inputs goes on;
+-- lines H21 to H25: the record of the control's variable is read and noted, and the program with the inputs goes on;
 -- 'with greater seq the helper goes to P19 with the outputs so far', and notes nothing (document 02, order 1)
-unfoldable pub note : ℕ → Program → Words → Record → ℕ → Task → Simulation → Dictionary → ℕ → Helped
-note n program inputs cell number task s d mask =
+unfoldable pub note : ℕ → Program → Words → Record → ℕ → Control → Simulation → Dictionary → ℕ → Helped
+note n program inputs cell number control s d mask =
     cond (ltb number (cell .seq))
-    (record { task = goTo task P19; simulation = s; dictionary = d; mask = mask })
-    (helped number (simulate n program inputs s (insert d (itemOf number (task .target) cell))) (withBit mask (task .target)))
+    (record { control = goTo control P19; simulation = s; dictionary = d; mask = mask })
+    (helped number (simulate n program inputs s (insert d (itemOf number (control .target) cell))) (withBit mask (control .target)))
 
 -- line H36, 'in book order, won or lost': the item that is written, and the next write ..
-unfoldable pub writing : ℕ → Task → Dictionary → Writing
-writing number task d =
+unfoldable pub writing : ℕ → Control → Dictionary → Writing
+writing number control d =
     record {
-      item = getD (d .items) (task .target) noItem;
-      task = writeFrom number d (suc (task .target));
+      item = getD (d .items) (control .target) noItem;
+      control = writeFrom number d (suc (control .target));
     }
 
 -- .. and its record swapped
@@ -233,11 +237,11 @@ write cell e number = swapRecord cell (e .cell) (rewritten (e .cell) (e .value) 
 
 -- the access of a process, by its place
 abbrev pub accessIn : Local → Access
-accessIn l = accessOf (l .task .place) (l .exit)
+accessIn l = accessOf (l .control .place) (l .exit)
 
 -- the variable that H36 writes
 abbrev pub writtenVariable : Local → ℕ
-writtenVariable l = writing (l .gate .seq) (l .task) (l .dictionary) .item .variable
+writtenVariable l = writing (l .gate .seq) (l .control) (l .dictionary) .item .variable
 
 -- the cell that an access touches: at P16 the announcement of the gate's holder, at H21 the record that the simulation lacks, at H36 that of the item in turn;
 -- of p processes, process i that last read the gate g, with the variables of H21 and H36; ..
@@ -251,14 +255,14 @@ cellBy Access.Write p i g lacking written = Cell.Record written
 
 -- .. with its own state
 abbrev pub cellOf : Access → Contents → ℕ → Local → Cell
-cellOf a t i l = cellBy a (t .processCount) i (l .gate) (l .task .target) (writtenVariable l)
+cellOf a t i l = cellBy a (t .processCount) i (l .gate) (l .control .target) (writtenVariable l)
 
--- a process after an access: it goes on with its task, the gate and the announcement last read, its simulation, its dictionary and the set of
+-- a process after an access: it goes on with its control, the gate and the announcement last read, its simulation, its dictionary and the set of
 -- the variables noted there, and the step is counted as its own, in 64 bits
-abbrev pub after : Local → Task → Gate → Announcement → Simulation → Dictionary → ℕ → Local
-after l task gate announcement simulation dictionary mask =
+abbrev pub after : Local → Control → Gate → Announcement → Simulation → Dictionary → ℕ → Local
+after l control gate announcement simulation dictionary mask =
     record {
-      task = task;
+      control = control;
       operation = l .operation;
       exit = l .exit;
       steps = (l .steps + 1) % 18446744073709551616;
@@ -277,36 +281,36 @@ pub record Accessed (A : Type 0) : Type 0 where
 
 abbrev pub stepGate : GateAccess → ℕ → Gate → Local → Accessed Gate
 stepGate a i cell l =
-    let x = accessGate a i cell (l .gate) (l .task) in
-    record { cell = x .cell; local = after l (x .task) (x .read) (l .announcement) (l .simulation) (l .dictionary) (l .mask); swap = x .swap }
+    let x = accessGate a i cell (l .gate) (l .control) in
+    record { cell = x .cell; local = after l (x .control) (x .read) (l .announcement) (l .simulation) (l .dictionary) (l .mask); swap = x .swap }
 
 abbrev pub stepAnnouncement : AnnouncementAccess → ℕ → Announcement → Local → Accessed Announcement
 stepAnnouncement a m cell l =
-    let x = accessAnnouncement a m cell (l .operation) (l .gate) (l .announcement) (l .simulation .yields) (l .task) in
-    record { cell = x .cell; local = after l (x .task) (l .gate) (x .read) (l .simulation) (l .dictionary) (l .mask); swap = x .swap }
+    let x = accessAnnouncement a m cell (l .operation) (l .gate) (l .announcement) (l .simulation .yields) (l .control) in
+    record { cell = x .cell; local = after l (x .control) (l .gate) (x .read) (l .simulation) (l .dictionary) (l .mask); swap = x .swap }
 
 abbrev pub stepHelp : ℕ → Texts → Announcement → Local → Accessed Announcement
 stepHelp n t cell l =
-    let x = beginHelp n (programOf t (cell .program) (l .gate .seq)) cell (l .gate .seq) (l .task) (l .simulation) in
+    let x = beginHelp n (programOf t (cell .program) (l .gate .seq)) cell (l .gate .seq) (l .control) (l .simulation) in
     record {
       cell = cell;
-      local = after l (x .task) (l .gate) cell (x .simulation) (cond (x .helps) empty (l .dictionary)) (cond (x .helps) 0 (l .mask));
+      local = after l (x .control) (l .gate) cell (x .simulation) (cond (x .helps) empty (l .dictionary)) (cond (x .helps) 0 (l .mask));
       swap = Swap.None;
     }
 
 abbrev pub stepNote : ℕ → Texts → Record → Local → Accessed Record
 stepNote n t cell l =
     let a = l .announcement in
-    let x = note n (programOf t (a .program) (l .gate .seq)) (a .words) cell (l .gate .seq) (l .task) (l .simulation) (l .dictionary) (l .mask) in
-    record { cell = cell; local = after l (x .task) (l .gate) a (x .simulation) (x .dictionary) (x .mask); swap = Swap.None }
+    let x = note n (programOf t (a .program) (l .gate .seq)) (a .words) cell (l .gate .seq) (l .control) (l .simulation) (l .dictionary) (l .mask) in
+    record { cell = cell; local = after l (x .control) (l .gate) a (x .simulation) (x .dictionary) (x .mask); swap = Swap.None }
 
 abbrev pub stepWrite : Record → Local → Accessed Record
 stepWrite cell l =
-    let x = writing (l .gate .seq) (l .task) (l .dictionary) in
+    let x = writing (l .gate .seq) (l .control) (l .dictionary) in
     let swapped = write cell (x .item) (l .gate .seq) in
     record {
       cell = swapped .cell;
-      local = after l (x .task) (l .gate) (l .announcement) (l .simulation) (l .dictionary) (l .mask);
+      local = after l (x .control) (l .gate) (l .announcement) (l .simulation) (l .dictionary) (l .mask);
       swap = outcome (swapped .won);
     }
 
@@ -327,7 +331,7 @@ putRecord c i v x = record { card = withLocal (withRecord c v (x .cell)) i (x .l
 unfoldable pub perform : Access → Card → ℕ → AccessedCard
 perform Access.None c i =
     let l = localAt c i in
-    record { card = withLocal c i (after l (l .task) (l .gate) (l .announcement) (l .simulation) (l .dictionary) (l .mask)); swap = Swap.None }
+    record { card = withLocal c i (after l (l .control) (l .gate) (l .announcement) (l .simulation) (l .dictionary) (l .mask)); swap = Swap.None }
 perform (Access.Gate a) c i = putGate c i (stepGate a i (c .gate) (localAt c i))
 perform (Access.Announcement a) c i =
     let m = whose a (c .processCount) i (localAt c i .gate) in
@@ -336,7 +340,7 @@ perform Access.Help c i =
     let m = holderOf (localAt c i .gate .holder) in
     putAnnouncement c i m (stepHelp (c .variableCount) (textsOf c) (announcementAt c m) (localAt c i))
 perform Access.Note c i =
-    let v = localAt c i .task .target in
+    let v = localAt c i .control .target in
     putRecord c i v (stepNote (c .variableCount) (textsOf c) (recordAt c v) (localAt c i))
 perform Access.Write c i =
     let v = writtenVariable (localAt c i) in

@@ -9,7 +9,7 @@ use Rattle.construction.specs.Types.{Cell, Card}
 use Rattle.construction.specs.Cells.{openAnnouncement, openRecord}
 use Rattle.construction.specs.Instructions.{started}
 use Rattle.construction.specs.Dictionary.{empty}
-use Rattle.construction.specs.Parts.{idleTask, noOperation, noGate, contentsOf, textsOf, localAt}
+use Rattle.construction.specs.Parts.{idleControl, noOperation, noGate, contentsOf, textsOf, localAt}
 use Rattle.construction.specs.Machine.{accessIn, cellOf, advance, swapOf}
 use Rattle.construction.specs.Requests.{answerOf}
 
@@ -32,12 +32,12 @@ SameIn (Cell.Record v) c d = Same (c .records) (d .records) v (openRecord 0)
 -- .. have the same local state of process i; ..
 abbrev pub SameLocal : ℕ → Card → Card → Type 0
 SameLocal i c d =
-    Same (c .tasks) (d .tasks) i idleTask
+    Same (c .controls) (d .controls) i idleControl
     × Same (c .operations) (d .operations) i noOperation
     × Same (c .exits) (d .exits) i false
     × Same (c .counts) (d .counts) i 0
-    × Same (c .gates) (d .gates) i noGate
-    × Same (c .copies) (d .copies) i openAnnouncement
+    × Same (c .gatesRead) (d .gatesRead) i noGate
+    × Same (c .announcementsRead) (d .announcementsRead) i openAnnouncement
     × Same (c .simulations) (d .simulations) i started
     × Same (c .dictionaries) (d .dictionaries) i empty
     × Same (c .masks) (d .masks) i 0

@@ -4,12 +4,13 @@ use mathlib.Core.Bool.{false, cond}
 use mathlib.Core.List.{List, map}
 use lib.ListN.{length, set, replicate}
 use lib.Dec.{eqb, ltb}
-use Rattle.construction.specs.Types.{Instruction, Line, Program, Card, Refusal, TooLong, Malformed, TooHeavy, CardLine, VarLine, SheetLine, InsLine, Contents, Verdict, ProgramReading, Reading, Opened}
+use Rattle.construction.specs.Types.{Instruction, Line, Program, Card, Refusal, TooLong, Malformed, TooHeavy, CardLine, VarLine, SheetLine, InsLine}
+use Rattle.construction.specs.Types.{Contents, Verdict, ProgramReading, Reading, Opened}
 use Rattle.construction.specs.Cells.{openGate, openAnnouncement, openRecord}
 use Rattle.construction.specs.Instructions.{noLine, noProgram, started}
 use Rattle.construction.specs.Weight.{weight}
 use Rattle.construction.specs.Dictionary.{empty}
-use Rattle.construction.specs.Parts.{idleTask, noOperation, noGate}
+use Rattle.construction.specs.Parts.{idleControl, noOperation, noGate}
 use Rattle.construction.specs.Lines.{cardLine, varLine, sheetLine, insLine}
 
 -- the contents that the line `card,p,n,s,limit` alone gives ..
@@ -57,12 +58,12 @@ fresh x =
       announcements = replicate 8 openAnnouncement;
       records = map openRecord (x .starts);
       steps = 0;
-      tasks = replicate 8 idleTask;
+      controls = replicate 8 idleControl;
       operations = replicate 8 noOperation;
       exits = replicate 8 false;
       counts = replicate 8 0;
-      gates = replicate 8 noGate;
-      copies = replicate 8 openAnnouncement;
+      gatesRead = replicate 8 noGate;
+      announcementsRead = replicate 8 openAnnouncement;
       simulations = replicate 8 started;
       dictionaries = replicate 8 empty;
       masks = replicate 8 0;

@@ -4,13 +4,13 @@ use mathlib.Core.Bool.{Bool, false, cond}
 use mathlib.Core.List.{List}
 use lib.ListN.{getD, set}
 use lib.Dec.{ltb}
-use Rattle.construction.specs.Types.{Nobody, Gate, Announcement, Record, Program, Dictionary, Simulation, Idle, Task, Operation, Card, Contents}
+use Rattle.construction.specs.Types.{Nobody, Gate, Announcement, Record, Program, Dictionary, Simulation, Idle, Control, Operation, Card, Contents}
 use Rattle.construction.specs.Cells.{zeros, openAnnouncement, openRecord}
 use Rattle.construction.specs.Instructions.{started, noProgram}
 use Rattle.construction.specs.Dictionary.{empty}
 
-abbrev pub idleTask : Task
-idleTask = record { place = Idle; target = 0 }
+abbrev pub idleControl : Control
+idleControl = record { place = Idle; target = 0 }
 
 abbrev pub noOperation : Operation
 noOperation = record { program = 0; inputs = zeros }
@@ -40,7 +40,7 @@ recordAt c v = getD (c .records) v (openRecord 0)
 -- the own state of a process: its place, what its call asked for, its exit request, its own steps, the gate and the announcement that it
 -- last read (g and a of the paper), the program that it simulates, its dictionary and the set of the variables noted there
 pub record Local : Type 0 where
-  pub task : Task
+  pub control : Control
   pub operation : Operation
   pub exit : Bool
   pub steps : ℕ
@@ -53,12 +53,12 @@ pub record Local : Type 0 where
 abbrev pub localAt : Card → ℕ → Local
 localAt c i =
     record {
-      task = getD (c .tasks) i idleTask;
+      control = getD (c .controls) i idleControl;
       operation = getD (c .operations) i noOperation;
       exit = getD (c .exits) i false;
       steps = getD (c .counts) i 0;
-      gate = getD (c .gates) i noGate;
-      announcement = getD (c .copies) i openAnnouncement;
+      gate = getD (c .gatesRead) i noGate;
+      announcement = getD (c .announcementsRead) i openAnnouncement;
       simulation = getD (c .simulations) i started;
       dictionary = getD (c .dictionaries) i empty;
       mask = getD (c .masks) i 0;
@@ -80,8 +80,8 @@ programOf x k number = cond (ltb number (getD (x .from) k 0)) (getD (x .earlier)
 -- the card of the same opening text: the texts of its programs, its shared cells, its accepted steps, and what its processes keep
 abbrev pub withTextsAndState :
     Card → Texts → Gate → List Announcement → List Record → ℕ →
-    List Task → List Operation → List Bool → List ℕ → List Gate → List Announcement → List Simulation → List Dictionary → List ℕ → Card
-withTextsAndState c texts gate announcements records steps tasks operations exits counts gates copies simulations dictionaries masks =
+    List Control → List Operation → List Bool → List ℕ → List Gate → List Announcement → List Simulation → List Dictionary → List ℕ → Card
+withTextsAndState c texts gate announcements records steps controls operations exits counts gatesRead announcementsRead simulations dictionaries masks =
     record {
       processCount = c .processCount;
       variableCount = c .variableCount;
@@ -96,12 +96,12 @@ withTextsAndState c texts gate announcements records steps tasks operations exit
       announcements = announcements;
       records = records;
       steps = steps;
-      tasks = tasks;
+      controls = controls;
       operations = operations;
       exits = exits;
       counts = counts;
-      gates = gates;
-      copies = copies;
+      gatesRead = gatesRead;
+      announcementsRead = announcementsRead;
       simulations = simulations;
       dictionaries = dictionaries;
       masks = masks;
@@ -110,20 +110,20 @@ withTextsAndState c texts gate announcements records steps tasks operations exit
 -- with the same texts ..
 abbrev pub withState :
     Card → Gate → List Announcement → List Record → ℕ →
-    List Task → List Operation → List Bool → List ℕ → List Gate → List Announcement → List Simulation → List Dictionary → List ℕ → Card
+    List Control → List Operation → List Bool → List ℕ → List Gate → List Announcement → List Simulation → List Dictionary → List ℕ → Card
 withState c = withTextsAndState c (textsOf c)
 
 -- .. and with other texts and the same state
 abbrev pub withTexts : Card → Texts → Card
 withTexts c texts =
     withTextsAndState c texts (c .gate) (c .announcements) (c .records) (c .steps)
-    (c .tasks) (c .operations) (c .exits) (c .counts) (c .gates) (c .copies) (c .simulations) (c .dictionaries) (c .masks)
+    (c .controls) (c .operations) (c .exits) (c .counts) (c .gatesRead) (c .announcementsRead) (c .simulations) (c .dictionaries) (c .masks)
 
 -- the card with other shared cells, ..
 abbrev pub withCells : Card → Gate → List Announcement → List Record → Card
 withCells c gate announcements records =
     withState c gate announcements records (c .steps)
-    (c .tasks) (c .operations) (c .exits) (c .counts) (c .gates) (c .copies) (c .simulations) (c .dictionaries) (c .masks)
+    (c .controls) (c .operations) (c .exits) (c .counts) (c .gatesRead) (c .announcementsRead) (c .simulations) (c .dictionaries) (c .masks)
 
 abbrev pub withGate : Card → Gate → Card
 withGate c g = withCells c g (c .announcements) (c .records)
@@ -136,21 +136,21 @@ withRecord c v r = withCells c (c .gate) (c .announcements) (set (c .records) v 
 
 -- .. with other arrays of what the processes keep, ..
 abbrev pub withOwn :
-    Card → List Task → List Operation → List Bool → List ℕ → List Gate → List Announcement → List Simulation → List Dictionary → List ℕ → Card
+    Card → List Control → List Operation → List Bool → List ℕ → List Gate → List Announcement → List Simulation → List Dictionary → List ℕ → Card
 withOwn c = withState c (c .gate) (c .announcements) (c .records) (c .steps)
 
 -- .. with another own state of process i, ..
 abbrev pub withLocal : Card → ℕ → Local → Card
 withLocal c i l =
-    withOwn c (set (c .tasks) i (l .task)) (set (c .operations) i (l .operation)) (set (c .exits) i (l .exit)) (set (c .counts) i (l .steps))
-    (set (c .gates) i (l .gate)) (set (c .copies) i (l .announcement)) (set (c .simulations) i (l .simulation))
+    withOwn c (set (c .controls) i (l .control)) (set (c .operations) i (l .operation)) (set (c .exits) i (l .exit)) (set (c .counts) i (l .steps))
+    (set (c .gatesRead) i (l .gate)) (set (c .announcementsRead) i (l .announcement)) (set (c .simulations) i (l .simulation))
     (set (c .dictionaries) i (l .dictionary)) (set (c .masks) i (l .mask))
 
 -- .. and with another count of accepted steps
 abbrev pub withSteps : Card → ℕ → Card
 withSteps c k =
     withState c (c .gate) (c .announcements) (c .records) k
-    (c .tasks) (c .operations) (c .exits) (c .counts) (c .gates) (c .copies) (c .simulations) (c .dictionaries) (c .masks)
+    (c .controls) (c .operations) (c .exits) (c .counts) (c .gatesRead) (c .announcementsRead) (c .simulations) (c .dictionaries) (c .masks)
 
 -- the card with program k changed to y from a gate number on: its later text becomes the earlier one
 abbrev pub withRevision : Card → ℕ → ℕ → Program → Card

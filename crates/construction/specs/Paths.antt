@@ -7,7 +7,8 @@ use mathlib.Core.Bool.{Bool, true, false, cond, not, _&&_}
 use mathlib.Core.Logic.{_≢_, _⊎_}
 use mathlib.Core.List.{List, [], _∷_}
 use lib.Dec.{eqb, ltb}
-use Rattle.construction.specs.Types.{Nobody, Process, Gate, Done, Active, Exit, Words, Yield, Announcement, Record, Program, Item, Dictionary, Pause, Ended, Faulted, Lacks, Cell, Swap, Card, Answer, Label, Report}
+use Rattle.construction.specs.Types.{Nobody, Process, Gate, Done, Active, Exit, Words, Yield, Announcement, Record, Program, Item, Dictionary, Pause}
+use Rattle.construction.specs.Types.{Ended, Faulted, Lacks, Cell, Swap, Card, Answer, Label, Report}
 use Rattle.construction.specs.Cells.{zeros, current}
 use Rattle.construction.specs.Instructions.{started, noProgram}
 use Rattle.construction.specs.Dictionary.{empty, noted, itemOf, insert}

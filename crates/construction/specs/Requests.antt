@@ -2,7 +2,8 @@
 use Prim.Native.Nat.{ℕ}
 use mathlib.Core.Bool.{Bool, true, false, cond, not, _&&_}
 use lib.Dec.{eqb, ltb}
-use Rattle.construction.specs.Types.{Holder, Nobody, Process, Gate, Flag, Done, Active, Exit, Words, Announcement, Record, Label, Idle, P1, Card, Refusal, NoProcess, NoProgram, Busy, NotBusy, NoPlace, LimitReached, Answer, Answered}
+use Rattle.construction.specs.Types.{Holder, Nobody, Process, Gate, Flag, Done, Active, Exit, Words, Announcement, Record, Label, Idle, P1, Card, Refusal}
+use Rattle.construction.specs.Types.{NoProcess, NoProgram, Busy, NotBusy, NoPlace, LimitReached, Answer, Answered}
 use Rattle.construction.specs.Labels.{sameLabel}
 use Rattle.construction.specs.Cells.{yieldOf, isDone, current, previous}
 use Rattle.construction.specs.Parts.{Local, localAt, announcementAt, recordAt, withLocal}
@@ -24,7 +25,7 @@ isIdle place = sameLabel place Idle
 
 -- process i has an operation under way
 abbrev pub isBusy : Card → ℕ → Bool
-isBusy c i = not (isIdle (localAt c i .task .place))
+isBusy c i = not (isIdle (localAt c i .control .place))
 
 -- an entry that is refused leaves the card as it was
 abbrev pub refused : Card → Refusal → Answered
@@ -34,7 +35,7 @@ refused c r = record { card = c; answer = Answer.Refused r }
 abbrev pub invoked : Local → ℕ → Words → Local
 invoked l k inputs =
     record {
-      task = record { place = P1; target = 0 };
+      control = record { place = P1; target = 0 };
       operation = record { program = k; inputs = inputs };
       exit = false;
       steps = 0;
@@ -49,7 +50,7 @@ invoked l k inputs =
 abbrev pub withRequest : Local → Bool → Local
 withRequest l exit =
     record {
-      task = l .task;
+      control = l .control;
       operation = l .operation;
       exit = exit;
       steps = l .steps;
@@ -92,7 +93,7 @@ stepAnswer place a steps = cond (isIdle place) (returned a (a .flag) steps) Answ
 
 -- .. of a process
 abbrev pub answerOf : Local → Answer
-answerOf l = stepAnswer (l .task .place) (l .announcement) (l .steps)
+answerOf l = stepAnswer (l .control .place) (l .announcement) (l .steps)
 
 -- step: refusals 5, 8, 10
 unfoldable pub step : Card → ℕ → Answered

@@ -33,10 +33,10 @@ abbrev pub SwapAt : Label → ℕ → Local → Swap → Card → Card → Type 
 -- P6: A[i], from a to a asking to exit, with the inputs of the call
 SwapAt Label.P6 i l told c d = AnnouncementSwapped told c d i (l .announcement) (withdrawn (l .announcement) (l .operation))
 -- P13: the gate, from g to g held by the nominee
-SwapAt Label.P13 i l told c d = GateSwapped told c d (l .gate) (nominated (l .gate) (l .task .target))
+SwapAt Label.P13 i l told c d = GateSwapped told c d (l .gate) (nominated (l .gate) (l .control .target))
 -- H36: the record of the item in turn, from the one noted to the one with the value noted, under g's number
 SwapAt Label.H36 i l told c d =
-    let e = getD (l .dictionary .items) (l .task .target) noItem in
+    let e = getD (l .dictionary .items) (l .control .target) noItem in
     RecordSwapped told c d (e .variable) (e .cell) (rewritten (e .cell) (e .value) (l .gate .seq))
 -- P19, P20: the announcement of g's holder, from a, active or asking to exit, to a done under g's number, with what the operation yields
 SwapAt Label.P19 i l told c d =

@@ -35,7 +35,7 @@ pub record Overweight (x : Contents) (t : List ℕ) (line : ℕ) : Type 0 where
 pub data UnsettledBy (c : Card) (k : ℕ) : Type 0 where
   pending : c .gate .seq < getD (c .from) k 0 → UnsettledBy c k
   behind :
-      (i : ℕ) → isProcess c i ≡ true → hasRead (localAt c i .task .place) ≡ true → localAt c i .gate .seq < getD (c .from) k 0 → UnsettledBy c k
+      (i : ℕ) → isProcess c i ≡ true → hasRead (localAt c i .control .place) ≡ true → localAt c i .gate .seq < getD (c .from) k 0 → UnsettledBy c k
 
 -- the number of the last change of program k that an observer noted, 0 if there was none
 unfoldable pub lastChange : List Replacement → ℕ → ℕ
@@ -52,7 +52,7 @@ pub record RunsItsText (o : Card) (es : List Entry) : Type 0 where
       programOf (textsOf (run o es .card)) k number ≡ textAt (contentsOf o) (run o es .history .changes) k number
   -- and for the number that an operation under way last read, however late it is
   pub helping :
-      (i : ℕ) → i < o .processCount → hasRead (localAt (run o es .card) i .task .place) ≡ true → (k : ℕ) →
+      (i : ℕ) → i < o .processCount → hasRead (localAt (run o es .card) i .control .place) ≡ true → (k : ℕ) →
       programOf (textsOf (run o es .card)) k (localAt (run o es .card) i .gate .seq)
       ≡ textAt (contentsOf o) (run o es .history .changes) k (localAt (run o es .card) i .gate .seq)
 
@@ -101,6 +101,6 @@ pub record Switches (o : Card) (es₁ es₂ : List Entry) (k from : ℕ) (t : Li
   pub helping :
       (i : ℕ) → i < o .processCount →
       let l = localAt (run o (es₁ ++ (Entry.Change k from t ∷ es₂)) .card) i in
-      hasRead (l .task .place) ≡ true → l .gate .seq < from →
+      hasRead (l .control .place) ≡ true → l .gate .seq < from →
       programOf (textsOf (run o (es₁ ++ (Entry.Change k from t ∷ es₂)) .card)) k (l .gate .seq)
       ≡ textAt (contentsOf o) (run o es₁ .history .changes) k (l .gate .seq)

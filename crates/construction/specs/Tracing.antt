@@ -38,7 +38,7 @@ unfoldable pub reportOf : Card → ℕ → Report
 reportOf c i =
     let l = localAt c i in
     let after = localAt (advance c i) i in
-    reportWith (labelOf (l .task .place) (l .exit)) (touchedCell c i) (swapOf c i) (after .gate .seq) (after .mask)
+    reportWith (labelOf (l .control .place) (l .exit)) (touchedCell c i) (swapOf c i) (after .gate .seq) (after .mask)
 
 -- no access
 abbrev pub noReport : Report

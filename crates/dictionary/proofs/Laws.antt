@@ -11,7 +11,7 @@ use lib.Dec.{eqb, ltb}
 use lib.ListN.{length, getD, set, length-take, drop-of-length-le}
 use lib.Seq.{drop-cons, getD-take}
 use borrow.Author.Tests.{lt-ltb, le-ltb}
-use Rattle.construction.specs.declared.{Record.Record, Item.Item, Dictionary.Dictionary}
+use Rattle.construction.specs.declared.{cells.Record.Record, simulations.Item.Item, simulations.Dictionary.Dictionary}
 use Rattle.construction.specs.Cells.{current, previous}
 use Rattle.construction.specs.Dictionary.{noItem, noted, valueUnder, insert, altered, unaltered, nextWrite}
 use Rattle.construction.specs.Marks.{withBit}

@@ -6,8 +6,8 @@ use lib.ListN.{length, length-map, length-take}
 use mir.Val.{Val}
 use denote.Laws.{Is}
 use denote.Struct.Declared.{row}
-use Rattle.construction.proofs.Dictionary as dictionary-type
-use Rattle.construction.specs.declared.Dictionary.{Dictionary}
+use Rattle.construction.proofs.simulations.Dictionary as dictionary-type
+use Rattle.construction.specs.declared.simulations.Dictionary.{Dictionary}
 use Rattle.construction.specs.Dictionary.{noted}
 
 pub items : (d : Dictionary) (vs : List Val) → Is (row dictionary-type.the-type) d vs → length (d .items) ≡ 32

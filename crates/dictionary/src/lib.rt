@@ -1,8 +1,8 @@
 // The dictionary D of the paper (document 01: book): items in order of first touch, and which is to be written; and the set of the variables noted.
 // It rests on the crates construction (types and definitions) and cells (the two values of a record).
-use construction::Dictionary;
-use construction::Item;
-use construction::Record;
+use construction::cells::Record;
+use construction::simulations::Dictionary;
+use construction::simulations::Item;
 ghost use mathlib.Core.Path.{_≡_};
 ghost use Prim.Native.Nat.{min};
 ghost use Rattle.construction.specs.Marks.{withBit};

@@ -24,7 +24,8 @@ fuel zero g n p q = absurd (omega arith)
 fuel (suc f) zero n p q = absurd (omega arith)
 fuel (suc f) (suc g) n p q = go (λ u v. fuel f g (n / 2) u v) (ltb n 2) refl
   where
-    go : (n / 2 < f → n / 2 < g → binaries f (n / 2) ≡ binaries g (n / 2)) → (b : Bool) → ltb n 2 ≡ b → cond b ((48 + n) ∷ []) (binaries f (n / 2) ++ ((48 + n % 2) ∷ [])) ≡ cond b ((48 + n) ∷ []) (binaries g (n / 2) ++ ((48 + n % 2) ∷ []))
+    go : (n / 2 < f → n / 2 < g → binaries f (n / 2) ≡ binaries g (n / 2)) → (b : Bool) → ltb n 2 ≡ b →
+        cond b ((48 + n) ∷ []) (binaries f (n / 2) ++ ((48 + n % 2) ∷ [])) ≡ cond b ((48 + n) ∷ []) (binaries g (n / 2) ++ ((48 + n % 2) ∷ []))
     go h true e = refl
     go h false e = ap (λ (l : List ℕ). l ++ ((48 + n % 2) ∷ [])) (h (omega (arith, ltb-false n 2 e)) (omega (arith, ltb-false n 2 e)))
 
@@ -87,7 +88,8 @@ module _ (t : List ℕ) (i v : ℕ) where
   unfolding bits
   bits-step h = rw (drop-cons t i 0 h)
 
-  pub bits-more : {w : ℕ} {b : Bool} → i < length t → b ≡ isBit (getD t i 0) → b ≡ true → w ≡ growBit v (getD t i 0) → bits i v (drop i t) ≡ bits (i + 1) w (drop (i + 1) t)
+  pub bits-more : {w : ℕ} {b : Bool} → i < length t → b ≡ isBit (getD t i 0) → b ≡ true → w ≡ growBit v (getD t i 0) →
+      bits i v (drop i t) ≡ bits (i + 1) w (drop (i + 1) t)
   bits-more h d p e = bits-step h ∙ rw (← d, p, ← e, add-one)
 
   pub bits-stop : {b : Bool} → i < length t → b ≡ isBit (getD t i 0) → b ≡ false → bits i v (drop i t) ≡ Value v i
@@ -189,7 +191,8 @@ leading = binary-induction (λ n. 0 < n → Leading n) one more
           shape = binary-more n p ∙ ap (λ (x : List ℕ). x ++ ((48 + n % 2) ∷ [])) (l .shape);
         }
 
-pub bitsAt-reads : (t : List ℕ) (at v : ℕ) (r : List ℕ) → isBit (getD r 0 0) ≡ false → drop at t ≡ binary v ++ r → bitsAt t at ≡ Value (min over v) (at + length (binary v))
+pub bitsAt-reads : (t : List ℕ) (at v : ℕ) (r : List ℕ) → isBit (getD r 0 0) ≡ false → drop at t ≡ binary v ++ r →
+    bitsAt t at ≡ Value (min over v) (at + length (binary v))
 unfolding bitsAt
 bitsAt-reads t at v r d e = go (decLt 0 v)
   where

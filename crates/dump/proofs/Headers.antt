@@ -11,7 +11,7 @@ use borrow.Author.Tests.{lt-ltb}
 use Rattle.grammar.specs.Reading.{hasWord}
 use Rattle.grammar.proofs.Cases.{on-test, clash}
 use Rattle.grammar.proofs.Bytes.{drop-head, drop-past, word-reads, word-text}
-use Rattle.construction.specs.declared.Verdict.{Verdict}
+use Rattle.construction.specs.declared.texts.Verdict.{Verdict}
 use Rattle.dump.specs.declared.Header.{Header}
 use Rattle.dump.specs.Dump.{timescaleLine, scopeLine, varLine, upscopeLine, definitionsLine, timeText, varsText, headerText}
 use Rattle.dump.specs.Reading.{headerStart, headerRefused, onHeader, pastWord, thenWord, varsFrom, thenVars, readHeader}
@@ -68,7 +68,8 @@ module _ (t : List ℕ) where
       let g = drop-past t at (varLine v) _ f in
       let a : v + 1 ≡ suc v = omega arith in
       let k₁ : suc v + m ≡ v + suc m = omega arith in
-      let k₂ : at + length (varLine v) + length (varsText m (suc v)) ≡ at + length (varLine v ++ varsText m (suc v)) = omega (arith, length-append (varLine v) (varsText m (suc v))) in
+      let k₂ : at + length (varLine v) + length (varsText m (suc v)) ≡ at + length (varLine v ++ varsText m (suc v)) =
+      omega (arith, length-append (varLine v) (varsText m (suc v))) in
       let k₃ : line + 1 + m ≡ line + suc m = omega arith in
       rw (word-reads t (varLine v) _ at f, a)
       (vars-taken m left (suc v) (at + length (varLine v)) (line + 1) r (omega arith) g ∙ rw (k₁, k₂, k₃))
@@ -88,7 +89,12 @@ module _ (t : List ℕ) where
       let d₅ = drop-past t (at₂ + length (varsText n 0) + length upscopeLine) definitionsLine _ d₄ in
       let p : at₂ + length (varsText n 0) + length upscopeLine + length definitionsLine + length (timeText 0)
       ≡ length ((timescaleLine ++ (scopeLine ++ (varsText n 0 ++ (upscopeLine ++ definitionsLine)))) ++ timeText 0) =
-      omega (arith, length-append (timescaleLine ++ (scopeLine ++ (varsText n 0 ++ (upscopeLine ++ definitionsLine)))) (timeText 0), length-append (varsText n 0) (upscopeLine ++ definitionsLine)) in
+      omega (
+        arith,
+        length-append (timescaleLine ++ (scopeLine ++ (varsText n 0 ++ (upscopeLine ++ definitionsLine)))) (timeText 0),
+        length-append
+            (varsText n 0) (upscopeLine ++ definitionsLine),
+      ) in
       let l : 1 + 1 + 1 + n + 1 + 1 + 1 ≡ n + 6 = omega arith in
       let z : 0 + n ≡ n = omega arith in
       rw (
@@ -113,7 +119,8 @@ module _ (t : List ℕ) where
   unfolding thenWord
   before-word w h = by (h .verdict) refl
     where
-      by : (v : Verdict) → h .verdict ≡ v → onHeader v h (cond (hasWord t (h .at) w) (pastWord h w) (headerRefused (h .line))) .verdict ≡ Verdict.Accepted → h .verdict ≡ Verdict.Accepted
+      by : (v : Verdict) → h .verdict ≡ v → onHeader v h (cond (hasWord t (h .at) w) (pastWord h w) (headerRefused (h .line))) .verdict ≡ Verdict.Accepted →
+          h .verdict ≡ Verdict.Accepted
       by Verdict.Accepted e f = e
       by (Verdict.Refused why line) e f = f
 
@@ -129,7 +136,9 @@ module _ (t : List ℕ) where
       {text : List ℕ} {n line : ℕ} {h : Header} (w : List ℕ) → Read text n line h → Taken (thenWord t w h) → Read (text ++ w) n (line + 1) (thenWord t w h)
   unfolding thenWord
   read-word {text} {n} {line} {h} w r taken =
-      rw (r .is) (by (hasWord t (r .place) w) refl (subst (λ (k : Header). Taken (onHeader (k .verdict) k (cond (hasWord t (k .at) w) (pastWord k w) (headerRefused (k .line))))) (r .is) taken))
+      rw (r .is)
+      (by (hasWord t (r .place) w) refl
+      (subst (λ (k : Header). Taken (onHeader (k .verdict) k (cond (hasWord t (k .at) w) (pastWord k w) (headerRefused (k .line))))) (r .is) taken))
     where
       by :
           (b : Bool) → hasWord t (r .place) w ≡ b → Taken (cond b (pastWord (headerAt n (r .place) line) w) (headerRefused line)) →
@@ -195,7 +204,8 @@ module _ (t : List ℕ) where
     where
       finish :
           {h : Header} (m : ℕ) → m ≤ 64 →
-          Read ((((((([] ++ timescaleLine) ++ scopeLine) ++ varsText m 0) ++ upscopeLine) ++ definitionsLine)) ++ timeText 0) (0 + m) (1 + 1 + 1 + m + 1 + 1 + 1) h →
+          Read ((((((([] ++ timescaleLine) ++ scopeLine) ++ varsText m 0) ++ upscopeLine) ++ definitionsLine)) ++ timeText 0) (0 + m)
+          (1 + 1 + 1 + m + 1 + 1 + 1) h →
           HeaderThere h
       finish {h} m few r =
           let c : 0 + m ≡ h .count = sym (ap (λ (k : Header). k .count) (r .is)) in
@@ -205,5 +215,8 @@ module _ (t : List ℕ) where
           record {
             few = omega arith;
             is = r .is ∙ (λ i. headerAt (c i) (a i) (l i));
-            front = subst (λ (x : List ℕ). Front t x (h .at)) (regroup timescaleLine scopeLine (varsText m 0) upscopeLine definitionsLine (timeText 0) ∙ ap (λ (k : ℕ). (timescaleLine ++ (scopeLine ++ (varsText k 0 ++ (upscopeLine ++ definitionsLine)))) ++ timeText 0) z) (subst (λ (k : ℕ). Front t _ k) a (r .front));
+            front = subst (λ (x : List ℕ). Front t x (h .at))
+                (regroup timescaleLine scopeLine (varsText m 0) upscopeLine definitionsLine (timeText 0) ∙ ap
+                (λ (k : ℕ). (timescaleLine ++ (scopeLine ++ (varsText k 0 ++ (upscopeLine ++ definitionsLine)))) ++ timeText 0) z)
+                (subst (λ (k : ℕ). Front t _ k) a (r .front));
           }

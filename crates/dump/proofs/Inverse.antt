@@ -8,7 +8,7 @@ use lib.ListN.{getD, length}
 use native.Mathlib.Omega.{arith}
 use native.Mathlib.Nat.{sub-zero}
 use native.Mathlib.Decide.{decLe}
-use Rattle.construction.specs.declared.Verdict.{Verdict}
+use Rattle.construction.specs.declared.texts.Verdict.{Verdict}
 use Rattle.dump.specs.declared.Readings.{Readings}
 use Rattle.dump.specs.Binary.{over}
 use Rattle.dump.specs.Dump.{Change, valuesText, changesFrom, linesText, openingText, dump}
@@ -47,9 +47,11 @@ module _ {n : ℕ} {row : List ℕ} {rows : List (List ℕ)} (f : Fits n row row
         verdict = refl;
         count = refl;
         last = refl;
-        values = λ v l. rows-shown n step 0 row (startRow n row) rows (omega arith) (omega (arith, start-length n row, f .few)) agree (f .later) (omega (arith, f .bounded)) v l
+        values = λ v l. rows-shown n step 0 row (startRow n row) rows (omega arith) (omega (arith, start-length n row, f .few)) agree (f .later)
+            (omega (arith, f .bounded)) v l
             ∙ ap (λ (k : ℕ). getD (getD (row ∷ rows) (min k (length rows)) []) v 0) (sub-zero step);
-        past = λ v l. shown-all (λ w x. n ≤ w → x ≡ 0) n step 0 n (startRow n row) (startRow n row) (changesFrom n 0 row rows) (omega (arith, start-length n row, f .few))
+        past = λ v l. shown-all (λ w x. n ≤ w → x ≡ 0) n step 0 n (startRow n row) (startRow n row) (changesFrom n 0 row rows)
+            (omega (arith, start-length n row, f .few))
             (λ c p q h. absurd (omega arith)) (λ w h. start-past n w row h) proper v l;
       })
 
@@ -100,7 +102,8 @@ module _ {n last : ℕ} {row : List ℕ} {cs : List Change} {t : List ℕ} (h : 
   small : (step v : ℕ) → v < n → getD (readings t step .values) v 0 < over
   small step v l =
       rw (shown-is step)
-      (shown-all (λ w x. w < n → x < over) n step 0 n base base cs base-size (λ c p q _. q) (λ w p. rw (start-there n w row (h .few) p) (h .small w p)) (h .proper) v l)
+      (shown-all (λ w x. w < n → x < over) n step 0 n base base cs base-size (λ c p q _. q) (λ w p. rw (start-there n w row (h .few) p) (h .small w p))
+      (h .proper) v l)
 
   -- the history that is shown
   history-fits : Fits n first later
@@ -118,7 +121,8 @@ module _ {n last : ℕ} {row : List ℕ} {cs : List Change} {t : List ℕ} (h : 
       (step v : ℕ) → 0 ≤ step → v < n → getD (shownAfter step base cs) v 0 ≡ getD (shownAfter step base (changesFrom n 0 first later)) v 0
   same-shown step v _ l =
       sym
-      (rows-shown n step 0 first base later (omega arith) base-size (λ w q. sym (first-base w q)) (history-fits .later) (omega (arith, history-fits .bounded)) v l
+      (rows-shown n step 0 first base later (omega arith) base-size (λ w q. sym (first-base w q)) (history-fits .later) (omega (arith, history-fits .bounded))
+      v l
       ∙ ap (λ (k : ℕ). getD (getD (first ∷ later) k []) v 0) index
       ∙ ap (λ (x : List ℕ). getD x v 0) (read-at t last 0 (min step last) (omega arith))
       ∙ ap (λ (k : ℕ). getD (readings t k .values) v 0) (let z : 0 + min step last ≡ min step last = omega arith in z)

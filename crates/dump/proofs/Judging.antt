@@ -11,14 +11,16 @@ use native.Mathlib.Decide.{decLt}
 use borrow.Author.Tests.{lt-ltb, ltb-true, ltb-false, eq-eqb, ne-eqb, eqb-true, eqb-false}
 use Rattle.grammar.specs.Reading.{hasWord}
 use Rattle.grammar.proofs.Bytes.{word-text}
-use Rattle.construction.specs.declared.Verdict.{Verdict}
-use Rattle.construction.specs.declared.Refusal.the-variants.{Malformed}
+use Rattle.construction.specs.declared.texts.Verdict.{Verdict}
+use Rattle.construction.specs.declared.answers.Refusal.the-variants.{Malformed}
 use Rattle.construction.specs.Answers.{Fields, fields, verdictFields}
 use Rattle.construction.specs.TextJudging.{refusedIn}
 use Rattle.construction.proofs.Basics.{cond-true}
 use Rattle.dump.specs.declared.{DumpLine.DumpLine, Header.Header, Progress.Progress}
 use Rattle.dump.specs.Dump.{timescaleLine, scopeLine, varLine, upscopeLine, definitionsLine, timeText}
-use Rattle.dump.specs.Reading.{lineAt, headerStart, headerRefused, thenWord, varsFrom, thenVars, readHeader, progressRefused, begun, withValue, withTime, nextStart, startsFrom, takesTime, takesValue, nextLine, linesFrom, onProgress, thenStarts, thenLines, progress, readingsOf, readings}
+use Rattle.dump.specs.Reading.{lineAt, headerStart, headerRefused, thenWord, varsFrom, thenVars, readHeader, progressRefused, begun, withValue, withTime}
+use Rattle.dump.specs.Reading.{nextStart, startsFrom, takesTime, takesValue, nextLine, linesFrom, onProgress, thenStarts, thenLines, progress, readingsOf}
+use Rattle.dump.specs.Reading.{readings}
 use Rattle.dump.specs.Judging.{NextLine, GoodUntil, StartBreaks, LineBreaks, Judged}
 use Rattle.dump.proofs.Headers.{headerAt, no-var}
 use Rattle.dump.proofs.DumpLines.{time-there, value-there}
@@ -80,7 +82,8 @@ module _ (step : ℕ) (t : List ℕ) where
   unfolding thenVars
   vars-good at line = refl
 
-  var-more : (n at line : ℕ) → n < 64 → hasWord t at (varLine n) ≡ true → varsFrom t (64 - n) (headerAt n at line) ≡ varsFrom t (64 - (n + 1)) (headerAt (n + 1) (at + length (varLine n)) (line + 1))
+  var-more : (n at line : ℕ) → n < 64 → hasWord t at (varLine n) ≡ true →
+      varsFrom t (64 - n) (headerAt n at line) ≡ varsFrom t (64 - (n + 1)) (headerAt (n + 1) (at + length (varLine n)) (line + 1))
   unfolding varsFrom
   var-more n at line l e = let k : 64 - n ≡ suc (64 - (n + 1)) = omega arith in rw (k, e)
 
@@ -150,13 +153,15 @@ module _ (step : ℕ) (t : List ℕ) where
       )
   good-read (GoodUntil.nextValue {n} {v} {x} {i} {s} d l e a) =
       let w = value-there t (s .at) v x i e .later in (
-        good-read d .0 ∙ line-good n s l (DumpLine.Value v x i) e ∙ cond-true (takesValue n s v x) (linesFrom step t n (length t - suc (s .at)) (withValue step s v x i)) _ a
+        good-read d .0 ∙ line-good n s l (DumpLine.Value v x i) e ∙ cond-true (takesValue n s v x)
+            (linesFrom step t n (length t - suc (s .at)) (withValue step s v x i)) _ a
             ∙ fuel step t n (length t - suc (s .at)) (length t - i) (withValue step s v x i) (omega arith) (omega arith),
         refl,
       )
 
   -- ---- what the verdict says
-  refused-at : {p : Progress} (line : ℕ) → progress step t ≡ p → p .verdict ≡ Verdict.Refused Malformed line → verdictFields (readings t step .verdict) ≡ refusedIn line 2
+  refused-at : {p : Progress} (line : ℕ) → progress step t ≡ p → p .verdict ≡ Verdict.Refused Malformed line →
+      verdictFields (readings t step .verdict) ≡ refusedIn line 2
   unfolding readings verdictFields
   refused-at {p} line e f =
       ap (λ (q : Progress). verdictFields (readingsOf (q .verdict) (readHeader t .count) q .verdict)) e

@@ -9,19 +9,25 @@ use lib.Dec.{eqb, leb, ltb}
 use lib.ListN.{length, getD, set, take}
 use borrow.Author.Tests.{ltb-true, not-false}
 use Rattle.grammar.proofs.Cases.{on-test, and-true, clash}
-use Rattle.construction.specs.declared.{Words.Words, Instruction.Instruction, Decoded.Decoded, Encoded.Encoded, Line.Line, Program.Program, Effect.Effect, Simulation.Simulation, Card.Card, Contents.Contents, CardLine.CardLine, Verdict.Verdict, ProgramReading.ProgramReading, Reading.Reading}
-use Rattle.construction.specs.declared.Refusal.{Refusal}
-use Rattle.construction.specs.declared.Refusal.the-variants.{TooLong, Malformed}
+use Rattle.construction.specs.declared.{cells.Words.Words, programs.Instruction.Instruction, programs.Decoded.Decoded, programs.Encoded.Encoded}
+use Rattle.construction.specs.declared.{programs.Line.Line, programs.Program.Program, programs.Effect.Effect, simulations.Simulation.Simulation, card.Card.Card}
+use Rattle.construction.specs.declared.{texts.Contents.Contents, texts.CardLine.CardLine, texts.Verdict.Verdict, texts.ProgramReading.ProgramReading}
+use Rattle.construction.specs.declared.{texts.Reading.Reading}
+use Rattle.construction.specs.declared.answers.Refusal.{Refusal}
+use Rattle.construction.specs.declared.answers.Refusal.the-variants.{TooLong, Malformed}
 use Rattle.construction.specs.Cells.{zeros}
-use Rattle.construction.specs.Instructions.{word, withWord, sum, difference, load, store, free, isCell, effectOf, shortened, nextInstruction, nextEffect, fetch, noLine, noProgram, started, withRegister, withOutput, skipped, decode, encoded, encode}
+use Rattle.construction.specs.Instructions.{word, withWord, sum, difference, load, store, free, isCell, effectOf, shortened, nextInstruction, nextEffect, fetch}
+use Rattle.construction.specs.Instructions.{noLine, noProgram, started, withRegister, withOutput, skipped, decode, encoded, encode}
 use Rattle.construction.specs.Effects.{Store, Executed, allocated, execute}
 use Rattle.construction.specs.Sequential.{Ending, wordAt, withStores, nextExecuted, runFrom, sequential}
 use Rattle.construction.specs.Lines.{insLine, sheetLine, varLine, cardLine}
 use Rattle.construction.specs.Parts.{contentsOf}
-use Rattle.construction.specs.Opening.{fresh, refusedAt, programRefusedAt, withLine, insFrom, readProgram, withProgram, programsFrom, withStart, varsFrom, atEnd, thenPrograms, afterCard, readCard, opened}
+use Rattle.construction.specs.Opening.{fresh, refusedAt, programRefusedAt, withLine, insFrom, readProgram, withProgram, programsFrom, withStart, varsFrom}
+use Rattle.construction.specs.Opening.{atEnd, thenPrograms, afterCard, readCard, opened}
 use Rattle.construction.specs.Weight.{cardWeight}
 use Rattle.construction.specs.Changes.{changeRead, ifProgramAccepted}
-use Rattle.construction.specs.History.{Entry, act, Invocation, Replacement, History, Event, eventOf, latestCall, textAt, finishing, withFinish, withFinishes, withResponse, withEntry, Observation, observe, observeAll, opening, run}
+use Rattle.construction.specs.History.{Entry, act, Invocation, Replacement, History, Event, eventOf, latestCall, textAt, finishing, withFinish, withFinishes}
+use Rattle.construction.specs.History.{withResponse, withEntry, Observation, observe, observeAll, opening, run}
 use Rattle.construction.proofs.Basics.{set-keeps, getD-replicate-same}
 use Rattle.construction.proofs.Text.Lines.{card-read, ins-read, var-read}
 use Rattle.construction.proofs.Text.Decoding.{decoded-encodes}
@@ -137,7 +143,8 @@ read-narrow n most t at line small =
     (λ _. ins-narrow n t m 0 (afterLength m i (suc line)) small none-narrow) none-narrow)
     (λ why. none-narrow)
 
-ended-narrow : (t : List ℕ) (v : Verdict) (r : ProgramReading) → NarrowReading r → NarrowReading (ifProgramAccepted v r (cond (eqb (r .at) (length t)) r (programRefusedAt Malformed (r .line))))
+ended-narrow : (t : List ℕ) (v : Verdict) (r : ProgramReading) → NarrowReading r →
+    NarrowReading (ifProgramAccepted v r (cond (eqb (r .at) (length t)) r (programRefusedAt Malformed (r .line))))
 ended-narrow t Verdict.Accepted r h = on-test NarrowReading (eqb (r .at) (length t)) (λ _. h) (λ _. none-narrow)
 ended-narrow t (Verdict.Refused why line) r h = h
 
@@ -204,7 +211,8 @@ card-narrow t x e =
     let c = card-read t 0 p n s l i (e ∙ f) .fits in
     let none = empty-narrow Malformed 0 in
     let first : NarrowText (afterFields p n s l i) =
-    record { starts = none .starts; programs = none .programs; small = omega (arith, c .variableCount); some = λ z. absurd (omega (arith, c .variableCount)) } in
+    record
+    { starts = none .starts; programs = none .programs; small = omega (arith, c .variableCount); some = λ z. absurd (omega (arith, c .variableCount)) } in
     let r = varsFrom t n 0 (afterFields p n s l i) in
     let vars = vars-narrow t n 0 (afterFields p n s l i) first in
     let programs = on-accepted NarrowText r (λ y. programsFrom t s 0 y) (λ _. programs-narrow t s 0 r vars) (λ _ _ _. vars) in
@@ -264,7 +272,8 @@ NarrowGoes Executed.Faults = Unit {0}
 NarrowGoes (Executed.Goes s l) = FourNarrow (s .registers) × NarrowStores l
 
 execute-narrow :
-    (n : ℕ) (look : ℕ → ℕ) (s : Simulation) (e : Effect) → ((v : ℕ) → Small (look v)) → FourNarrow (s .registers) → NarrowEffect e → NarrowGoes (execute n look s e)
+    (n : ℕ) (look : ℕ → ℕ) (s : Simulation) (e : Effect) → ((v : ℕ) → Small (look v)) → FourNarrow (s .registers) → NarrowEffect e →
+    NarrowGoes (execute n look s e)
 unfolding allocated withRegister withOutput skipped
 execute-narrow n look s Effect.Stop hl hs h = tt
 execute-narrow n look s Effect.Fault hl hs h = tt
@@ -365,7 +374,8 @@ module _ (o : Card) (ho : NarrowContents (contentsOf o)) where
   entry-narrow s (Entry.Step i) v q h = response-narrow s i v h
   entry-narrow s (Entry.Trace i) v q h = response-narrow s i v h
   entry-narrow s (Entry.Read x) v q h = h
-  entry-narrow s (Entry.Change k from t) Event.taken q h = record { calls = h .calls; changes = (change-narrow (contentsOf o) t (ho .small), h .changes); words = h .words }
+  entry-narrow s (Entry.Change k from t) Event.taken q h = record
+      { calls = h .calls; changes = (change-narrow (contentsOf o) t (ho .small), h .changes); words = h .words }
   entry-narrow s (Entry.Change k from t) (Event.returned r) q h = h
   entry-narrow s (Entry.Change k from t) Event.none q h = h
 

@@ -24,7 +24,7 @@ take-sets x b n = go x b n n (omega arith)
     go (a ∷ x) b n i h = go x (set b i a) n (suc i) (omega arith) ∙ take-set-le n b i a h
 
 module _ {S L : Type 0} (part : S → L → List ℕ) (after : S → L → S) (left : S → List L) where
-  pub record Going (s₀ : S) (b₀ lines : List ℕ) (s : S) (n : ℕ) (b : List ℕ) : Type 0 where
+  pub record PrintLoop (s₀ : S) (b₀ lines : List ℕ) (s : S) (n : ℕ) (b : List ℕ) : Type 0 where
     pub put : Put b₀ 0 lines n b
     pub gathered : fitting part after s₀ (left s₀) (length b₀) ≡ gather part after (length b₀) (record { text = lines; state = s }) (left s)
     pub within : n ≤ length b₀
@@ -38,20 +38,20 @@ module _ {S L : Type 0} (part : S → L → List ℕ) (after : S → L → S) (l
     pub front : take n z ≡ lines
     pub within : n ≤ length z
 
-  pub going : (s : S) (b : List ℕ) → length b < largest → Going s b [] s 0 b
-  going s b h = record { put = record { place = refl; bytes = refl }; gathered = refl; within = omega arith; small = h }
+  pub print-loop : (s : S) (b : List ℕ) → length b < largest → PrintLoop s b [] s 0 b
+  print-loop s b h = record { put = record { place = refl; bytes = refl }; gathered = refl; within = omega arith; small = h }
 
-  module _ {s₀ : S} {b₀ lines : List ℕ} {s : S} {n : ℕ} {b : List ℕ} (g : Going s₀ b₀ lines s n b) where
-    pub going-length : length b ≡ length b₀
-    going-length = ap length (g .put .bytes) ∙ length-sets b₀ 0 lines
+  module _ {s₀ : S} {b₀ lines : List ℕ} {s : S} {n : ℕ} {b : List ℕ} (g : PrintLoop s₀ b₀ lines s n b) where
+    pub print-loop-length : length b ≡ length b₀
+    print-loop-length = ap length (g .put .bytes) ∙ length-sets b₀ 0 lines
 
     count : n ≡ length lines
     count = let p = g .put .place in let w = g .within in let l = g .small in omega arith
 
     -- nothing is left
-    pub going-end : left s ≡ [] → Stopped s₀ b₀ lines s n b
+    pub print-loop-end : left s ≡ [] → Stopped s₀ b₀ lines s n b
     unfolding pieceInto gather
-    going-end none =
+    print-loop-end none =
         let w = g .within in
         let l = g .small in
         let f : fitting part after s₀ (left s₀) (length b₀) ≡ record { text = lines; state = s } = g .gathered ∙ rw none in
@@ -60,7 +60,7 @@ module _ {S L : Type 0} (part : S → L → List ℕ) (after : S → L → S) (l
           count = rw f count;
           bytes = rw (f, none, append-nil lines) (g .put .bytes);
           front = front-text (g .put) (omega arith) w;
-          within = omega (arith, going-length);
+          within = omega (arith, print-loop-length);
         }
 
     -- a part is put
@@ -68,14 +68,14 @@ module _ {S L : Type 0} (part : S → L → List ℕ) (after : S → L → S) (l
       both : Put b₀ 0 (lines ++ part s l) j z
       both = let w = g .within in let m = g .small in rw (← e) (put-both (omega arith) (g .put) p)
 
-      pub going-same : length z ≡ length b₀
-      going-same = ap length (both .bytes) ∙ length-sets b₀ 0 (lines ++ part s l)
+      pub print-loop-same : length z ≡ length b₀
+      print-loop-same = ap length (both .bytes) ∙ length-sets b₀ 0 (lines ++ part s l)
 
       -- it fits
-      pub going-again : {s₁ : S} → s₁ ≡ after s l → left s ≡ l ∷ left (after s l) → j ≤ length z → Going s₀ b₀ (lines ++ part s l) s₁ j z
+      pub print-loop-again : {s₁ : S} → s₁ ≡ after s l → left s ≡ l ∷ left (after s l) → j ≤ length z → PrintLoop s₀ b₀ (lines ++ part s l) s₁ j z
       unfolding gather
-      going-again es more fits =
-          let same = going-same in
+      print-loop-again es more fits =
+          let same = print-loop-same in
           let room = put-fits (length b₀) (g .small) both .0 (omega arith) in
           record {
             put = both;
@@ -85,12 +85,12 @@ module _ {S L : Type 0} (part : S → L → List ℕ) (after : S → L → S) (l
           }
 
       -- it does not
-      pub going-stopped : {ls : List L} → left s ≡ l ∷ ls → length z < j → Stopped s₀ b₀ lines s n z
+      pub print-loop-stopped : {ls : List L} → left s ≡ l ∷ ls → length z < j → Stopped s₀ b₀ lines s n z
       unfolding pieceInto gather
-      going-stopped more over =
+      print-loop-stopped more over =
           let w = g .within in
           let m = g .small in
-          let same = going-same in
+          let same = print-loop-same in
           let long = put-fits (length b₀) (g .small) both .1 (omega arith) in
           let f : fitting part after s₀ (left s₀) (length b₀) ≡ record { text = lines; state = s } = g .gathered ∙ rw (more, lt-leb _ _ long) in
           record {

@@ -132,7 +132,8 @@ module _ (n told next : ℕ) (values : List ℕ) (size : n ≤ length values) wh
   -- the first change of both
   first-same :
       (c d : Change) (cs ds : List Change) → Proper n told next values (c ∷ cs) → Proper n told next values (d ∷ ds) → Same (c ∷ cs) (d ∷ ds) → c ≡ d
-  first-same c d cs ds p q same = by (decLt (c .time) (d .time)) (decLt (d .time) (c .time)) (decLt (c .variable) (d .variable)) (decLt (d .variable) (c .variable))
+  first-same c d cs ds p q same = by (decLt (c .time) (d .time)) (decLt (d .time) (c .time)) (decLt (c .variable) (d .variable))
+      (decLt (d .variable) (c .variable))
     where
       oc : Ordered (c .time) (suc (c .variable)) cs
       oc = proper-ordered n (c .time) (suc (c .variable)) (set values (c .variable) (c .value)) cs (p .1)
@@ -167,15 +168,19 @@ unique n (c ∷ cs) (d ∷ ds) told next values size p q same =
     let e = first-same n told next values size c d cs ds p q same in
     let q₂ : Proper n (c .time) (suc (c .variable)) (set values (c .variable) (c .value)) ds =
     subst (λ (x : Change). Proper n (x .time) (suc (x .variable)) (set values (x .variable) (x .value)) ds) (sym e) (q .1) in
-    let more = unique n cs ds (c .time) (suc (c .variable)) (set values (c .variable) (c .value)) (omega (arith, length-set values (c .variable) (c .value))) (p .1) q₂
+    let more = unique n cs ds (c .time) (suc (c .variable)) (set values (c .variable) (c .value)) (omega (arith, length-set values (c .variable) (c .value)))
+    (p .1) q₂
     (λ step v a b. rest e step v a b) in
     λ i. e i ∷ more i
   where
-    rest : c ≡ d → (step v : ℕ) → c .time ≤ step → v < n → getD (shownAfter step (set values (c .variable) (c .value)) cs) v 0 ≡ getD (shownAfter step (set values (c .variable) (c .value)) ds) v 0
+    rest : c ≡ d → (step v : ℕ) → c .time ≤ step → v < n → getD (shownAfter step (set values (c .variable) (c .value)) cs) v 0 ≡ getD
+        (shownAfter step (set values (c .variable) (c .value)) ds) v 0
     rest e step v a b =
-        let now : shownAt step (c .time) values (c .variable) (c .value) ≡ set values (c .variable) (c .value) = shown-now step (c .time) values (c .variable) (c .value) a in
+        let now : shownAt step (c .time) values (c .variable) (c .value) ≡ set values (c .variable) (c .value) =
+        shown-now step (c .time) values (c .variable) (c .value) a in
         let s : getD (shownAfter step values (c ∷ cs)) v 0 ≡ getD (shownAfter step values (c ∷ ds)) v 0 =
-        same step v (omega (arith, from-told n told next values size c (p .0 .after))) b ∙ ap (λ (x : Change). getD (shownAfter step values (x ∷ ds)) v 0) (sym e) in
+        same step v (omega (arith, from-told n told next values size c (p .0 .after))) b ∙ ap (λ (x : Change). getD (shownAfter step values (x ∷ ds)) v 0)
+        (sym e) in
         ap (λ (l : List ℕ). getD (shownAfter step l cs) v 0) (sym now) ∙ s ∙ ap (λ (l : List ℕ). getD (shownAfter step l ds) v 0) now
 
 -- ---- the changes of a history
@@ -233,7 +238,8 @@ module _ (n k : ℕ) (before after : List ℕ) (rest : List Change) (small : Sma
           (b : Bool) → eqb (getD before v 0) (getD after v 0) ≡ b →
           ((told₂ next₂ : ℕ) (values₂ : List ℕ) → (told₂ ≤ k) ⊎ ((told₂ ≡ suc k) × (next₂ ≤ suc v)) → Mixed (suc v) values₂ →
           Proper n told₂ next₂ values₂ (changesAt (suc k) m (suc v) before after ++ rest)) →
-          Proper n told next values (cond b (changesAt (suc k) m (suc v) before after) (change (suc k) v (getD after v 0) ∷ changesAt (suc k) m (suc v) before after) ++ rest)
+          Proper n told next values
+          (cond b (changesAt (suc k) m (suc v) before after) (change (suc k) v (getD after v 0) ∷ changesAt (suc k) m (suc v) before after) ++ rest)
       by true t more =
           more told next values (⊎-elim (λ (h : told ≤ k). inl h) (λ (h : (told ≡ suc k) × (next ≤ v)). inr (h .0, omega (arith, h .1))) o)
           (mixed-same v values (eqb-true _ _ t) x)
@@ -263,10 +269,13 @@ module _ (n k : ℕ) (before after : List ℕ) (rest : List Change) (small : Sma
         by :
             (b : Bool) → eqb (getD before v 0) (getD after v 0) ≡ b →
             ((shown₂ : List ℕ) → Mixed (suc v) shown₂ → P (shownAfter step shown₂ (changesAt (suc k) m (suc v) before after ++ rest))) →
-            P (shownAfter step shown (cond b (changesAt (suc k) m (suc v) before after) (change (suc k) v (getD after v 0) ∷ changesAt (suc k) m (suc v) before after) ++ rest))
+            P
+            (shownAfter step shown
+            (cond b (changesAt (suc k) m (suc v) before after) (change (suc k) v (getD after v 0) ∷ changesAt (suc k) m (suc v) before after) ++ rest))
         by true t more = more shown (mixed-same v shown (eqb-true _ _ t) x)
         by false t more =
-            subst (λ (y : List ℕ). P (shownAfter step y (changesAt (suc k) m (suc v) before after ++ rest))) (sym (shown-now step (suc k) shown v (getD after v 0) due))
+            subst (λ (y : List ℕ). P (shownAfter step y (changesAt (suc k) m (suc v) before after ++ rest)))
+            (sym (shown-now step (suc k) shown v (getD after v 0) due))
             (more (set shown v (getD after v 0)) (mixed-set v shown (omega arith) x))
 
   at-told :
@@ -278,7 +287,8 @@ module _ (n k : ℕ) (before after : List ℕ) (rest : List Change) (small : Sma
     where
       by :
           (b : Bool) → ((told₂ : ℕ) → told₂ ≤ suc k → toldAfter told₂ (changesAt (suc k) m (suc v) before after ++ rest) ≤ last) →
-          toldAfter told (cond b (changesAt (suc k) m (suc v) before after) (change (suc k) v (getD after v 0) ∷ changesAt (suc k) m (suc v) before after) ++ rest) ≤ last
+          toldAfter told
+          (cond b (changesAt (suc k) m (suc v) before after) (change (suc k) v (getD after v 0) ∷ changesAt (suc k) m (suc v) before after) ++ rest) ≤ last
       by true more = more told h
       by false more = more (suc k) (omega arith)
 
@@ -291,7 +301,8 @@ rows-proper n k told next row values [] h size agree small bounded = tt
 rows-proper n k told next row values (r ∷ rs) h size agree small bounded =
     at-proper n k row r (changesFrom n (suc k) r rs) (λ v l. small 0 v (omega arith) l) (omega arith) n 0 told next values (omega arith) (inl h)
     (record { done = λ w l q. absurd (omega arith); left = λ w l q. agree w l; size = size })
-    (λ told₂ next₂ values₂ h₂ size₂ agree₂. rows-proper n (suc k) told₂ next₂ r values₂ rs h₂ size₂ agree₂ (λ j v l q. small (suc j) v (omega arith) q) (omega arith))
+    (λ told₂ next₂ values₂ h₂ size₂ agree₂. rows-proper n (suc k) told₂ next₂ r values₂ rs h₂ size₂ agree₂ (λ j v l q. small (suc j) v (omega arith) q)
+    (omega arith))
 
 pub rows-told :
     (n k told : ℕ) (row : List ℕ) (rows : List (List ℕ)) → told ≤ k → ((j v : ℕ) → j < length rows → v < n → getD (getD rows j []) v 0 < over) →

@@ -9,7 +9,8 @@ use lib.ListN.{length, getD, set, replicate, length-set}
 use lib.Seq.{getD-set-same, getD-set-other}
 use borrow.Author.Tests.{lt-ltb}
 use Rattle.grammar.proofs.Cases.{on-test}
-use Rattle.construction.specs.declared.{Announcement.Announcement, Flag.Flag, Card.Card, Answer.Answer, Answered.Answered, Contents.Contents}
+use Rattle.construction.specs.declared.{cells.Announcement.Announcement, cells.Flag.Flag, card.Card.Card, answers.Answer.Answer, answers.Answered.Answered}
+use Rattle.construction.specs.declared.{texts.Contents.Contents}
 use Rattle.construction.specs.Answers.{isRefused}
 use Rattle.construction.specs.Parts.{localAt}
 use Rattle.construction.specs.Machine.{advance}
@@ -31,7 +32,8 @@ use Rattle.dump.proofs.Narrow.{words-narrow, no-process}
 row-below : (c : Card) (m v w : ℕ) (row : List ℕ) → w < v → getD (rowFrom c m v row) w 0 ≡ getD row w 0
 unfolding rowFrom
 row-below c zero v w row h = refl
-row-below c (suc m) v w row h = row-below c m (suc v) w (set row v (valueOf c v)) (omega arith) ∙ getD-set-other row v w (valueOf c v) 0 (λ (e : w ≡ v). omega arith)
+row-below c (suc m) v w row h = row-below c m (suc v) w (set row v (valueOf c v)) (omega arith) ∙ getD-set-other row v w (valueOf c v) 0
+    (λ (e : w ≡ v). omega arith)
 
 row-there : (c : Card) (m v w : ℕ) (row : List ℕ) → v ≤ w → w < v + m → v + m ≤ length row → getD (rowFrom c m v row) w 0 ≡ valueOf c w
 unfolding rowFrom
@@ -39,7 +41,8 @@ row-there c zero v w row p q l = absurd (omega arith)
 row-there c (suc m) v w row p q l =
     by (ℕ-discrete w v) (λ h. row-there c m (suc v) w (set row v (valueOf c v)) h (omega arith) (omega (arith, length-set row v (valueOf c v))))
   where
-    by : Dec (w ≡ v) → (suc v ≤ w → getD (rowFrom c m (suc v) (set row v (valueOf c v))) w 0 ≡ valueOf c w) → getD (rowFrom c m (suc v) (set row v (valueOf c v))) w 0 ≡ valueOf c w
+    by : Dec (w ≡ v) → (suc v ≤ w → getD (rowFrom c m (suc v) (set row v (valueOf c v))) w 0 ≡ valueOf c w) →
+        getD (rowFrom c m (suc v) (set row v (valueOf c v))) w 0 ≡ valueOf c w
     by (yes e) more = rw e (row-below c m (suc v) v (set row v (valueOf c v)) (omega arith) ∙ getD-set-same row v (valueOf c v) 0 (omega arith))
     by (no e) more = more (omega arith)
 
@@ -68,7 +71,8 @@ not-refused a Flag.Exit steps = refl
 
 step-not-refused : (c : Card) (i : ℕ) → isRefused (answerOf (localAt c i)) ≡ false
 step-not-refused c i =
-    on-test (λ (a : Answer). isRefused a ≡ false) (isIdle (localAt c i .task .place)) (λ _. not-refused (localAt c i .announcement) (localAt c i .announcement .flag) (localAt c i .steps)) (λ _. refl)
+    on-test (λ (a : Answer). isRefused a ≡ false) (isIdle (localAt c i .control .place))
+    (λ _. not-refused (localAt c i .announcement) (localAt c i .announcement .flag) (localAt c i .steps)) (λ _. refl)
 
 is-step : {e : Entry} {i : ℕ} → Steps e i → isStep e ≡ true
 is-step Steps.by-step = refl
@@ -105,7 +109,9 @@ module _ (o : Card) where
       by :
           Moved (m .card) e (act (m .card) e) →
           act (m .card) e .card .steps + length (rowsOf (act (m .card) e .card) es)
-          ≡ m .card .steps + length (cond (accepts e (act (m .card) e .answer)) (rowOf (act (m .card) e .card) ∷ rowsOf (act (m .card) e .card) es) (rowsOf (act (m .card) e .card) es))
+          ≡ m .card .steps + length
+          (cond (accepts e (act (m .card) e .answer)) (rowOf (act (m .card) e .card) ∷ rowsOf (act (m .card) e .card) es)
+          (rowsOf (act (m .card) e .card) es))
       by (Moved.stepped a p s l) = rw (a, s) (omega (arith, O .inv .capped))
       by (Moved.stays a w s) = rw (a, s)
 
@@ -119,9 +125,15 @@ module _ (o : Card) where
     where
       by :
           Moved (m .card) e (act (m .card) e) →
-          getD (rowOf (act (m .card) e .card) ∷ rowsOf (act (m .card) e .card) (es₁ ++ es₂)) (length (rowsOf (act (m .card) e .card) es₁)) [] ≡ rowOf (observeAll o (next m e) es₁ .card) →
-          getD (rowOf (m .card) ∷ cond (accepts e (act (m .card) e .answer)) (rowOf (act (m .card) e .card) ∷ rowsOf (act (m .card) e .card) (es₁ ++ es₂)) (rowsOf (act (m .card) e .card) (es₁ ++ es₂)))
-          (length (cond (accepts e (act (m .card) e .answer)) (rowOf (act (m .card) e .card) ∷ rowsOf (act (m .card) e .card) es₁) (rowsOf (act (m .card) e .card) es₁))) []
+          getD (rowOf (act (m .card) e .card) ∷ rowsOf (act (m .card) e .card) (es₁ ++ es₂)) (length (rowsOf (act (m .card) e .card) es₁)) [] ≡ rowOf
+          (observeAll o (next m e) es₁ .card) →
+          getD
+          (rowOf (m .card) ∷ cond (accepts e (act (m .card) e .answer)) (rowOf (act (m .card) e .card) ∷ rowsOf (act (m .card) e .card) (es₁ ++ es₂))
+          (rowsOf (act (m .card) e .card) (es₁ ++ es₂)))
+          (length
+          (cond (accepts e (act (m .card) e .answer)) (rowOf (act (m .card) e .card) ∷ rowsOf (act (m .card) e .card) es₁)
+          (rowsOf (act (m .card) e .card) es₁)))
+          []
           ≡ rowOf (observeAll o (next m e) es₁ .card)
       by (Moved.stepped a p s l) h = rw a h
       by (Moved.stays a w s) h = rw (a, ← w) h
@@ -153,7 +165,8 @@ module _ (o : Card) where
   part : (m : Observation) (es : List Entry) (k : ℕ) → k < length (rowsOf (m .card) es) → Part m es (getD (rowsOf (m .card) es) k [])
   unfolding rowsOf observeAll observe
   part m [] k h = absurd (omega arith)
-  part m (e ∷ es) k h = by (accepts e (act (m .card) e .answer)) (λ j l. part-more m e es (getD (rowsOf (act (m .card) e .card) es) j []) (part (next m e) es j l)) k h
+  part m (e ∷ es) k h = by (accepts e (act (m .card) e .answer))
+      (λ j l. part-more m e es (getD (rowsOf (act (m .card) e .card) es) j []) (part (next m e) es j l)) k h
     where
       by :
           (b : Bool) → ((j : ℕ) → j < length (rowsOf (act (m .card) e .card) es) → Part m (e ∷ es) (getD (rowsOf (act (m .card) e .card) es) j [])) → (k : ℕ) →
@@ -171,7 +184,10 @@ module _ (o : Card) where
     where
       by :
           Moved (m .card) e (act (m .card) e) → length (rowsOf (act (m .card) e .card) es) ≡ 0 →
-          length (cond (accepts e (act (m .card) e .answer)) (rowOf (act (m .card) e .card) ∷ rowsOf (act (m .card) e .card) es) (rowsOf (act (m .card) e .card) es)) ≡ 0
+          length
+          (cond (accepts e (act (m .card) e .answer)) (rowOf (act (m .card) e .card) ∷ rowsOf (act (m .card) e .card) es)
+          (rowsOf (act (m .card) e .card) es))
+          ≡ 0
       by (Moved.stepped a p s l) h = absurd (omega (arith, ap (λ (x : Contents). x .processCount) (O .text)))
       by (Moved.stays a w s) h = rw a h
 
@@ -223,7 +239,8 @@ module _ (t : List ℕ) where
 
   module _ (es : List Entry) (h : Narrow es) where
     steps-are : run o es .card .steps ≡ acceptedSteps o es
-    steps-are = counted o (opening o) es first-consistent ∙ (let z = opened-steps in let e : o .steps + length (rowsOf o es) ≡ length (rowsOf o es) = omega arith in e)
+    steps-are = counted o (opening o) es first-consistent ∙
+        (let z = opened-steps in let e : o .steps + length (rowsOf o es) ≡ length (rowsOf o es) = omega arith in e)
 
     first-small : (v : ℕ) → v < n → getD (rowOf o) v 0 < 4294967296
     unfolding observeAll
@@ -259,7 +276,8 @@ module _ (t : List ℕ) where
         ∙ ap (λ (x : List ℕ). getD x v 0) (row-then o (opening o) es₁ es₂)))
 
     -- a step past the last gets the last values
-    past-last : (step : ℕ) → acceptedSteps o es ≤ step → (v : ℕ) → v < n → getD (readings (dumpOf o es) step .values) v 0 ≡ getD (readings (dumpOf o es) (acceptedSteps o es) .values) v 0
+    past-last : (step : ℕ) → acceptedSteps o es ≤ step → (v : ℕ) → v < n →
+        getD (readings (dumpOf o es) step .values) v 0 ≡ getD (readings (dumpOf o es) (acceptedSteps o es) .values) v 0
     unfolding dumpOf
     past-last step g v l =
         let a : min step (length (rowsOf o es)) ≡ length (rowsOf o es) = omega arith in

@@ -9,14 +9,14 @@ use native.Mathlib.Omega.{arith}
 use native.Mathlib.Decide.{ℕ-discrete, decLt}
 use Rattle.grammar.proofs.Cases.{clash}
 use Rattle.grammar.proofs.Bytes.{drop-past}
-use Rattle.construction.specs.declared.Verdict.{Verdict}
+use Rattle.construction.specs.declared.texts.Verdict.{Verdict}
 use Rattle.construction.proofs.Basics.{getD-replicate-same}
 use Rattle.dump.specs.declared.{Header.Header, Progress.Progress, Readings.Readings}
 use Rattle.dump.specs.Binary.{over}
 use Rattle.dump.specs.Dump.{timeText, headerText, valuesText, Change, toldAfter, linesText, openingText}
 use Rattle.dump.specs.Reading.{readHeader, noValues, begun, startsFrom, linesFrom, onProgress, thenStarts, progress, readingsOf, readings}
 use Rattle.dump.proofs.Headers.{headerAt, header-reads, header-there}
-use Rattle.dump.proofs.Trails.{Proper, Headed, shownAfter, going, TrailRead, trail-read, Trail, trail-there}
+use Rattle.dump.proofs.Trails.{Proper, Headed, shownAfter, print-loop, TrailRead, trail-read, Trail, trail-there}
 use Rattle.dump.proofs.Starts.{startRow, starts-read, StartsThere, starts-there, start-there, start-past, start-length}
 
 -- the dump of n variables with a row of values at time 0, a trail of changes and a last time
@@ -34,7 +34,8 @@ abbrev pub shownReadings : ℕ → ℕ → List ℕ → Readings
 shownReadings n last values = record { verdict = Verdict.Accepted; count = n; last = last; values = values }
 
 -- what was read is given
-given : (n last : ℕ) (values : List ℕ) (s : Progress) → s .verdict ≡ Verdict.Accepted → s .time ≡ last → s .shown ≡ values → readingsOf (s .verdict) n s ≡ shownReadings n last values
+given : (n last : ℕ) (values : List ℕ) (s : Progress) → s .verdict ≡ Verdict.Accepted → s .time ≡ last → s .shown ≡ values →
+    readingsOf (s .verdict) n s ≡ shownReadings n last values
 given n last values s a b c = rw (a, b, c)
 
 pub shape-reads :
@@ -45,17 +46,23 @@ shape-reads {n} {last} {row} {cs} {t} h step =
     let rest : List ℕ = linesText 0 last cs in
     let front : List ℕ = headerText n ++ timeText 0 in
     let e₀ : t ≡ headerText n ++ (timeText 0 ++ (valuesText n 0 row ++ rest)) =
-    h .text ∙ append-assoc (headerText n) (timeText 0 ++ valuesText n 0 row) rest ∙ ap (λ (x : List ℕ). headerText n ++ x) (append-assoc (timeText 0) (valuesText n 0 row) rest) in
+    h .text ∙ append-assoc (headerText n) (timeText 0 ++ valuesText n 0 row) rest ∙ ap (λ (x : List ℕ). headerText n ++ x)
+    (append-assoc (timeText 0) (valuesText n 0 row) rest) in
     let e₁ : t ≡ front ++ (valuesText n 0 row ++ rest) = e₀ ∙ sym (append-assoc (headerText n) (timeText 0) (valuesText n 0 row ++ rest)) in
-    let d₁ : drop (length front) t ≡ valuesText n 0 row ++ rest = ap (λ (x : List ℕ). drop (length front) x) e₁ ∙ drop-append-seam front (valuesText n 0 row ++ rest) in
+    let d₁ : drop (length front) t ≡ valuesText n 0 row ++ rest =
+    ap (λ (x : List ℕ). drop (length front) x) e₁ ∙ drop-append-seam front (valuesText n 0 row ++ rest) in
     let hd : readHeader t ≡ headerAt n (length front) (n + 6) = header-reads t n _ (h .few) e₀ in
     let st = starts-read step t n 0 (length front) (n + 6) row noValues rest (λ w p q. h .small w (omega arith)) d₁ in
     let at₂ : ℕ = length front + length (valuesText n 0 row) in
     let d₂ : drop at₂ t ≡ rest = drop-past t (length front) (valuesText n 0 row) rest d₁ in
     let z : 0 + n ≡ n = omega arith in
-    let tr : TrailRead step t n last (shownAfter step (startRow n row) cs) (linesFrom step t n (length t) (going at₂ (n + 6 + n) 0 (0 + n) (startRow n row) (startRow n row))) =
-    trail-read step t n cs (length t) last at₂ (n + 6 + n) 0 (0 + n) (startRow n row) (startRow n row) (omega arith) d₂ (rw z (h .proper)) (h .rises) (h .bounded) (opens (ℕ-discrete n 0)) in
-    rw (hd, st) (given n last (shownAfter step (startRow n row) cs) (linesFrom step t n (length t) (going at₂ (n + 6 + n) 0 (0 + n) (startRow n row) (startRow n row))) (tr .verdict) (tr .time) (tr .shows))
+    let tr : TrailRead step t n last (shownAfter step (startRow n row) cs)
+    (linesFrom step t n (length t) (print-loop at₂ (n + 6 + n) 0 (0 + n) (startRow n row) (startRow n row))) =
+    trail-read step t n cs (length t) last at₂ (n + 6 + n) 0 (0 + n) (startRow n row) (startRow n row) (omega arith) d₂ (rw z (h .proper)) (h .rises)
+    (h .bounded) (opens (ℕ-discrete n 0)) in
+    rw (hd, st)
+    (given n last (shownAfter step (startRow n row) cs)
+    (linesFrom step t n (length t) (print-loop at₂ (n + 6 + n) 0 (0 + n) (startRow n row) (startRow n row))) (tr .verdict) (tr .time) (tr .shows))
   where
     opens : Dec (n ≡ 0) → (0 < 0 + n) ⊎ (last ≤ 0)
     opens (yes e) = inr (omega (arith, h .some e))
@@ -125,7 +132,9 @@ module _ (t : List ℕ) (step : ℕ) where
                   ∙ regroup (headerText n) (timeText 0) (valuesText n 0 row) (linesText 0 (r .time) (tr .changes));
               few = few;
               small = λ v l. h .small v (omega arith) (omega arith);
-              proper = subst (λ (x : List ℕ). Proper n 0 n x (tr .changes)) (values ∙ sym same) (subst (λ (k : ℕ). Proper n 0 k (s .values) (tr .changes)) (next ∙ z) (subst (λ (k : ℕ). Proper n k (s .next) (s .values) (tr .changes)) time (tr .proper)));
+              proper = subst (λ (x : List ℕ). Proper n 0 n x (tr .changes)) (values ∙ sym same)
+                  (subst (λ (k : ℕ). Proper n 0 k (s .values) (tr .changes)) (next ∙ z)
+                  (subst (λ (k : ℕ). Proper n k (s .next) (s .values) (tr .changes)) time (tr .proper)));
               rises = subst (λ (k : ℕ). toldAfter k (tr .changes) ≤ r .time) time (tr .rises);
               bounded = tr .bounded (omega arith);
               some = λ e. last-none (tr .changes) (subst (λ (k : ℕ). Headed k (r .time) (tr .changes)) time (tr .headed (omega arith))) e (tr .proper);
@@ -150,12 +159,14 @@ module _ (t : List ℕ) (step : ℕ) where
       let b₂ = both s₃ s₄ a₄ in
       let b₁ = both s₁ s₂ (b₂ .first) in
       let there = header-there t (b₁ .first) in
-      let start : s₁ ≡ going (hd .at) (n + 6) 0 0 noValues noValues = ap begun (there .is) in
-      let st = starts-there step t n 0 (hd .at) (n + 6) noValues (omega (arith, there .few)) (subst (λ (s : Progress). startsFrom step t n s .verdict ≡ Verdict.Accepted) start (b₁ .second)) in
-      let s₅ : Progress = startsFrom step t n (going (hd .at) (n + 6) 0 0 noValues noValues) in
+      let start : s₁ ≡ print-loop (hd .at) (n + 6) 0 0 noValues noValues = ap begun (there .is) in
+      let st = starts-there step t n 0 (hd .at) (n + 6) noValues (omega (arith, there .few))
+      (subst (λ (s : Progress). startsFrom step t n s .verdict ≡ Verdict.Accepted) start (b₁ .second)) in
+      let s₅ : Progress = startsFrom step t n (print-loop (hd .at) (n + 6) 0 0 noValues noValues) in
       let e₅ : s₃ ≡ s₅ = b₁ .is ∙ ap (λ (s : Progress). startsFrom step t n s) start in
       let time : s₅ .time ≡ 0 = ap (λ (p : Progress). p .time) (st .is) in
-      let tr = trail-there step t n (length t) s₅ (omega arith) (omega arith) (subst (λ (s : Progress). linesFrom step t n (length t) s .verdict ≡ Verdict.Accepted) e₅ (b₂ .second)) in
+      let tr = trail-there step t n (length t) s₅ (omega arith) (omega arith)
+      (subst (λ (s : Progress). linesFrom step t n (length t) s .verdict ≡ Verdict.Accepted) e₅ (b₂ .second)) in
       let r : Progress = linesFrom step t n (length t) s₅ in
       let er : progress step t ≡ r = b₂ .is ∙ ap (λ (s : Progress). linesFrom step t n (length t) s) e₅ in
       let v : r .verdict ≡ Verdict.Accepted = subst (λ (s : Progress). s .verdict ≡ Verdict.Accepted) er a₄ in

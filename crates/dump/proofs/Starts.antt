@@ -11,14 +11,14 @@ use native.Mathlib.Nat.{add-zero}
 use borrow.Author.Tests.{le-leb, eq-eqb, eqb-true}
 use Rattle.grammar.proofs.Cases.{on-test, clash}
 use Rattle.grammar.proofs.Bytes.{drop-past}
-use Rattle.construction.specs.declared.Verdict.{Verdict}
+use Rattle.construction.specs.declared.texts.Verdict.{Verdict}
 use Rattle.construction.proofs.Basics.{getD-replicate-same}
 use Rattle.dump.specs.declared.{DumpLine.DumpLine, Progress.Progress}
 use Rattle.dump.specs.Binary.{over}
 use Rattle.dump.specs.Dump.{valueText, valuesText}
 use Rattle.dump.specs.Reading.{lineAt, noValues, withValue, nextStart, startsFrom}
 use Rattle.dump.proofs.DumpLines.{value-reads, value-there}
-use Rattle.dump.proofs.Trails.{going}
+use Rattle.dump.proofs.Trails.{print-loop}
 
 -- m values of a row, from variable v on, put into other values
 abbrev pub rowInto : ℕ → ℕ → List ℕ → List ℕ → List ℕ
@@ -48,7 +48,8 @@ into-past (suc m) v w row values h =
 
 pub into-there : (m v w : ℕ) (row values : List ℕ) → v ≤ w → w < v + m → v + m ≤ length values → getD (rowInto m v row values) w 0 ≡ getD row w 0
 into-there zero v w row values p q l = absurd (omega arith)
-into-there (suc m) v w row values p q l = go (eqb w v) refl (λ h. into-there m (suc v) w row (set values v (getD row v 0)) h (omega arith) (omega (arith, length-set values v (getD row v 0))))
+into-there (suc m) v w row values p q l = go (eqb w v) refl
+    (λ h. into-there m (suc v) w row (set values v (getD row v 0)) h (omega arith) (omega (arith, length-set values v (getD row v 0))))
   where
     go :
         (b : Bool) → eqb w v ≡ b → (suc v ≤ w → getD (rowInto m (suc v) row (set values v (getD row v 0))) w 0 ≡ getD row w 0) →
@@ -75,8 +76,8 @@ module _ (step : ℕ) (t : List ℕ) where
   -- ---- what is written reads back
   pub starts-read :
       (m v at line : ℕ) (row values r : List ℕ) → ((w : ℕ) → v ≤ w → w < v + m → getD row w 0 < over) → drop at t ≡ valuesText m v row ++ r →
-      startsFrom step t m (going at line 0 v values values)
-      ≡ going (at + length (valuesText m v row)) (line + m) 0 (v + m) (rowInto m v row values) (rowInto m v row values)
+      startsFrom step t m (print-loop at line 0 v values values)
+      ≡ print-loop (at + length (valuesText m v row)) (line + m) 0 (v + m) (rowInto m v row values) (rowInto m v row values)
   unfolding startsFrom valuesText
   starts-read zero v at line row values r small e = rw (add-zero at, add-zero line, add-zero v)
   starts-read (suc m) v at line row values r small e =
@@ -98,15 +99,15 @@ module _ (step : ℕ) (t : List ℕ) where
     pub small : (w : ℕ) → v ≤ w → w < v + m → getD row w 0 < over
     pub below : (w : ℕ) → w < v → getD row w 0 ≡ getD values w 0
     pub past : (w : ℕ) → v + m ≤ w → getD row w 0 ≡ getD values w 0
-    pub is : s ≡ going (s .at) (line + m) 0 (v + m) row row
+    pub is : s ≡ print-loop (s .at) (line + m) 0 (v + m) row row
     pub size : length row ≡ length values
 
   abbrev Accepts : ℕ → ℕ → ℕ → ℕ → List ℕ → Progress → Type 0
   Accepts m v at line values s = s .verdict ≡ Verdict.Accepted → StartsThere m v at line values s
 
   pub starts-there :
-      (m v at line : ℕ) (values : List ℕ) → v + m ≤ length values → startsFrom step t m (going at line 0 v values values) .verdict ≡ Verdict.Accepted →
-      StartsThere m v at line values (startsFrom step t m (going at line 0 v values values))
+      (m v at line : ℕ) (values : List ℕ) → v + m ≤ length values → startsFrom step t m (print-loop at line 0 v values values) .verdict ≡ Verdict.Accepted →
+      StartsThere m v at line values (startsFrom step t m (print-loop at line 0 v values values))
   unfolding startsFrom valuesText
   starts-there zero v at line values fits = λ a.
       record {
@@ -157,9 +158,10 @@ module _ (step : ℕ) (t : List ℕ) where
 
       by :
           (z : DumpLine) → lineAt t at ≡ z →
-          ((x i : ℕ) → v + 1 + m ≤ length (set values v x) → startsFrom step t m (going i (line + 1) 0 (v + 1) (set values v x) (set values v x)) .verdict ≡ Verdict.Accepted →
-          StartsThere m (v + 1) i (line + 1) (set values v x) (startsFrom step t m (going i (line + 1) 0 (v + 1) (set values v x) (set values v x)))) →
-          Accepts (suc m) v at line values (nextStart step (going at line 0 v values values) z (λ r. startsFrom step t m r))
+          ((x i : ℕ) → v + 1 + m ≤ length (set values v x) → startsFrom step t m (print-loop i (line + 1) 0 (v + 1) (set values v x) (set values v x)) .verdict ≡
+          Verdict.Accepted →
+          StartsThere m (v + 1) i (line + 1) (set values v x) (startsFrom step t m (print-loop i (line + 1) 0 (v + 1) (set values v x) (set values v x)))) →
+          Accepts (suc m) v at line values (nextStart step (print-loop at line 0 v values values) z (λ r. startsFrom step t m r))
       by (DumpLine.Value u x i) e more =
           on-test (Accepts (suc m) v at line values) (eqb u v)
           (λ q. taken u x i e (eqb-true u v q) more)
@@ -167,9 +169,10 @@ module _ (step : ℕ) (t : List ℕ) where
         where
           taken :
               (u x i : ℕ) → lineAt t at ≡ DumpLine.Value u x i → u ≡ v →
-              ((x i : ℕ) → v + 1 + m ≤ length (set values v x) → startsFrom step t m (going i (line + 1) 0 (v + 1) (set values v x) (set values v x)) .verdict ≡ Verdict.Accepted →
-              StartsThere m (v + 1) i (line + 1) (set values v x) (startsFrom step t m (going i (line + 1) 0 (v + 1) (set values v x) (set values v x)))) →
-              Accepts (suc m) v at line values (startsFrom step t m (withValue step (going at line 0 v values values) u x i))
+              ((x i : ℕ) → v + 1 + m ≤ length (set values v x) → startsFrom step t m (print-loop i (line + 1) 0 (v + 1) (set values v x) (set values v x)) .verdict
+              ≡ Verdict.Accepted →
+              StartsThere m (v + 1) i (line + 1) (set values v x) (startsFrom step t m (print-loop i (line + 1) 0 (v + 1) (set values v x) (set values v x)))) →
+              Accepts (suc m) v at line values (startsFrom step t m (withValue step (print-loop at line 0 v values values) u x i))
           taken u x i e q more =
               rw (q, le-leb 0 step (omega arith))
               (λ a. one x i (e ∙ rw q) (more x i (omega (arith, length-set values v x)) a))

@@ -11,7 +11,7 @@ use native.Mathlib.Decide.{decLt}
 use borrow.Author.Tests.{lt-ltb, le-ltb, ltb-true, ltb-false, le-leb, leb-true, ne-eqb, eqb-false, not-true}
 use Rattle.grammar.proofs.Cases.{on-test, and-true, clash}
 use Rattle.grammar.proofs.Bytes.{drop-past}
-use Rattle.construction.specs.declared.Verdict.{Verdict}
+use Rattle.construction.specs.declared.texts.Verdict.{Verdict}
 use Rattle.dump.specs.declared.{DumpLine.DumpLine, Progress.Progress}
 use Rattle.dump.specs.Binary.{over}
 use Rattle.dump.specs.Dump.{timeText, valueText, Change, change, timeAbove, changesText, toldAfter, linesText}
@@ -36,8 +36,8 @@ shownAfter step shown [] = shown
 shownAfter step shown (c ∷ cs) = shownAfter step (shownAt step (c .time) shown (c .variable) (c .value)) cs
 
 -- a reading that goes on
-abbrev pub going : ℕ → ℕ → ℕ → ℕ → List ℕ → List ℕ → Progress
-going at line time next values shown =
+abbrev pub print-loop : ℕ → ℕ → ℕ → ℕ → List ℕ → List ℕ → Progress
+print-loop at line time next values shown =
     record { verdict = Verdict.Accepted; at = at; line = line; time = time; next = next; values = values; shown = shown }
 
 -- ---- tests
@@ -159,7 +159,7 @@ module _ (step : ℕ) (t : List ℕ) (n : ℕ) where
   Reads cs =
       (f last at line told next : ℕ) (values shown : List ℕ) → length t - at ≤ f → drop at t ≡ linesText told last cs →
       Proper n told next values cs → toldAfter told cs ≤ last → last ≤ 1000000000000000000 → (0 < next) ⊎ (last ≤ told) →
-      TrailRead last (shownAfter step shown cs) (linesFrom step t n f (going at line told next values shown))
+      TrailRead last (shownAfter step shown cs) (linesFrom step t n f (print-loop at line told next values shown))
 
   -- a value at the time told, with the changes after it
   value-read :
@@ -167,40 +167,46 @@ module _ (step : ℕ) (t : List ℕ) (n : ℕ) where
       drop at t ≡ linesText (c .time) last (c ∷ cs) → next ≤ c .variable → c .variable < n → c .value < over →
       (c .value ≡ getD values (c .variable) 0 → ⊥) → Proper n (c .time) (suc (c .variable)) (set values (c .variable) (c .value)) cs →
       toldAfter (c .time) cs ≤ last → last ≤ 1000000000000000000 →
-      TrailRead last (shownAfter step shown (c ∷ cs)) (linesFrom step t n f (going at line (c .time) next values shown))
+      TrailRead last (shownAfter step shown (c ∷ cs)) (linesFrom step t n f (print-loop at line (c .time) next values shown))
   value-read c cs more f last at line next values shown fuel e o w small d p rises bounded = go f fuel
     where
       e₁ : drop at t ≡ valueText (c .variable) (c .value) ++ linesText (c .time) last cs
       e₁ = e ∙ lines-value (c .time) last (c .variable) (c .value) cs
 
-      go : (f : ℕ) → length t - at ≤ f → TrailRead last (shownAfter step shown (c ∷ cs)) (linesFrom step t n f (going at line (c .time) next values shown))
+      go : (f : ℕ) → length t - at ≤ f → TrailRead last (shownAfter step shown (c ∷ cs)) (linesFrom step t n f (print-loop at line (c .time) next values shown))
       go zero l = absurd (omega (arith, text-left t at (valueText (c .variable) (c .value)) _ (value-long (c .variable) (c .value)) e₁))
       go (suc f) l =
-          let g : drop (at + length (valueText (c .variable) (c .value))) t ≡ linesText (c .time) last cs = drop-past t at (valueText (c .variable) (c .value)) _ e₁ in
-          rw (value-step f (going at line (c .time) next values shown) (c .variable) (c .value) _ small o w d e₁)
-          (more f last (at + length (valueText (c .variable) (c .value))) (line + 1) (c .time) (c .variable + 1) (set values (c .variable) (c .value)) (shownAt step (c .time) shown (c .variable) (c .value)) (omega (arith, value-long (c .variable) (c .value))) g
+          let g : drop (at + length (valueText (c .variable) (c .value))) t ≡ linesText (c .time) last cs =
+          drop-past t at (valueText (c .variable) (c .value)) _ e₁ in
+          rw (value-step f (print-loop at line (c .time) next values shown) (c .variable) (c .value) _ small o w d e₁)
+          (more f last (at + length (valueText (c .variable) (c .value))) (line + 1) (c .time) (c .variable + 1) (set values (c .variable) (c .value))
+          (shownAt step (c .time) shown (c .variable) (c .value)) (omega (arith, value-long (c .variable) (c .value))) g
           (rw (let k : c .variable + 1 ≡ suc (c .variable) = omega arith in k) p) rises bounded (inl (omega arith)))
 
   pub trail-read : (cs : List Change) → Reads cs
   unfolding toldAfter
   trail-read [] f last at line told next values shown fuel e p rises bounded opened = by (decLt told last)
     where
-      by : Dec (told < last) → TrailRead last shown (linesFrom step t n f (going at line told next values shown))
+      by : Dec (told < last) → TrailRead last shown (linesFrom step t n f (print-loop at line told next values shown))
       by (yes h) = go f fuel
         where
           e₁ : drop at t ≡ timeText last ++ []
           e₁ = e ∙ lines-last told last h
 
-          go : (f : ℕ) → length t - at ≤ f → TrailRead last shown (linesFrom step t n f (going at line told next values shown))
+          go : (f : ℕ) → length t - at ≤ f → TrailRead last shown (linesFrom step t n f (print-loop at line told next values shown))
           go zero l = absurd (omega (arith, text-left t at (timeText last) [] (time-long last) e₁))
           go (suc f) l =
               let o : 0 < next = ⊎-elim (λ (x : 0 < next). x) (λ (x : last ≤ told). absurd (omega arith)) opened in
               let g : drop (at + length (timeText last)) t ≡ [] = drop-past t at (timeText last) [] e₁ in
-              rw (time-step f (going at line told next values shown) last [] o h bounded e₁, lines-end f (withTime (going at line told next values shown) last (at + length (timeText last))) (no-text t _ g))
+              rw (
+                time-step f (print-loop at line told next values shown) last [] o h bounded e₁,
+                lines-end f
+                    (withTime (print-loop at line told next values shown) last (at + length (timeText last))) (no-text t _ g),
+              )
               (record { verdict = refl; time = refl; shows = refl })
       by (no h) =
           let l : last ≤ told = omega arith in
-          rw (lines-end f (going at line told next values shown) (no-text t at (e ∙ lines-none told last l)))
+          rw (lines-end f (print-loop at line told next values shown) (no-text t at (e ∙ lines-none told last l)))
           (record { verdict = refl; time = (let z : told ≡ last = omega (arith, same) in z); shows = refl })
         where
           same : told ≤ last
@@ -208,25 +214,28 @@ module _ (step : ℕ) (t : List ℕ) (n : ℕ) where
   trail-read (c ∷ cs) f last at line told next values shown fuel e p rises bounded opened =
       ⊎-elim (above (trail-read cs)) (within (trail-read cs)) (p .0 .after)
     where
-      above : Reads cs → told < c .time → TrailRead last (shownAfter step shown (c ∷ cs)) (linesFrom step t n f (going at line told next values shown))
+      above : Reads cs → told < c .time → TrailRead last (shownAfter step shown (c ∷ cs)) (linesFrom step t n f (print-loop at line told next values shown))
       above more h = go f fuel
         where
           e₁ : drop at t ≡ timeText (c .time) ++ linesText (c .time) last (c ∷ cs)
           e₁ = e ∙ lines-time told last c cs h
 
-          go : (f : ℕ) → length t - at ≤ f → TrailRead last (shownAfter step shown (c ∷ cs)) (linesFrom step t n f (going at line told next values shown))
+          go : (f : ℕ) → length t - at ≤ f → TrailRead last (shownAfter step shown (c ∷ cs)) (linesFrom step t n f (print-loop at line told next values shown))
           go zero l = absurd (omega (arith, text-left t at (timeText (c .time)) _ (time-long (c .time)) e₁))
           go (suc f) l =
               let rises₂ = told-rises n (c .time) (suc (c .variable)) (set values (c .variable) (c .value)) cs (p .1) in
               let o : 0 < next = ⊎-elim (λ (x : 0 < next). x) (λ (x : last ≤ told). absurd (omega (arith, rises))) opened in
               let g : drop (at + length (timeText (c .time))) t ≡ linesText (c .time) last (c ∷ cs) = drop-past t at (timeText (c .time)) _ e₁ in
-              rw (time-step f (going at line told next values shown) (c .time) _ o h (p .0 .bounded) e₁)
-              (value-read c cs more f last (at + length (timeText (c .time))) (line + 1) 0 values shown (omega (arith, time-long (c .time))) g (omega arith) (p .0 .within) (p .0 .small) (p .0 .differs) (p .1) rises bounded)
+              rw (time-step f (print-loop at line told next values shown) (c .time) _ o h (p .0 .bounded) e₁)
+              (value-read c cs more f last (at + length (timeText (c .time))) (line + 1) 0 values shown (omega (arith, time-long (c .time))) g (omega arith)
+              (p .0 .within) (p .0 .small) (p .0 .differs) (p .1) rises bounded)
 
-      within : Reads cs → (c .time ≡ told) × (next ≤ c .variable) → TrailRead last (shownAfter step shown (c ∷ cs)) (linesFrom step t n f (going at line told next values shown))
+      within : Reads cs → (c .time ≡ told) × (next ≤ c .variable) →
+          TrailRead last (shownAfter step shown (c ∷ cs)) (linesFrom step t n f (print-loop at line told next values shown))
       within more h =
-          subst (λ (k : ℕ). TrailRead last (shownAfter step shown (c ∷ cs)) (linesFrom step t n f (going at line k next values shown))) (h .0)
-          (value-read c cs more f last at line next values shown fuel (e ∙ ap (λ (k : ℕ). linesText k last (c ∷ cs)) (sym (h .0))) (h .1) (p .0 .within) (p .0 .small) (p .0 .differs) (p .1) rises bounded)
+          subst (λ (k : ℕ). TrailRead last (shownAfter step shown (c ∷ cs)) (linesFrom step t n f (print-loop at line k next values shown))) (h .0)
+          (value-read c cs more f last at line next values shown fuel (e ∙ ap (λ (k : ℕ). linesText k last (c ∷ cs)) (sym (h .0))) (h .1) (p .0 .within)
+          (p .0 .small) (p .0 .differs) (p .1) rises bounded)
 
 -- ---- lines that were taken are those of a trail
 -- where a time was just told, what follows it is of that time
@@ -256,7 +265,8 @@ trail-none t n s h =
 
 -- a value before a trail
 trail-value :
-    (t : List ℕ) (n step : ℕ) (s r : Progress) (v x i : ℕ) → lineAt t (s .at) ≡ DumpLine.Value v x i → takesValue n s v x ≡ true → s .time ≤ 1000000000000000000 →
+    (t : List ℕ) (n step : ℕ) (s r : Progress) (v x i : ℕ) → lineAt t (s .at) ≡ DumpLine.Value v x i → takesValue n s v x ≡ true →
+    s .time ≤ 1000000000000000000 →
     Trail t n (withValue step s v x i) r → Trail t n s r
 unfolding toldAfter
 trail-value t n step s r v x i e taken bounded h =
@@ -325,7 +335,9 @@ module _ (step : ℕ) (t : List ℕ) (n : ℕ) where
     where
       line :
           (z : DumpLine) → lineAt t (s .at) ≡ z →
-          ((x : Progress) → length t - x .at ≤ f → x .time ≤ 1000000000000000000 → linesFrom step t n f x .verdict ≡ Verdict.Accepted → Trail t n x (linesFrom step t n f x)) →
+          ((x : Progress) → length t - x .at ≤ f → x .time ≤ 1000000000000000000 → linesFrom step t n f x .verdict ≡ Verdict.Accepted →
+          Trail t n x (linesFrom step t n f x))
+          →
           nextLine step n s z (λ y. linesFrom step t n f y) .verdict ≡ Verdict.Accepted → Trail t n s (nextLine step n s z (λ y. linesFrom step t n f y))
       line (DumpLine.Time k i) e more =
           let l = time-there t (s .at) k i e .later in
@@ -335,7 +347,8 @@ module _ (step : ℕ) (t : List ℕ) (n : ℕ) where
       line (DumpLine.Value v x i) e more =
           let l = value-there t (s .at) v x i e .later in
           on-test (λ (z : Progress). z .verdict ≡ Verdict.Accepted → Trail t n s z) (takesValue n s v x)
-          (λ w a. trail-value t n step s (linesFrom step t n f (withValue step s v x i)) v x i e w bounded (more (withValue step s v x i) (omega arith) bounded a))
+          (λ w a. trail-value t n step s (linesFrom step t n f (withValue step s v x i)) v x i e w bounded
+          (more (withValue step s v x i) (omega arith) bounded a))
           (λ w a. clash (cc))
       line DumpLine.Malformed e more = λ a. clash (cc)
 
@@ -349,8 +362,10 @@ module _ (step : ℕ) (t : List ℕ) (n : ℕ) where
   fuel (suc f) (suc g) s p q = by (ltb (s .at) (length t)) refl (λ x a b. fuel f g x a b)
     where
       by :
-          (b : Bool) → ltb (s .at) (length t) ≡ b → ((x : Progress) → length t - x .at ≤ f → length t - x .at ≤ g → linesFrom step t n f x ≡ linesFrom step t n g x) →
-          cond b (nextLine step n s (lineAt t (s .at)) (λ r. linesFrom step t n f r)) s ≡ cond b (nextLine step n s (lineAt t (s .at)) (λ r. linesFrom step t n g r)) s
+          (b : Bool) → ltb (s .at) (length t) ≡ b →
+          ((x : Progress) → length t - x .at ≤ f → length t - x .at ≤ g → linesFrom step t n f x ≡ linesFrom step t n g x) →
+          cond b (nextLine step n s (lineAt t (s .at)) (λ r. linesFrom step t n f r)) s ≡ cond b
+          (nextLine step n s (lineAt t (s .at)) (λ r. linesFrom step t n g r)) s
       by false e more = refl
       by true e more = line (lineAt t (s .at)) refl
         where

@@ -6,7 +6,7 @@ use lib.ListN.{length, drop}
 use lib.Dec.{leb}
 use borrow.Author.Tests.{le-leb, lt-leb, leb-false}
 use Rattle.grammar.proofs.Cases.{on-test, clash}
-use Rattle.construction.specs.declared.Written.{Written}
+use Rattle.construction.specs.declared.texts.Written.{Written}
 use Rattle.construction.specs.Answers.{Fields, bytes, fields, refusedWith, writtenFields}
 use Rattle.dump.specs.Dump.{written, writtenInto}
 

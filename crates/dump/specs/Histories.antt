@@ -3,7 +3,7 @@ use Prim.Native.Nat.{ℕ, zero, suc, _<_}
 use mathlib.Core.Bool.{Bool, true, false, cond, not, _&&_}
 use mathlib.Core.List.{List, [], _∷_}
 use lib.ListN.{length, set, replicate}
-use Rattle.construction.specs.declared.{Words.Words, Card.Card, Answer.Answer}
+use Rattle.construction.specs.declared.{cells.Words.Words, card.Card.Card, answers.Answer.Answer}
 use Rattle.construction.specs.Answers.{isRefused}
 use Rattle.construction.specs.Requests.{valueOf}
 use Rattle.construction.specs.History.{Entry, act}

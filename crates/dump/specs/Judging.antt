@@ -7,7 +7,7 @@ use mathlib.Core.Logic.{_≢_}
 use mathlib.Core.List.{List, []}
 use lib.ListN.{length}
 use Rattle.grammar.specs.Reading.{hasWord}
-use Rattle.construction.specs.declared.Verdict.{Verdict}
+use Rattle.construction.specs.declared.texts.Verdict.{Verdict}
 use Rattle.construction.specs.Answers.{Fields, fields}
 use Rattle.construction.specs.TextJudging.{refusedIn}
 use Rattle.dump.specs.declared.{DumpLine.DumpLine, Progress.Progress}

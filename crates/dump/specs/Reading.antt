@@ -7,8 +7,8 @@ use lib.ListN.{length, getD, set, replicate}
 use lib.Dec.{eqb, leb, ltb}
 use Rattle.grammar.specs.declared.Number.{Number}
 use Rattle.grammar.specs.Reading.{hasByte, hasWord, field}
-use Rattle.construction.specs.declared.Verdict.{Verdict}
-use Rattle.construction.specs.declared.Refusal.the-variants.{Malformed}
+use Rattle.construction.specs.declared.texts.Verdict.{Verdict}
+use Rattle.construction.specs.declared.answers.Refusal.the-variants.{Malformed}
 use Rattle.dump.specs.declared.{DumpLine.DumpLine, Header.Header, Progress.Progress, Readings.Readings}
 use Rattle.dump.specs.Binary.{over, bitsAt}
 use Rattle.dump.specs.Dump.{timescaleLine, scopeLine, varLine, upscopeLine, definitionsLine, timeText}

@@ -4,7 +4,7 @@ use Prim.Native.Nat.{ℕ, _≤_, _<_}
 use mathlib.Core.Path.{_≡_}
 use mathlib.Core.List.{List, _++_}
 use lib.ListN.{getD}
-use Rattle.construction.specs.declared.{Card.Card, Answer.Answer, Verdict.Verdict}
+use Rattle.construction.specs.declared.{card.Card.Card, answers.Answer.Answer, texts.Verdict.Verdict}
 use Rattle.construction.specs.Requests.{read}
 use Rattle.construction.specs.History.{Entry, run}
 use Rattle.dump.specs.Reading.{readings}

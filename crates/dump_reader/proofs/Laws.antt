@@ -17,13 +17,14 @@ use Rattle.grammar.specs.Writing.{decimal}
 use Rattle.grammar.proofs.Decimals.{decimal-one, decimal-more}
 use Rattle.grammar.proofs.Bytes.{byte-true, word-within}
 use Rattle.grammar.proofs.Cases.{on-test, and-true}
-use Rattle.construction.specs.declared.Verdict.{Verdict}
+use Rattle.construction.specs.declared.texts.Verdict.{Verdict}
 use Rattle.construction.specs.Answers.{bytes}
-use Rattle.construction.specs.declared.Refusal.{Refusal}
+use Rattle.construction.specs.declared.answers.Refusal.{Refusal}
 use Rattle.dump.specs.declared.{DumpLine.DumpLine, Header.Header}
 use Rattle.dump.specs.Binary.{over, isBit, bitsAt}
 use Rattle.dump.specs.Dump.{lineOf, timescaleLine, scopeLine, upscopeLine, definitionsLine, codeOf, varLine, timeText}
-use Rattle.dump.specs.Reading.{timeOf, hasCode, valueOf, lineAt, headerStart, headerRefused, onHeader, pastWord, thenWord, withVar, varsFrom, thenVars, readHeader}
+use Rattle.dump.specs.Reading.{timeOf, hasCode, valueOf, lineAt, headerStart, headerRefused, onHeader, pastWord, thenWord, withVar, varsFrom, thenVars}
+use Rattle.dump.specs.Reading.{readHeader}
 use Rattle.dump_reader.specs.Taking.{timeFollows, valueFollows}
 
 -- ---- binary digits
@@ -166,7 +167,8 @@ unfolding hasWord
 word-append t [] b at = rw (add-zero at)
 word-append t (x ∷ a) b at =
     let k : suc at + length a ≡ at + suc (length a) = omega arith in
-    ap (λ (y : Bool). hasByte t at x && y) (word-append t a b (suc at) ∙ rw k) ∙ group (hasByte t at x) (hasWord t (suc at) a) (hasWord t (at + suc (length a)) b)
+    ap (λ (y : Bool). hasByte t at x && y) (word-append t a b (suc at) ∙ rw k) ∙ group (hasByte t at x) (hasWord t (suc at) a)
+    (hasWord t (at + suc (length a)) b)
   where
     group : (p q r : Bool) → p && (q && r) ≡ (p && q) && r
     group true q r = refl
@@ -352,4 +354,6 @@ module _ (t : List ℕ) {h₁ : Header} (e₁ : h₁ ≡ thenWord t timescaleLin
 pub header-line : (t : List ℕ) {h : Header} → h ≡ readHeader t → h .line ≤ 70
 unfolding readHeader
 header-line t e =
-    rw e (word-lines t (timeText 0) _ 69 refl (line₅ t {h₁ = thenWord t timescaleLine headerStart} refl {h₂ = thenWord t scopeLine (thenWord t timescaleLine headerStart)} refl refl refl refl))
+    rw e
+    (word-lines t (timeText 0) _ 69 refl
+    (line₅ t {h₁ = thenWord t timescaleLine headerStart} refl {h₂ = thenWord t scopeLine (thenWord t timescaleLine headerStart)} refl refl refl refl))

@@ -14,7 +14,8 @@ use Rattle.dump.proofs.DumpLines.{time-there, value-there}
 use Rattle.dump.proofs.Pieces as pieces
 use Rattle.dump_reader.specs.declared.{Scan.Scan}
 use Rattle.dump_reader.specs.Taking.{pastLine, timeWith}
-use Rattle.dump_reader.specs.Rows.{isLine, linesIn, linesAt, numbersText, rowText, endedText, ended, keptWith, scanAfter, rowsOf, rowsText, linesLeft, shownOf, PutsRows}
+use Rattle.dump_reader.specs.Rows.{isLine, linesIn, linesAt, numbersText, rowText, endedText, ended, keptWith, scanAfter, rowsOf, rowsText, linesLeft}
+use Rattle.dump_reader.specs.Rows.{shownOf, PutsRows}
 
 -- nothing is put
 pub put-none : (b : List ℕ) (at : ℕ) → at ≤ largest → Put b at [] at b
@@ -39,7 +40,8 @@ module _ {b₀ : List ℕ} {at : ℕ} {whole b : List ℕ} {i : ℕ} (m v : ℕ)
       let n : m - v ≡ suc (m - (v + 1)) = omega arith in
       let s : suc v ≡ v + 1 = omega arith in
       let more : List ℕ = numbersText (m - (v + 1)) (v + 1) row ++ (10 ∷ []) in
-      let w : numbersText (m - v) v row ++ (10 ∷ []) ≡ (44 ∷ []) ++ (decimal x ++ more) = rw (n, s, e) (ap (λ (y : List ℕ). 44 ∷ y) (append-assoc (decimal (getD row v 0)) (numbersText (m - (v + 1)) (v + 1) row) (10 ∷ []))) in
+      let w : numbersText (m - v) v row ++ (10 ∷ []) ≡ (44 ∷ []) ++ (decimal x ++ more) =
+      rw (n, s, e) (ap (λ (y : List ℕ). 44 ∷ y) (append-assoc (decimal (getD row v 0)) (numbersText (m - (v + 1)) (v + 1) row) (10 ∷ []))) in
       rest-step (rest-step (subst (λ (y : List ℕ). Rest b₀ at whole b i y) w r) p) q
 
   pub row-end : {j : ℕ} {z : List ℕ} → m ≤ v → Put b i (10 ∷ []) j z → Put b₀ at whole j z
@@ -63,8 +65,10 @@ module _ (t : List ℕ) where
       go :
           ((i : ℕ) → length t - i < f → length t - i < g → linesIn f t i ≡ linesIn g t i) → (line : DumpLine) → lineAt t at ≡ line →
           cond (isLine line) (line ∷ linesIn f t (pastLine line)) [] ≡ cond (isLine line) (line ∷ linesIn g t (pastLine line)) []
-      go h (DumpLine.Time k i) e = let r = time-there t at k i e in ap (λ (ls : List DumpLine). DumpLine.Time k i ∷ ls) (h i (omega (arith, r .later, r .within)) (omega (arith, r .later, r .within)))
-      go h (DumpLine.Value v x i) e = let r = value-there t at v x i e in ap (λ (ls : List DumpLine). DumpLine.Value v x i ∷ ls) (h i (omega (arith, r .later, r .within)) (omega (arith, r .later, r .within)))
+      go h (DumpLine.Time k i) e = let r = time-there t at k i e in
+          ap (λ (ls : List DumpLine). DumpLine.Time k i ∷ ls) (h i (omega (arith, r .later, r .within)) (omega (arith, r .later, r .within)))
+      go h (DumpLine.Value v x i) e = let r = value-there t at v x i e in
+          ap (λ (ls : List DumpLine). DumpLine.Value v x i ∷ ls) (h i (omega (arith, r .later, r .within)) (omega (arith, r .later, r .within)))
       go h DumpLine.Malformed e = refl
 
   opened : (at : ℕ) {line : DumpLine} → line ≡ lineAt t at → isLine line ≡ true → linesIn (suc (length t)) t at ≡ line ∷ linesIn (length t) t (pastLine line)
@@ -84,15 +88,16 @@ module _ (t : List ℕ) where
 -- ---- the loop: s₀ as it began, s as it stands
 pub record Rowing (t : List ℕ) (n : ℕ) (s₀ : Scan) (b₀ : List ℕ) (s : Scan) (m : ℕ) (b : List ℕ) : Type 0 where
   pub lines : List ℕ
-  pub put : pieces.Going (ended n) scanAfter (linesLeft t) s₀ b₀ lines s m b
+  pub put : pieces.PrintLoop (ended n) scanAfter (linesLeft t) s₀ b₀ lines s m b
   pub text : rowsText t n s₀ ≡ lines ++ rowsText t n s
 
 pub rowing : (t : List ℕ) (n : ℕ) (s : Scan) (b : List ℕ) → length b < largest → Rowing t n s b s 0 b
-rowing t n s b h = record { lines = []; put = pieces.going (ended n) scanAfter (linesLeft t) s b h; text = refl }
+rowing t n s b h = record { lines = []; put = pieces.print-loop (ended n) scanAfter (linesLeft t) s b h; text = refl }
 
-module _ {t : List ℕ} {n : ℕ} {s₀ : Scan} {b₀ : List ℕ} {s : Scan} {m : ℕ} {b : List ℕ} (g : Rowing t n s₀ b₀ s m b) {line : DumpLine} (el : line ≡ lineAt t (s .at)) {c : Bool} (ec : c ≡ isLine line) where
+module _ {t : List ℕ} {n : ℕ} {s₀ : Scan} {b₀ : List ℕ} {s : Scan} {m : ℕ} {b : List ℕ} (g : Rowing t n s₀ b₀ s m b) {line : DumpLine}
+    (el : line ≡ lineAt t (s .at)) {c : Bool} (ec : c ≡ isLine line) where
   pub rowing-length : length b ≡ length b₀
-  rowing-length = pieces.going-length (ended n) scanAfter (linesLeft t) (g .put)
+  rowing-length = pieces.print-loop-length (ended n) scanAfter (linesLeft t) (g .put)
 
   puts : {z : List ℕ} → pieces.Stopped (ended n) scanAfter (linesLeft t) s₀ b₀ (g .lines) s m z → PutsRows t n s₀ b₀ (record { scan = s; length = m }) z
   unfolding shownOf
@@ -100,7 +105,7 @@ module _ {t : List ℕ} {n : ℕ} {s₀ : Scan} {b₀ : List ℕ} {s : Scan} {m 
 
   -- no line is left
   pub rowing-end : c ≡ false → PutsRows t n s₀ b₀ (record { scan = s; length = m }) b
-  rowing-end h = puts (pieces.going-end (ended n) scanAfter (linesLeft t) (g .put) (lines-none t (s .at) el (sym ec ∙ h)))
+  rowing-end h = puts (pieces.print-loop-end (ended n) scanAfter (linesLeft t) (g .put) (lines-none t (s .at) el (sym ec ∙ h)))
 
   module _ (h : c ≡ true) where
     pub rowing-later : (s .at < pastLine line) × (pastLine line ≤ length t)
@@ -111,7 +116,7 @@ module _ {t : List ℕ} {n : ℕ} {s₀ : Scan} {b₀ : List ℕ} {s : Scan} {m 
 
     module _ {j : ℕ} {z : List ℕ} (p : Put b m (endedText n (s .time) (s .values) line) j z) where
       pub rowing-same : length z ≡ length b₀
-      rowing-same = pieces.going-same (ended n) scanAfter (linesLeft t) (g .put) {l = line} refl p
+      rowing-same = pieces.print-loop-same (ended n) scanAfter (linesLeft t) (g .put) {l = line} refl p
 
       pub rowing-again :
           {values : List ℕ} {time at : ℕ} → j ≤ length z → values ≡ keptWith (s .values) line → time ≡ timeWith (s .time) line → at ≡ pastLine line →
@@ -121,11 +126,11 @@ module _ {t : List ℕ} {n : ℕ} {s₀ : Scan} {b₀ : List ℕ} {s : Scan} {m 
           let es : record { at = at; time = time; values = values } ≡ scanAfter s line = λ i. record { at = ea i; time = et i; values = ev i } in
           record {
             lines = g .lines ++ ended n s line;
-            put = pieces.going-again (ended n) scanAfter (linesLeft t) (g .put) {l = line} refl p es more fits;
+            put = pieces.print-loop-again (ended n) scanAfter (linesLeft t) (g .put) {l = line} refl p es more fits;
             text =
                 subst (λ (y : Scan). rowsText t n s₀ ≡ (g .lines ++ ended n s line) ++ rowsText t n y) (sym es)
                 (g .text ∙ rw more (sym (append-assoc (g .lines) (ended n s line) (rowsOf n (scanAfter s line) (linesAt t (pastLine line))))));
           }
 
       pub rowing-stopped : length z < j → PutsRows t n s₀ b₀ (record { scan = s; length = m }) z
-      rowing-stopped over = puts (pieces.going-stopped (ended n) scanAfter (linesLeft t) (g .put) {l = line} refl p more over)
+      rowing-stopped over = puts (pieces.print-loop-stopped (ended n) scanAfter (linesLeft t) (g .put) {l = line} refl p more over)

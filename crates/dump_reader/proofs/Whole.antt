@@ -6,11 +6,12 @@ use lib.Dec.{eqb}
 use lib.ListN.{length, length-append}
 use native.Mathlib.Omega.{arith}
 use Rattle.grammar.proofs.Cases.{on-test, clash}
-use Rattle.construction.specs.declared.Verdict.{Verdict}
-use Rattle.construction.specs.declared.Refusal.{Refusal}
+use Rattle.construction.specs.declared.texts.Verdict.{Verdict}
+use Rattle.construction.specs.declared.answers.Refusal.{Refusal}
 use Rattle.dump.specs.declared.{DumpLine.DumpLine, Header.Header, Progress.Progress, Readings.Readings}
 use Rattle.dump.specs.Dump.{timescaleLine, scopeLine, upscopeLine, definitionsLine, varLine, varsText, headerText, timeText}
-use Rattle.dump.specs.Reading.{lineAt, noValues, begun, withValue, nextStart, startsFrom, linesFrom, onProgress, thenStarts, thenLines, progress, readHeader, readingsOf, readings}
+use Rattle.dump.specs.Reading.{lineAt, noValues, begun, withValue, nextStart, startsFrom, linesFrom, onProgress, thenStarts, thenLines, progress, readHeader}
+use Rattle.dump.specs.Reading.{readingsOf, readings}
 use Rattle.dump.proofs.DumpLines.{value-there}
 use Rattle.dump.proofs.Headers.{header-there}
 
@@ -22,7 +23,13 @@ vars-size (suc m) v = let h = vars-size m (suc v) in omega (arith, length-append
 header-size : (n : ℕ) → n + 6 ≤ length (headerText n ++ timeText 0)
 unfolding headerText
 header-size n =
-    omega (arith, vars-size n 0, length-append (varsText n 0) (upscopeLine ++ definitionsLine), length-append (timescaleLine ++ (scopeLine ++ (varsText n 0 ++ (upscopeLine ++ definitionsLine)))) (timeText 0))
+    omega (
+      arith,
+      vars-size n 0,
+      length-append (varsText n 0) (upscopeLine ++ definitionsLine),
+      length-append
+          (timescaleLine ++ (scopeLine ++ (varsText n 0 ++ (upscopeLine ++ definitionsLine)))) (timeText 0),
+    )
 
 starts-order :
     (step : ℕ) (t : List ℕ) (m : ℕ) (s : Progress) → s .line ≤ s .at → startsFrom step t m s .verdict ≡ Verdict.Accepted →
@@ -38,7 +45,8 @@ starts-order step t (suc m) s h = by (lineAt t (s .at)) refl (λ x l. starts-ord
         nextStart step s z (λ r. startsFrom step t m r) .line ≤ nextStart step s z (λ r. startsFrom step t m r) .at
     by (DumpLine.Value v x i) e more =
         let l = value-there t (s .at) v x i e .later in
-        on-test (λ (r : Progress). r .verdict ≡ Verdict.Accepted → r .line ≤ r .at) (eqb v (s .next)) (λ _. more (withValue step s v x i) (omega arith)) (λ _ a. clash (cc))
+        on-test (λ (r : Progress). r .verdict ≡ Verdict.Accepted → r .line ≤ r .at) (eqb v (s .next)) (λ _. more (withValue step s v x i) (omega arith))
+        (λ _ a. clash (cc))
     by (DumpLine.Time k i) e more = λ a. clash (cc)
     by DumpLine.Malformed e more = λ a. clash (cc)
 
@@ -51,10 +59,12 @@ goes s next e = rw e
 stops : (s next : Progress) {why : Refusal} {line : ℕ} → s .verdict ≡ Verdict.Refused why line → onProgress (s .verdict) s next ≡ s
 stops s next e = rw e
 
-refused-given : (n : ℕ) (s : Progress) {why : Refusal} {line : ℕ} → s .verdict ≡ Verdict.Refused why line → readingsOf (s .verdict) n s ≡ refusedReadings why line
+refused-given : (n : ℕ) (s : Progress) {why : Refusal} {line : ℕ} → s .verdict ≡ Verdict.Refused why line →
+    readingsOf (s .verdict) n s ≡ refusedReadings why line
 refused-given n s e = rw e
 
-accepted-given : (n : ℕ) (s : Progress) → s .verdict ≡ Verdict.Accepted → readingsOf (s .verdict) n s ≡ record { verdict = s .verdict; count = n; last = s .time; values = s .shown }
+accepted-given : (n : ℕ) (s : Progress) → s .verdict ≡ Verdict.Accepted →
+    readingsOf (s .verdict) n s ≡ record { verdict = s .verdict; count = n; last = s .time; values = s .shown }
 accepted-given n s e = rw e
 
 module _ (t : List ℕ) (step : ℕ) {h : Header} (eh : h ≡ readHeader t) where
@@ -109,8 +119,10 @@ module _ (t : List ℕ) (step : ℕ) {h : Header} (eh : h ≡ readHeader t) wher
             whole : progress step t ≡ w
             whole = started ∙ goes s (linesFrom step t (h .count) (length t) s) b ∙ sym ew
 
-            pub no-lines : {why : Refusal} {line : ℕ} {r : Readings} → w .verdict ≡ Verdict.Refused why line → r ≡ refusedReadings why line → r ≡ readings t step
+            pub no-lines : {why : Refusal} {line : ℕ} {r : Readings} → w .verdict ≡ Verdict.Refused why line → r ≡ refusedReadings why line →
+                r ≡ readings t step
             no-lines e q = q ∙ sym (gives whole ∙ refused-given (h .count) w e)
 
-            pub all-read : w .verdict ≡ Verdict.Accepted → record { verdict = w .verdict; count = h .count; last = w .time; values = w .shown } ≡ readings t step
+            pub all-read : w .verdict ≡ Verdict.Accepted → record { verdict = w .verdict; count = h .count; last = w .time; values = w .shown } ≡ readings t
+                step
             all-read e = sym (gives whole ∙ accepted-given (h .count) w e)

@@ -1,6 +1,6 @@
 // The header and `#0`: each line is one that the writer writes there.
-use construction::Refusal;
-use construction::Verdict;
+use construction::answers::Refusal;
+use construction::texts::Verdict;
 use dump::Header;
 use grammar::reading::has_byte;
 use grammar::reading::has_word;
@@ -9,7 +9,7 @@ ghost use Prim.Native.Nat.{_≤_, _<_, _+_};
 ghost use lib.ListN.{length};
 ghost use Rattle.grammar.specs.Reading.{hasWord};
 ghost use Rattle.grammar.specs.Writing.{decimal};
-ghost use Rattle.construction.specs.declared.Verdict.{Verdict};
+ghost use Rattle.construction.specs.declared.texts.Verdict.{Verdict};
 ghost use Rattle.dump.specs.Dump.{varLine};
 ghost use Rattle.dump.specs.Reading.{headerRefused, thenWord, thenVars, readHeader};
 

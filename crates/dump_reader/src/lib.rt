@@ -16,15 +16,15 @@ use crate::taking::show_value;
 use crate::taking::starts;
 use crate::taking::takes;
 use crate::taking::time_after;
-use construction::Refusal;
-use construction::Verdict;
+use construction::answers::Refusal;
+use construction::texts::Verdict;
 use dump::Header;
 use dump::Progress;
 use dump::Readings;
 ghost use mathlib.Core.Path.{_≡_};
 ghost use Prim.Native.Nat.{_≤_};
 ghost use lib.ListN.{length};
-ghost use Rattle.construction.specs.declared.Verdict.{Verdict};
+ghost use Rattle.construction.specs.declared.texts.Verdict.{Verdict};
 ghost use Rattle.dump.specs.Reading.{noValues, progressRefused, begun as begunAs, startsFrom, linesFrom, readings};
 
 // A dump that is gone through: the place of the next line, the time, and the values so far.

@@ -9,8 +9,8 @@ use native.Mathlib.Nat.{add-zero}
 use borrow.Author.Tests.{le-leb, lt-leb, not-true, not-false}
 use Rattle.grammar.specs.Writing.{placeAfter, largest, Put}
 use Rattle.grammar.proofs.Puts.{Room, Rest, rest-all, rest-step, rest-last, put-both, put-front, put-fits}
-use Rattle.construction.specs.declared.{Card.Card, Answer.Answer, Written.Written, Opened.Opened}
-use Rattle.construction.specs.declared.Refusal.the-variants.{ShortBuffer}
+use Rattle.construction.specs.declared.{card.Card.Card, answers.Answer.Answer, texts.Written.Written, texts.Opened.Opened}
+use Rattle.construction.specs.declared.answers.Refusal.the-variants.{ShortBuffer}
 use Rattle.construction.specs.Answers.{isRefused}
 use Rattle.construction.specs.Opening.{fresh, opened}
 use Rattle.construction.specs.History.{Entry}
@@ -25,7 +25,8 @@ use Rattle.dump.specs.Dump.{Change, changesAt, changesFrom, changesText, toldAf
 use Rattle.dump.specs.Histories.{rowOf, rowsOf, dumpOf}
 use Rattle.dump.proofs.Pieces as pieces
 use Rattle.dump_writer.specs.declared.{Told.Told, Course.Course, Piece.Piece}
-use Rattle.dump_writer.specs.Courses.{Tells, stepsIn, countsIn, nextChanges, nextText, nextCourse, PutsCommand, longest, countOf, leftRows, leftText, startCourse, Opens, dumpText, partOf, courseAfter, commandsLeft, pieceOf, PutsPiece}
+use Rattle.dump_writer.specs.Courses.{Tells, stepsIn, countsIn, nextChanges, nextText, nextCourse, PutsCommand, longest, countOf, leftRows, leftText}
+use Rattle.dump_writer.specs.Courses.{startCourse, Opens, dumpText, partOf, courseAfter, commandsLeft, pieceOf, PutsPiece}
 use Rattle.dump_writer.proofs.LineLaws.{put-none, changes-append, told-append, Words, changes-short}
 
 -- ---- an accepted step
@@ -45,7 +46,8 @@ module _ (t : List ℕ) (x : Course) {a : Advanced} (ea : a ≡ advanced t (x .s
       record { put = rw (← ea, ← ec, not-true c n) (put-none b at l); course = rw (← ea, ← ec, not-true c n); short = omega arith }
 
   pub command-step :
-      (b : List ℕ) (at : ℕ) {row : List ℕ} {steps : ℕ} {now : Told} {z : List ℕ} → not c ≡ false → row ≡ rowOf (a .state .card) → steps ≡ placeAfter (x .steps) 1 →
+      (b : List ℕ) (at : ℕ) {row : List ℕ} {steps : ℕ} {now : Told} {z : List ℕ} → not c ≡ false → row ≡ rowOf (a .state .card) →
+      steps ≡ placeAfter (x .steps) 1 →
       Tells b at (x .told) (changesAt steps (countOf x) 0 (x .row) row) now z → steps ≤ largest → Words row →
       PutsCommand t x b at (record { course = record { session = a .state; count = x .count; row = row; steps = steps; told = now .time }; at = now .at }) z
   unfolding nextText nextCourse
@@ -61,7 +63,8 @@ module _ (t : List ℕ) (x : Course) {a : Advanced} (ea : a ≡ advanced t (x .s
 -- ---- what is left, command by command
 lines-append : (told last : ℕ) (a b : List Change) → linesText told last (a ++ b) ≡ changesText told a ++ linesText (toldAfter told a) last b
 lines-append told last a b =
-    rw (changes-append told a b, told-append told a b) (append-assoc (changesText told a) (changesText (toldAfter told a) b) (timeAbove (toldAfter (toldAfter told a) b) last))
+    rw (changes-append told a b, told-append told a b)
+    (append-assoc (changesText told a) (changesText (toldAfter told a) b) (timeAbove (toldAfter (toldAfter told a) b) last))
 
 text-step :
     (told steps n : ℕ) (row r : List ℕ) (rs : List (List ℕ)) →
@@ -96,12 +99,14 @@ module _ (t : List ℕ) (x : Course) where
 
   rows-are : x .session .at < length t → leftRows t x ≡ cond (countsIn (a .command) (a .answer)) (rowOf (a .state .card) ∷ after) after
   unfolding entries advanced afterLine
-  rows-are h = rw (commands-more t (x .session .at) h) (rows-next t (x .session .card) (command t (x .session .at) .command) (entries t (commands t (command t (x .session .at) .next))))
+  rows-are h = rw (commands-more t (x .session .at) h)
+      (rows-next t (x .session .card) (command t (x .session .at) .command) (entries t (commands t (command t (x .session .at) .next))))
 
   -- the course after it: an accepted step counts
   abbrev counted : Course
   counted =
-      record { session = a .state; count = x .count; row = rowOf (a .state .card); steps = placeAfter (x .steps) 1; told = toldAfter (x .told) (nextChanges t x) }
+      record
+      { session = a .state; count = x .count; row = rowOf (a .state .card); steps = placeAfter (x .steps) 1; told = toldAfter (x .told) (nextChanges t x) }
 
   abbrev uncounted : Course
   uncounted = record { session = a .state; count = x .count; row = x .row; steps = x .steps; told = x .told }
@@ -116,7 +121,8 @@ module _ (t : List ℕ) (x : Course) where
 
   next-place : nextCourse t x .session .at ≡ command t (x .session .at) .next
   unfolding advanced afterLine
-  next-place = rw next-is (on-test (λ (y : Course). y .session .at ≡ command t (x .session .at) .next) (countsIn (a .command) (a .answer)) (λ _. refl) (λ _. refl))
+  next-place = rw next-is
+      (on-test (λ (y : Course). y .session .at ≡ command t (x .session .at) .next) (countsIn (a .command) (a .answer)) (λ _. refl) (λ _. refl))
 
   pub next-at : x .session .at < length t → x .session .at < nextCourse t x .session .at
   next-at h = rw next-is (on-test (λ (y : Course). x .session .at < y .session .at) (countsIn (a .command) (a .answer)) (λ _. further h) (λ _. further h))
@@ -135,11 +141,16 @@ module _ (t : List ℕ) (x : Course) where
 
       go :
           (b : Bool) →
-          linesText (x .told) (x .steps + length (cond b (rowOf (a .state .card) ∷ after) after)) (changesFrom (countOf x) (x .steps) (x .row) (cond b (rowOf (a .state .card) ∷ after) after))
+          linesText (x .told) (x .steps + length (cond b (rowOf (a .state .card) ∷ after) after))
+          (changesFrom (countOf x) (x .steps) (x .row) (cond b (rowOf (a .state .card) ∷ after) after))
           ≡ cond b (changesText (x .told) (nextChanges t x)) [] ++ leftText t (cond b counted uncounted)
       go true =
           text-step (x .told) (x .steps) (countOf x) (x .row) (rowOf (a .state .card)) after
-          ∙ ap (λ (k : ℕ). changesText (x .told) (changesAt k (countOf x) 0 (x .row) (rowOf (a .state .card))) ++ linesText (toldAfter (x .told) (changesAt k (countOf x) 0 (x .row) (rowOf (a .state .card)))) (k + length after) (changesFrom (countOf x) k (rowOf (a .state .card)) after)) one
+          ∙ ap
+          (λ (k : ℕ). changesText (x .told) (changesAt k (countOf x) 0 (x .row) (rowOf (a .state .card))) ++ linesText
+          (toldAfter (x .told) (changesAt k (countOf x) 0 (x .row) (rowOf (a .state .card)))) (k + length after)
+          (changesFrom (countOf x) k (rowOf (a .state .card)) after))
+          one
       go false = refl
 
   pub left-end : length t ≤ x .session .at → leftText t x ≡ timeAbove (x .told) (x .steps)
@@ -147,7 +158,8 @@ module _ (t : List ℕ) (x : Course) where
   left-end h = rw (commands-end t (x .session .at) h, add-zero (x .steps))
 
 -- ---- the dump of a session
-few : (card : List ℕ) → (min 64 (opened card .card .variableCount) ≡ opened card .card .variableCount) × (min 64 (min 64 (opened card .card .variableCount)) ≡ opened card .card .variableCount)
+few : (card : List ℕ) → (min 64 (opened card .card .variableCount) ≡ opened card .card .variableCount) ×
+    (min 64 (min 64 (opened card .card .variableCount)) ≡ opened card .card .variableCount)
 unfolding opened fresh
 few card = let h = opened-bounded card .variableCount in (omega arith, omega arith)
 
@@ -170,7 +182,8 @@ pub record Left (t : List ℕ) (x₀ : Course) (b₀ : List ℕ) (at : ℕ) (x :
 pub left-all : (t : List ℕ) (x : Course) (b : List ℕ) (at : ℕ) → Room b at → x .steps ≤ x .session .at → Left t x b at x b at (x .session .at)
 left-all t x b at h s = record { rest = rest-all b at (leftText t x) h; steps = s; here = refl }
 
-module _ {t : List ℕ} {x₀ : Course} {b₀ : List ℕ} {at : ℕ} {x : Course} {b : List ℕ} {i place : ℕ} (g : Left t x₀ b₀ at x b i place) (small : length t ≤ largest) where
+module _ {t : List ℕ} {x₀ : Course} {b₀ : List ℕ} {at : ℕ} {x : Course} {b : List ℕ} {i place : ℕ} (g : Left t x₀ b₀ at x b i place)
+    (small : length t ≤ largest) where
   pub left-turn : {r : Piece} {z : List ℕ} → place < length t → PutsCommand t x b i r z → Left t x₀ b₀ at (r .course) z (r .at) (r .course .session .at)
   left-turn {r} {z} l p =
       let s = g .steps in
@@ -209,95 +222,98 @@ pub start-steps : {s : State} {b : List ℕ} {p : Piece} {z : List ℕ} → Open
 start-steps h = rw (h .course) (omega arith)
 
 -- ---- pieces: x₀ as the loop began, x as it stands
-pub record Going (t : List ℕ) (x₀ : Course) (b₀ : List ℕ) (x : Course) (n : ℕ) (b : List ℕ) (place : ℕ) : Type 0 where
+pub record PrintLoop (t : List ℕ) (x₀ : Course) (b₀ : List ℕ) (x : Course) (n : ℕ) (b : List ℕ) (place : ℕ) : Type 0 where
   pub lines : List ℕ
-  pub put : pieces.Going (partOf t) (courseAfter t) (commandsLeft t) x₀ b₀ lines x n b
+  pub put : pieces.PrintLoop (partOf t) (courseAfter t) (commandsLeft t) x₀ b₀ lines x n b
   pub given : x₀ .steps ≤ x₀ .session .at → (leftText t x₀ ≡ lines ++ leftText t x) × (x .steps ≤ x .session .at)
   pub here : place ≡ x .session .at
   pub later : x₀ .session .at ≤ x .session .at
   pub onward : 0 < n → x₀ .session .at < x .session .at
 
-pub going : (t : List ℕ) (x : Course) (b : List ℕ) → length b < largest → Going t x b x 0 b (x .session .at)
-going t x b h =
+pub print-loop : (t : List ℕ) (x : Course) (b : List ℕ) → length b < largest → PrintLoop t x b x 0 b (x .session .at)
+print-loop t x b h =
     record {
       lines = [];
-      put = pieces.going (partOf t) (courseAfter t) (commandsLeft t) x b h;
+      put = pieces.print-loop (partOf t) (courseAfter t) (commandsLeft t) x b h;
       given = λ l. (refl, l);
       here = refl;
       later = omega arith;
       onward = λ l. omega arith;
     }
 
-module _ {t : List ℕ} {x₀ : Course} {b₀ : List ℕ} {x : Course} {n : ℕ} {b : List ℕ} {place : ℕ} (g : Going t x₀ b₀ x n b place) (short : length t ≤ largest) where
-  pub going-length : length b ≡ length b₀
-  going-length = pieces.going-length (partOf t) (courseAfter t) (commandsLeft t) (g .put)
+module _ {t : List ℕ} {x₀ : Course} {b₀ : List ℕ} {x : Course} {n : ℕ} {b : List ℕ} {place : ℕ} (g : PrintLoop t x₀ b₀ x n b place) (short : length t ≤ largest)
+  where
+    pub print-loop-length : length b ≡ length b₀
+    print-loop-length = pieces.print-loop-length (partOf t) (courseAfter t) (commandsLeft t) (g .put)
 
-  -- what it comes to; a piece that put nothing stops only at the end, or where a command does not fit
-  puts :
-      {z : List ℕ} → pieces.Stopped (partOf t) (courseAfter t) (commandsLeft t) x₀ b₀ (g .lines) x n z →
-      (longest ≤ length b₀ → x₀ .session .at < length t → x₀ .session .at < x .session .at) → PutsPiece t x₀ b₀ (record { course = x; at = n }) z
-  unfolding pieceOf
-  puts p on =
-      record {
-        answer = rw (← (p .state), ← (p .count));
-        bytes = p .bytes;
-        text = λ l. rw (p .front) (g .given l .0);
-        within = p .within;
-        kept = λ l. g .given l .1;
-        onward = on;
-      }
-
-  -- no command is left
-  pub going-end : length t ≤ place → PutsPiece t x₀ b₀ (record { course = x; at = n }) b
-  going-end l =
-      puts (pieces.going-end (partOf t) (courseAfter t) (commandsLeft t) (g .put) (commands-end t (x .session .at) (omega (arith, g .here))))
-      (λ _ h. omega (arith, g .here, g .later))
-
-  module _ {r : Piece} {z : List ℕ} (l : place < length t) (p : PutsCommand t x b n r z) where
-    inside : x .session .at < length t
-    inside = omega (arith, g .here)
-
-    more : commands t (x .session .at) ≡ command t (x .session .at) ∷ commands t (nextCourse t x .session .at)
-    more = commands-more t (x .session .at) inside ∙ ap (λ (i : ℕ). command t (x .session .at) ∷ commands t i) (sym (next-place t x))
-
-    pub going-same : length z ≡ length b₀
-    going-same = pieces.going-same (partOf t) (courseAfter t) (commandsLeft t) (g .put) {l = command t (x .session .at)} refl (p .put)
-
-    pub going-less : length t - r .course .session .at < length t - place
-    going-less =
-        let n = next-at t x inside in
-        let q = g .here in
-        rw (p .course) (omega arith)
-
-    -- a command that fits
-    pub going-again : r .at ≤ length z → Going t x₀ b₀ (r .course) (r .at) z (r .course .session .at)
-    going-again fits =
-        let h = inside in
-        let k = next-at t x h in
-        let m = next-steps t x in
-        let j = g .later in
-        let past : x₀ .session .at < r .course .session .at = rw (p .course) (omega arith) in
+    -- what it comes to; a piece that put nothing stops only at the end, or where a command does not fit
+    puts :
+        {z : List ℕ} → pieces.Stopped (partOf t) (courseAfter t) (commandsLeft t) x₀ b₀ (g .lines) x n z →
+        (longest ≤ length b₀ → x₀ .session .at < length t → x₀ .session .at < x .session .at) → PutsPiece t x₀ b₀ (record { course = x; at = n }) z
+    unfolding pieceOf
+    puts p on =
         record {
-          lines = g .lines ++ nextText t x;
-          put = pieces.going-again (partOf t) (courseAfter t) (commandsLeft t) (g .put) {l = command t (x .session .at)} refl (p .put) (p .course) more fits;
-          given = λ q.
-              let r₁ = g .given q in
-              let s = r₁ .1 in (
-                r₁ .0 ∙ ap (λ (y : List ℕ). g .lines ++ y) (left-more t x h (omega arith)) ∙ sym (append-assoc (g .lines) (nextText t x) (leftText t (nextCourse t x))) ∙ ap (λ (y : Course). (g .lines ++ nextText t x) ++ leftText t y) (sym (p .course)),
-                rw (p .course) (omega arith),
-              );
-          here = refl;
-          later = omega arith;
-          onward = λ _. past;
+          answer = rw (← (p .state), ← (p .count));
+          bytes = p .bytes;
+          text = λ l. rw (p .front) (g .given l .0);
+          within = p .within;
+          kept = λ l. g .given l .1;
+          onward = on;
         }
 
-    -- a command that does not fit leaves what was put before it
-    pub going-stopped : length z < r .at → PutsPiece t x₀ b₀ (record { course = x; at = n }) z
-    going-stopped over =
-        let near = p .short in
-        let same = going-same in
-        puts (pieces.going-stopped (partOf t) (courseAfter t) (commandsLeft t) (g .put) {l = command t (x .session .at)} refl (p .put) more over)
-        (λ k _. g .onward (omega arith))
+    -- no command is left
+    pub print-loop-end : length t ≤ place → PutsPiece t x₀ b₀ (record { course = x; at = n }) b
+    print-loop-end l =
+        puts (pieces.print-loop-end (partOf t) (courseAfter t) (commandsLeft t) (g .put) (commands-end t (x .session .at) (omega (arith, g .here))))
+        (λ _ h. omega (arith, g .here, g .later))
+
+    module _ {r : Piece} {z : List ℕ} (l : place < length t) (p : PutsCommand t x b n r z) where
+      inside : x .session .at < length t
+      inside = omega (arith, g .here)
+
+      more : commands t (x .session .at) ≡ command t (x .session .at) ∷ commands t (nextCourse t x .session .at)
+      more = commands-more t (x .session .at) inside ∙ ap (λ (i : ℕ). command t (x .session .at) ∷ commands t i) (sym (next-place t x))
+
+      pub print-loop-same : length z ≡ length b₀
+      print-loop-same = pieces.print-loop-same (partOf t) (courseAfter t) (commandsLeft t) (g .put) {l = command t (x .session .at)} refl (p .put)
+
+      pub print-loop-less : length t - r .course .session .at < length t - place
+      print-loop-less =
+          let n = next-at t x inside in
+          let q = g .here in
+          rw (p .course) (omega arith)
+
+      -- a command that fits
+      pub print-loop-again : r .at ≤ length z → PrintLoop t x₀ b₀ (r .course) (r .at) z (r .course .session .at)
+      print-loop-again fits =
+          let h = inside in
+          let k = next-at t x h in
+          let m = next-steps t x in
+          let j = g .later in
+          let past : x₀ .session .at < r .course .session .at = rw (p .course) (omega arith) in
+          record {
+            lines = g .lines ++ nextText t x;
+            put = pieces.print-loop-again (partOf t) (courseAfter t) (commandsLeft t) (g .put) {l = command t (x .session .at)} refl (p .put) (p .course) more fits;
+            given = λ q.
+                let r₁ = g .given q in
+                let s = r₁ .1 in (
+                  r₁ .0 ∙ ap (λ (y : List ℕ). g .lines ++ y) (left-more t x h (omega arith)) ∙ sym
+                      (append-assoc (g .lines) (nextText t x) (leftText t (nextCourse t x))) ∙ ap (λ (y : Course). (g .lines ++ nextText t x) ++ leftText t y)
+                      (sym (p .course)),
+                  rw (p .course) (omega arith),
+                );
+            here = refl;
+            later = omega arith;
+            onward = λ _. past;
+          }
+
+      -- a command that does not fit leaves what was put before it
+      pub print-loop-stopped : length z < r .at → PutsPiece t x₀ b₀ (record { course = x; at = n }) z
+      print-loop-stopped over =
+          let near = p .short in
+          let same = print-loop-same in
+          puts (pieces.print-loop-stopped (partOf t) (courseAfter t) (commandsLeft t) (g .put) {l = command t (x .session .at)} refl (p .put) more over)
+          (λ k _. g .onward (omega arith))
 
 -- ---- the writer, by the length that a buffer of no bytes tells; d is the buffer after that
 module _ (text b : List ℕ) {d : List ℕ} (same : d ≡ b) {e y : List ℕ} {n : ℕ} (p : Put e 0 text n y) (room : length b < largest) where

@@ -15,7 +15,8 @@ use Rattle.construction.proofs.Text.Writing.{Series}
 use Rattle.grammar.proofs.Cases.{on-test}
 use Rattle.answers.proofs.Texts.{put-word-number}
 use Rattle.dump.specs.Binary.{binary, over}
-use Rattle.dump.specs.Dump.{lineOf, timescaleLine, scopeLine, codeOf, varLine, upscopeLine, definitionsLine, varsText, headerText, timeText, valueText, valuesText, Change, change, changesAt, timeAbove, changesText, toldAfter, openingText}
+use Rattle.dump.specs.Dump.{lineOf, timescaleLine, scopeLine, codeOf, varLine, upscopeLine, definitionsLine, varsText, headerText, timeText, valueText}
+use Rattle.dump.specs.Dump.{valuesText, Change, change, changesAt, timeAbove, changesText, toldAfter, openingText}
 use Rattle.dump.proofs.Binaries.{binary-one, binary-more, binary-short}
 use Rattle.dump_writer.specs.declared.Told.{Told}
 use Rattle.dump_writer.specs.Courses.{changeOf, Tells}
@@ -64,11 +65,17 @@ module _ {b : List ℕ} {at : ℕ} (room : Room b at) {i j k l m : ℕ} {z₁ z�
       Put z₄ l definitionsLine m z₅ → Put b at (headerText n) m z₅
   unfolding headerText
   put-header n p₁ p₂ p₃ p₄ p₅ =
-      rest-last (rest-step (rest-step (rest-step (rest-step (rest-all b at (timescaleLine ++ (scopeLine ++ (varsText n 0 ++ (upscopeLine ++ definitionsLine)))) room) p₁) p₂) p₃) p₄) p₅
+      rest-last
+      (rest-step
+      (rest-step
+      (rest-step (rest-step (rest-all b at (timescaleLine ++ (scopeLine ++ (varsText n 0 ++ (upscopeLine ++ definitionsLine)))) room) p₁) p₂) p₃)
+      p₄)
+      p₅
 
 module _ {b : List ℕ} {i j k : ℕ} {z₁ z₂ z₃ : List ℕ} where
   pub put-opening :
-      (n : ℕ) (row : List ℕ) → Room b 0 → Put b 0 (headerText n) i z₁ → Put z₁ i (timeText 0) j z₂ → Put z₂ j (valuesText n 0 row) k z₃ → Put b 0 (openingText n row) k z₃
+      (n : ℕ) (row : List ℕ) → Room b 0 → Put b 0 (headerText n) i z₁ → Put z₁ i (timeText 0) j z₂ → Put z₂ j (valuesText n 0 row) k z₃ →
+      Put b 0 (openingText n row) k z₃
   unfolding openingText
   put-opening n row room p₁ p₂ p₃ = rest-last (rest-step (rest-step (rest-all b 0 (headerText n ++ (timeText 0 ++ valuesText n 0 row)) room) p₁) p₂) p₃
 
@@ -107,11 +114,13 @@ unfolding toldAfter
 told-append told [] b = refl
 told-append told (c ∷ a) b = told-append (c .time) a b
 
-changes-cons : (k m v : ℕ) (before after : List ℕ) → changesAt k (suc m) v before after ≡ changeOf k v (getD before v 0) (getD after v 0) ++ changesAt k m (suc v) before after
+changes-cons : (k m v : ℕ) (before after : List ℕ) → changesAt k (suc m) v before after ≡ changeOf k v (getD before v 0) (getD after v 0) ++ changesAt k m
+    (suc v) before after
 unfolding changesAt
 changes-cons k m v before after = go (eqb (getD before v 0) (getD after v 0))
   where
-    go : (b : Bool) → cond b (changesAt k m (suc v) before after) (change k v (getD after v 0) ∷ changesAt k m (suc v) before after) ≡ cond b [] (change k v (getD after v 0) ∷ []) ++ changesAt k m (suc v) before after
+    go : (b : Bool) → cond b (changesAt k m (suc v) before after) (change k v (getD after v 0) ∷ changesAt k m (suc v) before after) ≡ cond b []
+        (change k v (getD after v 0) ∷ []) ++ changesAt k m (suc v) before after
     go true = refl
     go false = refl
 
@@ -124,7 +133,8 @@ Words row = (v : ℕ) → getD row v 0 < over
 time-short : (k : ℕ) → k ≤ largest → length (timeText k) ≤ 22
 unfolding timeText
 time-short k h =
-    let p = put-word-number {b = []} {at = 0} {z = sets [] 0 (decimal k)} [] k (omega arith) h (put-none [] 0 (omega arith)) (record { place = refl; bytes = refl }) .1 in
+    let p = put-word-number {b = []} {at = 0} {z = sets [] 0 (decimal k)} [] k (omega arith) h (put-none [] 0 (omega arith))
+    (record { place = refl; bytes = refl }) .1 in
     omega (arith, length-append (decimal k) (10 ∷ []))
 
 value-short : (v x : ℕ) → x < over → length (valueText v x) ≤ 36
@@ -172,17 +182,23 @@ module _ (b : List ℕ) (at told k n : ℕ) (before after : List ℕ) where
 module _ {b₀ : List ℕ} {at told : ℕ} {all : List Change} {b : List ℕ} {i last : ℕ} (k n v : ℕ) (before after : List ℕ) where
   pub telling-turn :
       {r : Told} {z : List ℕ} → v < n → Telling b₀ at told all b i last (changesAt k (n - v) v before after) →
-      Tells b i last (changeOf k v (getD before v 0) (getD after v 0)) r z → Telling b₀ at told all z (r .at) (r .time) (changesAt k (n - (v + 1)) (v + 1) before after)
+      Tells b i last (changeOf k v (getD before v 0) (getD after v 0)) r z →
+      Telling b₀ at told all z (r .at) (r .time) (changesAt k (n - (v + 1)) (v + 1) before after)
   telling-turn {r} {z} l t p =
       let m : n - v ≡ suc (n - (v + 1)) = omega arith in
       let s : suc v ≡ v + 1 = omega arith in
       let one : List Change = changeOf k v (getD before v 0) (getD after v 0) in
       let more : List Change = changesAt k (n - (v + 1)) (v + 1) before after in
-      let e : changesAt k (n - v) v before after ≡ one ++ more = ap (λ (y : ℕ). changesAt k y v before after) m ∙ changes-cons k (n - (v + 1)) v before after ∙ ap (λ (y : ℕ). one ++ changesAt k (n - (v + 1)) y before after) s in
+      let e : changesAt k (n - v) v before after ≡ one ++ more =
+      ap (λ (y : ℕ). changesAt k y v before after) m ∙ changes-cons k (n - (v + 1)) v before after ∙ ap
+      (λ (y : ℕ). one ++ changesAt k (n - (v + 1)) y before after) s in
       record {
         left =
             subst (λ (y : ℕ). Rest b₀ at (changesText told all) z (r .at) (changesText y more)) (sym (p .time))
-            (rest-step (subst (λ (y : List ℕ). Rest b₀ at (changesText told all) b i y) (ap (λ (y : List Change). changesText last y) e ∙ changes-append last one more) (t .left)) (p .put));
+            (rest-step
+            (subst (λ (y : List ℕ). Rest b₀ at (changesText told all) b i y)
+            (ap (λ (y : List Change). changesText last y) e ∙ changes-append last one more) (t .left))
+            (p .put));
         time = t .time ∙ ap (λ (y : List Change). toldAfter last y) e ∙ told-append last one more ∙ ap (λ (y : ℕ). toldAfter y more) (sym (p .time));
       }
 

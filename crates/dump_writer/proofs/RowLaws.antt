@@ -9,7 +9,7 @@ use lib.Seq.{set-out}
 use native.Mathlib.Omega.{arith}
 use native.Mathlib.Numerals.{add-one}
 use native.Mathlib.Decide.{decLe}
-use Rattle.construction.specs.declared.{Gate.Gate, Announcement.Announcement, Record.Record, Card.Card}
+use Rattle.construction.specs.declared.{cells.Gate.Gate, cells.Announcement.Announcement, cells.Record.Record, card.Card.Card}
 use Rattle.construction.specs.Cells.{openAnnouncement, openRecord}
 use Rattle.construction.specs.Parts.{announcementAt, recordAt}
 use Rattle.construction.specs.Machine.{holderOf}
@@ -53,5 +53,7 @@ pub row-is :
     r ≡ shownFrom (c .gate) a (c .records) (c .variableCount) 0 (replicate 64 0) → r ≡ rowOf c
 unfolding rowOf
 row-is c full m em a ea r er =
-    let same : a ≡ announcementAt c (holderOf (c .gate .holder)) = found (c .announcements) 8 full m openAnnouncement openAnnouncement a ea ∙ ap (λ (k : ℕ). announcementAt c k) em in
-    er ∙ ap (λ (y : Announcement). shownFrom (c .gate) y (c .records) (c .variableCount) 0 (replicate 64 0)) same ∙ sym (row-from c (c .variableCount) 0 (replicate 64 0))
+    let same : a ≡ announcementAt c (holderOf (c .gate .holder)) =
+    found (c .announcements) 8 full m openAnnouncement openAnnouncement a ea ∙ ap (λ (k : ℕ). announcementAt c k) em in
+    er ∙ ap (λ (y : Announcement). shownFrom (c .gate) y (c .records) (c .variableCount) 0 (replicate 64 0)) same ∙ sym
+    (row-from c (c .variableCount) 0 (replicate 64 0))

@@ -76,7 +76,8 @@ unfolding entries commandsFrom
 narrow-from zero t at = tt
 narrow-from (suc f) t at =
     on-test (λ (ms : List Parsed). Narrow (entries t ms)) (ltb at (length t))
-    (λ _. narrow-more t (command t at .command) (entries t (commandsFrom f t (command t at .next))) (command-narrow t at) (narrow-from f t (command t at .next)))
+    (λ _. narrow-more t (command t at .command) (entries t (commandsFrom f t (command t at .next))) (command-narrow t at)
+    (narrow-from f t (command t at .next)))
     (λ _. tt)
 
 pub session-narrow : (calls : List ℕ) → Narrow (entries calls (commands calls 0))

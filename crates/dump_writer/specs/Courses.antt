@@ -6,7 +6,7 @@ use mathlib.Core.Path.{_≡_}
 use lib.ListN.{length, getD, set, take}
 use lib.Dec.{eqb}
 use Rattle.grammar.specs.Writing.{placeAfter, Put}
-use Rattle.construction.specs.declared.{Gate.Gate, Announcement.Announcement, Record.Record, Answer.Answer, Written.Written}
+use Rattle.construction.specs.declared.{cells.Gate.Gate, cells.Announcement.Announcement, cells.Record.Record, answers.Answer.Answer, texts.Written.Written}
 use Rattle.construction.specs.Answers.{isRefused}
 use Rattle.construction.specs.Cells.{openRecord}
 use Rattle.construction.specs.Requests.{shown}

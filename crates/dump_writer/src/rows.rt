@@ -1,11 +1,11 @@
 // What a read shows of every variable of a card.
-use construction::Announcement;
-use construction::Card;
-use construction::Gate;
-use construction::Record;
+use construction::card::Card;
+use construction::cells::Announcement;
+use construction::cells::Gate;
+use construction::cells::Record;
 use machine::places::holder_of;
+use requests::lookups::announcement_at;
 use requests::reading::value_of;
-use requests::rooms::announcement_at;
 ghost use mathlib.Core.Path.{_≡_};
 ghost use Prim.Native.Nat.{min};
 ghost use Rattle.dump.specs.Histories.{rowOf};

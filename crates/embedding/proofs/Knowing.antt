@@ -7,7 +7,7 @@ use native.Mathlib.Omega.{arith}
 use native.Mathlib.Nat.{zero-add}
 use lib.ListN.{length, take, drop, set}
 use lib.Seq.{take-nil}
-use Rattle.construction.specs.declared.{Answer.Answer, Yield.Yield}
+use Rattle.construction.specs.declared.{answers.Answer.Answer, cells.Yield.Yield}
 use Rattle.construction.specs.Answers.{isRefused, answerFields}
 use Rattle.construction.proofs.Statements.AnswerFields.{known-by-fields}
 use Rattle.codes.specs.Parts.{storesFrom}

@@ -5,7 +5,7 @@ use mathlib.Core.Bool.{Bool, true, false, _||_}
 use mathlib.Core.List.{List, []}
 use lib.Dec.{ltb}
 use lib.ListN.{length}
-use Rattle.construction.specs.declared.Answer.{Answer}
+use Rattle.construction.specs.declared.answers.Answer.{Answer}
 use Rattle.construction.specs.History.{Entry}
 use Rattle.lent_runs.specs.Runs.{Reply, untraced}
 use Rattle.allowance.specs.declared.{Allowance.Allowance, Opened.Opened}

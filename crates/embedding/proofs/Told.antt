@@ -4,9 +4,11 @@ use mathlib.Core.List.{List, [], _∷_}
 use mathlib.Core.Path.{_≡_, refl, _∙_, ap}
 use native.Mathlib.Omega.{arith}
 use borrow.Author.Tests.{ne-eqb}
-use Rattle.construction.specs.declared.{LabelRow.LabelRow, Report.Report}
-use Rattle.construction.specs.declared.Refusal.{Refusal}
-use Rattle.construction.specs.declared.Refusal.the-variants.{TooLong, Malformed, OutOfRange, UnknownCode, NoProcess, NoProgram, Busy, NotBusy, NoPlace, LimitReached, ShortBuffer, OperandOutOfRange, UnusedOperand, TooHeavy, NotAhead, Unsettled, TooLarge, BadTerms, NoAllowance}
+use Rattle.construction.specs.declared.{accesses.LabelRow.LabelRow, answers.Report.Report}
+use Rattle.construction.specs.declared.answers.Refusal.{Refusal}
+use Rattle.construction.specs.declared.answers.Refusal.the-variants.{TooLong, Malformed, OutOfRange, UnknownCode, NoProcess, NoProgram, Busy, NotBusy, NoPlace}
+use Rattle.construction.specs.declared.answers.Refusal.the-variants.{LimitReached, ShortBuffer, OperandOutOfRange, UnusedOperand, TooHeavy, NotAhead, Unsettled}
+use Rattle.construction.specs.declared.answers.Refusal.the-variants.{TooLarge, BadTerms, NoAllowance}
 use Rattle.construction.specs.Answers.{numberOf}
 use Rattle.construction.specs.Labels.{labelRow}
 use Rattle.construction.specs.Reports.{swapByte}

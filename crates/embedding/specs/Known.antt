@@ -5,7 +5,7 @@ use mathlib.Core.Bool.{true, false}
 use mathlib.Core.List.{List, _++_}
 use mathlib.Core.Path.{_≡_}
 use lib.ListN.{length, take, drop}
-use Rattle.construction.specs.declared.Answer.{Answer}
+use Rattle.construction.specs.declared.answers.Answer.{Answer}
 use Rattle.construction.specs.Answers.{isRefused}
 use Rattle.embedding.specs.Numbers.{told, statusOf, numbersOf}
 

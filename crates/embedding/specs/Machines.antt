@@ -7,9 +7,9 @@ use mathlib.Core.List.{List, []}
 use mathlib.Core.Path.{_≡_}
 use lib.Dec.{ltb}
 use lib.ListN.{length}
-use Rattle.construction.specs.declared.Answer.{Answer}
-use Rattle.construction.specs.declared.Report.{Report}
-use Rattle.construction.specs.declared.Refusal.the-variants.{ShortBuffer}
+use Rattle.construction.specs.declared.answers.Answer.{Answer}
+use Rattle.construction.specs.declared.answers.Report.{Report}
+use Rattle.construction.specs.declared.answers.Refusal.the-variants.{ShortBuffer}
 use Rattle.construction.specs.Answers.{numberOf}
 use Rattle.construction.specs.History.{Entry}
 use Rattle.allowance.specs.Allowing.{turn}

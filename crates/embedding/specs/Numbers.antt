@@ -5,7 +5,7 @@ use Prim.Native.Nat.{ℕ}
 use mathlib.Core.Bool.{Bool, cond}
 use mathlib.Core.List.{List, [], _∷_}
 use lib.Dec.{eqb}
-use Rattle.construction.specs.declared.{Answer.Answer, Cell.Cell, Report.Report, Verdict.Verdict, Written.Written}
+use Rattle.construction.specs.declared.{answers.Answer.Answer, accesses.Cell.Cell, answers.Report.Report, texts.Verdict.Verdict, texts.Written.Written}
 use Rattle.construction.specs.Answers.{numberOf, outputNumbers}
 use Rattle.construction.specs.Labels.{labelRow}
 use Rattle.construction.specs.Reports.{swapByte}

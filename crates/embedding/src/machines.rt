@@ -9,7 +9,7 @@ use allowance::turned;
 use allowance_words::allowance_in;
 use allowance_words::put_allowance;
 use allowance_words::terms_in;
-use construction::Words;
+use construction::cells::Words;
 use shared_processor::cards::open_card;
 use shared_processor::requesting::call;
 use shared_processor::requesting::change;

@@ -4,7 +4,7 @@ use crate::numbers::tell;
 use crate::numbers::tell_both;
 use crate::numbers::tell_verdict;
 use crate::numbers::tell_written;
-use construction::Words;
+use construction::cells::Words;
 use lent_card::changing::change;
 use lent_card::requesting::call;
 use lent_card::requesting::read;

@@ -8,14 +8,15 @@ use native.Mathlib.Omega.{arith}
 use native.Mathlib.Decide.{ℕ-discrete}
 use lib.ListN.{length}
 use borrow.Author.Tests.{not-true}
-use Rattle.construction.specs.declared.{Card.Card, Answer.Answer, Contents.Contents}
+use Rattle.construction.specs.declared.{card.Card.Card, answers.Answer.Answer, texts.Contents.Contents}
 use Rattle.construction.specs.Answers.{isRefused}
 use Rattle.construction.specs.Requests.{isBusy, step}
 use Rattle.executions.specs.Schedules.{Execution, preceded, isQuiet, branch, branches, listing, Before, after}
 use Rattle.construction.proofs.Basics.{on-test, and-true, clash, true-false}
 use Rattle.construction.proofs.Observing.Entries.{on-step}
 use Rattle.construction.proofs.Statements.OneAccess.{one-access}
-use Rattle.executions.proofs.Executions.{All, all-append, all-map, all-of, all-weaken, Has, has-left, has-right, has-preceded, BeforeAll, Sorted, sorted-append, sorted-preceded}
+use Rattle.executions.proofs.Executions.{All, all-append, all-map, all-of, all-weaken, Has, has-left, has-right, has-preceded, BeforeAll, Sorted}
+use Rattle.executions.proofs.Executions.{sorted-append, sorted-preceded}
 
 -- a schedule step by step, from a card on: its answers, and that no step of it is refused
 abbrev pub told : Card → List ℕ → List Answer
@@ -91,7 +92,8 @@ module _ (n : ℕ) (c : Card) (rest : Card → List Execution) where
   branches-listed h (suc m) k =
       all-append (Listed (suc n) c) (branch k (step c k) rest) (branches c rest m (suc k))
       (on-test (All (Listed (suc n) c)) (isRefused (step c k .answer)) (λ _. tt)
-      (λ a. all-map (Listed n (step c k .card)) (Listed (suc n) c) (preceded k (step c k .answer)) (listed-preceded n c k a) (rest (step c k .card)) (h (step c k .card))))
+      (λ a. all-map (Listed n (step c k .card)) (Listed (suc n) c) (preceded k (step c k .answer)) (listed-preceded n c k a) (rest (step c k .card))
+      (h (step c k .card))))
       (branches-listed h m (suc k))
 
 pub all-listed : (n : ℕ) (c : Card) → All (Listed n c) (listing n c)
@@ -127,7 +129,8 @@ listing-has (suc n) c [] a (inr q) = rw (q .1) (inl refl)
 listing-has (suc n) c (i ∷ s) a e =
     on-test (Has (i ∷ s)) (isQuiet c (c .processCount))
     (λ q. absurd (true-false (isBusy c i) (b .1) (quiet-idle c (c .processCount) i q (b .0))))
-    (λ _. branches-has c (λ d. listing n d) i s (a .0) (listing-has n (step c i .card) s (a .1) (shorter e)) (c .processCount) 0 (omega arith) (omega (arith, b .0)))
+    (λ _. branches-has c (λ d. listing n d) i s (a .0) (listing-has n (step c i .card) s (a .1) (shorter e)) (c .processCount) 0 (omega arith)
+    (omega (arith, b .0)))
   where
     b : (i < c .processCount) × (isBusy c i ≡ true)
     b = accepted-busy c i (a .0)

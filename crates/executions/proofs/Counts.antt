@@ -7,8 +7,8 @@ use native.Mathlib.Omega.{arith}
 use lib.ListN.{length, getD}
 use borrow.Author.Tests.{lt-ltb}
 use Rattle.executions.specs.declared.Request.{Request}
-use Rattle.construction.specs.declared.{Flag.Flag, Announcement.Announcement, Card.Card, Answered.Answered, Contents.Contents}
-use Rattle.construction.specs.declared.Flag.the-variants.{Done, Active, Exit}
+use Rattle.construction.specs.declared.{cells.Flag.Flag, cells.Announcement.Announcement, card.Card.Card, answers.Answered.Answered, texts.Contents.Contents}
+use Rattle.construction.specs.declared.cells.Flag.the-variants.{Done, Active, Exit}
 use Rattle.construction.specs.Answers.{isRefused}
 use Rattle.construction.specs.Parts.{Local, localAt}
 use Rattle.construction.specs.Machine.{advance}
@@ -68,7 +68,7 @@ returned-accepted a Exit n = refl
 
 answer-accepted : (l : Local) → isRefused (answerOf l) ≡ false
 answer-accepted l =
-    on-test (λ a. isRefused a ≡ false) (isIdle (l .task .place)) (λ _. returned-accepted (l .announcement) (l .announcement .flag) (l .steps)) (λ _. refl)
+    on-test (λ a. isRefused a ≡ false) (isIdle (l .control .place)) (λ _. returned-accepted (l .announcement) (l .announcement .flag) (l .steps)) (λ _. refl)
 
 -- among the first L steps, one of a process under way is accepted
 pub within-limit :

@@ -5,7 +5,7 @@ use mathlib.Core.Logic.{_⊎_, inl, inr}
 use mathlib.Core.List.{List, [], _∷_, _++_, map}
 use native.Mathlib.Omega.{arith}
 use lib.ListN.{length}
-use Rattle.construction.specs.declared.{Answer.Answer}
+use Rattle.construction.specs.declared.{answers.Answer.Answer}
 use Rattle.executions.specs.Schedules.{Execution, preceded, Before, executionAt, Stands}
 use Rattle.construction.proofs.Basics.{clash}
 

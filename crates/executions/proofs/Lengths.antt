@@ -4,7 +4,7 @@ use mathlib.Core.List.{List, [], _∷_}
 use native.Mathlib.Omega.{arith}
 use native.Mathlib.Nat.{suc-mul, pow-zero, pow-suc, one-le-pow}
 use lib.ListN.{length, length-append, length-map}
-use Rattle.construction.specs.declared.{Card.Card}
+use Rattle.construction.specs.declared.{card.Card.Card}
 use Rattle.construction.specs.Answers.{isRefused}
 use Rattle.construction.specs.Requests.{step}
 use Rattle.executions.specs.Schedules.{Execution, preceded, isQuiet, branch, branches, listing}

@@ -4,10 +4,11 @@ use mathlib.Core.Path.{_≡_, refl, sym, ap, _∙_}
 use mathlib.Core.Bool.{Bool, true, false}
 use mathlib.Core.List.{List, [], _++_, append-assoc, append-nil}
 use native.Mathlib.Omega.{arith}
-use native.Mathlib.Nat.{zero-add, suc-add, add-zero, zero-mul, suc-mul, add-comm, pow-zero, pow-succ', one-le-pow, mul-add-div-right, mul-add-mod-self-right, div-eq-of-lt, mod-eq-of-lt}
+use native.Mathlib.Nat.{zero-add, suc-add, add-zero, zero-mul, suc-mul, add-comm, pow-zero, pow-succ', one-le-pow, mul-add-div-right, mul-add-mod-self-right}
+use native.Mathlib.Nat.{div-eq-of-lt, mod-eq-of-lt}
 use borrow.Author.Tests.{ne-eqb}
 use Rattle.grammar.specs.Writing.{decimal}
-use Rattle.construction.specs.declared.{Card.Card}
+use Rattle.construction.specs.declared.{card.Card.Card}
 use Rattle.construction.specs.Answers.{isRefused}
 use Rattle.construction.specs.Requests.{step}
 use Rattle.executions.specs.Schedules.{isQuiet}
@@ -43,60 +44,65 @@ together-first f (suc m) lt h = rw (together-none f m 1 (λ j le. h j (omega ari
 
 -- one step more: the pieces that each process begins
 module _ (m n : ℕ) (c : Card) (x y : List ℕ) (some : 0 < c .processCount)
-    (known : (d : Card) (z w : List ℕ) → d .processCount ≡ c .processCount → together (λ j. pieceAfter m n j d z w) (c .processCount ^ m) 0 ≡ textAfter (m + n) d z w) where
-  abbrev block : ℕ
-  block = c .processCount ^ m
+    (known : (d : Card) (z w : List ℕ) → d .processCount ≡ c .processCount →
+    together (λ j. pieceAfter m n j d z w) (c .processCount ^ m) 0 ≡ textAfter (m + n) d z w)
+  where
+    abbrev block : ℕ
+    block = c .processCount ^ m
 
-  full : 0 < block
-  full = omega (arith, one-le-pow m (c .processCount) some)
+    full : 0 < block
+    full = omega (arith, one-le-pow m (c .processCount) some)
 
-  abbrev begun : ℕ → ℕ → List ℕ
-  begun k r = branchText k (step c k) x y (λ d z w. pieceAfter m n r d z w)
+    abbrev begun : ℕ → ℕ → List ℕ
+    begun k r = branchText k (step c k) x y (λ d z w. pieceAfter m n r d z w)
 
-  begun-all : (k : ℕ) (b : Bool) → isRefused (step c k .answer) ≡ b → together (λ r. begun k r) block 0 ≡ branchText k (step c k) x y (λ d z w. textAfter (m + n) d z w)
-  begun-all k true e = together-none (λ r. begun k r) block 0 (λ j _. rw e) ∙ sym (rw e)
-  begun-all k false e =
-      together-same (λ r. begun k r) (λ r. pieceAfter m n r (step c k .card) (x ++ decimal k) (y ++ answerText (step c k .answer))) block 0 0 (λ r _. rw e)
-      ∙ known (step c k .card) (x ++ decimal k) (y ++ answerText (step c k .answer)) (step-processes c k)
-      ∙ sym (rw e)
+    begun-all : (k : ℕ) (b : Bool) → isRefused (step c k .answer) ≡ b →
+        together (λ r. begun k r) block 0 ≡ branchText k (step c k) x y (λ d z w. textAfter (m + n) d z w)
+    begun-all k true e = together-none (λ r. begun k r) block 0 (λ j _. rw e) ∙ sym (rw e)
+    begun-all k false e =
+        together-same (λ r. begun k r) (λ r. pieceAfter m n r (step c k .card) (x ++ decimal k) (y ++ answerText (step c k .answer))) block 0 0 (λ r _. rw e)
+        ∙ known (step c k .card) (x ++ decimal k) (y ++ answerText (step c k .answer)) (step-processes c k)
+        ∙ sym (rw e)
 
-  module _ (quiet : isQuiet c (c .processCount) ≡ false) where
-    piece-is : (j : ℕ) → pieceAfter (suc m) n j c x y ≡ begun (j / block) (j % block)
-    unfolding pieceAfter
-    piece-is j = rw quiet
+    module _ (quiet : isQuiet c (c .processCount) ≡ false) where
+      piece-is : (j : ℕ) → pieceAfter (suc m) n j c x y ≡ begun (j / block) (j % block)
+      unfolding pieceAfter
+      piece-is j = rw quiet
 
-    block-is : (k : ℕ) → together (λ j. pieceAfter (suc m) n j c x y) block (k * block) ≡ branchText k (step c k) x y (λ d z w. textAfter (m + n) d z w)
-    block-is k =
-        together-same (λ j. pieceAfter (suc m) n j c x y) (λ r. begun k r) block (k * block) 0
-        (λ r lt. let e : (k * block + r) / block ≡ k = mul-add-div-right full k r ∙ ap (λ (q : ℕ). k + q) (div-eq-of-lt lt) ∙ add-zero k in
-        let d : (k * block + r) % block ≡ 0 + r = mul-add-mod-self-right k block r ∙ mod-eq-of-lt lt ∙ sym (zero-add r) in
-        piece-is (k * block + r) ∙ ap (λ (i : ℕ). begun i ((k * block + r) % block)) e ∙ ap (λ (i : ℕ). begun k i) d)
-        ∙ begun-all k (isRefused (step c k .answer)) refl
+      block-is : (k : ℕ) → together (λ j. pieceAfter (suc m) n j c x y) block (k * block) ≡ branchText k (step c k) x y (λ d z w. textAfter (m + n) d z w)
+      block-is k =
+          together-same (λ j. pieceAfter (suc m) n j c x y) (λ r. begun k r) block (k * block) 0
+          (λ r lt. let e : (k * block + r) / block ≡ k = mul-add-div-right full k r ∙ ap (λ (q : ℕ). k + q) (div-eq-of-lt lt) ∙ add-zero k in
+          let d : (k * block + r) % block ≡ 0 + r = mul-add-mod-self-right k block r ∙ mod-eq-of-lt lt ∙ sym (zero-add r) in
+          piece-is (k * block + r) ∙ ap (λ (i : ℕ). begun i ((k * block + r) % block)) e ∙ ap (λ (i : ℕ). begun k i) d)
+          ∙ begun-all k (isRefused (step c k .answer)) refl
 
-    blocks : (q k : ℕ) → together (λ j. pieceAfter (suc m) n j c x y) (q * block) (k * block) ≡ branchesText c x y (λ d z w. textAfter (m + n) d z w) q k
-    unfolding together branchesText
-    blocks zero k = rw (zero-mul block)
-    blocks (suc q) k =
-        ap (λ (i : ℕ). together (λ j. pieceAfter (suc m) n j c x y) i (k * block)) (suc-mul q block ∙ add-comm (q * block) block)
-        ∙ together-append (λ j. pieceAfter (suc m) n j c x y) block (q * block) (k * block)
-        ∙ rw (block-is k, sym (suc-mul k block), blocks q (suc k))
+      blocks : (q k : ℕ) → together (λ j. pieceAfter (suc m) n j c x y) (q * block) (k * block) ≡ branchesText c x y (λ d z w. textAfter (m + n) d z w) q k
+      unfolding together branchesText
+      blocks zero k = rw (zero-mul block)
+      blocks (suc q) k =
+          ap (λ (i : ℕ). together (λ j. pieceAfter (suc m) n j c x y) i (k * block)) (suc-mul q block ∙ add-comm (q * block) block)
+          ∙ together-append (λ j. pieceAfter (suc m) n j c x y) block (q * block) (k * block)
+          ∙ rw (block-is k, sym (suc-mul k block), blocks q (suc k))
 
-    pub busy-pieces : together (λ j. pieceAfter (suc m) n j c x y) (c .processCount ^ suc m) 0 ≡ textAfter (suc (m + n)) c x y
-    unfolding textAfter
-    busy-pieces =
-        ap (λ (i : ℕ). together (λ j. pieceAfter (suc m) n j c x y) i 0) (pow-succ' (c .processCount) m)
-        ∙ ap (λ (i : ℕ). together (λ j. pieceAfter (suc m) n j c x y) (c .processCount * block) i) (sym (zero-mul block))
-        ∙ blocks (c .processCount) 0
-        ∙ sym (rw quiet)
+      pub busy-pieces : together (λ j. pieceAfter (suc m) n j c x y) (c .processCount ^ suc m) 0 ≡ textAfter (suc (m + n)) c x y
+      unfolding textAfter
+      busy-pieces =
+          ap (λ (i : ℕ). together (λ j. pieceAfter (suc m) n j c x y) i 0) (pow-succ' (c .processCount) m)
+          ∙ ap (λ (i : ℕ). together (λ j. pieceAfter (suc m) n j c x y) (c .processCount * block) i) (sym (zero-mul block))
+          ∙ blocks (c .processCount) 0
+          ∙ sym (rw quiet)
 
-  pub quiet-pieces : isQuiet c (c .processCount) ≡ true → together (λ j. pieceAfter (suc m) n j c x y) (c .processCount ^ suc m) 0 ≡ textAfter (suc (m + n)) c x y
-  unfolding textAfter pieceAfter
-  quiet-pieces quiet =
-      together-first (λ j. pieceAfter (suc m) n j c x y) (c .processCount ^ suc m) (omega (arith, one-le-pow (suc m) (c .processCount) some))
-      (λ j lt. rw (quiet, ne-eqb j 0 (λ z. omega arith)))
-      ∙ rw quiet
+    pub quiet-pieces : isQuiet c (c .processCount) ≡ true → together (λ j. pieceAfter (suc m) n j c x y) (c .processCount ^ suc m) 0 ≡ textAfter (suc (m + n)) c x
+        y
+    unfolding textAfter pieceAfter
+    quiet-pieces quiet =
+        together-first (λ j. pieceAfter (suc m) n j c x y) (c .processCount ^ suc m) (omega (arith, one-le-pow (suc m) (c .processCount) some))
+        (λ j lt. rw (quiet, ne-eqb j 0 (λ z. omega arith)))
+        ∙ rw quiet
 
-pub pieces-after : (m n : ℕ) (c : Card) (x y : List ℕ) → (0 < m → 0 < c .processCount) → together (λ j. pieceAfter m n j c x y) (c .processCount ^ m) 0 ≡ textAfter (m + n) c x y
+pub pieces-after : (m n : ℕ) (c : Card) (x y : List ℕ) → (0 < m → 0 < c .processCount) →
+    together (λ j. pieceAfter m n j c x y) (c .processCount ^ m) 0 ≡ textAfter (m + n) c x y
 unfolding together pieceAfter
 pieces-after zero n c x y some = rw (pow-zero (c .processCount), zero-add n) (append-nil (textAfter n c x y))
 pieces-after (suc m) n c x y some =
@@ -105,7 +111,9 @@ pieces-after (suc m) n c x y some =
     (λ d z w e. ap (λ (p : ℕ). together (λ j. pieceAfter m n j d z w) (p ^ m) 0) (sym e) ∙ pieces-after m n d z w (λ _. omega (arith, e, some (omega arith)))))
   where
     by : (b : Bool) → isQuiet c (c .processCount) ≡ b →
-        ((d : Card) (z w : List ℕ) → d .processCount ≡ c .processCount → together (λ j. pieceAfter m n j d z w) (c .processCount ^ m) 0 ≡ textAfter (m + n) d z w) →
+        ((d : Card) (z w : List ℕ) → d .processCount ≡ c .processCount →
+        together (λ j. pieceAfter m n j d z w) (c .processCount ^ m) 0 ≡ textAfter (m + n) d z w)
+        →
         together (λ j. pieceAfter (suc m) n j c x y) (c .processCount ^ suc m) 0 ≡ textAfter (suc (m + n)) c x y
     by true e known = quiet-pieces m n c x y (some (omega arith)) known e
     by false e known = busy-pieces m n c x y (some (omega arith)) known e

@@ -7,7 +7,7 @@ use mathlib.Core.List.{List, [], _∷_}
 use native.Mathlib.Omega.{arith}
 use lib.ListN.{length, getD, take}
 use Rattle.executions.specs.declared.Request.{Request}
-use Rattle.construction.specs.declared.{Card.Card, Answer.Answer, Answered.Answered}
+use Rattle.construction.specs.declared.{card.Card.Card, answers.Answer.Answer, answers.Answered.Answered}
 use Rattle.construction.specs.Answers.{isRefused}
 use Rattle.construction.specs.Requests.{isBusy, call, step}
 use Rattle.construction.specs.History.{Entry, Observation, opening, observe, observeAll, run}
@@ -21,7 +21,8 @@ unfolding observeAll observe
 steps-card o m [] = refl
 steps-card o m (i ∷ s) = steps-card o (observe o m (Entry.Step i)) s
 
-calls-processes : (o : Card) (m : Observation) (calls : List Request) (n k : ℕ) → observeAll o m (callsFrom calls n k) .card .processCount ≡ m .card .processCount
+calls-processes : (o : Card) (m : Observation) (calls : List Request) (n k : ℕ) →
+    observeAll o m (callsFrom calls n k) .card .processCount ≡ m .card .processCount
 unfolding observeAll observe callsFrom
 calls-processes o m calls zero k = refl
 calls-processes o m calls (suc n) k =
@@ -96,7 +97,11 @@ module _ (o : Card) (calls : List Request) where
       go : Ends L start s → (length s ≡ L) ⊎ ((length s < L) × ((i : ℕ) → i < o .processCount → isBusy (scheduled o calls s .card) i ≡ false))
       go (inl e) = inl e
       go (inr q) =
-          inr (q .0, λ i lt. ap (λ (c : Card). isBusy c i) (scheduled-card s) ∙ quiet-idle (after start s) (after start s .processCount) i (q .1) (omega (arith, end-processes s)))
+          inr (
+            q .0,
+            λ i lt. ap (λ (c : Card). isBusy c i) (scheduled-card s) ∙ quiet-idle (after start s) (after start s .processCount) i (q .1)
+                (omega (arith, end-processes s)),
+          )
 
   pub accepts : (s : List ℕ) → ((k : ℕ) → k < length s → isRefused (stepAt o calls s k .answer) ≡ false) → Accepts start s
   accepts s h = at-accepts start s (λ k lt. ap (λ (r : Answered). isRefused (r .answer)) (sym (step-at s k)) ∙ h k lt)

@@ -7,7 +7,7 @@ use native.Mathlib.Omega.{arith}
 use lib.Dec.{eqb}
 use borrow.Author.Tests.{eq-eqb, ne-eqb}
 use Rattle.grammar.specs.Writing.{decimal}
-use Rattle.construction.specs.declared.{Card.Card, Answer.Answer}
+use Rattle.construction.specs.declared.{card.Card.Card, answers.Answer.Answer}
 use Rattle.construction.specs.Answers.{isRefused}
 use Rattle.construction.specs.Requests.{step}
 use Rattle.construction.proofs.Basics.{true-false}
@@ -25,7 +25,8 @@ unfolding numbersTogether answersText
 line-preceded x y i a e =
     rw (append-assoc x (decimal i) (numbersTogether (e .schedule)), append-assoc y (answerText a) (answersText (e .answers))) refl
 
-lines-preceded : (x y : List ℕ) (i : ℕ) (a : Answer) (l : List Execution) → linesAfter x y (map (preceded i a) l) ≡ linesAfter (x ++ decimal i) (y ++ answerText a) l
+lines-preceded : (x y : List ℕ) (i : ℕ) (a : Answer) (l : List Execution) →
+    linesAfter x y (map (preceded i a) l) ≡ linesAfter (x ++ decimal i) (y ++ answerText a) l
 unfolding linesAfter
 lines-preceded x y i a [] = refl
 lines-preceded x y i a (e ∷ l) = rw (line-preceded x y i a e, lines-preceded x y i a l)

@@ -9,15 +9,17 @@ use native.Mathlib.Decide.{ℕ-discrete}
 use lib.ListN.{length, getD}
 use lib.Dec.{eqb}
 use lib.Seq.{getD-set-same, getD-set-other, set-getD}
-use Rattle.construction.specs.declared.{Flag.Flag, Announcement.Announcement, Task.Task, Card.Card, Answered.Answered, Contents.Contents}
-use Rattle.construction.specs.declared.Flag.the-variants.{Done, Active, Exit}
-use Rattle.construction.specs.declared.Label.the-variants.{P1}
-use Rattle.construction.specs.Parts.{idleTask, contentsOf, localAt, withLocal}
+use Rattle.construction.specs.declared.{cells.Flag.Flag, cells.Announcement.Announcement, accesses.Control.Control, card.Card.Card, answers.Answered.Answered}
+use Rattle.construction.specs.declared.{texts.Contents.Contents}
+use Rattle.construction.specs.declared.cells.Flag.the-variants.{Done, Active, Exit}
+use Rattle.construction.specs.declared.accesses.Label.the-variants.{P1}
+use Rattle.construction.specs.Parts.{idleControl, contentsOf, localAt, withLocal}
 use Rattle.construction.specs.Machine.{advance}
 use Rattle.construction.specs.Requests.{isIdle, isBusy, answerOf, returned, invoked}
 use Rattle.construction.specs.Changes.{changeRead, changed}
 use Rattle.construction.specs.Opening.{opened}
-use Rattle.construction.specs.History.{Entry, Steps, Invocation, Response, Return, Event, eventOf, History, hasCalled, latest, finishing, withFinish, withFinishes, withResponse, withEntry, Observation, observe, run}
+use Rattle.construction.specs.History.{Entry, Steps, Invocation, Response, Return, Event, eventOf, History, hasCalled, latest, finishing, withFinish}
+use Rattle.construction.specs.History.{withFinishes, withResponse, withEntry, Observation, observe, run}
 use Rattle.construction.specs.Linearizability.{hasReturned, UnderWay}
 use Rattle.construction.proofs.Basics.{true-false, on-test}
 use Rattle.construction.proofs.Observing.Histories.{chosen, passed}
@@ -58,7 +60,8 @@ unfolding hasCalled latest
 called-other x s i ne U =
     record {
       called = sym (passed (x .process) i true (hasCalled (s .operations) i) ne) ∙ U .called;
-      unreturned = ap (λ (k : ℕ). hasReturned k (s .returns)) (sym (passed (x .process) i (length (s .operations)) (latest (s .operations) i) ne)) ∙ U .unreturned;
+      unreturned = ap (λ (k : ℕ). hasReturned k (s .returns)) (sym (passed (x .process) i (length (s .operations)) (latest (s .operations) i) ne)) ∙
+          U .unreturned;
     }
 
 still : (r : Response) (rs : List Response) (k : ℕ) → hasReturned k (r ∷ rs) ≡ false → hasReturned k rs ≡ false
@@ -83,8 +86,8 @@ module _ (o : Card) (m : Observation) (O : Consistent o m) (q : Notes o m) where
   processes-is : c .processCount ≡ o .processCount
   processes-is = ap (λ (x : Contents). x .processCount) (O .text)
 
-  has-task : {i : ℕ} → i < c .processCount → i < length (c .tasks)
-  has-task lt = omega (arith, O .inv .sizes .tasks, O .inv .good .fits .few)
+  has-control : {i : ℕ} → i < c .processCount → i < length (c .controls)
+  has-control lt = omega (arith, O .inv .sizes .controls, O .inv .good .fits .few)
 
   abbrev Next : Entry → Answered → Type 0
   Next e r = (i : ℕ) → UnderWay (withEntry o (noticed (r .card)) e (eventOf (r .answer))) i → BusyIn (o .processCount) (r .card) i
@@ -111,7 +114,7 @@ module _ (o : Card) (m : Observation) (O : Consistent o m) (q : Notes o m) where
     d = advance c i
 
     others : (j : ℕ) → j ≢ i → isBusy d j ≡ isBusy c j
-    others j ne = ap (λ (t : Task). not (isIdle (t .place))) (sym (one-access c i .others j ne .0 .elements))
+    others j ne = ap (λ (t : Control). not (isIdle (t .place))) (sym (one-access c i .others j ne .0 .elements))
 
     after-return : (v : Return) (j : ℕ) → UnderWay (withResponse (noticed d) i (Event.returned v)) j → BusyIn (o .processCount) d j
     unfolding hasReturned
@@ -123,13 +126,14 @@ module _ (o : Card) (m : Observation) (O : Consistent o m) (q : Notes o m) where
         go : Dec (j ≡ i) → BusyIn (o .processCount) d j
         go (yes e) =
             absurd (true-false (hasReturned (latest (noticed d .operations) i) (r ∷ noticed d .returns))
-            (chosen (latest (noticed d .operations) i) (latest (noticed d .operations) i) true (hasReturned (latest (noticed d .operations) i) (noticed d .returns)) refl)
+            (chosen (latest (noticed d .operations) i) (latest (noticed d .operations) i) true
+            (hasReturned (latest (noticed d .operations) i) (noticed d .returns)) refl)
             (subst (λ (k : ℕ). hasReturned (latest (noticed d .operations) k) (r ∷ noticed d .returns) ≡ false) e (U .unreturned)))
         go (no ne) =
             calm d j (others j ne)
             (record { called = U .called; unreturned = still r (noticed d .returns) (latest (noticed d .operations) j) (U .unreturned) })
 
-    after-run : isIdle (localAt d i .task .place) ≡ false → (j : ℕ) → UnderWay (noticed d) j → BusyIn (o .processCount) d j
+    after-run : isIdle (localAt d i .control .place) ≡ false → (j : ℕ) → UnderWay (noticed d) j → BusyIn (o .processCount) d j
     after-run f j U = go (ℕ-discrete j i)
       where
         go : Dec (j ≡ i) → BusyIn (o .processCount) d j
@@ -143,7 +147,7 @@ module _ (o : Card) (m : Observation) (O : Consistent o m) (q : Notes o m) where
 
     after-step : (j : ℕ) → UnderWay (withResponse (noticed d) i (eventOf (answerOf (localAt d i)))) j → BusyIn (o .processCount) d j
     after-step j =
-        on-test (λ a. UnderWay (withResponse (noticed d) i (eventOf a)) j → BusyIn (o .processCount) d j) (isIdle (localAt d i .task .place))
+        on-test (λ a. UnderWay (withResponse (noticed d) i (eventOf a)) j → BusyIn (o .processCount) d j) (isIdle (localAt d i .control .place))
         (λ _. by-flag (localAt d i .announcement) (localAt d i .announcement .flag) (localAt d i .steps) j) (λ f. after-run f j)
 
   next : {e : Entry} {r : Answered} → Outcome c e r → Next e r
@@ -157,13 +161,15 @@ module _ (o : Card) (m : Observation) (O : Consistent o m) (q : Notes o m) where
       go (yes e) =
           record {
             inside = omega (arith, processes-is);
-            busy = rw e (ap (λ (t : Task). not (isIdle (t .place))) (getD-set-same (c .tasks) i (record { place = P1; target = 0 }) idleTask (has-task lt)));
+            busy = rw e
+                (ap (λ (t : Control). not (isIdle (t .place)))
+                (getD-set-same (c .controls) i (record { place = P1; target = 0 }) idleControl (has-control lt)));
           }
       go (no ne) =
-          calm d j (ap (λ (t : Task). not (isIdle (t .place))) (getD-set-other (c .tasks) i j (record { place = P1; target = 0 }) idleTask ne))
+          calm d j (ap (λ (t : Control). not (isIdle (t .place))) (getD-set-other (c .controls) i j (record { place = P1; target = 0 }) idleControl ne))
           (called-other (record { process = i; program = k; inputs = inputs }) (noticed d) j (λ e. ne (sym e)) U)
   next (Outcome.asked i lt) j U =
-      calm _ j (ap (λ (l : List Task). not (isIdle (getD l j idleTask .place))) (set-getD (c .tasks) i idleTask)) U
+      calm _ j (ap (λ (l : List Control). not (isIdle (getD l j idleControl .place))) (set-getD (c .controls) i idleControl)) U
   next (Outcome.stepped {e} i by lt b l) j U = after-step i j (subst (λ (h : History). UnderWay h j) (step-entry (advance c i) e i _ by) U)
   next (Outcome.unaltered k from t why line) i U = calm c i refl U
   next (Outcome.altered k from t _ _ _ _) i U = calm _ i refl (carried (noticed (r .card)) _ i refl refl U)
@@ -177,10 +183,12 @@ module _ (o : Card) (m : Observation) (O : Consistent o m) (q : Notes o m) where
   kept e = next (outcome c e)
 
 -- both ways, after every list of entries
-pub under-way-busy : (t : List ℕ) (es : List Entry) (i : ℕ) → UnderWay (run (opened t .card) es .history) i → BusyIn (opened t .card .processCount) (run (opened t .card) es .card) i
+pub under-way-busy : (t : List ℕ) (es : List Entry) (i : ℕ) → UnderWay (run (opened t .card) es .history) i →
+    BusyIn (opened t .card .processCount) (run (opened t .card) es .card) i
 unfolding hasCalled
 under-way-busy t es =
     opened-keeps t (Notes (opened t .card)) (λ m O e q. kept (opened t .card) m O q e) (λ i U. absurd (false≢true (U .called))) es
 
-pub busy-under-way : (t : List ℕ) (es : List Entry) (i : ℕ) → BusyIn (opened t .card .processCount) (run (opened t .card) es .card) i → UnderWay (run (opened t .card) es .history) i
+pub busy-under-way : (t : List ℕ) (es : List Entry) (i : ℕ) → BusyIn (opened t .card .processCount) (run (opened t .card) es .card) i →
+    UnderWay (run (opened t .card) es .history) i
 busy-under-way t es i B = under-way (opened-consistent t es .tracks .own i (B .inside) (B .busy))

@@ -7,8 +7,8 @@ use lib.ListN.{length, getD, drop}
 use lib.Dec.{eqb, leb}
 use Rattle.grammar.specs.Writing.{decimal}
 use Rattle.executions.specs.declared.Request.{Request}
-use Rattle.construction.specs.declared.{Card.Card, Answer.Answer, Answered.Answered, Written.Written}
-use Rattle.construction.specs.declared.Refusal.the-variants.{NoProgram, ShortBuffer, TooLarge}
+use Rattle.construction.specs.declared.{card.Card.Card, answers.Answer.Answer, answers.Answered.Answered, texts.Written.Written}
+use Rattle.construction.specs.declared.answers.Refusal.the-variants.{NoProgram, ShortBuffer, TooLarge}
 use Rattle.construction.specs.Parts.{contentsOf}
 use Rattle.construction.specs.Answers.{answerFields, fieldsText, isRefused}
 use Rattle.construction.specs.Requests.{isProgram, step}

@@ -6,7 +6,7 @@ use mathlib.Core.Logic.{_⊎_}
 use mathlib.Core.List.{List, [], _∷_, _++_, map}
 use lib.ListN.{length, getD, take}
 use Rattle.executions.specs.declared.Request.{Request}
-use Rattle.construction.specs.declared.{Card.Card, Answer.Answer, Answered.Answered}
+use Rattle.construction.specs.declared.{card.Card.Card, answers.Answer.Answer, answers.Answered.Answered}
 use Rattle.construction.specs.Cells.{zeros}
 use Rattle.construction.specs.Answers.{isRefused}
 use Rattle.construction.specs.Requests.{isBusy, step}

@@ -15,7 +15,8 @@ fuel zero g n p q = absurd (omega arith)
 fuel (suc f) zero n p q = absurd (omega arith)
 fuel (suc f) (suc g) n p q = go (λ u v. fuel f g (n / 10) u v) (ltb n 10) refl
   where
-    go : (n / 10 < f → n / 10 < g → decimals f (n / 10) ≡ decimals g (n / 10)) → (b : Bool) → ltb n 10 ≡ b → cond b ((48 + n) ∷ []) (decimals f (n / 10) ++ ((48 + n % 10) ∷ [])) ≡ cond b ((48 + n) ∷ []) (decimals g (n / 10) ++ ((48 + n % 10) ∷ []))
+    go : (n / 10 < f → n / 10 < g → decimals f (n / 10) ≡ decimals g (n / 10)) → (b : Bool) → ltb n 10 ≡ b →
+        cond b ((48 + n) ∷ []) (decimals f (n / 10) ++ ((48 + n % 10) ∷ [])) ≡ cond b ((48 + n) ∷ []) (decimals g (n / 10) ++ ((48 + n % 10) ∷ []))
     go h true e = refl
     go h false e = ap (λ (l : List ℕ). l ++ ((48 + n % 10) ∷ [])) (h (omega (arith, ltb-false n 10 e)) (omega (arith, ltb-false n 10 e)))
 

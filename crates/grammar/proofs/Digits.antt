@@ -34,7 +34,8 @@ module _ (t : List ℕ) (i v : ℕ) where
   unfolding digits
   digits-step h = rw (drop-cons t i 0 h)
 
-  pub digits-more : {w : ℕ} {b : Bool} → i < length t → b ≡ isDigit (getD t i 0) → b ≡ true → w ≡ grow v (getD t i 0) → digits i v (drop i t) ≡ digits (i + 1) w (drop (i + 1) t)
+  pub digits-more : {w : ℕ} {b : Bool} → i < length t → b ≡ isDigit (getD t i 0) → b ≡ true → w ≡ grow v (getD t i 0) →
+      digits i v (drop i t) ≡ digits (i + 1) w (drop (i + 1) t)
   digits-more h d p e = digits-step h ∙ rw (← d, p, ← e, add-one)
 
   pub digits-stop : {b : Bool} → i < length t → b ≡ isDigit (getD t i 0) → b ≡ false → digits i v (drop i t) ≡ Value v i

@@ -84,7 +84,8 @@ put-out b at x h e = record { place = e; bytes = sym (set-out b at x h) }
 
 -- ---- a turn of the loop that puts a word
 module _ {b₀ : List ℕ} {at : ℕ} {b : List ℕ} {i : ℕ} (k : ℕ) where
-  pub word-turn : (w : List ℕ) {j : ℕ} {z : List ℕ} → k < length w → Rest b₀ at w b i (drop k w) → Put b i (getD w k 0 ∷ []) j z → Rest b₀ at w z j (drop (k + 1) w)
+  pub word-turn : (w : List ℕ) {j : ℕ} {z : List ℕ} → k < length w → Rest b₀ at w b i (drop k w) → Put b i (getD w k 0 ∷ []) j z →
+      Rest b₀ at w z j (drop (k + 1) w)
   word-turn w h r p = rest-step (rw (add-one k) (rw (drop-cons w k 0 h) at r)) p
 
   pub word-done : (w : List ℕ) → length w ≤ k → Rest b₀ at w b i (drop k w) → Put b₀ at w i b

@@ -86,7 +86,8 @@ leading = decimal-induction (λ n. 0 < n → Leading n) one more
           high = l .high;
         }
 
-pub number-reads : (t : List ℕ) (at v : ℕ) (r : List ℕ) → isDigit (getD r 0 0) ≡ false → drop at t ≡ decimal v ++ r → number t at ≡ Value (min most v) (at + length (decimal v))
+pub number-reads : (t : List ℕ) (at v : ℕ) (r : List ℕ) → isDigit (getD r 0 0) ≡ false → drop at t ≡ decimal v ++ r →
+    number t at ≡ Value (min most v) (at + length (decimal v))
 unfolding number
 number-reads t at v r d e = go (decLt 0 v)
   where
@@ -106,7 +107,8 @@ number-reads t at v r d e = go (decLt 0 v)
         let k : suc at ≡ at + 1 = omega arith in
         rw (eq-eqb (getD t at 0) 48 (f .byte), o, z, k)
 
-pub field-reads : (t : List ℕ) (s at v : ℕ) (r : List ℕ) → isDigit s ≡ false → drop at t ≡ fieldText s v ++ r → field t s at ≡ Value (min most v) (at + length (fieldText s v))
+pub field-reads : (t : List ℕ) (s at v : ℕ) (r : List ℕ) → isDigit s ≡ false → drop at t ≡ fieldText s v ++ r →
+    field t s at ≡ Value (min most v) (at + length (fieldText s v))
 field-reads t s at v r d e =
     let f : drop at t ≡ decimal v ++ (s ∷ r) = e ∙ append-assoc (decimal v) (s ∷ []) r in
     let b = byte-reads t (at + length (decimal v)) s r (drop-past t at (decimal v) (s ∷ r) f) in

@@ -10,8 +10,10 @@ use lib.Dec.{eqb, leb, ltb}
 use lib.ListN.{length, getD, set, take, drop, length-take, length-set, length-map, drop-of-length-le}
 use lib.Seq.{set-getD, drop-cons, getD-take, map-set-same, length-take-le, take-set-lt}
 use borrow.Author.Tests.{eq-eqb, ne-eqb, lt-ltb, le-ltb, eqb-true, leb-true, leb-false, not-true}
-use Rattle.construction.specs.declared.{Words.Words, Instruction.Instruction, Program.Program, Effect.Effect, Item.Item, Dictionary.Dictionary, Simulation.Simulation, Simulated.Simulated}
-use Rattle.construction.specs.declared.Pause.the-variants.{Ended, Faulted, Lacks}
+use Rattle.construction.specs.declared.{cells.Words.Words, programs.Instruction.Instruction, programs.Program.Program, programs.Effect.Effect}
+use Rattle.construction.specs.declared.{simulations.Item.Item, simulations.Dictionary.Dictionary, simulations.Simulation.Simulation}
+use Rattle.construction.specs.declared.{simulations.Simulated.Simulated}
+use Rattle.construction.specs.declared.simulations.Pause.the-variants.{Ended, Faulted, Lacks}
 use Rattle.construction.specs.Instructions.{isCell, effectOf, nextInstruction, withRegister, withOutput, skipped, faulted}
 use Rattle.programs.specs.Cells.{isAstray}
 use Rattle.construction.specs.Effects.{Executed, touched, allocated, execute, onExecuted}
@@ -331,7 +333,21 @@ module _ {n : ℕ} {total : Turned × Dictionary} {ks : List ℕ} {end : ℕ} {s
             h .going ∙ rw (p, ← found 0 k first, there 0 k first here, ← y, no-cell n x none, z, o, same, none))
             (λ z.
             h .going
-            ∙ rw (p, ← found 0 k first, there 0 k first here, ← y, astray-false n x (sym t ∙ q) z, ← found x j place, there x j place g, ← v, ← found 0 k first, ← found-after x j place k w, o, r))
+            ∙ rw (
+              p,
+              ← found 0 k first,
+              there 0 k first here,
+              ← y,
+              astray-false n x (sym t ∙ q) z,
+              ← found x j place,
+              there x j place g,
+              ← v,
+              ← found 0 k
+                  first,
+              ← found-after x j place k w,
+              o,
+              r,
+            ))
             (true-or-false (eqb x 0))
 
     module _ (here : k < end) (c : ℕ) (p : e ≡ Effect.Free c) (j : ℕ) (place : j ≡ placeOf (take end ks) c) where
@@ -397,7 +413,9 @@ module _ {ks before : List ℕ} {end : ℕ} {d : Dictionary} (h : Numbered ks be
   revalued-again xs ys p q =
       rw (revalued-twice (d .items) (take end xs) (take end ys) (omega (arith, length-take end xs, length-take end ys)))
 
-  module _ (n : ℕ) (program : Program) (inputs : Words) (total : Simulated) (fuel m : ℕ) (s : Simulation) (xs : List ℕ) (same : length xs ≡ length before) (going : total ≡ simulateFrom n program inputs fuel s (withValues d (take end xs))) (some : fuel ≡ suc m) {instruction : Instruction} (here : instruction ≡ nextInstruction program (s .counter)) {after : List ℕ} {r : Turned} (made : Turns n instruction inputs s ks end xs after r) where
+  module _ (n : ℕ) (program : Program) (inputs : Words) (total : Simulated) (fuel m : ℕ) (s : Simulation) (xs : List ℕ) (same : length xs ≡ length before)
+      (going : total ≡ simulateFrom n program inputs fuel s (withValues d (take end xs))) (some : fuel ≡ suc m) {instruction : Instruction}
+      (here : instruction ≡ nextInstruction program (s .counter)) {after : List ℕ} {r : Turned} (made : Turns n instruction inputs s ks end xs after r) where
     turn-is : total ≡ onTurned (r, withValues d (take end after)) (simulateFrom n program inputs m)
     turn-is =
         let e = made .left (withValues d (take end xs)) (numbered-again xs same) in
@@ -406,7 +424,8 @@ module _ {ks before : List ℕ} {end : ℕ} {d : Dictionary} (h : Numbered ks be
     pub turn-goes : r .going ≡ true → total ≡ simulateFrom n program inputs m (r .simulation) (withValues d (take end after))
     turn-goes p = turn-is ∙ rw p
 
-    pub turn-stands : r .going ≡ false → _≡_ {A = Simulated} total (record { pause = r .pause; simulation = r .simulation; dictionary = withValues d (take end after) })
+    pub turn-stands : r .going ≡ false → _≡_ {A = Simulated} total
+        (record { pause = r .pause; simulation = r .simulation; dictionary = withValues d (take end after) })
     turn-stands p = turn-is ∙ rw p
 
 -- where the loop begins and ends

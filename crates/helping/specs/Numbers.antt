@@ -5,8 +5,10 @@ use mathlib.Core.List.{List, [], _∷_, map}
 use mathlib.Core.Path.{_≡_}
 use lib.Dec.{eqb}
 use lib.ListN.{length, take, drop}
-use Rattle.construction.specs.declared.{Words.Words, Instruction.Instruction, Program.Program, Effect.Effect, Item.Item, Dictionary.Dictionary, Simulation.Simulation, Pause.Pause, Simulated.Simulated}
-use Rattle.construction.specs.declared.Pause.the-variants.{Ended, Faulted, Lacks}
+use Rattle.construction.specs.declared.{cells.Words.Words, programs.Instruction.Instruction, programs.Program.Program, programs.Effect.Effect}
+use Rattle.construction.specs.declared.{simulations.Item.Item, simulations.Dictionary.Dictionary, simulations.Simulation.Simulation, simulations.Pause.Pause}
+use Rattle.construction.specs.declared.{simulations.Simulated.Simulated}
+use Rattle.construction.specs.declared.simulations.Pause.the-variants.{Ended, Faulted, Lacks}
 use Rattle.construction.specs.Instructions.{effectOf, faulted}
 use Rattle.construction.specs.Effects.{touched, execute, onExecuted}
 use Rattle.construction.specs.Dictionary.{noted, withValue}

@@ -4,18 +4,18 @@
 pub mod simulation; // simulation.rt: a program that runs on lent keys and values
 
 use crate::simulation::simulate;
-use construction::Announcement;
-use construction::Began;
-use construction::Dictionary;
-use construction::Helped;
-use construction::Label;
-use construction::Pause;
-use construction::Program;
-use construction::Record;
-use construction::Simulation;
-use construction::Task;
-use construction::Words;
-use construction::Writing;
+use construction::accesses::Began;
+use construction::accesses::Control;
+use construction::accesses::Helped;
+use construction::accesses::Label;
+use construction::accesses::Writing;
+use construction::cells::Announcement;
+use construction::cells::Record;
+use construction::cells::Words;
+use construction::programs::Program;
+use construction::simulations::Dictionary;
+use construction::simulations::Pause;
+use construction::simulations::Simulation;
 use dictionary::insert;
 use dictionary::item_of;
 use dictionary::next_write;
@@ -24,7 +24,7 @@ use dictionary::with_bit;
 ghost use mathlib.Core.Path.{_≡_};
 ghost use Prim.Native.Nat.{_≤_};
 ghost use lib.ListN.{take};
-ghost use Rattle.construction.specs.Machine.{writeTask, pauseTask, helps, beginHelp, note, writing};
+ghost use Rattle.construction.specs.Machine.{writeControl, pauseControl, helps, beginHelp, note, writing};
 ghost use Rattle.helping.specs.Numbers.{keys, values};
 
 // The variables and the values of items.
@@ -42,32 +42,32 @@ pub fn helps(announcement: Announcement, number: u64) -> bool
 }
 
 // Lines H31 and H32: the write of the next item of so many, or P19 past the last.
-pub fn write_from(next: u8, end: u8) -> Task
-    ensures { λ r. ⌜ r ≡ writeTask next end ⌝ }
+pub fn write_from(next: u8, end: u8) -> Control
+    ensures { λ r. ⌜ r ≡ writeControl next end ⌝ }
 {
     if next < end {
-        return Task {
+        return Control {
             place: Label::H36,
             target: next,
         };
     }
-    Task {
+    Control {
         place: Label::P19,
         target: 0,
     }
 }
 
 // Where a simulation goes on that stands still: it reads a record, or writes what it altered, or nothing after a fault.
-pub fn after_pause(pause: Pause, next: u8, end: u8) -> Task
-    ensures { λ r. ⌜ r ≡ pauseTask pause next end ⌝ }
+pub fn after_pause(pause: Pause, next: u8, end: u8) -> Control
+    ensures { λ r. ⌜ r ≡ pauseControl pause next end ⌝ }
 {
     match pause {
         Pause::Ended => write_from(next, end),
-        Pause::Faulted => Task {
+        Pause::Faulted => Control {
             place: Label::P19,
             target: 0,
         },
-        Pause::Lacks(variable) => Task {
+        Pause::Lacks(variable) => Control {
             place: Label::H21,
             target: variable,
         },
@@ -81,10 +81,10 @@ pub fn begin_help(
     program: Program,
     cell: Announcement,
     number: u64,
-    task: Task,
+    control: Control,
     simulation: Simulation,
 ) -> Began
-    ensures { λ r. ⌜ r ≡ beginHelp n program cell number task simulation ⌝ }
+    ensures { λ r. ⌜ r ≡ beginHelp n program cell number control simulation ⌝ }
 {
     if helps(cell, number) {
         let inputs = cell.words;
@@ -103,15 +103,15 @@ pub fn begin_help(
         let state = paused.simulation;
         return Began {
             helps: true,
-            task: after_pause(pause, 0, 0),
+            control: after_pause(pause, 0, 0),
             simulation: state,
         };
     }
     Began {
         helps: false,
-        task: Task {
+        control: Control {
             place: Label::P21,
-            target: task.target,
+            target: control.target,
         },
         simulation,
     }
@@ -141,26 +141,26 @@ pub fn note(
     inputs: Words,
     cell: Record,
     number: u64,
-    task: Task,
+    control: Control,
     simulation: Simulation,
     dictionary: Dictionary,
     mask: u64,
 ) -> Helped
-    ensures { λ r. ⌜ r ≡ note n program inputs cell number task simulation dictionary mask ⌝ }
+    ensures { λ r. ⌜ r ≡ note n program inputs cell number control simulation dictionary mask ⌝ }
 {
     if number < cell.seq {
         return Helped {
-            task: Task {
+            control: Control {
                 place: Label::P19,
-                target: task.target,
+                target: control.target,
             },
             simulation,
             dictionary,
             mask,
         };
     }
-    let mask = with_bit(mask, task.target);
-    let mut d = insert(dictionary, item_of(number, task.target, cell));
+    let mask = with_bit(mask, control.target);
+    let mut d = insert(dictionary, item_of(number, control.target, cell));
     let end = noted(d.length);
     let numbers = numbers_of(d, end);
     let keys = numbers.keys;
@@ -175,7 +175,7 @@ pub fn note(
     }
     let next = next_write(number, d, 0);
     Helped {
-        task: after_pause(pause, next, end),
+        control: after_pause(pause, next, end),
         simulation: state,
         dictionary: d,
         mask,
@@ -183,21 +183,21 @@ pub fn note(
 }
 
 // Line H36: the item that is written, and where its helper goes on.
-pub fn writing(number: u64, task: Task, dictionary: Dictionary) -> Writing
-    ensures { λ r. ⌜ r ≡ writing number task dictionary ⌝ }
+pub fn writing(number: u64, control: Control, dictionary: Dictionary) -> Writing
+    ensures { λ r. ⌜ r ≡ writing number control dictionary ⌝ }
 {
-    let target = task.target;
+    let target = control.target;
     if target < 32 {
         let item = dictionary.items[target as usize];
         let next = next_write(number, dictionary, target + 1);
         return Writing {
             item,
-            task: write_from(next, noted(dictionary.length)),
+            control: write_from(next, noted(dictionary.length)),
         };
     }
     Writing {
         item: opening::no_item(),
-        task: Task {
+        control: Control {
             place: Label::P19,
             target: 0,
         },

@@ -1,10 +1,10 @@
 // A program that runs on numbers that its caller lends: the keys of a dictionary, and their values, which it alters.
-use construction::Effect;
-use construction::Instruction;
-use construction::Pause;
-use construction::Program;
-use construction::Simulation;
-use construction::Words;
+use construction::cells::Words;
+use construction::programs::Effect;
+use construction::programs::Instruction;
+use construction::programs::Program;
+use construction::simulations::Pause;
+use construction::simulations::Simulation;
 ghost use mathlib.Core.Path.{_≡_};
 ghost use Prim.Native.Nat.{_≤_, min};
 ghost use lib.ListN.{length, take};

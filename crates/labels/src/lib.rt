@@ -1,7 +1,7 @@
 // The table of labels (specs/Labels of the crate construction): name, word and what is told of each. Printing, words in a block and tests of a place are
 // read off it. It rests on the crate construction (types and definitions).
-use construction::Label;
-use construction::LabelRow;
+use construction::accesses::Label;
+use construction::accesses::LabelRow;
 ghost use mathlib.Core.Path.{_≡_};
 ghost use Rattle.construction.specs.Labels.{row, labelRow, sameLabel};
 

@@ -8,9 +8,9 @@ use lib.Dec.{leb}
 use lib.ListN.{length, getD, set, length-set}
 use lib.Seq.{getD-set-same, getD-set-other, set-getD}
 use borrow.Author.Tests.{le-leb, lt-leb, leb-false}
-use Rattle.construction.specs.declared.{Record.Record, SwappedRecord.SwappedRecord, RowSwap.RowSwap}
-use Rattle.construction.specs.declared.RowSwap.the-variants.{Won, Refused}
-use Rattle.construction.specs.declared.Refusal.the-variants.{NoPlace}
+use Rattle.construction.specs.declared.{cells.Record.Record, cells.SwappedRecord.SwappedRecord, cells.RowSwap.RowSwap}
+use Rattle.construction.specs.declared.cells.RowSwap.the-variants.{Won, Refused}
+use Rattle.construction.specs.declared.answers.Refusal.the-variants.{NoPlace}
 use Rattle.construction.specs.Cells.{openRecord, sameRecord, swapRecord}
 use Rattle.construction.specs.Answers.{fields, rowFields}
 use Rattle.lent.specs.Row.{tells, swapAt, rowAnswer, rowAfter, swapFields}
@@ -82,7 +82,8 @@ module _ (row : List Record) (place : ℕ) (expected new : Record) where
   which false = refl
 
   -- the code after it: the record at the place was swapped by value, and its outcome told
-  pub swapped : (s : SwappedRecord) (r : RowSwap) → place < length row → s ≡ swapAt row place expected new → r ≡ tells (s .won) → Said r (set row place (s .cell))
+  pub swapped : (s : SwappedRecord) (r : RowSwap) → place < length row → s ≡ swapAt row place expected new → r ≡ tells (s .won) →
+      Said r (set row place (s .cell))
   unfolding rowAnswer rowAfter swapFields
   swapped s r h p q = (
     rw (lt-leb _ _ h) (q ∙ ap (λ (x : SwappedRecord). tells (x .won)) p),

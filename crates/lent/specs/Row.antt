@@ -5,9 +5,9 @@ use mathlib.Core.Bool.{Bool, cond}
 use mathlib.Core.List.{List, []}
 use lib.Dec.{leb}
 use lib.ListN.{length, getD, set}
-use Rattle.construction.specs.declared.{Record.Record, SwappedRecord.SwappedRecord, RowSwap.RowSwap}
-use Rattle.construction.specs.declared.RowSwap.the-variants.{Won, Lost, Refused}
-use Rattle.construction.specs.declared.Refusal.the-variants.{NoPlace}
+use Rattle.construction.specs.declared.{cells.Record.Record, cells.SwappedRecord.SwappedRecord, cells.RowSwap.RowSwap}
+use Rattle.construction.specs.declared.cells.RowSwap.the-variants.{Won, Lost, Refused}
+use Rattle.construction.specs.declared.answers.Refusal.the-variants.{NoPlace}
 use Rattle.construction.specs.Cells.{openRecord, swapRecord}
 use Rattle.construction.specs.Answers.{Fields, fields, refusedWith}
 

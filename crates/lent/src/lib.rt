@@ -1,9 +1,9 @@
 // The two public swaps on cells that their owner lends (document 01, 'Shared cells'): one on a gate, one on one place of a row of records.
 // It rests on the crates construction (types and definitions) and cells (the swaps by value).
-use construction::Gate;
-use construction::Record;
-use construction::Refusal;
-use construction::RowSwap;
+use construction::answers::Refusal;
+use construction::cells::Gate;
+use construction::cells::Record;
+use construction::cells::RowSwap;
 ghost use mathlib.Core.Path.{_≡_};
 ghost use Rattle.construction.specs.Cells.{swapGate};
 ghost use Rattle.construction.specs.Answers.{rowFields};

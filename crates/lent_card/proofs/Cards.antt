@@ -9,27 +9,28 @@ use lib.Dec.{leb, ltb}
 use lib.ListN.{length, set}
 use lib.Seq.{set-getD}
 use borrow.Author.Tests.{ltb-true, leb-true}
-use Rattle.construction.specs.declared.{Refusal.Refusal, Answer.Answer, Verdict.Verdict}
-use Rattle.construction.specs.declared.Refusal.the-variants.{NoProcess, NoProgram, Busy, NotBusy, NoPlace, NotAhead, Unsettled}
-use Rattle.construction.specs.Parts.{idleTask, noOperation, announcementAt, contentsOf, localAt, withOwn, withLocal, withRevision}
+use Rattle.construction.specs.declared.{answers.Refusal.Refusal, answers.Answer.Answer, texts.Verdict.Verdict}
+use Rattle.construction.specs.declared.answers.Refusal.the-variants.{NoProcess, NoProgram, Busy, NotBusy, NoPlace, NotAhead, Unsettled}
+use Rattle.construction.specs.Parts.{idleControl, noOperation, announcementAt, contentsOf, localAt, withOwn, withLocal, withRevision}
 use Rattle.construction.specs.Machine.{holderOf}
 use Rattle.construction.specs.Requests.{isIdle, refused, invoked, exiting, shown, valueOf, call, requestExit, read}
 use Rattle.construction.specs.Changes.{changeRead, programText, isBehind, someBehind, unchanged, ifRead, change}
 use Rattle.construction.proofs.Basics.{and-true}
 use Rattle.requests.specs.Judging.{judged, ifTextAccepted}
 use Rattle.requests.proofs.Arrays.{in-room}
-use Rattle.codes.specs.Types.{Words, Gate, Task, Operation, Card, P1}
+use Rattle.codes.specs.Types.{Words, Gate, Control, Operation, Card, P1}
 use Rattle.codes.specs.Parts.{wordAt}
-use Rattle.codes.specs.Codes.{byte, bit, taskWords, operationWords}
+use Rattle.codes.specs.Codes.{byte, bit, controlWords, operationWords}
 use Rattle.codes.proofs.Values.{FitsWords, FitsOperation}
-use Rattle.block.specs.Layout.{isRoom, numberAt, processCountIn, variableCountIn, programCountIn, gateIn, taskIn, fromIn, putTask, putOperation, putExit}
+use Rattle.block.specs.Layout.{isRoom, numberAt, processCountIn, variableCountIn, programCountIn, gateIn, controlIn, fromIn, putControl, putOperation, putExit}
 use Rattle.block.specs.Cards.{cardOf, withOperation, withExit, withCount}
-use Rattle.block.proofs.Gets.{process-count-is, variable-count-is, program-count-is, gate-is, announcement-is, record-is, task-is, last-gate-is, from-is}
-use Rattle.block.proofs.Puts.{task-stored, operation-stored, exit-stored, count-stored, revision-stored, put-row-length, put-number-length}
+use Rattle.block.proofs.Gets.{process-count-is, variable-count-is, program-count-is, gate-is, announcement-is, record-is, control-is, last-gate-is, from-is}
+use Rattle.block.proofs.Puts.{control-stored, operation-stored, exit-stored, count-stored, revision-stored, put-row-length, put-number-length}
 use Rattle.block.proofs.Fitting.{variable-count-fits}
 use Rattle.texts.proofs.Readings.{change-read-fits}
-use Rattle.lent_machine.proofs.Own.{gates-kept, copies-kept, simulations-kept, dictionaries-kept, masks-kept}
-use Rattle.lent_card.specs.Requests.{unlessRefused, callAnswer, putCall, callBlock, exitAnswer, exitBlock, valueIn, readAnswer, changeText, behindIn, changeAnswer, putChange, changeBlock, RoomKept}
+use Rattle.lent_machine.proofs.Own.{gatesRead-kept, announcementsRead-kept, simulations-kept, dictionaries-kept, masks-kept}
+use Rattle.lent_card.specs.Requests.{unlessRefused, callAnswer, putCall, callBlock, exitAnswer, exitBlock, valueIn, readAnswer, changeText, behindIn}
+use Rattle.lent_card.specs.Requests.{changeAnswer, putChange, changeBlock, RoomKept}
 
 -- a block that has a process, or a program, is long enough
 pub there-long : (b : List ℕ) (base i : ℕ) (r : Bool) → ltb i (byte (numberAt b base 1 0)) && r ≡ true → 1456 ≤ length b
@@ -59,25 +60,26 @@ module _ (b l : List ℕ) where
       1456 ≤ length b → (i k : ℕ) (inputs : Words) → k < 8 → FitsWords inputs →
       cardOf (putCall b i k inputs) l ≡ withLocal c i (invoked (localAt c i) k inputs)
   called long i k inputs p f =
-      let t : Task = record { place = P1; target = 0 } in
+      let t : Control = record { place = P1; target = 0 } in
       let o : Operation = record { program = k; inputs = inputs } in
       let fits : FitsOperation o = record { program = omega arith; inputs = f } in
-      let b₁ = putTask b i t in
+      let b₁ = putControl b i t in
       let b₂ = putOperation b₁ i o in
       let b₃ = putExit b₂ i false in
-      let s₁ = put-row-length b 336 8 i 2 (taskWords t) in
+      let s₁ = put-row-length b 336 8 i 2 (controlWords t) in
       let s₂ = put-row-length b₁ 352 8 i 5 (operationWords o) in
       let s₃ = put-number-length b₂ 392 8 i (bit false) in
-      let gates = gates-kept c i in
-      let copies = copies-kept c i in
+      let gatesRead = gatesRead-kept c i in
+      let announcementsRead = announcementsRead-kept c i in
       let simulations = simulations-kept c i in
       let dictionaries = dictionaries-kept c i in
       let masks = masks-kept c i in
       count-stored b₃ l (omega arith) i 0
       ∙ (ap (λ (x : Card). withCount x i 0) (exit-stored b₂ l (omega arith) i false)
       ∙ (ap (λ (x : Card). withCount (withExit x i false) i 0) (operation-stored b₁ l (omega arith) i o fits)
-      ∙ (ap (λ (x : Card). withCount (withExit (withOperation x i o) i false) i 0) (task-stored b l long i t (omega arith))
-      ∙ λ j. withOwn c (set (c .tasks) i t) (set (c .operations) i o) (set (c .exits) i false) (set (c .counts) i 0) (sym gates j) (sym copies j)
+      ∙ (ap (λ (x : Card). withCount (withExit (withOperation x i o) i false) i 0) (control-stored b l long i t (omega arith))
+      ∙ λ j. withOwn c (set (c .controls) i t) (set (c .operations) i o) (set (c .exits) i false) (set (c .counts) i 0) (sym gatesRead j)
+      (sym announcementsRead j)
       (sym simulations j) (sym dictionaries j) (sym masks j))))
 
   pub call-is :
@@ -87,38 +89,39 @@ module _ (b l : List ℕ) where
   call-is i k inputs f =
       let processes = process-count-is b l in
       let programs = program-count-is b l in
-      let task = task-is b l i in
-      requested (ltb i (processCountIn b) && ltb i 8) (ltb k (programCountIn b) && ltb k 8) (isIdle (taskIn b i .place)) NoProcess NoProgram Busy
+      let control = control-is b l i in
+      requested (ltb i (processCountIn b) && ltb i 8) (ltb k (programCountIn b) && ltb k 8) (isIdle (controlIn b i .place)) NoProcess NoProgram Busy
       (putCall b i k inputs) (withLocal c i (invoked (localAt c i) k inputs))
       (λ p q. called (there-long b 0 i (ltb i 8) p) i k inputs (in-room k (programCountIn b) 8 q) f)
       ∙ λ j. cond (not (ltb i (processes j) && ltb i 8)) (refused c NoProcess)
       (cond (not (ltb k (programs j) && ltb k 8)) (refused c NoProgram)
-      (cond (not (isIdle (task j .place))) (refused c Busy)
+      (cond (not (isIdle (control j .place))) (refused c Busy)
       (record { card = withLocal c i (invoked (localAt c i) k inputs); answer = Answer.Taken })))
 
   asked : 1456 ≤ length b → (i : ℕ) → cardOf (putExit b i true) l ≡ withLocal c i (exiting (localAt c i))
   asked long i =
-      let tasks = set-getD (c .tasks) i idleTask in
+      let controls = set-getD (c .controls) i idleControl in
       let operations = set-getD (c .operations) i noOperation in
       let counts = set-getD (c .counts) i 0 in
-      let gates = gates-kept c i in
-      let copies = copies-kept c i in
+      let gatesRead = gatesRead-kept c i in
+      let announcementsRead = announcementsRead-kept c i in
       let simulations = simulations-kept c i in
       let dictionaries = dictionaries-kept c i in
       let masks = masks-kept c i in
       exit-stored b l long i true
-      ∙ λ j. withOwn c (sym tasks j) (sym operations j) (set (c .exits) i true) (sym counts j) (sym gates j) (sym copies j) (sym simulations j)
+      ∙ λ j. withOwn c (sym controls j) (sym operations j) (set (c .exits) i true) (sym counts j) (sym gatesRead j) (sym announcementsRead j)
+      (sym simulations j)
       (sym dictionaries j) (sym masks j)
 
   pub exit-is : (i : ℕ) → record { card = cardOf (exitBlock b i) l; answer = exitAnswer b i } ≡ requestExit (cardOf b l) i
   unfolding requestExit exitBlock exitAnswer
   exit-is i =
       let processes = process-count-is b l in
-      let task = task-is b l i in
-      requested (ltb i (processCountIn b) && ltb i 8) (not (isIdle (taskIn b i .place))) true NoProcess NotBusy NotBusy
+      let control = control-is b l i in
+      requested (ltb i (processCountIn b) && ltb i 8) (not (isIdle (controlIn b i .place))) true NoProcess NotBusy NotBusy
       (putExit b i true) (withLocal c i (exiting (localAt c i))) (λ p q. asked (there-long b 0 i (ltb i 8) p) i)
       ∙ λ j. cond (not (ltb i (processes j) && ltb i 8)) (refused c NoProcess)
-      (cond (not (not (isIdle (task j .place)))) (refused c NotBusy)
+      (cond (not (not (isIdle (control j .place)))) (refused c NotBusy)
       (record { card = withLocal c i (exiting (localAt c i)); answer = Answer.Taken }))
 
   looked :
@@ -137,15 +140,15 @@ module _ (b l : List ℕ) where
       looked (ltb v (variableCountIn b) && ltb v 64) (valueIn b v)
       ∙ λ j. cond (not (ltb v (variables j) && ltb v 64)) (refused c NoPlace) (record { card = c; answer = Answer.Value (shown (gate j) (a j) (cell j)) })
 
-  behind-is : (number n : ℕ) → behindIn b number n ≡ someBehind (c .tasks) (c .gates) (c .processCount) number n
+  behind-is : (number n : ℕ) → behindIn b number n ≡ someBehind (c .controls) (c .gatesRead) (c .processCount) number n
   unfolding behindIn someBehind
   behind-is number zero = refl
   behind-is number (suc i) =
       let processes = process-count-is b l in
-      let task = task-is b l i in
+      let control = control-is b l i in
       let gate = last-gate-is b l i in
       let others = behind-is number i in
-      λ j. (ltb i (processes j) && isBehind (task j .place) (gate j) number) || others j
+      λ j. (ltb i (processes j) && isBehind (control j .place) (gate j) number) || others j
 
   -- a change by its tests
   changed-by :
@@ -170,7 +173,7 @@ module _ (b l : List ℕ) where
       let variables = variable-count-is b l in
       let gate = gate-is b l in
       let last = from-is b l k in
-      let behind = behind-is (fromIn b k) 8 ∙ ap (λ (z : ℕ). someBehind (c .tasks) (c .gates) (c .processCount) z 8) last in
+      let behind = behind-is (fromIn b k) 8 ∙ ap (λ (z : ℕ). someBehind (c .controls) (c .gatesRead) (c .processCount) z 8) last in
       let read : changeText b t ≡ changeRead (contentsOf c) t = λ j. programText (variables j) (kept j) t in
       let fewer = variable-count-fits b in
       let y = changeText b t .program in

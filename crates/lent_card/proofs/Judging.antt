@@ -7,18 +7,20 @@ use native.Mathlib.Omega.{arith}
 use lib.Dec.{leb, ltb}
 use lib.ListN.{length}
 use borrow.Author.Tests.{ltb-true, ltb-false, lt-ltb, le-ltb}
-use Rattle.construction.specs.declared.{Refusal.Refusal, Answer.Answer, Verdict.Verdict, ProgramReading.ProgramReading}
-use Rattle.construction.specs.declared.Refusal.the-variants.{NoProcess, NoProgram, Busy, NotBusy, NoPlace}
+use Rattle.construction.specs.declared.{answers.Refusal.Refusal, answers.Answer.Answer, texts.Verdict.Verdict, texts.ProgramReading.ProgramReading}
+use Rattle.construction.specs.declared.answers.Refusal.the-variants.{NoProcess, NoProgram, Busy, NotBusy, NoPlace}
 use Rattle.construction.specs.Machine.{holderOf}
 use Rattle.construction.specs.Requests.{isIdle, shown}
 use Rattle.construction.specs.Answers.{isRefused}
 use Rattle.construction.specs.Changes.{programText, isBehind}
 use Rattle.requests.specs.Judging.{judged, callJudged, exitJudged, changeJudged}
 use Rattle.requests.proofs.Arrays.{in-room}
-use Rattle.codes.specs.Types.{Words, Gate, Announcement, Record, Task}
+use Rattle.codes.specs.Types.{Words, Gate, Announcement, Record, Control}
 use Rattle.codes.specs.Parts.{wordAt}
-use Rattle.block.specs.Layout.{isRoom, rowAt, numberAt, processCountIn, variableCountIn, programCountIn, roomIn, gateIn, announcementIn, recordIn, taskIn, lastGateIn, putExit, fromIn}
-use Rattle.lent_card.specs.Requests.{callAnswer, putCall, callBlock, exitAnswer, exitBlock, valueIn, readAnswer, behindIn, changeText, changeAnswer, putChange, changeBlock}
+use Rattle.block.specs.Layout.{isRoom, rowAt, numberAt, processCountIn, variableCountIn, programCountIn, roomIn, gateIn, announcementIn, recordIn, controlIn}
+use Rattle.block.specs.Layout.{lastGateIn, putExit, fromIn}
+use Rattle.lent_card.specs.Requests.{callAnswer, putCall, callBlock, exitAnswer, exitBlock, valueIn, readAnswer, behindIn, changeText, changeAnswer}
+use Rattle.lent_card.specs.Requests.{putChange, changeBlock}
 
 -- past the last part there is none
 none {ℓ} : {A : Type ℓ} (t : Bool) (x y : A) → cond (t && false) x y ≡ y
@@ -45,8 +47,8 @@ same-part f d n h past i = go (ltb i n) refl
     go false e = let p = ltb-false i n e in past (min i 255) (omega arith) ∙ sym (past i p)
 
 module _ (b : List ℕ) where
-  pub task-narrow : (i : ℕ) → taskIn b (min i 255) ≡ taskIn b i
-  task-narrow = same-part (λ i. taskIn b i) _ 8 (omega arith) (λ i h. row-past b 336 2 8 _ _ i h)
+  pub control-narrow : (i : ℕ) → controlIn b (min i 255) ≡ controlIn b i
+  control-narrow = same-part (λ i. controlIn b i) _ 8 (omega arith) (λ i h. row-past b 336 2 8 _ _ i h)
 
   record-narrow : (v : ℕ) → recordIn b (min v 255) ≡ recordIn b v
   record-narrow = same-part (λ v. recordIn b v) _ 64 (omega arith) (λ v h. row-past b 80 4 64 _ _ v h)
@@ -56,18 +58,18 @@ module _ (b : List ℕ) where
 
   -- what code judges
   pub call-judged :
-      (i k : ℕ) {n : ℕ} {t : Task} {p s : ℕ} {x : Answer} → n ≡ min i 255 → t ≡ taskIn b n → p ≡ processCountIn b → s ≡ programCountIn b →
+      (i k : ℕ) {n : ℕ} {t : Control} {p s : ℕ} {x : Answer} → n ≡ min i 255 → t ≡ controlIn b n → p ≡ processCountIn b → s ≡ programCountIn b →
       x ≡ callJudged i p k s (t .place) → x ≡ callAnswer b i k
   unfolding callAnswer
   call-judged i k pn pt pp ps px =
-      let task = pt ∙ (ap (λ (z : ℕ). taskIn b z) pn ∙ task-narrow i) in px ∙ λ j. callJudged i (pp j) k (ps j) (task j .place)
+      let control = pt ∙ (ap (λ (z : ℕ). controlIn b z) pn ∙ control-narrow i) in px ∙ λ j. callJudged i (pp j) k (ps j) (control j .place)
 
   pub exit-judged :
-      (i : ℕ) {n : ℕ} {t : Task} {p : ℕ} {x : Answer} → n ≡ min i 255 → t ≡ taskIn b n → p ≡ processCountIn b →
+      (i : ℕ) {n : ℕ} {t : Control} {p : ℕ} {x : Answer} → n ≡ min i 255 → t ≡ controlIn b n → p ≡ processCountIn b →
       x ≡ exitJudged i p (t .place) → x ≡ exitAnswer b i
   unfolding exitAnswer
   exit-judged i pn pt pp px =
-      let task = pt ∙ (ap (λ (z : ℕ). taskIn b z) pn ∙ task-narrow i) in px ∙ λ j. exitJudged i (pp j) (task j .place)
+      let control = pt ∙ (ap (λ (z : ℕ). controlIn b z) pn ∙ control-narrow i) in px ∙ λ j. exitJudged i (pp j) (control j .place)
 
   pub change-judged :
       (k from : ℕ) (v : Verdict) {n s last : ℕ} {g : Gate} {u : Bool} {x : Answer} → g ≡ gateIn b → n ≡ min k 255 → last ≡ fromIn b n → s ≡ programCountIn b →
@@ -80,12 +82,12 @@ module _ (b : List ℕ) where
 
   -- whether the operation of a process is behind a gate number
   module _ (i number : ℕ) {p : ℕ} (pp : p ≡ processCountIn b) where
-    pub behind-none : p ≤ i → ltb i p ≡ ltb i (processCountIn b) && isBehind (taskIn b i .place) (lastGateIn b i) number
+    pub behind-none : p ≤ i → ltb i p ≡ ltb i (processCountIn b) && isBehind (controlIn b i .place) (lastGateIn b i) number
     behind-none h = rw (← pp, le-ltb i p h)
 
     pub behind-there :
-        i < p → {t : Task} {g : Gate} {x : Bool} → t ≡ taskIn b i → g ≡ lastGateIn b i → x ≡ isBehind (t .place) g number →
-        x ≡ ltb i (processCountIn b) && isBehind (taskIn b i .place) (lastGateIn b i) number
+        i < p → {t : Control} {g : Gate} {x : Bool} → t ≡ controlIn b i → g ≡ lastGateIn b i → x ≡ isBehind (t .place) g number →
+        x ≡ ltb i (processCountIn b) && isBehind (controlIn b i .place) (lastGateIn b i) number
     behind-there h pt pg px = rw (← pp, lt-ltb i p h) (px ∙ λ j. isBehind (pt j .place) (pg j) number)
 
   -- what a read shows
@@ -132,7 +134,7 @@ module _ (b : List ℕ) (i : ℕ) {x : Answer} where
     pub call-taken : isRefused x ≡ false → {m n : ℕ} {e : List ℕ} → m ≡ min i 255 → n ≡ min k 255 → e ≡ putCall b m n inputs → e ≡ callBlock b i k inputs
     unfolding callAnswer callBlock
     call-taken h pm pn pe =
-        let p = passed (ltb i (processCountIn b) && ltb i 8) (ltb k (programCountIn b) && ltb k 8) (isIdle (taskIn b i .place)) NoProcess NoProgram Busy
+        let p = passed (ltb i (processCountIn b) && ltb i 8) (ltb k (programCountIn b) && ltb k 8) (isIdle (controlIn b i .place)) NoProcess NoProgram Busy
         (sym (ap isRefused px) ∙ h) in
         let process = pm ∙ small 8 i (omega arith) (in-room i (processCountIn b) 8 (p .0)) in
         let program = pn ∙ small 8 k (omega arith) (in-room k (programCountIn b) 8 (p .1)) in
@@ -146,7 +148,7 @@ module _ (b : List ℕ) (i : ℕ) {x : Answer} where
     pub exit-taken : isRefused x ≡ false → {m : ℕ} {e : List ℕ} → m ≡ min i 255 → e ≡ putExit b m true → e ≡ exitBlock b i
     unfolding exitAnswer exitBlock
     exit-taken h pm pe =
-        let p = passed (ltb i (processCountIn b) && ltb i 8) (not (isIdle (taskIn b i .place))) true NoProcess NotBusy NotBusy
+        let p = passed (ltb i (processCountIn b) && ltb i 8) (not (isIdle (controlIn b i .place))) true NoProcess NotBusy NotBusy
         (sym (ap isRefused px) ∙ h) in
         let process = pm ∙ small 8 i (omega arith) (in-room i (processCountIn b) 8 (p .0)) in
         rw (← px, h) (pe ∙ λ j. putExit b (process j) true)

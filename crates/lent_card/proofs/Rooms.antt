@@ -7,18 +7,18 @@ use mathlib.Core.List.{List}
 use native.Mathlib.Omega.{arith}
 use lib.Dec.{ltb}
 use lib.ListN.{length}
-use Rattle.construction.specs.declared.{Answered.Answered, Contents.Contents, Verdict.Verdict}
+use Rattle.construction.specs.declared.{answers.Answered.Answered, texts.Contents.Contents, texts.Verdict.Verdict}
 use Rattle.construction.specs.Weight.{cardWeight}
 use Rattle.construction.specs.Parts.{contentsOf}
 use Rattle.construction.specs.Answers.{isRefused}
 use Rattle.construction.specs.Requests.{isProcess, isProgram, isBusy, call, requestExit}
 use Rattle.construction.specs.Changes.{changeRead, isUnsettled, ifRead, change}
 use Rattle.construction.proofs.Basics.{on-test}
-use Rattle.codes.specs.Types.{Words, Task, Operation, Card, P1}
+use Rattle.codes.specs.Types.{Words, Control, Operation, Card, P1}
 use Rattle.codes.specs.Parts.{part, table}
-use Rattle.codes.specs.Codes.{bit, taskWords, operationWords, programWords}
+use Rattle.codes.specs.Codes.{bit, controlWords, operationWords, programWords}
 use Rattle.codes.proofs.Values.{FitsWords}
-use Rattle.block.specs.Layout.{putRow, putNumber, roomIn, putTask, putOperation, putExit, putFrom, keepLater}
+use Rattle.block.specs.Layout.{putRow, putNumber, roomIn, putControl, putOperation, putExit, putFrom, keepLater}
 use Rattle.block.specs.Cards.{cardOf}
 use Rattle.block.proofs.Standing.{number-same}
 use Rattle.block.proofs.Puts.{put-row-length, put-number-length}
@@ -48,15 +48,15 @@ module _ (b : List ℕ) where
   call-room : (i k : ℕ) (inputs : Words) → roomIn (callBlock b i k inputs) ≡ roomIn b
   unfolding callBlock
   call-room i k inputs =
-      let t : Task = record { place = P1; target = 0 } in
+      let t : Control = record { place = P1; target = 0 } in
       let o : Operation = record { program = k; inputs = inputs } in
-      let b₁ = putTask b i t in
+      let b₁ = putControl b i t in
       let b₂ = putOperation b₁ i o in
       unless (isRefused (callAnswer b i k)) b (putCall b i k inputs)
       (room-number (putExit b₂ i false) 400 8 i (omega arith) 0
       ∙ (room-number b₂ 392 8 i (omega arith) (bit false)
       ∙ (room-row b₁ 352 8 i (omega arith) (operationWords o)
-      ∙ room-row b 336 8 i (omega arith) (taskWords t))))
+      ∙ room-row b 336 8 i (omega arith) (controlWords t))))
 
   exit-room : (i : ℕ) → roomIn (exitBlock b i) ≡ roomIn b
   unfolding exitBlock

@@ -7,8 +7,8 @@ use native.Mathlib.Omega.{arith}
 use lib.Dec.{ltb}
 use lib.ListN.{length}
 use borrow.Author.Tests.{lt-leb, le-ltb}
-use Rattle.construction.specs.declared.{Words.Words, Answer.Answer}
-use Rattle.construction.specs.declared.Refusal.the-variants.{NoProcess, NoProgram, NoPlace}
+use Rattle.construction.specs.declared.{cells.Words.Words, answers.Answer.Answer}
+use Rattle.construction.specs.declared.answers.Refusal.the-variants.{NoProcess, NoProgram, NoPlace}
 use Rattle.codes.specs.Codes.{byte}
 use Rattle.block.specs.Layout.{isRoom, numberAt}
 use Rattle.lent_card.specs.Requests.{callAnswer, callBlock, exitAnswer, exitBlock, readAnswer, changeAnswer, changeBlock}

@@ -6,8 +6,8 @@ use mathlib.Core.Path.{_≡_}
 use mathlib.Core.Bool.{Bool, true, false, cond, not, _&&_, _||_}
 use mathlib.Core.List.{List}
 use lib.Dec.{ltb}
-use Rattle.construction.specs.declared.{Answer.Answer, ProgramReading.ProgramReading}
-use Rattle.construction.specs.declared.Refusal.the-variants.{NoPlace}
+use Rattle.construction.specs.declared.{answers.Answer.Answer, texts.ProgramReading.ProgramReading}
+use Rattle.construction.specs.declared.answers.Refusal.the-variants.{NoPlace}
 use Rattle.construction.specs.Weight.{cardWeight}
 use Rattle.construction.specs.Parts.{contentsOf}
 use Rattle.construction.specs.Machine.{holderOf}
@@ -16,7 +16,8 @@ use Rattle.construction.specs.Answers.{isRefused}
 use Rattle.construction.specs.Changes.{programText, isBehind}
 use Rattle.requests.specs.Judging.{callJudged, exitJudged, changeJudged}
 use Rattle.codes.specs.Types.{Words, Program, P1}
-use Rattle.block.specs.Layout.{processCountIn, variableCountIn, programCountIn, roomIn, gateIn, announcementIn, recordIn, taskIn, putTask, putOperation, putExit, putCount, lastGateIn, fromIn, putFrom, putLater, keepLater}
+use Rattle.block.specs.Layout.{processCountIn, variableCountIn, programCountIn, roomIn, gateIn, announcementIn, recordIn, controlIn, putControl, putOperation}
+use Rattle.block.specs.Layout.{putExit, putCount, lastGateIn, fromIn, putFrom, putLater, keepLater}
 use Rattle.block.specs.Cards.{cardOf}
 
 -- a request that is refused leaves the block as it was
@@ -25,19 +26,19 @@ unlessRefused x b after = cond (isRefused x) b after
 
 -- call: refusals 5, 6, 7
 unfoldable pub callAnswer : List ℕ → ℕ → ℕ → Answer
-callAnswer b i k = callJudged i (processCountIn b) k (programCountIn b) (taskIn b i .place)
+callAnswer b i k = callJudged i (processCountIn b) k (programCountIn b) (controlIn b i .place)
 
 -- a process takes up an operation; an earlier exit request is over and its own steps count anew
 abbrev pub putCall : List ℕ → ℕ → ℕ → Words → List ℕ
 putCall b i k inputs =
-    putCount (putExit (putOperation (putTask b i (record { place = P1; target = 0 })) i (record { program = k; inputs = inputs })) i false) i 0
+    putCount (putExit (putOperation (putControl b i (record { place = P1; target = 0 })) i (record { program = k; inputs = inputs })) i false) i 0
 
 unfoldable pub callBlock : List ℕ → ℕ → ℕ → Words → List ℕ
 callBlock b i k inputs = unlessRefused (callAnswer b i k) b (putCall b i k inputs)
 
 -- exit request: refusals 5, 8
 unfoldable pub exitAnswer : List ℕ → ℕ → Answer
-exitAnswer b i = exitJudged i (processCountIn b) (taskIn b i .place)
+exitAnswer b i = exitJudged i (processCountIn b) (controlIn b i .place)
 
 unfoldable pub exitBlock : List ℕ → ℕ → List ℕ
 exitBlock b i = unlessRefused (exitAnswer b i) b (putExit b i true)
@@ -56,7 +57,7 @@ changeText b t = programText (variableCountIn b) (roomIn b) t
 -- an operation under way last read a gate number below this one, among the first n processes
 unfoldable pub behindIn : List ℕ → ℕ → ℕ → Bool
 behindIn b number zero = false
-behindIn b number (suc i) = (ltb i (processCountIn b) && isBehind (taskIn b i .place) (lastGateIn b i) number) || behindIn b number i
+behindIn b number (suc i) = (ltb i (processCountIn b) && isBehind (controlIn b i .place) (lastGateIn b i) number) || behindIn b number i
 
 unfoldable pub changeAnswer : List ℕ → ℕ → ℕ → List ℕ → Answer
 changeAnswer b k from t =

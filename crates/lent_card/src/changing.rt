@@ -6,12 +6,12 @@ use block::cells::process_count;
 use block::cells::program_count;
 use block::cells::room;
 use block::cells::variable_count;
+use block::own::control;
 use block::own::last_gate;
-use block::own::task;
 use block::texts::put_from;
-use construction::Answer;
-use construction::Program;
-use construction::Verdict;
+use construction::answers::Answer;
+use construction::programs::Program;
+use construction::texts::Verdict;
 use reader::changes::read_change;
 use requests::behind::is_behind;
 use requests::judging::judge_change;
@@ -23,15 +23,15 @@ ghost use mathlib.Core.Bool.{_&&_};
 ghost use lib.Dec.{ltb};
 ghost use Rattle.construction.specs.Changes.{isBehind};
 ghost use Rattle.requests.specs.Judging.{changeJudged};
-ghost use Rattle.block.specs.Layout.{processCountIn, programCountIn, gateIn, taskIn, lastGateIn, fromIn};
+ghost use Rattle.block.specs.Layout.{processCountIn, programCountIn, gateIn, controlIn, lastGateIn, fromIn};
 ghost use Rattle.lent_card.specs.Requests.{behindIn, changeAnswer, putChange, changeBlock};
 
 // Whether the operation of process i is behind a gate number.
 fn is_behind_at(b: &[u64], i: u8, number: u64) -> bool
-    ensures { λ r. ⌜ r ≡ ltb i (processCountIn (now (b .entry))) && isBehind (taskIn (now (b .entry)) i .place) (lastGateIn (now (b .entry)) i) number ⌝ }
+    ensures { λ r. ⌜ r ≡ ltb i (processCountIn (now (b .entry))) && isBehind (controlIn (now (b .entry)) i .place) (lastGateIn (now (b .entry)) i) number ⌝ }
 {
-    let task = task(b, i);
-    let place = task.place;
+    let control = control(b, i);
+    let place = control.place;
     i < process_count(b) && is_behind(place, last_gate(b, i), number)
 }
 

@@ -7,17 +7,17 @@ use block::cells::process_count;
 use block::cells::program_count;
 use block::cells::record;
 use block::cells::variable_count;
+use block::own::control;
+use block::own::put_control;
 use block::own::put_count;
 use block::own::put_exit;
 use block::own::put_operation;
-use block::own::put_task;
-use block::own::task;
-use construction::Answer;
-use construction::Label;
-use construction::Operation;
-use construction::Refusal;
-use construction::Task;
-use construction::Words;
+use construction::accesses::Control;
+use construction::accesses::Label;
+use construction::answers::Answer;
+use construction::answers::Refusal;
+use construction::card::Operation;
+use construction::cells::Words;
 use machine::places::holder_of;
 use requests::judging::is_below;
 use requests::judging::judge_call;
@@ -30,8 +30,8 @@ ghost use Rattle.lent_card.specs.Requests.{callAnswer, putCall, callBloc
 fn answer_call(b: &[u64], process: u32, program: u32) -> Answer
     ensures { λ r. ⌜ r ≡ callAnswer (now (b .entry)) process program ⌝ }
 {
-    let task = task(b, narrow(process));
-    let place = task.place;
+    let control = control(b, narrow(process));
+    let place = control.place;
     judge_call(process, process_count(b), program, program_count(b), place)
 }
 
@@ -39,10 +39,10 @@ fn answer_call(b: &[u64], process: u32, program: u32) -> Answer
 fn put_call(b: &mut [u64], i: u8, program: u8, inputs: Words)
     ensures { λ r. ⌜ now (b .exit) ≡ putCall (now (b .entry)) i program inputs ⌝ }
 {
-    put_task(
+    put_control(
         b,
         i,
-        Task {
+        Control {
             place: Label::P1,
             target: 0,
         },
@@ -67,8 +67,8 @@ pub fn call(b: &mut [u64], process: u32, program: u32, inputs: Words) -> Answer
 fn answer_exit(b: &[u64], process: u32) -> Answer
     ensures { λ r. ⌜ r ≡ exitAnswer (now (b .entry)) process ⌝ }
 {
-    let task = task(b, narrow(process));
-    let place = task.place;
+    let control = control(b, narrow(process));
+    let place = control.place;
     judge_exit(process, process_count(b), place)
 }
 

@@ -14,7 +14,8 @@ use base.Logic.{SProp, ent, sep, ex}
 use base.Fml.{Lft, GName, fsep, fat, fdead, flent}
 use prog.Wp.{Heap}
 use ghost.Atoms.{Atoms, sem}
-use types.Kit.{Given, ‵, _⊛_, some, later, _$_, _∵_, !, qed, move, use1, use3, split, pick, rewrite, fsplit, fjoin, fpick, fpack, feqL, feqI, await, updating, now as at-once, show, done}
+use types.Kit.{Given, ‵, _⊛_, some, later, _$_, _∵_, !, qed, move, use1, use3, split, pick, rewrite, fsplit, fjoin, fpick, fpack, feqL, feqI, await, updating}
+use types.Kit.{now as at-once, show, done}
 use types.SemTy.{cells, Arr}
 use types.Share.{arr-parts}
 use denote.RattleType.{RattleType}
@@ -50,11 +51,15 @@ module _ (R : RattleType) (one : Single (R .mir)) (n : ℕ) (κ : Lft) (b o : �
         fpack ! (List Val) (λ vs. fsep (cellAt fullShare (τ ∷ []) vs b o) (Array R n .own ys vs)) (v ∷ []) $
         use1 W (‵ (arr-parts (shares R) n .part fullShare ys b o)) (array-apart 𝓤 H A W R fullShare one n ys b o) $ fsplit ! $ feqL ! (λ len.
         use1 W (‵ (cells (mem R) ys b o)) (whole-in 𝓤 H A W R ys b o) $
-        use1 W (later (some (λ (γ : GName). ‵ (MutSlice ℓ κ R .own (at-list γ ys) (sliceVal (b, o) (length ys) ∷ [])) ⊛ ‵ (flent κ (Held R (length ys) b o γ))))) (lends-slice 𝓤 H A W R ℓ κ ys b o (subst (Room R) (sym len) room)) $ await ! tt $ pick ! (λ γ. split ! $
-        rewrite ! 0 (λ (m : ℕ). ‵ (MutSlice ℓ κ R .own (at-list γ ys) (sliceVal (b, o) m ∷ []))) len refl $ rewrite ! 1 (λ (m : ℕ). ‵ (flent κ (Held R m b o γ))) len refl $
+        use1 W
+        (later (some (λ (γ : GName). ‵ (MutSlice ℓ κ R .own (at-list γ ys) (sliceVal (b, o) (length ys) ∷ [])) ⊛ ‵ (flent κ (Held R (length ys) b o γ)))))
+        (lends-slice 𝓤 H A W R ℓ κ ys b o (subst (Room R) (sym len) room)) $ await ! tt $ pick ! (λ γ. split ! $
+        rewrite ! 0 (λ (m : ℕ). ‵ (MutSlice ℓ κ R .own (at-list γ ys) (sliceVal (b, o) m ∷ []))) len refl $ rewrite ! 1
+        (λ (m : ℕ). ‵ (flent κ (Held R m b o γ))) len refl $
         at-once ! $ show ! (Lent ℓ ys) γ $ done !))
 
-    pub array-back : (γ : GName) (zs : List (R .Denot)) → ent 𝓤 (sep 𝓤 (A .dead κ) (sep 𝓤 (A .lent κ (Held R n b o γ)) (sem 𝓤 H A (finally R γ zs)))) (H .⇛ (ex 𝓤 (Back zs)))
+    pub array-back : (γ : GName) (zs : List (R .Denot)) → ent 𝓤 (sep 𝓤 (A .dead κ) (sep 𝓤 (A .lent κ (Held R n b o γ)) (sem 𝓤 H A (finally R γ zs))))
+        (H .⇛ (ex 𝓤 (Back zs)))
     unfolding partOf
     array-back γ zs =
         qed W (‵ (fdead κ) ∷ ‵ (flent κ (Held R n b o γ)) ∷ ‵ (finally R γ zs) ∷ []) ∵ updating ! $
@@ -62,6 +67,7 @@ module _ (R : RattleType) (one : Single (R .mir)) (n : ℕ) (κ : Lft) (b o : �
         use1 W (‵ (row R fullShare zs b o)) (whole-out 𝓤 H A W R zs b o) $ feqI ! ℕ (length zs) n len $ fjoin ! $
         use1 W (‵ (partAt (Array R n) fullShare zs b o)) (array-whole 𝓤 H A W R fullShare n zs b o) $ fpick ! (λ vs. fsplit ! $ move ! (1 ∷ []) $
         peeks ! (Array R n) (Is (Array R n)) (shows 𝓤 H A (Array R n)) zs vs (λ g.
-        rewrite ! 0 (λ (us : List Val). ‵ (Array R n .own zs us)) (g .1 .0 .0) refl $ rewrite ! 1 (λ (us : List Val). ‵ (cellAt fullShare (τ ∷ []) us b o)) (g .1 .0 .0) refl $
+        rewrite ! 0 (λ (us : List Val). ‵ (Array R n .own zs us)) (g .1 .0 .0) refl $ rewrite ! 1 (λ (us : List Val). ‵ (cellAt fullShare (τ ∷ []) us b o))
+        (g .1 .0 .0) refl $
         move ! (1 ∷ 0 ∷ []) $ use1 W (‵ (fat fullShare τ b o (arrayVal (g .0)))) (W .laws .raw-at fullShare τ b o (arrayVal (g .0))) $
         at-once ! $ show ! (Back zs) (arrayVal (g .0)) $ done !)))

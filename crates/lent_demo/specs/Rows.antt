@@ -3,7 +3,7 @@ use Prim.Native.Nat.{ℕ}
 use mathlib.Core.Bool.{Bool, true, false, _&&_}
 use mathlib.Core.List.{List, [], _∷_}
 use lib.ListN.{getD}
-use Rattle.construction.specs.declared.Record.{Record}
+use Rattle.construction.specs.declared.cells.Record.{Record}
 use Rattle.construction.specs.Cells.{openRecord, sameRecord}
 
 abbrev pub recordOf : ℕ → ℕ → Bool → ℕ → Record

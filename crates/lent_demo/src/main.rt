@@ -1,11 +1,11 @@
 // A test program over the crate lent: it lends a row of four records and a gate, makes won, lost and refused swaps,
 // compares every cell afterwards, and prints a line for each case. It rests on the crates construction, answers, cells, lent and report.
 use answers::put_row_swap;
-use construction::Gate;
-use construction::Holder;
-use construction::Record;
-use construction::RowSwap;
-use construction::SwappedGate;
+use construction::cells::Gate;
+use construction::cells::Holder;
+use construction::cells::Record;
+use construction::cells::RowSwap;
+use construction::cells::SwappedGate;
 use libc::STDOUT_FILENO;
 use report::same::both;
 ghost use mathlib.Core.Path.{_≡_};

@@ -5,32 +5,32 @@ use mathlib.Core.Bool.{Bool, true, false, cond}
 use mathlib.Core.List.{List}
 use native.Mathlib.Omega.{arith}
 use lib.ListN.{length, set}
-use Rattle.construction.specs.declared.Began.{Began}
+use Rattle.construction.specs.declared.accesses.Began.{Began}
 use Rattle.construction.specs.Dictionary.{empty}
 use Rattle.construction.specs.Parts.{localAt, announcementAt, textsOf, programOf, withOwn, withAnnouncement, withSteps}
 use Rattle.construction.specs.Machine.{goTo, holderOf, helps, helped, beginHelp, perform}
-use Rattle.codes.specs.Types.{Gate, Announcement, Program, Dictionary, Simulation, Task, Access, Card, P21}
+use Rattle.codes.specs.Types.{Gate, Announcement, Program, Dictionary, Simulation, Control, Access, Card, P21}
 use Rattle.codes.proofs.Values.{FitsAnnouncement, FitsSimulation}
-use Rattle.block.specs.Layout.{variableCountIn, roomIn, taskIn, lastGateIn, putSimulation, putNoted, putMask, putLast, putTask}
-use Rattle.block.specs.Cards.{dictionaryAt, cardOf, textIn, withTask, withCopy, withSimulation, withDictionary, withMask}
-use Rattle.block.proofs.Gets.{empty-at, variable-count-is, announcement-is, task-is, last-gate-is, text-is}
-use Rattle.block.proofs.Puts.{simulation-stored, dictionary-stored, mask-stored, last-stored, task-stored}
-use Rattle.block.proofs.Fitting.{announcement-fits, task-fits}
+use Rattle.block.specs.Layout.{variableCountIn, roomIn, controlIn, lastGateIn, putSimulation, putNoted, putMask, putLast, putControl}
+use Rattle.block.specs.Cards.{dictionaryAt, cardOf, textIn, withControl, withCopy, withSimulation, withDictionary, withMask}
+use Rattle.block.proofs.Gets.{empty-at, variable-count-is, announcement-is, control-is, last-gate-is, text-is}
+use Rattle.block.proofs.Puts.{simulation-stored, dictionary-stored, mask-stored, last-stored, control-stored}
+use Rattle.block.proofs.Fitting.{announcement-fits, control-fits}
 use Rattle.loan.specs.Simulated.{begunIn}
 use Rattle.loan.proofs.Kept.{begun-fits, begun-target}
 use Rattle.lent_machine.specs.Accesses.{next, counted}
-use Rattle.lent_machine.proofs.Own.{placed, gates-kept, accepted, copy-put, announcement-same}
+use Rattle.lent_machine.proofs.Own.{placed, gatesRead-kept, accepted, copy-put, announcement-same}
 use Rattle.lent_machine.proofs.Keeping.{simulation-kept, noted-kept, mask-kept, last-kept}
 use Rattle.lent_helping.specs.Helps.{numberIn, helpedIn, helpBegun, helpPassed, helpStep}
 use Rattle.lent_helping.proofs.Keeps.{help-step-kept}
 
 -- what a process keeps that begins a program, with nothing noted
 begun-placed :
-    (c : Card) (i : ℕ) (s : Simulation) (a : Announcement) (t : Task) →
-    withTask (withCopy (withMask (withDictionary (withSimulation c i s) i empty) i 0) i a) i t ≡ placed c i t (localAt c i .gate) a s empty 0
+    (c : Card) (i : ℕ) (s : Simulation) (a : Announcement) (t : Control) →
+    withControl (withCopy (withMask (withDictionary (withSimulation c i s) i empty) i 0) i a) i t ≡ placed c i t (localAt c i .gate) a s empty 0
 begun-placed c i s a t =
-    let gates = gates-kept c i in
-    λ j. withOwn c (set (c .tasks) i t) (c .operations) (c .exits) (c .counts) (sym gates j) (set (c .copies) i a)
+    let gatesRead = gatesRead-kept c i in
+    λ j. withOwn c (set (c .controls) i t) (c .operations) (c .exits) (c .counts) (sym gatesRead j) (set (c .announcementsRead) i a)
     (set (c .simulations) i s) (set (c .dictionaries) i empty) (set (c .masks) i 0)
 
 module _ (b l : List ℕ) (i : ℕ) where
@@ -43,8 +43,8 @@ module _ (b l : List ℕ) (i : ℕ) where
 
 module _ (b l : List ℕ) (long : 1456 ≤ length b) (i : ℕ) where
   begun-put :
-      (s : Simulation) (a : Announcement) (t : Task) → FitsSimulation s → FitsAnnouncement a → t .target < 256 →
-      cardOf (putTask (putLast (putMask (putNoted (putSimulation b i s) i 0) i 0) i a) i t) l
+      (s : Simulation) (a : Announcement) (t : Control) → FitsSimulation s → FitsAnnouncement a → t .target < 256 →
+      cardOf (putControl (putLast (putMask (putNoted (putSimulation b i s) i 0) i 0) i a) i t) l
       ≡ placed (cardOf b l) i t (localAt (cardOf b l) i .gate) a s empty 0
   begun-put s a t fs fa ft =
       let c = putSimulation b i s in
@@ -54,28 +54,29 @@ module _ (b l : List ℕ) (long : 1456 ≤ length b) (i : ℕ) where
       let sd = noted-kept c i 0 .size in
       let se = mask-kept d i 0 .size in
       let sf = last-kept e i a .size in
-      task-stored (putLast e i a) l (omega arith) i t ft
-      ∙ ap (λ (k : Card). withTask k i t) (last-stored e l (omega arith) i a fa)
-      ∙ ap (λ (k : Card). withTask (withCopy k i a) i t) (mask-stored d l (omega arith) i 0)
-      ∙ ap (λ (k : Card). withTask (withCopy (withMask k i 0) i a) i t) (unnoted c l i (omega arith))
-      ∙ ap (λ (k : Card). withTask (withCopy (withMask (withDictionary k i empty) i 0) i a) i t) (simulation-stored b l long i s fs)
+      control-stored (putLast e i a) l (omega arith) i t ft
+      ∙ ap (λ (k : Card). withControl k i t) (last-stored e l (omega arith) i a fa)
+      ∙ ap (λ (k : Card). withControl (withCopy k i a) i t) (mask-stored d l (omega arith) i 0)
+      ∙ ap (λ (k : Card). withControl (withCopy (withMask k i 0) i a) i t) (unnoted c l i (omega arith))
+      ∙ ap (λ (k : Card). withControl (withCopy (withMask (withDictionary k i empty) i 0) i a) i t) (simulation-stored b l long i s fs)
       ∙ begun-placed (cardOf b l) i s a t
 
   -- the access on what is taken out, but for the simulation, which stays where nothing is helped
-  abbrev begunAs : ℕ → Program → Announcement → ℕ → Task → Began
-  begunAs n y cell number task = beginHelp n y cell number task (localAt (cardOf b l) i .simulation)
+  abbrev begunAs : ℕ → Program → Announcement → ℕ → Control → Began
+  begunAs n y cell number control = beginHelp n y cell number control (localAt (cardOf b l) i .simulation)
 
   -- the card after the access, but for the counts
   abbrev begunCard : ℕ → Announcement → Began → Card
   begunCard m cell x =
       let o = localAt (cardOf b l) i in
-      placed (withAnnouncement (cardOf b l) m cell) i (x .task) (o .gate) cell (x .simulation) (cond (x .helps) empty (o .dictionary)) (cond (x .helps) 0 (o .mask))
+      placed (withAnnouncement (cardOf b l) m cell) i (x .control) (o .gate) cell (x .simulation) (cond (x .helps) empty (o .dictionary))
+      (cond (x .helps) 0 (o .mask))
 
   help-placed :
       let number = numberIn b i in
       let cell = helpedIn b i in
       cardOf (helpStep b i) l
-      ≡ begunCard (holderOf (lastGateIn b i .holder)) cell (begunAs (variableCountIn b) (textIn b (cell .program) number) cell number (taskIn b i))
+      ≡ begunCard (holderOf (lastGateIn b i .holder)) cell (begunAs (variableCountIn b) (textIn b (cell .program) number) cell number (controlIn b i))
   unfolding helpStep beginHelp
   help-placed = go (helps (helpedIn b i) (numberIn b i))
     where
@@ -86,22 +87,22 @@ module _ (b l : List ℕ) (long : 1456 ≤ length b) (i : ℕ) where
           let x = helped number (begunIn b number cell) 0 in
           cardOf (cond t (helpBegun b i number cell) (helpPassed b i cell)) l
           ≡ begunCard (holderOf (lastGateIn b i .holder)) cell
-          (cond t (record { helps = true; task = x .task; simulation = x .simulation })
-          (record { helps = false; task = goTo (taskIn b i) P21; simulation = localAt (cardOf b l) i .simulation }))
+          (cond t (record { helps = true; control = x .control; simulation = x .simulation })
+          (record { helps = false; control = goTo (controlIn b i) P21; simulation = localAt (cardOf b l) i .simulation }))
       go true =
           let number = numberIn b i in
           let cell = helpedIn b i in
           let x = helped number (begunIn b number cell) 0 in
           let m = holderOf (lastGateIn b i .holder) in
           let o = localAt (cardOf b l) i in
-          begun-put (x .simulation) cell (x .task) (begun-fits b number cell (announcement-fits b m)) (announcement-fits b m) (begun-target b number cell)
-          ∙ ap (λ (k : Card). placed k i (x .task) (o .gate) cell (x .simulation) empty 0) (announcement-same b l m)
+          begun-put (x .simulation) cell (x .control) (begun-fits b number cell (announcement-fits b m)) (announcement-fits b m) (begun-target b number cell)
+          ∙ ap (λ (k : Card). placed k i (x .control) (o .gate) cell (x .simulation) empty 0) (announcement-same b l m)
       go false =
           let cell = helpedIn b i in
-          let t = goTo (taskIn b i) P21 in
+          let t = goTo (controlIn b i) P21 in
           let m = holderOf (lastGateIn b i .holder) in
           let o = localAt (cardOf b l) i in
-          copy-put b l long i cell t (announcement-fits b m) (task-fits b i)
+          copy-put b l long i cell t (announcement-fits b m) (control-fits b i)
           ∙ ap (λ (k : Card). placed k i t (o .gate) cell (o .simulation) (o .dictionary) (o .mask)) (announcement-same b l m)
 
   -- AN ACCEPTED STEP THAT BEGINS A HELP (lines P16 to P18): the block after it holds what `advance` makes of the card that it held
@@ -116,12 +117,12 @@ module _ (b l : List ℕ) (long : 1456 ≤ length b) (i : ℕ) where
       let cell : helpedIn b i ≡ announcementAt c (holderOf (o .gate .holder)) =
       announcement-is b l (holderOf (lastGateIn b i .holder)) ∙ ap (announcementAt c) m in
       let n = variable-count-is b l in
-      let task = task-is b l i in
+      let control = control-is b l i in
       let y : textIn b (helpedIn b i .program) (numberIn b i) ≡ programOf (textsOf c) (announcementAt c (holderOf (o .gate .holder)) .program) (o .gate .seq) =
       text-is b l (helpedIn b i .program) (numberIn b i) ∙ (λ j. programOf (textsOf c) (cell j .program) (number j)) in
       let found = announcementAt c (holderOf (o .gate .holder)) in
-      let x = begunAs (c .variableCount) (programOf (textsOf c) (found .program) (o .gate .seq)) found (o .gate .seq) (o .task) in
+      let x = begunAs (c .variableCount) (programOf (textsOf c) (found .program) (o .gate .seq)) found (o .gate .seq) (o .control) in
       let size = help-step-kept b i .size in
-      accepted (helpStep b i) l (omega arith) i (withAnnouncement c (holderOf (o .gate .holder)) found) (x .task) (o .gate) found (x .simulation)
+      accepted (helpStep b i) l (omega arith) i (withAnnouncement c (holderOf (o .gate .holder)) found) (x .control) (o .gate) found (x .simulation)
       (cond (x .helps) empty (o .dictionary)) (cond (x .helps) 0 (o .mask))
-      (help-placed ∙ λ j. begunCard (m j) (cell j) (begunAs (n j) (y j) (cell j) (number j) (task j)))
+      (help-placed ∙ λ j. begunCard (m j) (cell j) (begunAs (n j) (y j) (cell j) (number j) (control j)))

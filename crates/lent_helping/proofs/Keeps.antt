@@ -14,12 +14,15 @@ use Rattle.construction.specs.Machine.{outcome, goTo, helps, afterPause}
 use Rattle.codes.specs.Types.{Announcement, Item, P19, P21}
 use Rattle.codes.specs.Parts.{wordAt}
 use Rattle.codes.specs.Codes.{byte}
-use Rattle.block.specs.Layout.{isRoom, numberAt, processCountIn, roomIn, notedIn, putNoted, maskIn, taskIn, putTask, putLast, putSimulation, putMask, putRecord}
+use Rattle.block.specs.Layout.{isRoom, numberAt, processCountIn, roomIn, notedIn, putNoted, maskIn, controlIn, putControl, putLast, putSimulation, putMask}
+use Rattle.block.specs.Layout.{putRecord}
 use Rattle.loan.specs.Loans.{hasItems, isInserted, insertBlock, insertLoan}
 use Rattle.loan.specs.Simulated.{begunIn, simulatedIn, simulatedLoan}
 use Rattle.loan.proofs.Kept.{Only, insert-only, simulated-only}
-use Rattle.lent_machine.proofs.Keeping.{Kept, kept-self, kept-twice, kept-if, kept-room, record-kept, task-kept, last-kept, simulation-kept, noted-kept, mask-kept}
-use Rattle.lent_helping.specs.Helps.{numberIn, helpedIn, helpBegun, helpPassed, helpStep, lackedIn, putMarked, goneOn, notedBlock, notedLoan, lackedItem, noteBlock, noteLoan, writingIn, writtenIn, recordSwapped, writeStep}
+use Rattle.lent_machine.proofs.Keeping.{Kept, kept-self, kept-twice, kept-if, kept-room, record-kept, control-kept, last-kept, simulation-kept, noted-kept}
+use Rattle.lent_machine.proofs.Keeping.{mask-kept}
+use Rattle.lent_helping.specs.Helps.{numberIn, helpedIn, helpBegun, helpPassed, helpStep, lackedIn, putMarked, goneOn, notedBlock, notedLoan, lackedItem}
+use Rattle.lent_helping.specs.Helps.{noteBlock, noteLoan, writingIn, writtenIn, recordSwapped, writeStep}
 
 kept-either : {b c d : List ℕ} (t : Bool) → Kept b c → Kept b d → Kept b (cond t c d)
 kept-either true x y = x
@@ -77,8 +80,8 @@ help-step-kept b i =
     let e = putMask d i 0 in
     kept-either (helps cell number)
     (kept-twice (simulation-kept b i (x .simulation)) (kept-twice (noted-kept c i 0) (kept-twice (mask-kept d i 0)
-    (kept-twice (last-kept e i cell) (task-kept (putLast e i cell) i (afterPause number (x .dictionary) (x .pause)))))))
-    (kept-twice (last-kept b i cell) (task-kept (putLast b i cell) i (goTo (taskIn b i) P21)))
+    (kept-twice (last-kept e i cell) (control-kept (putLast e i cell) i (afterPause number (x .dictionary) (x .pause)))))))
+    (kept-twice (last-kept b i cell) (control-kept (putLast b i cell) i (goTo (controlIn b i) P21)))
 
 -- one item more, and the simulation gone on
 pub insert-kept : (b l : List ℕ) (i : ℕ) → Kept b (insertBlock b l i)
@@ -91,7 +94,7 @@ marked-kept b i v = mask-kept b i (withBit (maskIn b i) v)
 pub gone-on-kept : (b l : List ℕ) (i number : ℕ) → Kept b (goneOn b l i number)
 gone-on-kept b l i number =
     let x = simulatedIn b l i number in
-    kept-twice (simulation-kept b i (x .simulation)) (task-kept (putSimulation b i (x .simulation)) i (afterPause number (x .dictionary) (x .pause)))
+    kept-twice (simulation-kept b i (x .simulation)) (control-kept (putSimulation b i (x .simulation)) i (afterPause number (x .dictionary) (x .pause)))
 
 module _ (b l : List ℕ) (i number : ℕ) (e : Item) where
   inserted-kept : Kept b (insertBlock (putMarked b i (e .variable)) l i)
@@ -112,7 +115,7 @@ module _ (b l : List ℕ) (i number : ℕ) (e : Item) where
 pub note-step-kept : (b l : List ℕ) (i : ℕ) → Kept b (noteBlock b l i)
 unfolding noteBlock
 note-step-kept b l i =
-    kept-either (ltb (numberIn b i) (lackedIn b i .seq)) (task-kept b i (goTo (taskIn b i) P19)) (noted-block-kept b l i (numberIn b i) (lackedItem b i))
+    kept-either (ltb (numberIn b i) (lackedIn b i .seq)) (control-kept b i (goTo (controlIn b i) P19)) (noted-block-kept b l i (numberIn b i) (lackedItem b i))
 
 pub note-step-only : (b l : List ℕ) (i : ℕ) → Only b l (noteLoan b l i) i
 unfolding noteLoan
@@ -125,4 +128,4 @@ unfolding writeStep
 write-step-kept b l i =
     let v = writingIn b l i .item .variable in
     let x = writtenIn b l i in
-    kept-twice (kept-if (outcome (x .won)) (record-kept b v (x .cell))) (task-kept (recordSwapped b v x) i (writingIn b l i .task))
+    kept-twice (kept-if (outcome (x .won)) (record-kept b v (x .cell))) (control-kept (recordSwapped b v x) i (writingIn b l i .control))

@@ -9,8 +9,8 @@ use lib.Dec.{ltb}
 use lib.ListN.{length, getD, set}
 use lib.Seq.{set-set, getD-set-same}
 use borrow.Author.Tests.{lt-ltb}
-use Rattle.construction.specs.declared.Helped.{Helped}
-use Rattle.construction.specs.declared.Simulated.{Simulated}
+use Rattle.construction.specs.declared.accesses.Helped.{Helped}
+use Rattle.construction.specs.declared.simulations.Simulated.{Simulated}
 use Rattle.construction.specs.Cells.{current, previous}
 use Rattle.construction.specs.Dictionary as construction
 use Rattle.construction.specs.Dictionary.{empty, valueUnder, insert}
@@ -18,22 +18,23 @@ use Rattle.construction.specs.Marks.{withBit}
 use Rattle.construction.specs.Helping.{simulate}
 use Rattle.construction.specs.Parts.{localAt, recordAt, textsOf, programOf, withOwn, withRecord, withSteps}
 use Rattle.construction.specs.Machine.{goTo, afterPause, helped, note, perform}
-use Rattle.codes.specs.Types.{Gate, Record, Item, Dictionary, Simulation, Task, Access, Card, P19}
+use Rattle.codes.specs.Types.{Gate, Record, Item, Dictionary, Simulation, Control, Access, Card, P19}
 use Rattle.codes.specs.Parts.{table}
 use Rattle.codes.specs.Codes.{byte}
 use Rattle.codes.proofs.Blocks.{length-table, table-set}
 use Rattle.codes.proofs.Values.{FitsItem, FitsRecord}
-use Rattle.block.specs.Layout.{variableCountIn, roomIn, notedIn, putNoted, recordIn, taskIn, putTask, lastGateIn, lastIn, simulationIn, putSimulation, maskIn}
-use Rattle.block.specs.Cards.{dictionaryAt, dictionaryIn, textIn, standing, cardOf, withTask, withSimulation, withDictionary, withMask}
-use Rattle.block.proofs.Gets.{long-card, variable-count-is, record-is, task-is, last-gate-is, last-is, simulation-is, mask-is, text-is, dictionary-is}
+use Rattle.block.specs.Layout.{variableCountIn, roomIn, notedIn, putNoted, recordIn, controlIn, putControl, lastGateIn, lastIn, simulationIn, putSimulation}
+use Rattle.block.specs.Layout.{maskIn}
+use Rattle.block.specs.Cards.{dictionaryAt, dictionaryIn, textIn, standing, cardOf, withControl, withSimulation, withDictionary, withMask}
+use Rattle.block.proofs.Gets.{long-card, variable-count-is, record-is, control-is, last-gate-is, last-is, simulation-is, mask-is, text-is, dictionary-is}
 use Rattle.block.proofs.Standing.{number-same}
-use Rattle.block.proofs.Puts.{simulation-stored, dictionary-stored, mask-stored, task-stored}
-use Rattle.block.proofs.Fitting.{record-fits, task-fits, noted-fits}
+use Rattle.block.proofs.Puts.{simulation-stored, dictionary-stored, mask-stored, control-stored}
+use Rattle.block.proofs.Fitting.{record-fits, control-fits, noted-fits}
 use Rattle.loan.specs.Loans.{hasItems, heldDictionary, isInserted, insertBlock, insertLoan}
 use Rattle.loan.specs.Simulated.{simulatedIn, simulatedLoan}
 use Rattle.loan.proofs.Kept.{Only, others, held-is, insert-only, insert-is, simulated-only, simulated-fits, simulated-is, simulated-target}
 use Rattle.lent_machine.specs.Accesses.{next, counted}
-use Rattle.lent_machine.proofs.Own.{placed, gates-kept, copies-kept, accepted, task-put, record-same}
+use Rattle.lent_machine.proofs.Own.{placed, gatesRead-kept, announcementsRead-kept, accepted, control-put, record-same}
 use Rattle.lent_machine.proofs.Keeping.{kept-room, only-number, simulation-kept}
 use Rattle.lent_helping.specs.Helps.{numberIn, lackedIn, putMarked, goneOn, notedBlock, notedLoan, lackedItem, noteBlock, noteLoan}
 use Rattle.lent_helping.proofs.Keeps.{has-kept, insert-kept, marked-kept, note-step-kept}
@@ -60,7 +61,7 @@ runOn c i number d =
     simulate (c .variableCount) (programOf (textsOf c) (o .announcement .program) number) (o .announcement .words) (o .simulation) d
 
 abbrev goneWith : Card → ℕ → ℕ → Simulated → Card
-goneWith c i number x = withTask (withSimulation (withDictionary c i (x .dictionary)) i (x .simulation)) i (afterPause number (x .dictionary) (x .pause))
+goneWith c i number x = withControl (withSimulation (withDictionary c i (x .dictionary)) i (x .simulation)) i (afterPause number (x .dictionary) (x .pause))
 
 abbrev goneCard : Card → ℕ → ℕ → Card
 goneCard c i number = goneWith c i number (runOn c i number (localAt c i .dictionary))
@@ -71,20 +72,21 @@ module _ (c : Card) (i number mask : ℕ) (d : Dictionary) (h : i < length (c .d
       goneCard (withDictionary (withMask c i mask) i d) i number
       ≡ (let o = localAt c i in
       let x = helped number (runOn c i number d) mask in
-      placed c i (x .task) (o .gate) (o .announcement) (x .simulation) (x .dictionary) (x .mask))
+      placed c i (x .control) (o .gate) (o .announcement) (x .simulation) (x .dictionary) (x .mask))
   noted-placed =
       let same = getD-set-same (c .dictionaries) i d empty h in
       let x = runOn c i number d in
-      let gates = gates-kept c i in
-      let copies = copies-kept c i in
+      let gatesRead = gatesRead-kept c i in
+      let announcementsRead = announcementsRead-kept c i in
       let twice = set-set (c .dictionaries) i d (x .dictionary) in
       ap (λ (e : Dictionary). goneWith (withDictionary (withMask c i mask) i d) i number (runOn c i number e)) same
-      ∙ λ j. withOwn c (set (c .tasks) i (afterPause number (x .dictionary) (x .pause))) (c .operations) (c .exits) (c .counts) (sym gates j) (sym copies j)
+      ∙ λ j. withOwn c (set (c .controls) i (afterPause number (x .dictionary) (x .pause))) (c .operations) (c .exits) (c .counts) (sym gatesRead j)
+      (sym announcementsRead j)
       (set (c .simulations) i (x .simulation)) (twice j) (set (c .masks) i mask)
 
 -- ON THE BLOCK AND THE LOAN
 abbrev withDictionaries : Card → List Dictionary → Card
-withDictionaries c xs = withOwn c (c .tasks) (c .operations) (c .exits) (c .counts) (c .gates) (c .copies) (c .simulations) xs (c .masks)
+withDictionaries c xs = withOwn c (c .controls) (c .operations) (c .exits) (c .counts) (c .gatesRead) (c .announcementsRead) (c .simulations) xs (c .masks)
 
 -- a loan that differs in the items of process i alone
 pub loan-stored :
@@ -115,7 +117,8 @@ marked-noted b i v h =
 module _ (b l : List ℕ) (long : 1456 ≤ length b) (i : ℕ) (h : i < 8) (has : hasItems b l i ≡ true) where
   -- lines H24 and H25: one item more
   pub insert-stored :
-      (e : Item) → FitsItem e → notedIn b i < roomIn b → cardOf (insertBlock b l i) (insertLoan b l i e) ≡ withDictionary (cardOf b l) i (insert (localAt (cardOf b l) i .dictionary) e)
+      (e : Item) → FitsItem e → notedIn b i < roomIn b → cardOf (insertBlock b l i) (insertLoan b l i e) ≡ withDictionary (cardOf b l) i
+      (insert (localAt (cardOf b l) i .dictionary) e)
   insert-stored e fits room =
       let m = insertLoan b l i e in
       let n = noted-fits b i in
@@ -144,9 +147,9 @@ module _ (b l : List ℕ) (long : 1456 ≤ length b) (i : ℕ) (h : i < 8) (has 
         let m = simulatedLoan b l i number in
         let t = afterPause number (x .dictionary) (x .pause) in
         let size = simulation-kept b i (x .simulation) .size in
-        task-stored (putSimulation b i (x .simulation)) m (omega arith) i t (simulated-target b l i number (omega arith))
-        ∙ ap (λ (k : Card). withTask k i t) (simulation-stored b m long i (x .simulation) (simulated-fits b l i number .0))
-        ∙ ap (λ (k : Card). withTask (withSimulation k i (x .simulation)) i t)
+        control-stored (putSimulation b i (x .simulation)) m (omega arith) i t (simulated-target b l i number (omega arith))
+        ∙ ap (λ (k : Card). withControl k i t) (simulation-stored b m long i (x .simulation) (simulated-fits b l i number .0))
+        ∙ ap (λ (k : Card). withControl (withSimulation k i (x .simulation)) i t)
         (loan-stored b l m i long h (λ k p ne. others b l m i (simulated-only b l i number) k ne)
         ∙ ap (λ (d : Dictionary). withDictionary (cardOf b l) i d) (simulated-is b l i number (omega arith) has))
         ∙ ap (λ (z : Simulated). goneWith (cardOf b l) i number z) simulated-named
@@ -177,21 +180,21 @@ module _ (b l : List ℕ) (long : 1456 ≤ length b) (i : ℕ) (h : i < 8) (has 
       ∙ ap (λ (k : Card). withDictionary k i (insert (localAt k i .dictionary) e)) (marked-is (e .variable)))
 
   -- the access on what is taken out
-  abbrev notedAs : Record → ℕ → Task → Helped
-  notedAs cell number task =
+  abbrev notedAs : Record → ℕ → Control → Helped
+  notedAs cell number control =
       let c = cardOf b l in
       let o = localAt c i in
-      note (c .variableCount) (programOf (textsOf c) (o .announcement .program) number) (o .announcement .words) cell number task
+      note (c .variableCount) (programOf (textsOf c) (o .announcement .program) number) (o .announcement .words) cell number control
       (o .simulation) (o .dictionary) (o .mask)
 
   -- the card after the access, but for the counts
   abbrev notedCard : ℕ → Record → Helped → Card
   notedCard v cell x =
       let o = localAt (cardOf b l) i in
-      placed (withRecord (cardOf b l) v cell) i (x .task) (o .gate) (o .announcement) (x .simulation) (x .dictionary) (x .mask)
+      placed (withRecord (cardOf b l) v cell) i (x .control) (o .gate) (o .announcement) (x .simulation) (x .dictionary) (x .mask)
 
   note-placed :
-      cardOf (noteBlock b l i) (noteLoan b l i) ≡ notedCard (taskIn b i .target) (lackedIn b i) (notedAs (lackedIn b i) (numberIn b i) (taskIn b i))
+      cardOf (noteBlock b l i) (noteLoan b l i) ≡ notedCard (controlIn b i .target) (lackedIn b i) (notedAs (lackedIn b i) (numberIn b i) (controlIn b i))
   unfolding noteBlock noteLoan note
   note-placed = go (ltb (numberIn b i) (lackedIn b i .seq))
     where
@@ -200,27 +203,28 @@ module _ (b l : List ℕ) (long : 1456 ≤ length b) (i : ℕ) (h : i < 8) (has 
           let number = numberIn b i in
           let o = localAt (cardOf b l) i in
           let e = lackedItem b i in
-          cardOf (cond t (putTask b i (goTo (taskIn b i) P19)) (notedBlock b l i number e)) (cond t l (notedLoan b l i number e))
-          ≡ notedCard (taskIn b i .target) (lackedIn b i)
-          (cond t (record { task = goTo (taskIn b i) P19; simulation = o .simulation; dictionary = o .dictionary; mask = o .mask })
-          (helped number (runOn (cardOf b l) i number (insert (o .dictionary) e)) (withBit (o .mask) (taskIn b i .target))))
+          cardOf (cond t (putControl b i (goTo (controlIn b i) P19)) (notedBlock b l i number e)) (cond t l (notedLoan b l i number e))
+          ≡ notedCard (controlIn b i .target) (lackedIn b i)
+          (cond t (record { control = goTo (controlIn b i) P19; simulation = o .simulation; dictionary = o .dictionary; mask = o .mask })
+          (helped number (runOn (cardOf b l) i number (insert (o .dictionary) e)) (withBit (o .mask) (controlIn b i .target))))
       go true =
           let o = localAt (cardOf b l) i in
-          let t = goTo (taskIn b i) P19 in
-          task-put b l long i t (task-fits b i)
-          ∙ ap (λ (k : Card). placed k i t (o .gate) (o .announcement) (o .simulation) (o .dictionary) (o .mask)) (record-same b l (taskIn b i .target))
+          let t = goTo (controlIn b i) P19 in
+          control-put b l long i t (control-fits b i)
+          ∙ ap (λ (k : Card). placed k i t (o .gate) (o .announcement) (o .simulation) (o .dictionary) (o .mask)) (record-same b l (controlIn b i .target))
       go false =
           let c = cardOf b l in
           let o = localAt c i in
           let number = numberIn b i in
           let e = lackedItem b i in
-          let mask = withBit (o .mask) (taskIn b i .target) in
+          let mask = withBit (o .mask) (controlIn b i .target) in
           let x = helped number (runOn c i number (insert (o .dictionary) e)) mask in
-          let fits = item-fits number (taskIn b i .target) (lackedIn b i) (task-fits b i) (record-fits b (taskIn b i .target)) in
+          let fits = item-fits number (controlIn b i .target) (lackedIn b i) (control-fits b i) (record-fits b (controlIn b i .target)) in
           let size = dictionaries-long b l long in
           noted-is number e fits
           ∙ noted-placed c i number mask (insert (o .dictionary) e) (omega arith)
-          ∙ ap (λ (k : Card). placed k i (x .task) (o .gate) (o .announcement) (x .simulation) (x .dictionary) (x .mask)) (record-same b l (taskIn b i .target))
+          ∙ ap (λ (k : Card). placed k i (x .control) (o .gate) (o .announcement) (x .simulation) (x .dictionary) (x .mask))
+          (record-same b l (controlIn b i .target))
 
   -- AN ACCEPTED STEP THAT NOTES A RECORD (line H21): the block and the loan after it hold what `advance` makes of the card that they held
   pub note-step-is :
@@ -231,11 +235,11 @@ module _ (b l : List ℕ) (long : 1456 ≤ length b) (i : ℕ) (h : i < 8) (has 
       let o = localAt c i in
       let gate = last-gate-is b l i in
       let number : numberIn b i ≡ o .gate .seq = ap (λ (g : Gate). g .seq) gate in
-      let task = task-is b l i in
-      let cell : lackedIn b i ≡ recordAt c (o .task .target) = record-is b l (taskIn b i .target) ∙ (λ j. recordAt c (task j .target)) in
-      let found = recordAt c (o .task .target) in
-      let x = notedAs found (o .gate .seq) (o .task) in
+      let control = control-is b l i in
+      let cell : lackedIn b i ≡ recordAt c (o .control .target) = record-is b l (controlIn b i .target) ∙ (λ j. recordAt c (control j .target)) in
+      let found = recordAt c (o .control .target) in
+      let x = notedAs found (o .gate .seq) (o .control) in
       let size = note-step-kept b l i .size in
-      accepted (noteBlock b l i) (noteLoan b l i) (omega arith) i (withRecord c (o .task .target) found) (x .task) (o .gate) (o .announcement)
+      accepted (noteBlock b l i) (noteLoan b l i) (omega arith) i (withRecord c (o .control .target) found) (x .control) (o .gate) (o .announcement)
       (x .simulation) (x .dictionary) (x .mask)
-      (note-placed ∙ λ j. notedCard (task j .target) (cell j) (notedAs (cell j) (number j) (task j)))
+      (note-placed ∙ λ j. notedCard (control j .target) (cell j) (notedAs (cell j) (number j) (control j)))

@@ -8,16 +8,16 @@ use native.Mathlib.Omega.{arith}
 use lib.ListN.{length}
 use lib.Seq.{set-getD, getD-set-other}
 use Rattle.construction.specs.Dictionary.{empty}
-use Rattle.construction.specs.Parts.{localAt, idleTask, withOwn, withSteps}
+use Rattle.construction.specs.Parts.{localAt, idleControl, withOwn, withSteps}
 use Rattle.construction.specs.Machine.{accessOf, perform, advance}
 use Rattle.codes.specs.Types.{Access, Card, Dictionary}
-use Rattle.block.specs.Layout.{roomIn, notedIn, taskIn, exitIn}
+use Rattle.block.specs.Layout.{roomIn, notedIn, controlIn, exitIn}
 use Rattle.block.specs.Cards.{dictionaryAt, cardOf}
-use Rattle.block.proofs.Gets.{task-is, exit-is, dictionary-is}
+use Rattle.block.proofs.Gets.{control-is, exit-is, dictionary-is}
 use Rattle.loan.specs.Loans.{hasItems}
 use Rattle.loan.proofs.Kept.{Only}
 use Rattle.lent_machine.specs.Accesses.{next, counted}
-use Rattle.lent_machine.proofs.Own.{task-placed, accepted}
+use Rattle.lent_machine.proofs.Own.{control-placed, accepted}
 use Rattle.lent_machine.proofs.Keeping.{Kept, kept-self}
 use Rattle.lent_machine.proofs.Gates.{gate-step-kept, gate-swap-is, gate-step-is}
 use Rattle.lent_machine.proofs.Announcements.{announcement-step-kept, announcement-swap-is, announcement-step-is}
@@ -68,10 +68,11 @@ module _ (b l : List ℕ) (long : 1456 ≤ length b) (i : ℕ) where
   none-step-is =
       let c = cardOf b l in
       let o = localAt c i in
-      let tasks = set-getD (c .tasks) i idleTask in
-      accepted b l long i c (o .task) (o .gate) (o .announcement) (o .simulation) (o .dictionary) (o .mask)
-      ((λ j. withOwn c (sym tasks j) (c .operations) (c .exits) (c .counts) (c .gates) (c .copies) (c .simulations) (c .dictionaries) (c .masks))
-      ∙ task-placed c i (o .task))
+      let controls = set-getD (c .controls) i idleControl in
+      accepted b l long i c (o .control) (o .gate) (o .announcement) (o .simulation) (o .dictionary) (o .mask)
+      ((λ j. withOwn c (sym controls j) (c .operations) (c .exits) (c .counts) (c .gatesRead) (c .announcementsRead) (c .simulations) (c .dictionaries)
+      (c .masks))
+      ∙ control-placed c i (o .control))
 
   module _ (h : i < 8) (has : hasItems b l i ≡ true) where
     -- ANY ACCESS OF AN ACCEPTED STEP: block and loan after it hold what `advance` makes of the card that they held, where a process that is to note has
@@ -99,15 +100,15 @@ module _ (b l : List ℕ) (long : 1456 ≤ length b) (i : ℕ) where
 
     -- by the place and the exit request that stand in the block
     pub advance-is :
-        let a = accessOf (taskIn b i .place) (exitIn b i) in
+        let a = accessOf (controlIn b i .place) (exitIn b i) in
         (a ≡ Access.Note → notedIn b i < roomIn b) → cardOf (counted (accessBlock a b l i) i) (accessLoan a b l i) ≡ advance (cardOf b l) i
     unfolding advance
     advance-is room =
         let c = cardOf b l in
-        let task = task-is b l i in
+        let control = control-is b l i in
         let exit = exit-is b l i in
-        access-is (accessOf (taskIn b i .place) (exitIn b i)) room
-        ∙ λ j. withSteps (perform (accessOf (task j .place) (exit j)) c i .card) (next (c .steps))
+        access-is (accessOf (controlIn b i .place) (exitIn b i)) room
+        ∙ λ j. withSteps (perform (accessOf (control j .place) (exit j)) c i .card) (next (c .steps))
 
     -- how many items every other process has noted
     pub noted-others :

@@ -5,15 +5,16 @@ use mathlib.Core.Bool.{Bool, true, false, cond}
 use mathlib.Core.List.{List}
 use lib.Dec.{ltb}
 use borrow.Author.Tests.{lt-ltb, le-ltb}
-use Rattle.construction.specs.declared.Swap.{Swap}
-use Rattle.construction.specs.declared.SwappedRecord.{SwappedRecord}
-use Rattle.construction.specs.declared.Writing.{Writing}
+use Rattle.construction.specs.declared.accesses.Swap.{Swap}
+use Rattle.construction.specs.declared.cells.SwappedRecord.{SwappedRecord}
+use Rattle.construction.specs.declared.accesses.Writing.{Writing}
 use Rattle.construction.specs.Dictionary.{itemOf}
 use Rattle.construction.specs.Machine.{goTo, holderOf, helps, writing, write, outcome}
-use Rattle.codes.specs.Types.{Gate, Announcement, Record, Item, Task, P19}
-use Rattle.block.specs.Layout.{announcementIn, recordIn, taskIn, putTask, lastGateIn}
+use Rattle.codes.specs.Types.{Gate, Announcement, Record, Item, Control, P19}
+use Rattle.block.specs.Layout.{announcementIn, recordIn, controlIn, putControl, lastGateIn}
 use Rattle.loan.specs.Loans.{heldDictionary}
-use Rattle.lent_helping.specs.Helps.{numberIn, helpedIn, helpBegun, helpPassed, helpStep, lackedIn, notedBlock, notedLoan, noteBlock, noteLoan, writingIn, writtenIn, recordSwapped, writeStep}
+use Rattle.lent_helping.specs.Helps.{numberIn, helpedIn, helpBegun, helpPassed, helpStep, lackedIn, notedBlock, notedLoan, noteBlock, noteLoan, writingIn}
+use Rattle.lent_helping.specs.Helps.{writtenIn, recordSwapped, writeStep}
 
 -- by a test
 by-true : {A : Type 0} {t : Bool} (x y : A) → t ≡ true → x ≡ cond t x y
@@ -45,12 +46,12 @@ module _ (b : List ℕ) (i : ℕ) {g : Gate} {m : ℕ} {cell : Announcement} {t 
       ∙ by-false (helpBegun b i (numberIn b i) (helpedIn b i)) (helpPassed b i (helpedIn b i)) (sym helped-tested ∙ p)
 
 -- lines H21 to H25
-module _ (b l : List ℕ) (i : ℕ) {g : Gate} {task : Task} {cell : Record}
-    (pg : g ≡ lastGateIn b i) (pt : task ≡ taskIn b i) (pc : cell ≡ recordIn b (task .target)) where
+module _ (b l : List ℕ) (i : ℕ) {g : Gate} {control : Control} {cell : Record}
+    (pg : g ≡ lastGateIn b i) (pt : control ≡ controlIn b i) (pc : cell ≡ recordIn b (control .target)) where
   lacked-found : cell ≡ lackedIn b i
   lacked-found = pc ∙ λ j. recordIn b (pt j .target)
 
-  pub newer-in : {e : List ℕ} → g .seq < cell .seq → e ≡ putTask b i (goTo (taskIn b i) P19) → (e ≡ noteBlock b l i) × (l ≡ noteLoan b l i)
+  pub newer-in : {e : List ℕ} → g .seq < cell .seq → e ≡ putControl b i (goTo (controlIn b i) P19) → (e ≡ noteBlock b l i) × (l ≡ noteLoan b l i)
   unfolding noteBlock noteLoan
   newer-in p pe =
       let found = lacked-found in
@@ -60,7 +61,7 @@ module _ (b l : List ℕ) (i : ℕ) {g : Gate} {task : Task} {cell : Record}
       )
 
   pub noted-in :
-      {item : Item} {e m : List ℕ} → cell .seq ≤ g .seq → item ≡ itemOf (g .seq) (task .target) cell →
+      {item : Item} {e m : List ℕ} → cell .seq ≤ g .seq → item ≡ itemOf (g .seq) (control .target) cell →
       (e ≡ notedBlock b l i (g .seq) item) × (m ≡ notedLoan b l i (g .seq) item) → (e ≡ noteBlock b l i) × (m ≡ noteLoan b l i)
   unfolding noteBlock noteLoan
   noted-in p pi pe =
@@ -73,15 +74,15 @@ module _ (b l : List ℕ) (i : ℕ) {g : Gate} {task : Task} {cell : Record}
 
 -- line H36
 pub written-in :
-    (b l : List ℕ) (i : ℕ) {g : Gate} {task : Task} {x : Writing} {cell : Record} {s : SwappedRecord} {c e : List ℕ} {r : Swap} →
-    g ≡ lastGateIn b i → task ≡ taskIn b i → x ≡ writing (g .seq) task (heldDictionary b l i) → cell ≡ recordIn b (x .item .variable) →
-    s ≡ write cell (x .item) (g .seq) → c ≡ recordSwapped b (x .item .variable) s → e ≡ putTask c i (x .task) → r ≡ outcome (s .won) →
+    (b l : List ℕ) (i : ℕ) {g : Gate} {control : Control} {x : Writing} {cell : Record} {s : SwappedRecord} {c e : List ℕ} {r : Swap} →
+    g ≡ lastGateIn b i → control ≡ controlIn b i → x ≡ writing (g .seq) control (heldDictionary b l i) → cell ≡ recordIn b (x .item .variable) →
+    s ≡ write cell (x .item) (g .seq) → c ≡ recordSwapped b (x .item .variable) s → e ≡ putControl c i (x .control) → r ≡ outcome (s .won) →
     (e ≡ writeStep b l i) × (r ≡ outcome (writtenIn b l i .won))
 unfolding writeStep
-written-in b l i {g} {task} {x} {cell} {s} pg pt px pc ps pb pe pr =
+written-in b l i {g} {control} {x} {cell} {s} pg pt px pc ps pb pe pr =
     let item : x ≡ writingIn b l i = px ∙ (λ j. writing (pg j .seq) (pt j) (heldDictionary b l i)) in
     let found = pc ∙ (λ j. recordIn b (item j .item .variable)) in
     let swapped : s ≡ writtenIn b l i = ps ∙ (λ j. write (found j) (item j .item) (pg j .seq)) in (
-      pe ∙ (λ j. putTask (pb j) i (x .task)) ∙ λ j. putTask (recordSwapped b (item j .item .variable) (swapped j)) i (item j .task),
+      pe ∙ (λ j. putControl (pb j) i (x .control)) ∙ λ j. putControl (recordSwapped b (item j .item .variable) (swapped j)) i (item j .control),
       pr ∙ ap (λ (y : SwappedRecord). outcome (y .won)) swapped,
     )

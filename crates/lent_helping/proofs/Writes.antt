@@ -5,17 +5,17 @@ use mathlib.Core.Bool.{Bool, true, false, cond}
 use mathlib.Core.List.{List}
 use native.Mathlib.Omega.{arith}
 use lib.ListN.{length}
-use Rattle.construction.specs.declared.SwappedRecord.{SwappedRecord}
-use Rattle.construction.specs.declared.Writing.{Writing}
+use Rattle.construction.specs.declared.cells.SwappedRecord.{SwappedRecord}
+use Rattle.construction.specs.declared.accesses.Writing.{Writing}
 use Rattle.construction.specs.Cells.{sameRecord, swapRecord, rewritten}
 use Rattle.construction.specs.Dictionary.{noted}
 use Rattle.construction.specs.Parts.{localAt, recordAt, withRecord, withSteps}
 use Rattle.construction.specs.Machine.{outcome, writing, write, perform}
-use Rattle.codes.specs.Types.{Gate, Record, Item, Task, Access, Card}
+use Rattle.codes.specs.Types.{Gate, Record, Item, Control, Access, Card}
 use Rattle.codes.proofs.Values.{FitsItem, FitsRecord}
-use Rattle.block.specs.Layout.{recordIn, putRecord, taskIn}
+use Rattle.block.specs.Layout.{recordIn, putRecord, controlIn}
 use Rattle.block.specs.Cards.{cardOf}
-use Rattle.block.proofs.Gets.{record-is, task-is, last-gate-is, dictionary-is}
+use Rattle.block.proofs.Gets.{record-is, control-is, last-gate-is, dictionary-is}
 use Rattle.block.proofs.Puts.{record-stored}
 use Rattle.block.proofs.Fitting.{dictionary-fits}
 use Rattle.loan.specs.Loans.{hasItems, spanIn, heldDictionary}
@@ -24,7 +24,7 @@ use Rattle.loan.proofs.Spans.{span-fits}
 use Rattle.loan.proofs.Pauses.{write-narrow}
 use Rattle.loan.proofs.Kept.{held-is}
 use Rattle.lent_machine.specs.Accesses.{next, counted}
-use Rattle.lent_machine.proofs.Own.{taskPlaced, accepted, task-put, record-same, swap-stored}
+use Rattle.lent_machine.proofs.Own.{controlPlaced, accepted, control-put, record-same, swap-stored}
 use Rattle.lent_machine.proofs.Keeping.{kept-if, record-kept}
 use Rattle.lent_helping.specs.Helps.{numberIn, writingIn, writtenIn, recordSwapped, writeStep}
 use Rattle.lent_helping.proofs.Keeps.{write-step-kept}
@@ -45,14 +45,14 @@ rewritten-fits e number f =
 module _ (b l : List ℕ) (i : ℕ) where
   item-fits : FitsItem (writingIn b l i .item)
   unfolding writing
-  item-fits = dictionary-fits l (spanIn b l i .base) (spanIn b l i .end) (taskIn b i .target)
+  item-fits = dictionary-fits l (spanIn b l i .base) (spanIn b l i .end) (controlIn b i .target)
 
-  target-fits : i < 256 → writingIn b l i .task .target < 256
+  target-fits : i < 256 → writingIn b l i .control .target < 256
   unfolding writing
   target-fits p =
       let fits = span-fits b l i p (spanIn b l i) refl in
       let few = noted-length l (spanIn b l i .base) (spanIn b l i .end) (fits .end) in
-      write-narrow (numberIn b i) (heldDictionary b l i) (suc (taskIn b i .target)) (omega (arith, fits .end))
+      write-narrow (numberIn b i) (heldDictionary b l i) (suc (controlIn b i .target)) (omega (arith, fits .end))
 
   module _ (long : 1456 ≤ length b) where
     -- the record of the item is swapped, and stored where the swap won
@@ -69,7 +69,7 @@ module _ (b l : List ℕ) (i : ℕ) where
 
     -- the card after the access, but for the counts
     abbrev writtenCard : Writing → SwappedRecord → Card
-    writtenCard x s = taskPlaced (withRecord (cardOf b l) (x .item .variable) (s .cell)) i (x .task)
+    writtenCard x s = controlPlaced (withRecord (cardOf b l) (x .item .variable) (s .cell)) i (x .control)
 
     write-placed : i < 256 → cardOf (writeStep b l i) l ≡ writtenCard (writingIn b l i) (writtenIn b l i)
     unfolding writeStep
@@ -77,21 +77,21 @@ module _ (b l : List ℕ) (i : ℕ) where
         let x = writingIn b l i in
         let s = writtenIn b l i in
         let size = kept-if (outcome (s .won)) (record-kept b (x .item .variable) (s .cell)) .size in
-        task-put (recordSwapped b (x .item .variable) s) l (omega arith) i (x .task) (target-fits p)
-        ∙ ap (λ (k : Card). taskPlaced k i (x .task)) swapped-is
+        control-put (recordSwapped b (x .item .variable) s) l (omega arith) i (x .control) (target-fits p)
+        ∙ ap (λ (k : Card). controlPlaced k i (x .control)) swapped-is
 
     module _ (p : i < 256) (has : hasItems b l i ≡ true) where
-      writing-named : writingIn b l i ≡ (let o = localAt (cardOf b l) i in writing (o .gate .seq) (o .task) (o .dictionary))
+      writing-named : writingIn b l i ≡ (let o = localAt (cardOf b l) i in writing (o .gate .seq) (o .control) (o .dictionary))
       writing-named =
           let gate = last-gate-is b l i in
-          let task = task-is b l i in
+          let control = control-is b l i in
           let d = held-is b l i has ∙ dictionary-is b l i in
-          λ j. writing (gate j .seq) (task j) (d j)
+          λ j. writing (gate j .seq) (control j) (d j)
 
       written-named :
           writtenIn b l i
           ≡ (let o = localAt (cardOf b l) i in
-          let e = writing (o .gate .seq) (o .task) (o .dictionary) .item in
+          let e = writing (o .gate .seq) (o .control) (o .dictionary) .item in
           write (recordAt (cardOf b l) (e .variable)) e (o .gate .seq))
       written-named =
           let x = writing-named in
@@ -110,11 +110,11 @@ module _ (b l : List ℕ) (i : ℕ) where
       write-step-is =
           let c = cardOf b l in
           let o = localAt c i in
-          let x = writing (o .gate .seq) (o .task) (o .dictionary) in
+          let x = writing (o .gate .seq) (o .control) (o .dictionary) in
           let s = write (recordAt c (x .item .variable)) (x .item) (o .gate .seq) in
           let size = write-step-kept b l i .size in
           let named = writing-named in
           let swapped = written-named in
-          accepted (writeStep b l i) l (omega arith) i (withRecord c (x .item .variable) (s .cell)) (x .task) (o .gate) (o .announcement)
+          accepted (writeStep b l i) l (omega arith) i (withRecord c (x .item .variable) (s .cell)) (x .control) (o .gate) (o .announcement)
           (o .simulation) (o .dictionary) (o .mask)
           (write-placed p ∙ λ j. writtenCard (named j) (swapped j))

@@ -5,13 +5,13 @@ use Prim.Native.Nat.{ℕ}
 use mathlib.Core.Bool.{cond}
 use mathlib.Core.List.{List}
 use lib.Dec.{ltb}
-use Rattle.construction.specs.declared.Writing.{Writing}
-use Rattle.construction.specs.declared.SwappedRecord.{SwappedRecord}
+use Rattle.construction.specs.declared.accesses.Writing.{Writing}
+use Rattle.construction.specs.declared.cells.SwappedRecord.{SwappedRecord}
 use Rattle.construction.specs.Dictionary as construction
 use Rattle.construction.specs.Marks.{withBit}
 use Rattle.construction.specs.Machine.{goTo, holderOf, helps, afterPause, writing, write, outcome}
 use Rattle.codes.specs.Types.{Announcement, Record, Item, P19, P21}
-use Rattle.block.specs.Layout.{announcementIn, recordIn, putRecord, taskIn, putTask, lastGateIn, putLast, putSimulation, putNoted, maskIn, putMask}
+use Rattle.block.specs.Layout.{announcementIn, recordIn, putRecord, controlIn, putControl, lastGateIn, putLast, putSimulation, putNoted, maskIn, putMask}
 use Rattle.loan.specs.Loans.{heldDictionary, insertBlock, insertLoan}
 use Rattle.loan.specs.Simulated.{begunIn, simulatedIn, simulatedLoan}
 use Rattle.lent_machine.specs.Accesses.{ifWon}
@@ -28,11 +28,11 @@ helpedIn b i = announcementIn b (holderOf (lastGateIn b i .holder))
 abbrev pub helpBegun : List ℕ → ℕ → ℕ → Announcement → List ℕ
 helpBegun b i number cell =
     let x = begunIn b number cell in
-    putTask (putLast (putMask (putNoted (putSimulation b i (x .simulation)) i 0) i 0) i cell) i (afterPause number (x .dictionary) (x .pause))
+    putControl (putLast (putMask (putNoted (putSimulation b i (x .simulation)) i 0) i 0) i cell) i (afterPause number (x .dictionary) (x .pause))
 
 -- line P17: there is nothing to help
 abbrev pub helpPassed : List ℕ → ℕ → Announcement → List ℕ
-helpPassed b i cell = putTask (putLast b i cell) i (goTo (taskIn b i) P21)
+helpPassed b i cell = putControl (putLast b i cell) i (goTo (controlIn b i) P21)
 
 -- lines P16 to P18
 unfoldable pub helpStep : List ℕ → ℕ → List ℕ
@@ -40,7 +40,7 @@ helpStep b i = cond (helps (helpedIn b i) (numberIn b i)) (helpBegun b i (number
 
 -- line H21: the record of the variable that process i lacks
 abbrev pub lackedIn : List ℕ → ℕ → Record
-lackedIn b i = recordIn b (taskIn b i .target)
+lackedIn b i = recordIn b (controlIn b i .target)
 
 -- document 02, order 1: one variable more in the set of the variables noted
 abbrev pub putMarked : List ℕ → ℕ → ℕ → List ℕ
@@ -50,7 +50,7 @@ putMarked b i v = putMask b i (withBit (maskIn b i) v)
 abbrev pub goneOn : List ℕ → List ℕ → ℕ → ℕ → List ℕ
 goneOn b l i number =
     let x = simulatedIn b l i number in
-    putTask (putSimulation b i (x .simulation)) i (afterPause number (x .dictionary) (x .pause))
+    putControl (putSimulation b i (x .simulation)) i (afterPause number (x .dictionary) (x .pause))
 
 -- lines H23 to H25: the record of a variable is noted, then the simulation goes on
 abbrev pub notedBlock : List ℕ → List ℕ → ℕ → ℕ → Item → List ℕ
@@ -65,19 +65,19 @@ notedLoan b l i number e =
 
 -- the item of that record
 abbrev pub lackedItem : List ℕ → ℕ → Item
-lackedItem b i = construction.itemOf (numberIn b i) (taskIn b i .target) (lackedIn b i)
+lackedItem b i = construction.itemOf (numberIn b i) (controlIn b i .target) (lackedIn b i)
 
 -- lines H21 to H25: a newer record is not noted
 unfoldable pub noteBlock : List ℕ → List ℕ → ℕ → List ℕ
 noteBlock b l i =
-    cond (ltb (numberIn b i) (lackedIn b i .seq)) (putTask b i (goTo (taskIn b i) P19)) (notedBlock b l i (numberIn b i) (lackedItem b i))
+    cond (ltb (numberIn b i) (lackedIn b i .seq)) (putControl b i (goTo (controlIn b i) P19)) (notedBlock b l i (numberIn b i) (lackedItem b i))
 
 unfoldable pub noteLoan : List ℕ → List ℕ → ℕ → List ℕ
 noteLoan b l i = cond (ltb (numberIn b i) (lackedIn b i .seq)) l (notedLoan b l i (numberIn b i) (lackedItem b i))
 
 -- line H36: the item that process i writes, with where it goes on, and its record swapped
 abbrev pub writingIn : List ℕ → List ℕ → ℕ → Writing
-writingIn b l i = writing (numberIn b i) (taskIn b i) (heldDictionary b l i)
+writingIn b l i = writing (numberIn b i) (controlIn b i) (heldDictionary b l i)
 
 abbrev pub writtenIn : List ℕ → List ℕ → ℕ → SwappedRecord
 writtenIn b l i = let e = writingIn b l i .item in write (recordIn b (e .variable)) e (numberIn b i)
@@ -87,4 +87,4 @@ abbrev pub recordSwapped : List ℕ → ℕ → SwappedRecord → List ℕ
 recordSwapped b v x = ifWon (outcome (x .won)) (putRecord b v (x .cell)) b
 
 unfoldable pub writeStep : List ℕ → List ℕ → ℕ → List ℕ
-writeStep b l i = putTask (recordSwapped b (writingIn b l i .item .variable) (writtenIn b l i)) i (writingIn b l i .task)
+writeStep b l i = putControl (recordSwapped b (writingIn b l i .item .variable) (writtenIn b l i)) i (writingIn b l i .control)

@@ -2,7 +2,7 @@
 -- apart (`counted` of lent_machine).
 use Prim.Native.Nat.{ℕ}
 use mathlib.Core.List.{List}
-use Rattle.construction.specs.declared.Swap.{Swap}
+use Rattle.construction.specs.declared.accesses.Swap.{Swap}
 use Rattle.construction.specs.Machine.{outcome}
 use Rattle.codes.specs.Types.{Access}
 use Rattle.lent_machine.specs.Accesses.{gateAccessed, announcementAccessed, gateStep, announcementStep}

@@ -2,8 +2,8 @@
 use crate::help::step_help;
 use crate::note::step_note;
 use crate::write::step_write;
-use construction::Access;
-use construction::Swap;
+use construction::accesses::Access;
+use construction::accesses::Swap;
 use lent_machine::announcement::step_announcement;
 use lent_machine::gate::step_gate;
 ghost use mathlib.Core.Path.{_≡_};

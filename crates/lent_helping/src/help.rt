@@ -1,14 +1,14 @@
 // The start of a help (lines P16 to P18 and H1), by process i.
 use block::cells::announcement;
+use block::own::control;
 use block::own::last_gate;
+use block::own::put_control;
 use block::own::put_last;
 use block::own::put_mask;
 use block::own::put_noted;
-use block::own::put_task;
-use block::own::task;
-use construction::Announcement;
-use construction::Label;
-use construction::Task;
+use construction::accesses::Control;
+use construction::accesses::Label;
+use construction::cells::Announcement;
 use helping::helps;
 use loan::simulating::begin;
 use machine::places::holder_of;
@@ -19,25 +19,25 @@ ghost use Rattle.lent_helping.specs.Helps.{helpBegun, helpPassed, helpSt
 fn put_begun(b: &mut [u64], i: u8, number: u64, cell: Announcement)
     ensures { λ r. ⌜ now (b .exit) ≡ helpBegun (now (b .entry)) i number cell ⌝ }
 {
-    let task = begin(b, i, number, cell);
+    let control = begin(b, i, number, cell);
     put_noted(b, i, 0);
     put_mask(b, i, 0);
     put_last(b, i, cell);
-    put_task(b, i, task);
+    put_control(b, i, control);
 }
 
 // Line P17: there is nothing to help.
 fn put_passed(b: &mut [u64], i: u8, cell: Announcement)
     ensures { λ r. ⌜ now (b .exit) ≡ helpPassed (now (b .entry)) i cell ⌝ }
 {
-    let task = task(b, i);
+    let control = control(b, i);
     put_last(b, i, cell);
-    put_task(
+    put_control(
         b,
         i,
-        Task {
+        Control {
             place: Label::P21,
-            target: task.target,
+            target: control.target,
         },
     );
 }

@@ -1,13 +1,13 @@
 // A record read and noted (lines H21 to H25), by process i.
 use block::cells::record;
+use block::own::control;
 use block::own::last_gate;
 use block::own::mask;
+use block::own::put_control;
 use block::own::put_mask;
-use block::own::put_task;
-use block::own::task;
-use construction::Item;
-use construction::Label;
-use construction::Task;
+use construction::accesses::Control;
+use construction::accesses::Label;
+use construction::simulations::Item;
 use dictionary::item_of;
 use dictionary::with_bit;
 use loan::dictionaries::insert;
@@ -15,7 +15,7 @@ use loan::simulating::go_on;
 ghost use mathlib.Core.Path.{_≡_};
 ghost use Rattle.construction.specs.Machine.{goTo};
 ghost use Rattle.codes.specs.Types.{P19};
-ghost use Rattle.block.specs.Layout.{taskIn, putTask};
+ghost use Rattle.block.specs.Layout.{controlIn, putControl};
 ghost use Rattle.loan.specs.Simulated.{simulatedLoan};
 ghost use Rattle.lent_helping.specs.Helps.{putMarked, goneOn, notedBlock, notedLoan, noteBlock, noteLoan};
 
@@ -31,8 +31,8 @@ fn put_marked(b: &mut [u64], i: u8, v: u8)
 fn put_gone_on(b: &mut [u64], l: &mut [u64], i: u8, number: u64)
     ensures { λ r. ⌜ (now (b .exit) ≡ goneOn (now (b .entry)) (now (l .entry)) i number) × (now (l .exit) ≡ simulatedLoan (now (b .entry)) (now (l .entry)) i number) ⌝ }
 {
-    let task = go_on(b, l, i, number);
-    put_task(b, i, task);
+    let control = go_on(b, l, i, number);
+    put_control(b, i, control);
 }
 
 // Lines H23 to H25: a record is noted, and the simulation goes on.
@@ -46,15 +46,15 @@ fn put_item(b: &mut [u64], l: &mut [u64], i: u8, number: u64, item: Item)
 
 // A newer record is not noted.
 fn put_newer(b: &mut [u64], i: u8)
-    ensures { λ r. ⌜ now (b .exit) ≡ putTask (now (b .entry)) i (goTo (taskIn (now (b .entry)) i) P19) ⌝ }
+    ensures { λ r. ⌜ now (b .exit) ≡ putControl (now (b .entry)) i (goTo (controlIn (now (b .entry)) i) P19) ⌝ }
 {
-    let task = task(b, i);
-    put_task(
+    let control = control(b, i);
+    put_control(
         b,
         i,
-        Task {
+        Control {
             place: Label::P19,
-            target: task.target,
+            target: control.target,
         },
     );
 }
@@ -64,8 +64,8 @@ pub fn step_note(b: &mut [u64], l: &mut [u64], i: u8)
     ensures { λ r. ⌜ (now (b .exit) ≡ noteBlock (now (b .entry)) (now (l .entry)) i) × (now (l .exit) ≡ noteLoan (now (b .entry)) (now (l .entry)) i) ⌝ }
 {
     let gate = last_gate(b, i);
-    let task = task(b, i);
-    let v = task.target;
+    let control = control(b, i);
+    let v = control.target;
     let cell = record(b, v);
     if gate.seq < cell.seq {
         put_newer(b, i);

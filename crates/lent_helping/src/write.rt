@@ -1,11 +1,11 @@
 // A record written (line H36), by process i.
 use block::cells::put_record;
 use block::cells::record;
+use block::own::control;
 use block::own::last_gate;
-use block::own::put_task;
-use block::own::task;
-use construction::Swap;
-use construction::SwappedRecord;
+use block::own::put_control;
+use construction::accesses::Swap;
+use construction::cells::SwappedRecord;
 use loan::dictionaries::writing;
 use machine::outcome;
 use machine::record::write;
@@ -28,12 +28,12 @@ pub fn step_write(b: &mut [u64], l: &[u64], i: u8) -> Swap
     ensures { λ r. ⌜ (now (b .exit) ≡ writeStep (now (b .entry)) (now (l .entry)) i) × (r ≡ outcome (writtenIn (now (b .entry)) (now (l .entry)) i .won)) ⌝ }
 {
     let gate = last_gate(b, i);
-    let writing = writing(b, l, i, gate.seq, task(b, i));
+    let writing = writing(b, l, i, gate.seq, control(b, i));
     let item = writing.item;
-    let task = writing.task;
+    let control = writing.control;
     let v = item.variable;
     let swapped = write(record(b, v), item, gate.seq);
     put_swapped(b, v, swapped);
-    put_task(b, i, task);
+    put_control(b, i, control);
     outcome(swapped.won)
 }

@@ -2,16 +2,17 @@
 use Prim.Native.Nat.{ℕ}
 use mathlib.Core.Path.{_≡_, ap, _∙_}
 use mathlib.Core.List.{List}
-use Rattle.construction.specs.declared.Swap.{Swap}
+use Rattle.construction.specs.declared.accesses.Swap.{Swap}
 use Rattle.construction.specs.Machine.{holderOf, finish, accessAnnouncement}
-use Rattle.codes.specs.Types.{Flag, Label, AnnouncementAccess, Gate, Announcement, Simulation, Task, AnnouncementAccessed}
-use Rattle.block.specs.Layout.{announcementIn, taskIn, lastGateIn, lastIn, simulationIn}
+use Rattle.codes.specs.Types.{Flag, Label, AnnouncementAccess, Gate, Announcement, Simulation, Control, AnnouncementAccessed}
+use Rattle.block.specs.Layout.{announcementIn, controlIn, lastGateIn, lastIn, simulationIn}
 use Rattle.lent_machine.specs.Accesses.{announcementAccessed, announcementSwapped, finishStep}
 
 pub finish-in :
-    (flag : Flag) (next : Label) (b : List ℕ) (i : ℕ) {g : Gate} {m : ℕ} {s : Simulation} {cell last : Announcement} {task : Task} {x : AnnouncementAccessed} {e : List ℕ} {r : Swap} →
-    g ≡ lastGateIn b i → m ≡ holderOf (g .holder) → s ≡ simulationIn b i → cell ≡ announcementIn b m → last ≡ lastIn b i → task ≡ taskIn b i →
-    x ≡ finish flag next cell g last (s .yields) task → (e ≡ announcementSwapped b i m x) × (r ≡ x .swap) →
+    (flag : Flag) (next : Label) (b : List ℕ) (i : ℕ) {g : Gate} {m : ℕ} {s : Simulation} {cell last : Announcement} {control : Control}
+    {x : AnnouncementAccessed} {e : List ℕ} {r : Swap} →
+    g ≡ lastGateIn b i → m ≡ holderOf (g .holder) → s ≡ simulationIn b i → cell ≡ announcementIn b m → last ≡ lastIn b i → control ≡ controlIn b i →
+    x ≡ finish flag next cell g last (s .yields) control → (e ≡ announcementSwapped b i m x) × (r ≡ x .swap) →
     (e ≡ finishStep flag next b i) × (r ≡ announcementAccessed (AnnouncementAccess.Finish flag next) b i .swap)
 unfolding accessAnnouncement
 finish-in flag next b i {g} {m} pg pm ps pc pa pt px pe =

@@ -7,12 +7,13 @@ use mathlib.Core.Bool.{Bool, true, false, cond}
 use mathlib.Core.List.{List}
 use native.Mathlib.Omega.{arith}
 use lib.ListN.{length, set}
-use Rattle.construction.specs.declared.Swap.{Swap}
-use Rattle.codes.specs.Types.{Gate, Announcement, Record, Task, Simulation}
+use Rattle.construction.specs.declared.accesses.Swap.{Swap}
+use Rattle.codes.specs.Types.{Gate, Announcement, Record, Control, Simulation}
 use Rattle.codes.specs.Parts.{wordAt, stores}
-use Rattle.codes.specs.Codes.{gateWords, taskWords, announcementWords, recordWords, simulationWords}
+use Rattle.codes.specs.Codes.{gateWords, controlWords, announcementWords, recordWords, simulationWords}
 use Rattle.codes.proofs.Blocks.{inside}
-use Rattle.block.specs.Layout.{isRoom, putRow, putNumber, roomIn, stepsIn, countIn, putSteps, putGate, putAnnouncement, putRecord, putTask, putCount, putLastGate, putLast, putSimulation, putNoted, putMask}
+use Rattle.block.specs.Layout.{isRoom, putRow, putNumber, roomIn, stepsIn, countIn, putSteps, putGate, putAnnouncement, putRecord, putControl, putCount}
+use Rattle.block.specs.Layout.{putLastGate, putLast, putSimulation, putNoted, putMask}
 use Rattle.block.proofs.Rooms.{room-here}
 use Rattle.block.proofs.Standing.{Only, only-stores, only-set, number-same}
 use Rattle.block.proofs.Puts.{put-row-length, put-number-length}
@@ -103,8 +104,8 @@ module _ (b : List ℕ) where
     pub record-kept : (r : Record) → Kept b (putRecord b i r)
     record-kept r = upper-row 80 64 i (recordWords r) (omega arith) (omega arith)
 
-    pub task-kept : (t : Task) → Kept b (putTask b i t)
-    task-kept t = upper-row 336 8 i (taskWords t) (omega arith) (omega arith)
+    pub control-kept : (t : Control) → Kept b (putControl b i t)
+    control-kept t = upper-row 336 8 i (controlWords t) (omega arith) (omega arith)
 
     pub count-kept : (x : ℕ) → Kept b (putCount b i x)
     count-kept x = upper-number 400 8 i x (omega arith) (omega arith)

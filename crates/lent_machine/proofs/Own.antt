@@ -12,38 +12,38 @@ use Rattle.construction.specs.Instructions.{started}
 use Rattle.construction.specs.Dictionary.{empty}
 use Rattle.construction.specs.Parts.{localAt, noOperation, noGate, withCells, withGate, withAnnouncement, withRecord, withOwn, withLocal, withSteps}
 use Rattle.construction.specs.Machine.{after, outcome}
-use Rattle.codes.specs.Types.{Gate, Announcement, Task, Simulation, Dictionary, Card}
+use Rattle.codes.specs.Types.{Gate, Announcement, Control, Simulation, Dictionary, Card}
 use Rattle.codes.specs.Codes.{gateWords, announcementWords}
 use Rattle.codes.proofs.Values.{Fits, FitsAnnouncement}
-use Rattle.block.specs.Layout.{stepsIn, gateIn, announcementIn, recordIn, countIn, putSteps, putTask, putLastGate, putLast}
-use Rattle.block.specs.Cards.{cardOf, withTask, withCount, withGateRead, withCopy}
+use Rattle.block.specs.Layout.{stepsIn, gateIn, announcementIn, recordIn, countIn, putSteps, putControl, putLastGate, putLast}
+use Rattle.block.specs.Cards.{cardOf, withControl, withCount, withGateRead, withCopy}
 use Rattle.block.proofs.Gets.{steps-is, gate-is, announcement-is, record-is, count-is}
-use Rattle.block.proofs.Puts.{steps-stored, count-stored, task-stored, last-gate-stored, last-stored, put-row-length, put-number-length}
+use Rattle.block.proofs.Puts.{steps-stored, count-stored, control-stored, last-gate-stored, last-stored, put-row-length, put-number-length}
 use Rattle.lent_machine.specs.Accesses.{ifWon, next, counted}
 
 -- what process i keeps, but for its operation, its exit request and its own steps
-abbrev pub placed : Card → ℕ → Task → Gate → Announcement → Simulation → Dictionary → ℕ → Card
-placed c i task gate a s d mask =
-    withOwn c (set (c .tasks) i task) (c .operations) (c .exits) (c .counts) (set (c .gates) i gate) (set (c .copies) i a)
+abbrev pub placed : Card → ℕ → Control → Gate → Announcement → Simulation → Dictionary → ℕ → Card
+placed c i control gate a s d mask =
+    withOwn c (set (c .controls) i control) (c .operations) (c .exits) (c .counts) (set (c .gatesRead) i gate) (set (c .announcementsRead) i a)
     (set (c .simulations) i s) (set (c .dictionaries) i d) (set (c .masks) i mask)
 
--- .. after an access that alters its task, and the gate last read, and the announcement last read
-abbrev pub taskPlaced : Card → ℕ → Task → Card
-taskPlaced c i t = let o = localAt c i in placed c i t (o .gate) (o .announcement) (o .simulation) (o .dictionary) (o .mask)
+-- .. after an access that alters its control, and the gate last read, and the announcement last read
+abbrev pub controlPlaced : Card → ℕ → Control → Card
+controlPlaced c i t = let o = localAt c i in placed c i t (o .gate) (o .announcement) (o .simulation) (o .dictionary) (o .mask)
 
-abbrev pub gatePlaced : Card → ℕ → Gate → Task → Card
+abbrev pub gatePlaced : Card → ℕ → Gate → Control → Card
 gatePlaced c i g t = let o = localAt c i in placed c i t g (o .announcement) (o .simulation) (o .dictionary) (o .mask)
 
-abbrev pub copyPlaced : Card → ℕ → Announcement → Task → Card
+abbrev pub copyPlaced : Card → ℕ → Announcement → Control → Card
 copyPlaced c i a t = let o = localAt c i in placed c i t (o .gate) a (o .simulation) (o .dictionary) (o .mask)
 
 -- what is put back as it was
 module _ (c : Card) (i : ℕ) where
-  pub gates-kept : set (c .gates) i (localAt c i .gate) ≡ c .gates
-  gates-kept = set-getD (c .gates) i noGate
+  pub gatesRead-kept : set (c .gatesRead) i (localAt c i .gate) ≡ c .gatesRead
+  gatesRead-kept = set-getD (c .gatesRead) i noGate
 
-  pub copies-kept : set (c .copies) i (localAt c i .announcement) ≡ c .copies
-  copies-kept = set-getD (c .copies) i openAnnouncement
+  pub announcementsRead-kept : set (c .announcementsRead) i (localAt c i .announcement) ≡ c .announcementsRead
+  announcementsRead-kept = set-getD (c .announcementsRead) i openAnnouncement
 
   pub simulations-kept : set (c .simulations) i (localAt c i .simulation) ≡ c .simulations
   simulations-kept = set-getD (c .simulations) i started
@@ -54,31 +54,32 @@ module _ (c : Card) (i : ℕ) where
   pub masks-kept : set (c .masks) i (localAt c i .mask) ≡ c .masks
   masks-kept = set-getD (c .masks) i 0
 
-  pub task-placed : (t : Task) → withTask c i t ≡ taskPlaced c i t
-  task-placed t =
-      λ j. withOwn c (set (c .tasks) i t) (c .operations) (c .exits) (c .counts) (sym gates-kept j) (sym copies-kept j)
+  pub control-placed : (t : Control) → withControl c i t ≡ controlPlaced c i t
+  control-placed t =
+      λ j. withOwn c (set (c .controls) i t) (c .operations) (c .exits) (c .counts) (sym gatesRead-kept j) (sym announcementsRead-kept j)
       (sym simulations-kept j) (sym dictionaries-kept j) (sym masks-kept j)
 
-  pub gate-placed : (g : Gate) (t : Task) → withTask (withGateRead c i g) i t ≡ gatePlaced c i g t
+  pub gate-placed : (g : Gate) (t : Control) → withControl (withGateRead c i g) i t ≡ gatePlaced c i g t
   gate-placed g t =
-      λ j. withOwn c (set (c .tasks) i t) (c .operations) (c .exits) (c .counts) (set (c .gates) i g) (sym copies-kept j)
+      λ j. withOwn c (set (c .controls) i t) (c .operations) (c .exits) (c .counts) (set (c .gatesRead) i g) (sym announcementsRead-kept j)
       (sym simulations-kept j) (sym dictionaries-kept j) (sym masks-kept j)
 
-  pub copy-placed : (a : Announcement) (t : Task) → withTask (withCopy c i a) i t ≡ copyPlaced c i a t
+  pub copy-placed : (a : Announcement) (t : Control) → withControl (withCopy c i a) i t ≡ copyPlaced c i a t
   copy-placed a t =
-      λ j. withOwn c (set (c .tasks) i t) (c .operations) (c .exits) (c .counts) (sym gates-kept j) (set (c .copies) i a)
+      λ j. withOwn c (set (c .controls) i t) (c .operations) (c .exits) (c .counts) (sym gatesRead-kept j) (set (c .announcementsRead) i a)
       (sym simulations-kept j) (sym dictionaries-kept j) (sym masks-kept j)
 
   -- a step of the process is counted: what it kept is then the machine's
   pub counted-placed :
-      (task : Task) (gate : Gate) (a : Announcement) (s : Simulation) (d : Dictionary) (mask : ℕ) →
-      withCount (withSteps (placed c i task gate a s d mask) (next (c .steps))) i (next (localAt c i .steps))
-      ≡ withSteps (withLocal c i (after (localAt c i) task gate a s d mask)) (next (c .steps))
-  counted-placed task gate a s d mask =
+      (control : Control) (gate : Gate) (a : Announcement) (s : Simulation) (d : Dictionary) (mask : ℕ) →
+      withCount (withSteps (placed c i control gate a s d mask) (next (c .steps))) i (next (localAt c i .steps))
+      ≡ withSteps (withLocal c i (after (localAt c i) control gate a s d mask)) (next (c .steps))
+  counted-placed control gate a s d mask =
       let operations = set-getD (c .operations) i noOperation in
       let exits = set-getD (c .exits) i false in
-      λ j. withSteps (withOwn c (set (c .tasks) i task) (sym operations j) (sym exits j) (set (c .counts) i (next (localAt c i .steps)))
-      (set (c .gates) i gate) (set (c .copies) i a) (set (c .simulations) i s) (set (c .dictionaries) i d) (set (c .masks) i mask)) (next (c .steps))
+      λ j. withSteps (withOwn c (set (c .controls) i control) (sym operations j) (sym exits j) (set (c .counts) i (next (localAt c i .steps)))
+      (set (c .gatesRead) i gate) (set (c .announcementsRead) i a) (set (c .simulations) i s) (set (c .dictionaries) i d) (set (c .masks) i mask)) (next
+      (c .steps))
 
 module _ (b l : List ℕ) (long : 1456 ≤ length b) (i : ℕ) where
   -- the block counted is the card counted
@@ -94,27 +95,28 @@ module _ (b l : List ℕ) (long : 1456 ≤ length b) (i : ℕ) where
   -- AN ACCEPTED STEP: where an access leaves the shared cells of c and these parts of what its process keeps, the block counted holds what the machine
   -- makes of c
   pub accepted :
-      (c : Card) (task : Task) (gate : Gate) (a : Announcement) (s : Simulation) (d : Dictionary) (mask : ℕ) → cardOf b l ≡ placed c i task gate a s d mask →
-      cardOf (counted b i) l ≡ withSteps (withLocal c i (after (localAt c i) task gate a s d mask)) (next (c .steps))
-  accepted c task gate a s d mask e =
-      counted-is ∙ ap (λ (k : Card). withCount (withSteps k (next (k .steps))) i (next (localAt k i .steps))) e ∙ counted-placed c i task gate a s d mask
+      (c : Card) (control : Control) (gate : Gate) (a : Announcement) (s : Simulation) (d : Dictionary) (mask : ℕ) →
+      cardOf b l ≡ placed c i control gate a s d mask →
+      cardOf (counted b i) l ≡ withSteps (withLocal c i (after (localAt c i) control gate a s d mask)) (next (c .steps))
+  accepted c control gate a s d mask e =
+      counted-is ∙ ap (λ (k : Card). withCount (withSteps k (next (k .steps))) i (next (localAt k i .steps))) e ∙ counted-placed c i control gate a s d mask
 
   -- the parts put into the block
-  pub task-put : (t : Task) → t .target < 256 → cardOf (putTask b i t) l ≡ taskPlaced (cardOf b l) i t
-  task-put t p = task-stored b l long i t p ∙ task-placed (cardOf b l) i t
+  pub control-put : (t : Control) → t .target < 256 → cardOf (putControl b i t) l ≡ controlPlaced (cardOf b l) i t
+  control-put t p = control-stored b l long i t p ∙ control-placed (cardOf b l) i t
 
-  pub gate-put : (g : Gate) (t : Task) → Fits (g .holder) → t .target < 256 → cardOf (putTask (putLastGate b i g) i t) l ≡ gatePlaced (cardOf b l) i g t
+  pub gate-put : (g : Gate) (t : Control) → Fits (g .holder) → t .target < 256 → cardOf (putControl (putLastGate b i g) i t) l ≡ gatePlaced (cardOf b l) i g t
   gate-put g t f p =
       let size = put-row-length b 408 8 i 2 (gateWords g) in
-      task-stored (putLastGate b i g) l (omega arith) i t p
-      ∙ ap (λ (k : Card). withTask k i t) (last-gate-stored b l long i g f) ∙ gate-placed (cardOf b l) i g t
+      control-stored (putLastGate b i g) l (omega arith) i t p
+      ∙ ap (λ (k : Card). withControl k i t) (last-gate-stored b l long i g f) ∙ gate-placed (cardOf b l) i g t
 
   pub copy-put :
-      (a : Announcement) (t : Task) → FitsAnnouncement a → t .target < 256 → cardOf (putTask (putLast b i a) i t) l ≡ copyPlaced (cardOf b l) i a t
+      (a : Announcement) (t : Control) → FitsAnnouncement a → t .target < 256 → cardOf (putControl (putLast b i a) i t) l ≡ copyPlaced (cardOf b l) i a t
   copy-put a t f p =
       let size = put-row-length b 424 8 i 9 (announcementWords a) in
-      task-stored (putLast b i a) l (omega arith) i t p
-      ∙ ap (λ (k : Card). withTask k i t) (last-stored b l long i a f) ∙ copy-placed (cardOf b l) i a t
+      control-stored (putLast b i a) l (omega arith) i t p
+      ∙ ap (λ (k : Card). withControl k i t) (last-stored b l long i a f) ∙ copy-placed (cardOf b l) i a t
 
 -- a shared cell put back as it was
 module _ (b l : List ℕ) where

@@ -2,14 +2,16 @@
 -- changes is put back. A read leaves its cell as it is; a swap stores its cell only where it won.
 use Prim.Native.Nat.{ℕ, _+_, _%_}
 use mathlib.Core.List.{List}
-use Rattle.construction.specs.declared.Swap.{Swap}
-use Rattle.construction.specs.Machine.{firstChoice, holderOf, readHolder, readLast, nominate, release, accessGate, whose, announce, withdraw, readFlag, finish, accessAnnouncement}
+use Rattle.construction.specs.declared.accesses.Swap.{Swap}
+use Rattle.construction.specs.Machine.{firstChoice, holderOf, readHolder, readLast, nominate, release, accessGate, whose, announce, withdraw, readFlag, finish}
+use Rattle.construction.specs.Machine.{accessAnnouncement}
 use Rattle.codes.specs.Types.{Flag, Label, GateAccess, GateAccessed, AnnouncementAccess, AnnouncementAccessed, C4, P13}
-use Rattle.block.specs.Layout.{processCountIn, stepsIn, putSteps, gateIn, putGate, announcementIn, putAnnouncement, taskIn, putTask, operationIn, countIn, putCount, lastGateIn, putLastGate, lastIn, putLast, simulationIn}
+use Rattle.block.specs.Layout.{processCountIn, stepsIn, putSteps, gateIn, putGate, announcementIn, putAnnouncement, controlIn, putControl, operationIn, countIn}
+use Rattle.block.specs.Layout.{putCount, lastGateIn, putLastGate, lastIn, putLast, simulationIn}
 
 -- the access of the gate by process i on what is taken out of a block; ..
 abbrev pub gateAccessed : GateAccess → List ℕ → ℕ → GateAccessed
-gateAccessed a b i = accessGate a i (gateIn b) (lastGateIn b i) (taskIn b i)
+gateAccessed a b i = accessGate a i (gateIn b) (lastGateIn b i) (controlIn b i)
 
 -- .. whose announcement an access is of, and that access
 abbrev pub whoseIn : AnnouncementAccess → List ℕ → ℕ → ℕ
@@ -18,7 +20,7 @@ whoseIn a b i = whose a (processCountIn b) i (lastGateIn b i)
 abbrev pub announcementAccessed : AnnouncementAccess → List ℕ → ℕ → AnnouncementAccessed
 announcementAccessed a b i =
     let m = whoseIn a b i in
-    accessAnnouncement a m (announcementIn b m) (operationIn b i) (lastGateIn b i) (lastIn b i) (simulationIn b i .yields) (taskIn b i)
+    accessAnnouncement a m (announcementIn b m) (operationIn b i) (lastGateIn b i) (lastIn b i) (simulationIn b i .yields) (controlIn b i)
 
 -- one of two blocks, by whether a swap won
 abbrev pub ifWon : Swap → List ℕ → List ℕ → List ℕ
@@ -28,39 +30,39 @@ ifWon Swap.Won won b = won
 
 -- the gate read, and swapped, by process i
 abbrev pub gateRead : List ℕ → ℕ → GateAccessed → List ℕ
-gateRead b i x = putTask (putLastGate b i (x .read)) i (x .task)
+gateRead b i x = putControl (putLastGate b i (x .read)) i (x .control)
 
 abbrev pub gateSwapped : List ℕ → ℕ → GateAccessed → List ℕ
-gateSwapped b i x = putTask (ifWon (x .swap) (putGate b (x .cell)) b) i (x .task)
+gateSwapped b i x = putControl (ifWon (x .swap) (putGate b (x .cell)) b) i (x .control)
 
 unfoldable pub gateStep : GateAccess → List ℕ → ℕ → List ℕ
-gateStep (GateAccess.Read held free) b i = gateRead b i (readHolder (gateIn b) (taskIn b i) held free)
-gateStep GateAccess.ReadLast b i = gateRead b i (readLast (gateIn b) (taskIn b i) i)
-gateStep GateAccess.Nominate b i = gateSwapped b i (nominate (gateIn b) (lastGateIn b i) (taskIn b i))
-gateStep (GateAccess.Release next) b i = gateSwapped b i (release (gateIn b) (lastGateIn b i) (taskIn b i) next)
+gateStep (GateAccess.Read held free) b i = gateRead b i (readHolder (gateIn b) (controlIn b i) held free)
+gateStep GateAccess.ReadLast b i = gateRead b i (readLast (gateIn b) (controlIn b i) i)
+gateStep GateAccess.Nominate b i = gateSwapped b i (nominate (gateIn b) (lastGateIn b i) (controlIn b i))
+gateStep (GateAccess.Release next) b i = gateSwapped b i (release (gateIn b) (lastGateIn b i) (controlIn b i) next)
 
 -- the announcement of process m read, and swapped, by process i
 abbrev pub announcementRead : List ℕ → ℕ → AnnouncementAccessed → List ℕ
-announcementRead b i x = putTask (putLast b i (x .read)) i (x .task)
+announcementRead b i x = putControl (putLast b i (x .read)) i (x .control)
 
 abbrev pub announcementSwapped : List ℕ → ℕ → ℕ → AnnouncementAccessed → List ℕ
-announcementSwapped b i m x = putTask (ifWon (x .swap) (putAnnouncement b m (x .cell)) b) i (x .task)
+announcementSwapped b i m x = putControl (ifWon (x .swap) (putAnnouncement b m (x .cell)) b) i (x .control)
 
 -- lines P2 and P3
 abbrev pub announceStep : List ℕ → ℕ → List ℕ
 announceStep b i =
-    let x = announce (operationIn b i) (lastGateIn b i) (taskIn b i) in
-    putTask (putLast (putAnnouncement b i (x .cell)) i (x .read)) i (x .task)
+    let x = announce (operationIn b i) (lastGateIn b i) (controlIn b i) in
+    putControl (putLast (putAnnouncement b i (x .cell)) i (x .read)) i (x .control)
 
 -- line P6
 abbrev pub withdrawStep : List ℕ → ℕ → List ℕ
-withdrawStep b i = announcementSwapped b i i (withdraw (announcementIn b i) (operationIn b i) (lastIn b i) (taskIn b i))
+withdrawStep b i = announcementSwapped b i i (withdraw (announcementIn b i) (operationIn b i) (lastIn b i) (controlIn b i))
 
 -- lines P19 and P20, of the gate's holder
 abbrev pub finishStep : Flag → Label → List ℕ → ℕ → List ℕ
 finishStep flag next b i =
     let m = holderOf (lastGateIn b i .holder) in
-    announcementSwapped b i m (finish flag next (announcementIn b m) (lastGateIn b i) (lastIn b i) (simulationIn b i .yields) (taskIn b i))
+    announcementSwapped b i m (finish flag next (announcementIn b m) (lastGateIn b i) (lastIn b i) (simulationIn b i .yields) (controlIn b i))
 
 -- lines P7, C2, C4 and P22
 abbrev pub flagStep : List ℕ → ℕ → ℕ → Label → Label → Label → List ℕ

@@ -2,19 +2,19 @@
 use block::cells::announcement;
 use block::cells::process_count;
 use block::cells::put_announcement;
+use block::own::control;
 use block::own::last;
 use block::own::last_gate;
 use block::own::operation;
+use block::own::put_control;
 use block::own::put_last;
-use block::own::put_task;
 use block::own::simulation;
-use block::own::task;
-use construction::Announcement;
-use construction::AnnouncementAccess;
-use construction::AnnouncementAccessed;
-use construction::Flag;
-use construction::Label;
-use construction::Swap;
+use construction::accesses::AnnouncementAccess;
+use construction::accesses::AnnouncementAccessed;
+use construction::accesses::Label;
+use construction::accesses::Swap;
+use construction::cells::Announcement;
+use construction::cells::Flag;
 use machine::announcement::announce;
 use machine::announcement::finish;
 use machine::announcement::read_flag;
@@ -31,9 +31,9 @@ fn put_read(b: &mut [u64], i: u8, x: AnnouncementAccessed)
     ensures { λ r. ⌜ now (b .exit) ≡ announcementRead (now (b .entry)) i x ⌝ }
 {
     let read = x.read;
-    let task = x.task;
+    let control = x.control;
     put_last(b, i, read);
-    put_task(b, i, task);
+    put_control(b, i, control);
 }
 
 // The announcement of process m is stored where its swap won.
@@ -53,9 +53,9 @@ fn put_swapped(b: &mut [u64], i: u8, m: u8, x: AnnouncementAccessed) -> Swap
 {
     let swap = x.swap;
     let cell = x.cell;
-    let task = x.task;
+    let control = x.control;
     put_won(b, m, swap, cell);
-    put_task(b, i, task);
+    put_control(b, i, control);
     swap
 }
 
@@ -63,7 +63,7 @@ fn put_swapped(b: &mut [u64], i: u8, m: u8, x: AnnouncementAccessed) -> Swap
 fn step_announce(b: &mut [u64], i: u8)
     ensures { λ r. ⌜ now (b .exit) ≡ announceStep (now (b .entry)) i ⌝ }
 {
-    let x = announce(operation(b, i), last_gate(b, i), task(b, i));
+    let x = announce(operation(b, i), last_gate(b, i), control(b, i));
     let cell = x.cell;
     put_announcement(b, i, cell);
     put_read(b, i, x);
@@ -73,7 +73,12 @@ fn step_announce(b: &mut [u64], i: u8)
 fn step_withdraw(b: &mut [u64], i: u8) -> Swap
     ensures { λ r. ⌜ (now (b .exit) ≡ withdrawStep (now (b .entry)) i) × (r ≡ announcementAccessed AnnouncementAccess.Withdraw (now (b .entry)) i .swap) ⌝ }
 {
-    let x = withdraw(announcement(b, i), operation(b, i), last(b, i), task(b, i));
+    let x = withdraw(
+        announcement(b, i),
+        operation(b, i),
+        last(b, i),
+        control(b, i),
+    );
     put_swapped(b, i, i, x)
 }
 
@@ -109,7 +114,7 @@ fn step_finish(flag: Flag, next: Label, b: &mut [u64], i: u8) -> Swap
         gate,
         last(b, i),
         yields,
-        task(b, i),
+        control(b, i),
     );
     put_swapped(b, i, m, x)
 }

@@ -1,22 +1,22 @@
 // The accesses of the gate, by process i.
 use block::cells::gate;
 use block::cells::put_gate;
+use block::own::control;
 use block::own::last_gate;
+use block::own::put_control;
 use block::own::put_last_gate;
-use block::own::put_task;
-use block::own::task;
-use construction::Gate;
-use construction::GateAccess;
-use construction::GateAccessed;
-use construction::Label;
-use construction::Swap;
+use construction::accesses::GateAccess;
+use construction::accesses::GateAccessed;
+use construction::accesses::Label;
+use construction::accesses::Swap;
+use construction::cells::Gate;
 use machine::gate::nominate;
 use machine::gate::read_holder;
 use machine::gate::read_last;
 use machine::gate::release;
 ghost use mathlib.Core.Path.{_≡_};
 ghost use Rattle.construction.specs.Machine.{readHolder, readLast};
-ghost use Rattle.block.specs.Layout.{gateIn, putGate, taskIn};
+ghost use Rattle.block.specs.Layout.{gateIn, putGate, controlIn};
 ghost use Rattle.lent_machine.specs.Accesses.{gateAccessed, ifWon, gateRead, gateSwapped, gateStep};
 
 // The gate was read.
@@ -24,9 +24,9 @@ fn put_read(b: &mut [u64], i: u8, x: GateAccessed)
     ensures { λ r. ⌜ now (b .exit) ≡ gateRead (now (b .entry)) i x ⌝ }
 {
     let read = x.read;
-    let task = x.task;
+    let control = x.control;
     put_last_gate(b, i, read);
-    put_task(b, i, task);
+    put_control(b, i, control);
 }
 
 // The gate is stored where its swap won.
@@ -46,25 +46,25 @@ fn put_swapped(b: &mut [u64], i: u8, x: GateAccessed) -> Swap
 {
     let swap = x.swap;
     let cell = x.cell;
-    let task = x.task;
+    let control = x.control;
     put_won(b, swap, cell);
-    put_task(b, i, task);
+    put_control(b, i, control);
     swap
 }
 
 // Lines P1, P10 and P14.
 fn step_read(b: &mut [u64], i: u8, held: Label, free: Label)
-    ensures { λ r. ⌜ now (b .exit) ≡ gateRead (now (b .entry)) i (readHolder (gateIn (now (b .entry))) (taskIn (now (b .entry)) i) held free) ⌝ }
+    ensures { λ r. ⌜ now (b .exit) ≡ gateRead (now (b .entry)) i (readHolder (gateIn (now (b .entry))) (controlIn (now (b .entry)) i) held free) ⌝ }
 {
-    let x = read_holder(gate(b), task(b, i), held, free);
+    let x = read_holder(gate(b), control(b, i), held, free);
     put_read(b, i, x);
 }
 
 // Line F1.
 fn step_last(b: &mut [u64], i: u8)
-    ensures { λ r. ⌜ now (b .exit) ≡ gateRead (now (b .entry)) i (readLast (gateIn (now (b .entry))) (taskIn (now (b .entry)) i) i) ⌝ }
+    ensures { λ r. ⌜ now (b .exit) ≡ gateRead (now (b .entry)) i (readLast (gateIn (now (b .entry))) (controlIn (now (b .entry)) i) i) ⌝ }
 {
-    let x = read_last(gate(b), task(b, i), i);
+    let x = read_last(gate(b), control(b, i), i);
     put_read(b, i, x);
 }
 
@@ -72,7 +72,7 @@ fn step_last(b: &mut [u64], i: u8)
 fn step_nominate(b: &mut [u64], i: u8) -> Swap
     ensures { λ r. ⌜ (now (b .exit) ≡ gateStep GateAccess.Nominate (now (b .entry)) i) × (r ≡ gateAccessed GateAccess.Nominate (now (b .entry)) i .swap) ⌝ }
 {
-    let x = nominate(gate(b), last_gate(b, i), task(b, i));
+    let x = nominate(gate(b), last_gate(b, i), control(b, i));
     put_swapped(b, i, x)
 }
 
@@ -80,7 +80,7 @@ fn step_nominate(b: &mut [u64], i: u8) -> Swap
 fn step_release(b: &mut [u64], i: u8, next: Label) -> Swap
     ensures { λ r. ⌜ (now (b .exit) ≡ gateStep (GateAccess.Release next) (now (b .entry)) i) × (r ≡ gateAccessed (GateAccess.Release next) (now (b .entry)) i .swap) ⌝ }
 {
-    let x = release(gate(b), last_gate(b, i), task(b, i), next);
+    let x = release(gate(b), last_gate(b, i), control(b, i), next);
     put_swapped(b, i, x)
 }
 

@@ -8,8 +8,8 @@ use native.Mathlib.Omega.{arith}
 use lib.Dec.{ltb}
 use lib.ListN.{length, take}
 use borrow.Author.Tests.{ltb-true, ltb-false}
-use Rattle.construction.specs.declared.{Answer.Answer, Answered.Answered, Contents.Contents}
-use Rattle.construction.specs.declared.Refusal.the-variants.{NoProcess, NotBusy, LimitReached}
+use Rattle.construction.specs.declared.{answers.Answer.Answer, answers.Answered.Answered, texts.Contents.Contents}
+use Rattle.construction.specs.declared.answers.Refusal.the-variants.{NoProcess, NotBusy, LimitReached}
 use Rattle.construction.specs.Parts.{contentsOf, localAt}
 use Rattle.construction.specs.Weight.{cardWeight}
 use Rattle.construction.specs.Answers.{isRefused}
@@ -22,11 +22,11 @@ use Rattle.construction.proofs.Observing.Entries.{on-step}
 use Rattle.construction.proofs.Statements.OneAccess.{one-access}
 use Rattle.requests.specs.Judging.{judged}
 use Rattle.codes.specs.Codes.{byte}
-use Rattle.codes.specs.Types.{Card, Dictionary, Task, H21}
-use Rattle.block.specs.Layout.{processCountIn, stepsIn, limitIn, roomIn, notedIn, taskIn}
+use Rattle.codes.specs.Types.{Card, Dictionary, Control, H21}
+use Rattle.block.specs.Layout.{processCountIn, stepsIn, limitIn, roomIn, notedIn, controlIn}
 use Rattle.block.specs.Cards.{dictionaryAt, cardOf}
 use Rattle.block.proofs.Standing.{number-same}
-use Rattle.block.proofs.Gets.{process-count-is, task-is, dictionary-is}
+use Rattle.block.proofs.Gets.{process-count-is, control-is, dictionary-is}
 use Rattle.loan.specs.Loans.{loanWords}
 use Rattle.lent_machine.proofs.Keeping.{kept-room}
 use Rattle.lent_card.specs.Requests.{callBlock, exitBlock, changeBlock, RoomKept}
@@ -38,14 +38,15 @@ use Rattle.lent_steps.proofs.Keeping.{step-block-kept}
 use Rattle.lent_steps.proofs.Stepped.{step-is, report-is}
 use Rattle.lent_runs.specs.Runs.{Handed, Memory, replyIn, replyOf, untraced, isEleven, isShort, isAccepted, memoryAfter, Fits}
 use Rattle.lent_runs.proofs.Loans.{NoneNoted, same-card}
-use Rattle.lent_runs.proofs.Requested.{Counts, call-counts, exit-counts, change-counts, call-within, exit-within, change-within, call-numbers, exit-numbers, read-numbers, change-numbers}
+use Rattle.lent_runs.proofs.Requested.{Counts, call-counts, exit-counts, change-counts, call-within, exit-within, change-within, call-numbers}
+use Rattle.lent_runs.proofs.Requested.{exit-numbers, read-numbers, change-numbers}
 use Rattle.lent_runs.proofs.Others.{step-others}
 use Rattle.lent_runs.proofs.Judged.{own-numbers, step-judged, step-refused, step-short, step-taken, taken-numbers, Stays}
 
 -- a card on which H21 finds room
 abbrev pub Roomy : Card → Type 0
 Roomy c =
-    (i : ℕ) → i < c .processCount → localAt c i .task .place ≡ H21 → localAt c i .dictionary .length < min 32 (cardWeight (contentsOf c))
+    (i : ℕ) → i < c .processCount → localAt c i .control .place ≡ H21 → localAt c i .dictionary .length < min 32 (cardWeight (contentsOf c))
 
 -- a card stands in a memory
 pub record Stands (m : Memory) (c : Card) : Type 0 where
@@ -87,16 +88,19 @@ module _ (b l m : List ℕ) (c : Card) (s : Stands (record { block = b; loan = m
       where
         go :
             (t : Bool) → ltb i (processCountIn b) && ltb i 8 ≡ t →
-            isRefused (judged t NoProcess (not (isIdle (taskIn b i .place))) NotBusy (ltb (stepsIn b) (limitIn b)) LimitReached) ≡ false → i < processCountIn b
+            isRefused (judged t NoProcess (not (isIdle (controlIn b i .place))) NotBusy (ltb (stepsIn b) (limitIn b)) LimitReached) ≡ false →
+            i < processCountIn b
         go true e h = ltb-true i (processCountIn b) (and-true (ltb i (processCountIn b)) (ltb i 8) e .0)
         go false e h = absurd (true≢false h)
 
-    has-room : taskIn b i .place ≡ H21 → notedIn b i < roomIn b
+    has-room : controlIn b i .place ≡ H21 → notedIn b i < roomIn b
     unfolding dictionaryAt
     has-room e =
         let p : processCountIn b ≡ c .processCount = process-count-is b l ∙ ap (λ (d : Card). d .processCount) here in
-        let t : taskIn b i .place ≡ localAt c i .task .place = ap (λ (x : Task). x .place) (task-is b l i) ∙ ap (λ (d : Card). localAt d i .task .place) here in
-        let n : notedIn b i ≡ localAt c i .dictionary .length = ap (λ (d : Dictionary). d .length) (dictionary-is b l i) ∙ ap (λ (d : Card). localAt d i .dictionary .length) here in
+        let t : controlIn b i .place ≡ localAt c i .control .place =
+        ap (λ (x : Control). x .place) (control-is b l i) ∙ ap (λ (d : Card). localAt d i .control .place) here in
+        let n : notedIn b i ≡ localAt c i .dictionary .length = ap (λ (d : Dictionary). d .length) (dictionary-is b l i) ∙ ap
+        (λ (d : Card). localAt d i .dictionary .length) here in
         let w : roomIn b ≡ min 32 (cardWeight (contentsOf c)) = s .room ∙ ap (λ (d : Card). min 32 (cardWeight (contentsOf d))) (s .card) in
         let q = below in
         let h = roomy i (omega arith) (sym t ∙ e) in
@@ -116,7 +120,9 @@ module _ (b l m : List ℕ) (c : Card) (s : Stands (record { block = b; loan = m
         record {
           long = let e = kept .size in let h = s .long in omega arith;
           card = card;
-          room = kept-room kept ∙ (s .room ∙ ap (λ (x : Contents). min 32 (cardWeight x)) (ap (λ (d : Card). contentsOf d) (s .card) ∙ sym (ap (λ (d : Card). contentsOf d) card ∙ text)));
+          room = kept-room kept ∙
+              (s .room ∙ ap (λ (x : Contents). min 32 (cardWeight x))
+              (ap (λ (d : Card). contentsOf d) (s .card) ∙ sym (ap (λ (d : Card). contentsOf d) card ∙ text)));
           none = λ j p. step-others b l i j (λ e. let q = below in let z = count-kept in omega arith) ∙ s .none j (let z = count-kept in omega arith);
         }
       where

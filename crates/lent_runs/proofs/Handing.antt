@@ -12,7 +12,8 @@ use Rattle.codes.specs.Codes.{byte}
 use Rattle.block.proofs.Standing.{number-same}
 use Rattle.loan.specs.Loans.{loanWords}
 use Rattle.lent_steps.specs.Steps.{answerTo}
-use Rattle.lent_runs.specs.Runs.{Memory, replyIn, isAccepted, loanAfter, memoryAfter, isEleven, entriesOf, HandedBack, AllFit, openedMemory, lentRun, asLeft, handing}
+use Rattle.lent_runs.specs.Runs.{Memory, replyIn, isAccepted, loanAfter, memoryAfter, isEleven, entriesOf, HandedBack, AllFit, openedMemory, lentRun}
+use Rattle.lent_runs.specs.Runs.{asLeft, handing}
 use Rattle.lent_text.specs.Opened.{openedBlock}
 use Rattle.lent_runs.specs.Untouched.{BlockKept}
 use Rattle.lent_runs.proofs.Requested.{call-numbers, exit-numbers, read-numbers, change-numbers}

@@ -6,9 +6,9 @@ use mathlib.Core.List.{List}
 use lib.Dec.{ltb}
 use lib.ListN.{length}
 use borrow.Author.Tests.{lt-ltb, le-ltb}
-use Rattle.construction.specs.declared.{Answer.Answer, Answered.Answered, Announcement.Announcement, Flag.Flag}
-use Rattle.construction.specs.declared.Refusal.the-variants.{NoProcess, NotBusy, LimitReached, ShortBuffer}
-use Rattle.construction.specs.declared.Flag.the-variants.{Done, Active, Exit}
+use Rattle.construction.specs.declared.{answers.Answer.Answer, answers.Answered.Answered, cells.Announcement.Announcement, cells.Flag.Flag}
+use Rattle.construction.specs.declared.answers.Refusal.the-variants.{NoProcess, NotBusy, LimitReached, ShortBuffer}
+use Rattle.construction.specs.declared.cells.Flag.the-variants.{Done, Active, Exit}
 use Rattle.construction.specs.Parts.{localAt}
 use Rattle.construction.specs.Machine.{advance}
 use Rattle.construction.specs.Answers.{isRefused}
@@ -16,9 +16,9 @@ use Rattle.construction.specs.Requests.{isIdle, refused, returned, answerOf, st
 use Rattle.construction.specs.Tracing.{noReport}
 use Rattle.requests.specs.Judging.{judged}
 use Rattle.codes.specs.Types.{Card, Label}
-use Rattle.block.specs.Layout.{processCountIn, limitIn, stepsIn, taskIn, countIn, lastIn}
+use Rattle.block.specs.Layout.{processCountIn, limitIn, stepsIn, controlIn, countIn, lastIn}
 use Rattle.block.specs.Cards.{cardOf}
-use Rattle.block.proofs.Gets.{process-count-is, limit-is, steps-is, task-is}
+use Rattle.block.proofs.Gets.{process-count-is, limit-is, steps-is, control-is}
 use Rattle.loan.specs.Loans.{loanWords}
 use Rattle.lent_steps.specs.Steps.{stepVerdict, stepBlock, stepLoan, answerIn, advanced, answerTo, reportTo}
 use Rattle.lent_steps.proofs.Judging.{judgedIn}
@@ -48,7 +48,8 @@ judged-numbers true true true = refl
 tested :
     (c d : Card) (x : Answer) (p q r : Bool) →
     cond (not p) (refused c NoProcess) (cond (not q) (refused c NotBusy) (cond (not r) (refused c LimitReached) (record { card = d; answer = x })))
-    ≡ cond (isRefused (judged p NoProcess q NotBusy r LimitReached)) (record { card = c; answer = judged p NoProcess q NotBusy r LimitReached }) (record { card = d; answer = x })
+    ≡ cond (isRefused (judged p NoProcess q NotBusy r LimitReached)) (record { card = c; answer = judged p NoProcess q NotBusy r LimitReached })
+    (record { card = d; answer = x })
 tested c d x false q r = refl
 tested c d x true false r = refl
 tested c d x true true false = refl
@@ -56,7 +57,7 @@ tested c d x true true true = refl
 
 module _ (b : List ℕ) (i : ℕ) where
   pub own-numbers : isEleven (judgedIn b i) ≡ false
-  own-numbers = judged-numbers (ltb i (processCountIn b) && ltb i 8) (not (isIdle (taskIn b i .place))) (ltb (stepsIn b) (limitIn b))
+  own-numbers = judged-numbers (ltb i (processCountIn b) && ltb i 8) (not (isIdle (controlIn b i .place))) (ltb (stepsIn b) (limitIn b))
 
   -- the step by value, with any loan
   pub step-judged :
@@ -68,22 +69,26 @@ module _ (b : List ℕ) (i : ℕ) where
   step-judged l =
       let c = cardOf b l in
       let processes = process-count-is b l in
-      let task = task-is b l i in
+      let control = control-is b l i in
       let steps = steps-is b l in
       let limit = limit-is b l in
       sym (λ j. cond (not (ltb i (processes j) && ltb i 8)) (refused c NoProcess)
-      (cond (not (not (isIdle (task j .place)))) (refused c NotBusy)
+      (cond (not (not (isIdle (control j .place)))) (refused c NotBusy)
       (cond (not (ltb (steps j) (limit j))) (refused c LimitReached) (record { card = advance c i; answer = answerOf (localAt (advance c i) i) }))))
-      ∙ tested c (advance c i) (answerOf (localAt (advance c i) i)) (ltb i (processCountIn b) && ltb i 8) (not (isIdle (taskIn b i .place))) (ltb (stepsIn b) (limitIn b))
+      ∙ tested c (advance c i) (answerOf (localAt (advance c i) i)) (ltb i (processCountIn b) && ltb i 8) (not (isIdle (controlIn b i .place)))
+      (ltb (stepsIn b) (limitIn b))
 
   pub step-refuses : (l : List ℕ) → isRefused (step (cardOf b l) i .answer) ≡ isRefused (judgedIn b i)
   step-refuses l = ap (λ (x : Answered). isRefused (x .answer)) (step-judged l) ∙ go (isRefused (judgedIn b i)) refl
     where
       go :
           (t : Bool) → isRefused (judgedIn b i) ≡ t →
-          isRefused (cond {A = Answered} t (record { card = cardOf b l; answer = judgedIn b i }) (record { card = advance (cardOf b l) i; answer = answerOf (localAt (advance (cardOf b l) i) i) }) .answer) ≡ t
+          isRefused
+          (cond {A = Answered} t (record { card = cardOf b l; answer = judgedIn b i })
+          (record { card = advance (cardOf b l) i; answer = answerOf (localAt (advance (cardOf b l) i) i) }) .answer)
+          ≡ t
       go true e = e
-      go false e = let x = localAt (advance (cardOf b l) i) i in answer-accepts (x .task .place) (x .announcement) (x .steps) .0
+      go false e = let x = localAt (advance (cardOf b l) i) i in answer-accepts (x .control .place) (x .announcement) (x .steps) .0
 
 -- what is left of a step that is refused
 pub record Stays (b l : List ℕ) (i : ℕ) (x : Answer) : Type 0 where
@@ -122,4 +127,4 @@ module _ (b l : List ℕ) (i : ℕ) where
   pub taken-numbers : stepVerdict b l i ≡ Answer.Taken → isEleven (answerTo b l i) ≡ false
   taken-numbers e =
       let d = advanced b l i in
-      ap isEleven (taken-answer e) ∙ answer-accepts (taskIn d i .place) (lastIn d i) (countIn d i) .1
+      ap isEleven (taken-answer e) ∙ answer-accepts (controlIn d i .place) (lastIn d i) (countIn d i) .1

@@ -61,4 +61,4 @@ module _ (b l m : List ℕ) (same : take (loanWords b) l ≡ take (loanWords b) 
       let e = table-same 8 (λ i. dictionaryIn b m i) (λ i. dictionaryIn b l i) (λ i p. dictionary-same none i) in
       let c = standing b l in
       ap (λ (d : Card). cond (leb 1456 (length b)) d (fresh noContents))
-      (λ j. withOwn c (c .tasks) (c .operations) (c .exits) (c .counts) (c .gates) (c .copies) (c .simulations) (e j) (c .masks))
+      (λ j. withOwn c (c .controls) (c .operations) (c .exits) (c .counts) (c .gatesRead) (c .announcementsRead) (c .simulations) (e j) (c .masks))

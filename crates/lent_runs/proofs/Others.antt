@@ -9,19 +9,24 @@ use lib.Dec.{ltb}
 use lib.ListN.{length}
 use lib.Seq.{getD-set-other}
 use borrow.Author.Tests.{le-ltb}
-use Rattle.construction.specs.declared.Swap.{Swap}
+use Rattle.construction.specs.declared.accesses.Swap.{Swap}
 use Rattle.construction.specs.Answers.{isRefused}
 use Rattle.construction.specs.Marks.{withBit}
-use Rattle.construction.specs.Machine.{accessOf, goTo, holderOf, firstChoice, helps, afterPause, outcome, readHolder, readLast, nominate, release, announce, withdraw, readFlag, finish}
-use Rattle.codes.specs.Types.{Item, Access, GateAccess, GateAccessed, AnnouncementAccess, AnnouncementAccessed, Task, Announcement, Simulation, C4, H21, P13, P19, P21}
+use Rattle.construction.specs.Machine.{accessOf, goTo, holderOf, firstChoice, helps, afterPause, outcome, readHolder, readLast, nominate, release, announce}
+use Rattle.construction.specs.Machine.{withdraw, readFlag, finish}
+use Rattle.codes.specs.Types.{Item, Access, GateAccess, GateAccessed, AnnouncementAccess, AnnouncementAccessed, Control, Announcement, Simulation, C4, H21, P13}
+use Rattle.codes.specs.Types.{P19, P21}
 use Rattle.codes.specs.Parts.{wordAt}
-use Rattle.codes.specs.Codes.{byte, gateWords, taskWords, announcementWords, recordWords, simulationWords}
-use Rattle.block.specs.Layout.{isRoom, putRow, putNumber, processCountIn, stepsIn, roomIn, gateIn, putGate, announcementIn, putAnnouncement, taskIn, putTask, operationIn, countIn, putSteps, lastGateIn, putLastGate, lastIn, putLast, simulationIn, putSimulation, notedIn, putNoted, maskIn, putMask}
+use Rattle.codes.specs.Codes.{byte, gateWords, controlWords, announcementWords, recordWords, simulationWords}
+use Rattle.block.specs.Layout.{isRoom, putRow, putNumber, processCountIn, stepsIn, roomIn, gateIn, putGate, announcementIn, putAnnouncement, controlIn}
+use Rattle.block.specs.Layout.{putControl, operationIn, countIn, putSteps, lastGateIn, putLastGate, lastIn, putLast, simulationIn, putSimulation, notedIn}
+use Rattle.block.specs.Layout.{putNoted, maskIn, putMask}
 use Rattle.lent_machine.proofs.Keeping.{kept-room, mask-kept, only-row, only-number}
 use Rattle.lent_machine.specs.Accesses.{ifWon, next, gateRead, gateSwapped, gateStep, announcementRead, announcementSwapped, announcementStep, counted}
 use Rattle.loan.specs.Loans.{hasItems, isInserted, insertBlock, insertLoan}
 use Rattle.loan.specs.Simulated.{begunIn, simulatedIn}
-use Rattle.lent_helping.specs.Helps.{numberIn, helpedIn, helpStep, lackedIn, lackedItem, putMarked, goneOn, notedBlock, noteBlock, writingIn, writtenIn, recordSwapped, writeStep}
+use Rattle.lent_helping.specs.Helps.{numberIn, helpedIn, helpStep, lackedIn, lackedItem, putMarked, goneOn, notedBlock, noteBlock, writingIn, writtenIn}
+use Rattle.lent_helping.specs.Helps.{recordSwapped, writeStep}
 use Rattle.lent_helping.specs.Steps.{accessBlock}
 use Rattle.lent_steps.specs.Steps.{stepVerdict, accessAt, stepBlock}
 use Rattle.lent_steps.proofs.Keeping.{step-block-kept}
@@ -62,8 +67,8 @@ module _ (i : ℕ) (b : List ℕ) where
   unfolding putNumber
   others-noted n = others-either (isRoom b i 8) (record { at = λ j p q. getD-set-other b (576 + i) (576 + j) n 0 (λ e. q (omega arith)) }) (others-self i b)
 
-  others-task : (k : ℕ) (t : Task) → Others i b (putTask b k t)
-  others-task k t = others-row 336 8 k (taskWords t) (omega arith)
+  others-control : (k : ℕ) (t : Control) → Others i b (putControl b k t)
+  others-control k t = others-row 336 8 k (controlWords t) (omega arith)
 
   others-last : (a : Announcement) → Others i b (putLast b i a)
   others-last a = others-row 424 8 i (announcementWords a) (omega arith)
@@ -79,40 +84,42 @@ module _ (i : ℕ) (b : List ℕ) where
 
 module _ (i : ℕ) (b : List ℕ) where
   gate-read : (x : GateAccessed) → Others i b (gateRead b i x)
-  gate-read x = others-twice (others-row i b 408 8 i (gateWords (x .read)) (omega arith)) (others-task i (putLastGate b i (x .read)) i (x .task))
+  gate-read x = others-twice (others-row i b 408 8 i (gateWords (x .read)) (omega arith)) (others-control i (putLastGate b i (x .read)) i (x .control))
 
   gate-swapped : (x : GateAccessed) → Others i b (gateSwapped b i x)
   gate-swapped x =
-      others-twice (others-if (x .swap) (others-row i b 5 1 0 (gateWords (x .cell)) (omega arith))) (others-task i (ifWon (x .swap) (putGate b (x .cell)) b) i (x .task))
+      others-twice (others-if (x .swap) (others-row i b 5 1 0 (gateWords (x .cell)) (omega arith)))
+      (others-control i (ifWon (x .swap) (putGate b (x .cell)) b) i (x .control))
 
   announcement-read : (x : AnnouncementAccessed) → Others i b (announcementRead b i x)
-  announcement-read x = others-twice (others-last i b (x .read)) (others-task i (putLast b i (x .read)) i (x .task))
+  announcement-read x = others-twice (others-last i b (x .read)) (others-control i (putLast b i (x .read)) i (x .control))
 
   announcement-swapped : (m : ℕ) (x : AnnouncementAccessed) → Others i b (announcementSwapped b i m x)
   announcement-swapped m x =
-      others-twice (others-if (x .swap) (others-announcement i b m (x .cell))) (others-task i (ifWon (x .swap) (putAnnouncement b m (x .cell)) b) i (x .task))
+      others-twice (others-if (x .swap) (others-announcement i b m (x .cell)))
+      (others-control i (ifWon (x .swap) (putAnnouncement b m (x .cell)) b) i (x .control))
 
 gate-others : (a : GateAccess) (b : List ℕ) (i : ℕ) → Others i b (gateStep a b i)
 unfolding gateStep
-gate-others (GateAccess.Read held free) b i = gate-read i b (readHolder (gateIn b) (taskIn b i) held free)
-gate-others GateAccess.ReadLast b i = gate-read i b (readLast (gateIn b) (taskIn b i) i)
-gate-others GateAccess.Nominate b i = gate-swapped i b (nominate (gateIn b) (lastGateIn b i) (taskIn b i))
-gate-others (GateAccess.Release place) b i = gate-swapped i b (release (gateIn b) (lastGateIn b i) (taskIn b i) place)
+gate-others (GateAccess.Read held free) b i = gate-read i b (readHolder (gateIn b) (controlIn b i) held free)
+gate-others GateAccess.ReadLast b i = gate-read i b (readLast (gateIn b) (controlIn b i) i)
+gate-others GateAccess.Nominate b i = gate-swapped i b (nominate (gateIn b) (lastGateIn b i) (controlIn b i))
+gate-others (GateAccess.Release place) b i = gate-swapped i b (release (gateIn b) (lastGateIn b i) (controlIn b i) place)
 
 announcement-others : (a : AnnouncementAccess) (b : List ℕ) (i : ℕ) → Others i b (announcementStep a b i)
 unfolding announcementStep
 announcement-others AnnouncementAccess.Announce b i =
-    let x = announce (operationIn b i) (lastGateIn b i) (taskIn b i) in
+    let x = announce (operationIn b i) (lastGateIn b i) (controlIn b i) in
     others-twice (others-announcement i b i (x .cell)) (announcement-read i (putAnnouncement b i (x .cell)) x)
 announcement-others AnnouncementAccess.Withdraw b i =
-    announcement-swapped i b i (withdraw (announcementIn b i) (operationIn b i) (lastIn b i) (taskIn b i))
+    announcement-swapped i b i (withdraw (announcementIn b i) (operationIn b i) (lastIn b i) (controlIn b i))
 announcement-others (AnnouncementAccess.ReadOwn done active exit) b i = announcement-read i b (readFlag (announcementIn b i) i done active exit)
 announcement-others AnnouncementAccess.ReadFirst b i =
     let m = firstChoice (lastGateIn b i .seq) (processCountIn b) in
     announcement-read i b (readFlag (announcementIn b m) m C4 P13 C4)
 announcement-others (AnnouncementAccess.Finish flag place) b i =
     let m = holderOf (lastGateIn b i .holder) in
-    announcement-swapped i b m (finish flag place (announcementIn b m) (lastGateIn b i) (lastIn b i) (simulationIn b i .yields) (taskIn b i))
+    announcement-swapped i b m (finish flag place (announcementIn b m) (lastGateIn b i) (lastIn b i) (simulationIn b i .yields) (controlIn b i))
 
 help-others : (b : List ℕ) (i : ℕ) → Others i b (helpStep b i)
 unfolding helpStep
@@ -125,13 +132,14 @@ help-others b i =
     let e = putMask d i 0 in
     others-either (helps cell number)
     (others-twice (others-simulation i b i (x .simulation)) (others-twice (others-noted i c 0) (others-twice (others-mask i d i 0)
-    (others-twice (others-last i e cell) (others-task i (putLast e i cell) i (afterPause number (x .dictionary) (x .pause)))))))
-    (others-twice (others-last i b cell) (others-task i (putLast b i cell) i (goTo (taskIn b i) P21)))
+    (others-twice (others-last i e cell) (others-control i (putLast e i cell) i (afterPause number (x .dictionary) (x .pause)))))))
+    (others-twice (others-last i b cell) (others-control i (putLast b i cell) i (goTo (controlIn b i) P21)))
 
 gone-on-others : (n : ℕ) (b l : List ℕ) (i number : ℕ) → Others n b (goneOn b l i number)
 gone-on-others n b l i number =
     let x = simulatedIn b l i number in
-    others-twice (others-simulation n b i (x .simulation)) (others-task n (putSimulation b i (x .simulation)) i (afterPause number (x .dictionary) (x .pause)))
+    others-twice (others-simulation n b i (x .simulation))
+    (others-control n (putSimulation b i (x .simulation)) i (afterPause number (x .dictionary) (x .pause)))
 
 insert-others : (b l : List ℕ) (i : ℕ) → Others i b (insertBlock b l i)
 unfolding insertBlock
@@ -146,14 +154,16 @@ noted-others b l i number e =
 note-others : (b l : List ℕ) (i : ℕ) → Others i b (noteBlock b l i)
 unfolding noteBlock
 note-others b l i =
-    others-either (ltb (numberIn b i) (lackedIn b i .seq)) (others-task i b i (goTo (taskIn b i) P19)) (noted-others b l i (numberIn b i) (lackedItem b i))
+    others-either (ltb (numberIn b i) (lackedIn b i .seq)) (others-control i b i (goTo (controlIn b i) P19))
+    (noted-others b l i (numberIn b i) (lackedItem b i))
 
 write-others : (b l : List ℕ) (i : ℕ) → Others i b (writeStep b l i)
 unfolding writeStep
 write-others b l i =
     let v = writingIn b l i .item .variable in
     let x = writtenIn b l i in
-    others-twice (others-if (outcome (x .won)) (others-row i b 80 64 v (recordWords (x .cell)) (omega arith))) (others-task i (recordSwapped b v x) i (writingIn b l i .task))
+    others-twice (others-if (outcome (x .won)) (others-row i b 80 64 v (recordWords (x .cell)) (omega arith)))
+    (others-control i (recordSwapped b v x) i (writingIn b l i .control))
 
 access-others : (a : Access) (b l : List ℕ) (i : ℕ) → Others i b (accessBlock a b l i)
 unfolding accessBlock
@@ -206,11 +216,11 @@ module _ (b l : List ℕ) (i : ℕ) (full : notedIn b i ≡ roomIn b) where
       let e = lackedItem b i in
       let c = putMarked b i (e .variable) in
       let d = insertBlock c l i in
-      others-either (ltb (numberIn b i) (lackedIn b i .seq)) (others-task 8 b i (goTo (taskIn b i) P19))
+      others-either (ltb (numberIn b i) (lackedIn b i .seq)) (others-control 8 b i (goTo (controlIn b i) P19))
       (others-twice (subst (Others 8 b) (sym (none-inserted (e .variable))) (others-mask 8 b i (withBit (maskIn b i) (e .variable))))
       (gone-on-others 8 d (insertLoan c l i e) i (numberIn b i)))
 
-  pub full-stays : taskIn b i .place ≡ H21 → notedIn (stepBlock b l i) i ≡ roomIn b
+  pub full-stays : controlIn b i .place ≡ H21 → notedIn (stepBlock b l i) i ≡ roomIn b
   unfolding stepBlock accessBlock accessOf
   full-stays at =
       let kept = step-block-kept b l i in

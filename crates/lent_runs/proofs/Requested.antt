@@ -8,15 +8,16 @@ use native.Mathlib.Omega.{arith}
 use lib.Dec.{leb, ltb}
 use lib.ListN.{length}
 use borrow.Author.Tests.{ltb-true}
-use Rattle.construction.specs.declared.{Answer.Answer, Verdict.Verdict}
-use Rattle.construction.specs.declared.Refusal.the-variants.{NoProcess, NoProgram, Busy, NotBusy, NoPlace, NotAhead, Unsettled}
+use Rattle.construction.specs.declared.{answers.Answer.Answer, texts.Verdict.Verdict}
+use Rattle.construction.specs.declared.answers.Refusal.the-variants.{NoProcess, NoProgram, Busy, NotBusy, NoPlace, NotAhead, Unsettled}
 use Rattle.construction.specs.Answers.{isRefused}
 use Rattle.construction.specs.Requests.{isIdle}
 use Rattle.requests.specs.Judging.{judged, ifTextAccepted}
-use Rattle.codes.specs.Types.{Words, Task, Operation, P1}
+use Rattle.codes.specs.Types.{Words, Control, Operation, P1}
 use Rattle.codes.specs.Parts.{wordAt, part, table}
-use Rattle.codes.specs.Codes.{byte, bit, taskWords, operationWords, programWords}
-use Rattle.block.specs.Layout.{isRoom, numberAt, putRow, putNumber, processCountIn, variableCountIn, programCountIn, gateIn, taskIn, fromIn, roomIn, notedIn, putTask, putOperation, putExit, putFrom, keepLater}
+use Rattle.codes.specs.Codes.{byte, bit, controlWords, operationWords, programWords}
+use Rattle.block.specs.Layout.{isRoom, numberAt, putRow, putNumber, processCountIn, variableCountIn, programCountIn, gateIn, controlIn, fromIn, roomIn, notedIn}
+use Rattle.block.specs.Layout.{putControl, putOperation, putExit, putFrom, keepLater}
 use Rattle.block.proofs.Standing.{Only, number-same}
 use Rattle.block.proofs.Puts.{put-row-length, put-number-length}
 use Rattle.lent_machine.proofs.Keeping.{only-row, only-number}
@@ -47,17 +48,17 @@ module _ (low high : ℕ) (b : List ℕ) where
   within-number base n i x from to = record { size = put-number-length b base n i x; only = only-number b low high base n i from x to }
 
 module _ (b : List ℕ) where
-  -- tasks, operations, exit requests and own steps
+  -- controls, operations, exit requests and own steps
   pub call-within : (i k : ℕ) (inputs : Words) → Within 336 408 b (callBlock b i k inputs)
   unfolding callBlock
   call-within i k inputs =
-      let t : Task = record { place = P1; target = 0 } in
+      let t : Control = record { place = P1; target = 0 } in
       let o : Operation = record { program = k; inputs = inputs } in
-      let b₁ = putTask b i t in
+      let b₁ = putControl b i t in
       let b₂ = putOperation b₁ i o in
       let b₃ = putExit b₂ i false in
       within-unless 336 408 b (isRefused (callAnswer b i k))
-      (within-twice (within-row 336 408 b 336 8 i (taskWords t) (omega arith) (omega arith))
+      (within-twice (within-row 336 408 b 336 8 i (controlWords t) (omega arith) (omega arith))
       (within-twice (within-row 336 408 b₁ 352 8 i (operationWords o) (omega arith) (omega arith))
       (within-twice (within-number 336 408 b₂ 392 8 i (bit false) (omega arith) (omega arith))
       (within-number 336 408 b₃ 400 8 i 0 (omega arith) (omega arith)))))
@@ -138,7 +139,9 @@ read-by false x = refl
 
 change-by :
     (p : Bool) (v : Verdict) (q r : Bool) →
-    isEleven (cond (not p) (Answer.RefusedAt NoProgram 0) (ifTextAccepted v (cond (not q) (Answer.RefusedAt NotAhead 0) (cond r (Answer.RefusedAt Unsettled 0) Answer.Taken))))
+    isEleven
+    (cond (not p) (Answer.RefusedAt NoProgram 0)
+    (ifTextAccepted v (cond (not q) (Answer.RefusedAt NotAhead 0) (cond r (Answer.RefusedAt Unsettled 0) Answer.Taken))))
     ≡ false
 change-by false v q r = refl
 change-by true (Verdict.Refused why line) q r = refl
@@ -149,11 +152,11 @@ change-by true Verdict.Accepted true false = refl
 module _ (b : List ℕ) where
   pub call-numbers : (i k : ℕ) → isEleven (callAnswer b i k) ≡ false
   unfolding callAnswer
-  call-numbers i k = call-by (ltb i (processCountIn b) && ltb i 8) (ltb k (programCountIn b) && ltb k 8) (isIdle (taskIn b i .place))
+  call-numbers i k = call-by (ltb i (processCountIn b) && ltb i 8) (ltb k (programCountIn b) && ltb k 8) (isIdle (controlIn b i .place))
 
   pub exit-numbers : (i : ℕ) → isEleven (exitAnswer b i) ≡ false
   unfolding exitAnswer
-  exit-numbers i = exit-by (ltb i (processCountIn b) && ltb i 8) (not (isIdle (taskIn b i .place)))
+  exit-numbers i = exit-by (ltb i (processCountIn b) && ltb i 8) (not (isIdle (controlIn b i .place)))
 
   pub read-numbers : (v : ℕ) → isEleven (readAnswer b v) ≡ false
   unfolding readAnswer

@@ -6,14 +6,16 @@ use mathlib.Core.List.{List, [], _∷_}
 use native.Mathlib.Omega.{arith}
 use native.Mathlib.Nat.{max-le}
 use lib.ListN.{length, getD}
-use Rattle.construction.specs.declared.{Announcement.Announcement, Answer.Answer, Card.Card, Contents.Contents, Program.Program, Dictionary.Dictionary}
+use Rattle.construction.specs.declared.{cells.Announcement.Announcement, answers.Answer.Answer, card.Card.Card, texts.Contents.Contents}
+use Rattle.construction.specs.declared.{programs.Program.Program, simulations.Dictionary.Dictionary}
 use Rattle.construction.specs.Weight.{weight, heaviest, cardWeight}
 use Rattle.construction.specs.Instructions.{noProgram}
 use Rattle.construction.specs.Dictionary.{empty}
 use Rattle.construction.specs.Parts.{contentsOf, localAt}
 use Rattle.construction.specs.Opening.{fresh, readCard, opened}
 use Rattle.construction.specs.Cells.{isDone}
-use Rattle.construction.specs.History.{Entry, act, Event, eventOf, History, turned, finishing, withFinishes, withEntry, Observation, opening, observe, observeAll, run}
+use Rattle.construction.specs.History.{Entry, act, Event, eventOf, History, turned, finishing, withFinishes, withEntry, Observation, opening, observe}
+use Rattle.construction.specs.History.{observeAll, run}
 use Rattle.construction.proofs.Basics.{getD-replicate-same}
 use Rattle.construction.proofs.Text.Bounds.{opened-bounded}
 use Rattle.construction.proofs.Observing.Runs.{opened-consistent}
@@ -22,7 +24,8 @@ use Rattle.block.specs.Cards.{dictionaryAt}
 use Rattle.block.proofs.Gets.{dictionary-is}
 use Rattle.lent_text.specs.Opened.{openedBlock}
 use Rattle.lent_text.proofs.Theorems.{opened-card, opened-room, opened-length}
-use Rattle.lent_runs.specs.Runs.{Handed, Memory, replyIn, replyOf, memoryAfter, remember, isEleven, isShort, historyAfter, historyOf, entriesOf, repliesIn, repliesOf, HandedBack, AllFit, openedMemory, memoryOf, entriesByValue, AsByValue}
+use Rattle.lent_runs.specs.Runs.{Handed, Memory, replyIn, replyOf, memoryAfter, remember, isEleven, isShort, historyAfter, historyOf, entriesOf}
+use Rattle.lent_runs.specs.Runs.{repliesIn, repliesOf, HandedBack, AllFit, openedMemory, memoryOf, entriesByValue, AsByValue}
 use Rattle.lent_runs.proofs.Entries.{Roomy, Stands, Passed, passes}
 
 -- a card of a run has room where H21 reads one record more (the theorem of limits): its text weighs at most 32

@@ -10,10 +10,12 @@ use lib.ListN.{length, getD}
 use borrow.Author.Tests.{lt-leb, leb-false}
 use Rattle.grammar.specs.declared.{Number.Number, Numbers.Numbers}
 use Rattle.grammar.specs.Reading.{hasWord, four, field}
-use Rattle.construction.specs.declared.{Verdict.Verdict, CardLine.CardLine, VarLine.VarLine, SheetLine.SheetLine, InsLine.InsLine, Decoded.Decoded, Encoded.Encoded, Format.Format}
+use Rattle.construction.specs.declared.{texts.Verdict.Verdict, texts.CardLine.CardLine, texts.VarLine.VarLine, texts.SheetLine.SheetLine, texts.InsLine.InsLine}
+use Rattle.construction.specs.declared.{programs.Decoded.Decoded, programs.Encoded.Encoded, programs.Format.Format}
 use Rattle.construction.specs.Answers.{Fields, refusedWith, verdictFields, cardLineFields, varLineFields, sheetLineFields, insLineFields, decodedFields}
 use Rattle.construction.specs.Instructions.{inRange, ranged, unusedZero, eachOperand, decodeAs, decode, rowOf, encoded}
-use Rattle.construction.specs.Lines.{cardWord, varWord, sheetWord, insWord, cardFits, judgeCard, cardLine, judgeVar, varLine, judgeSheet, sheetLine, insOf, judgeIns, insLine}
+use Rattle.construction.specs.Lines.{cardWord, varWord, sheetWord, insWord, cardFits, judgeCard, cardLine, judgeVar, varLine, judgeSheet, sheetLine, insOf}
+use Rattle.construction.specs.Lines.{judgeIns, insLine}
 use Rattle.construction.specs.Opening.{opened}
 use Rattle.construction.specs.TextJudging.{refusedIn, Judged}
 use Rattle.construction.proofs.Basics.{on-test}
@@ -61,15 +63,18 @@ sheet-other t at = on-test (λ (x : SheetLine). Other (sheetLineFields x)) (hasW
   where
     by : (x : Number) → Other (sheetLineFields (judgeSheet x))
     by (Number.Value v i) =
-        on-test (λ (x : SheetLine). Other (sheetLineFields x)) (inRange 1 32 v) (λ _ e. let z : _≡_ {A = ℕ} 115 114 = ap firstByte e in omega arith) (λ _. three)
+        on-test (λ (x : SheetLine). Other (sheetLineFields x)) (inRange 1 32 v) (λ _ e. let z : _≡_ {A = ℕ} 115 114 = ap firstByte e in omega arith)
+        (λ _. three)
     by Number.Malformed = two
 
 decoded-other : (x : Encoded) (n : ℕ) (f : Format) → Other (decodedFields (decodeAs f n x))
 unfolding decodedFields
 decoded-other x n Format.Unknown = λ e. let z : _≡_ {A = ℕ} 4 11 = ap firstNumber e in omega arith
 decoded-other x n (Format.Known a b c) =
-    on-test (λ (y : Decoded). Other (decodedFields y)) (not (eachOperand (ranged n) a b c x)) (λ _ e. let z : _≡_ {A = ℕ} 12 11 = ap firstNumber e in omega arith)
-    (λ _. on-test (λ (y : Decoded). Other (decodedFields y)) (not (eachOperand unusedZero a b c x)) (λ _ e. let z : _≡_ {A = ℕ} 13 11 = ap firstNumber e in omega arith)
+    on-test (λ (y : Decoded). Other (decodedFields y)) (not (eachOperand (ranged n) a b c x))
+    (λ _ e. let z : _≡_ {A = ℕ} 12 11 = ap firstNumber e in omega arith)
+    (λ _. on-test (λ (y : Decoded). Other (decodedFields y)) (not (eachOperand unusedZero a b c x))
+    (λ _ e. let z : _≡_ {A = ℕ} 13 11 = ap firstNumber e in omega arith)
     (λ _ e. let z : _≡_ {A = ℕ} 105 114 = ap firstByte e in omega arith))
 
 ins-other : (n : ℕ) (t : List ℕ) (at : ℕ) → Other (insLineFields (insLine n t at))

@@ -8,8 +8,8 @@ use mathlib.Core.List.{List}
 use lib.Dec.{ltb}
 use lib.ListN.{length}
 use borrow.Author.Tests.{ltb-true, ltb-false, eqb-true}
-use Rattle.construction.specs.declared.{Answer.Answer}
-use Rattle.construction.specs.declared.Refusal.the-variants.{ShortBuffer}
+use Rattle.construction.specs.declared.{answers.Answer.Answer}
+use Rattle.construction.specs.declared.answers.Refusal.the-variants.{ShortBuffer}
 use Rattle.construction.specs.Answers.{numberOf, refusedWith, answerFields, isRefused}
 use Rattle.construction.specs.Requests.{step}
 use Rattle.construction.specs.History.{Entry, Steps}

@@ -5,7 +5,7 @@ use mathlib.Core.Path.{_≡_, refl, sym, _∙_, ap, subst}
 use mathlib.Core.Bool.{Bool, true, false, cond, true≢false}
 use mathlib.Core.List.{List, [], _∷_, _++_}
 use lib.ListN.{length, getD, take}
-use Rattle.construction.specs.declared.{Answer.Answer, Answered.Answered, Card.Card, Verdict.Verdict}
+use Rattle.construction.specs.declared.{answers.Answer.Answer, answers.Answered.Answered, card.Card.Card, texts.Verdict.Verdict}
 use Rattle.construction.specs.Parts.{localAt}
 use Rattle.construction.specs.Requests.{read}
 use Rattle.construction.specs.Changes.{change}
@@ -42,7 +42,8 @@ use Rattle.construction.proofs.Statements.Changes.{runs-its-text, runs-by-numbe
 use Rattle.loan.specs.Loans.{loanWords}
 use Rattle.lent_card.specs.Requests.{readAnswer, changeAnswer}
 use Rattle.lent_card.proofs.Cards.{read-is, change-is}
-use Rattle.lent_runs.specs.Runs.{Handed, Memory, replyIn, replyOf, isAccepted, memoryAfter, remember, isShort, entriesOf, Fits, AllFit, HandedBack, openedMemory, memoryOf, lentRun, entriesByValue, Speaks}
+use Rattle.lent_runs.specs.Runs.{Handed, Memory, replyIn, replyOf, isAccepted, memoryAfter, remember, isShort, entriesOf, Fits, AllFit, HandedBack}
+use Rattle.lent_runs.specs.Runs.{openedMemory, memoryOf, lentRun, entriesByValue, Speaks}
 use Rattle.lent_runs.proofs.Entries.{Passed, passes}
 use Rattle.lent_runs.proofs.Runs.{roomy, as-by-value, stands-after}
 use Rattle.lent_runs.proofs.Requested.{change-numbers}
@@ -66,7 +67,9 @@ module _
         isShort (memoryOf t b l xs) x ≡ false →
         replyIn (memoryOf t b l xs .block) (x .loan) (x .entry) ≡ replyOf (run (opened t .card) (entriesByValue t b l xs) .card) (x .entry)
     next-reply x f same long-enough =
-        by (passes (memoryOf t b l xs) (run (opened t .card) (entriesByValue t b l xs) .card) (stands-after t b l long xs fits handed) (roomy t (entriesByValue t b l xs)) x f same)
+        by
+        (passes (memoryOf t b l xs) (run (opened t .card) (entriesByValue t b l xs) .card) (stands-after t b l long xs fits handed)
+        (roomy t (entriesByValue t b l xs)) x f same)
       where
         by :
             Passed (run (opened t .card) (entriesByValue t b l xs) .card) (memoryOf t b l xs) x →
@@ -188,6 +191,7 @@ module _ (t b l : List ℕ) (long : 1456 ≤ length b) (xs ys : List Handed) (k 
   switches-lent fits handed taken =
       let s = stands-after t b l long xs (fits-before xs (changing ∷ ys) fits) (handed-before xs (changing ∷ ys) (openedMemory t b l) handed) in
       let m = memoryOf t b l xs in
-      let answer = ap (λ (x : Answered). x .answer) (change-is (m .block) (m .loan) (s .room) k from text ∙ ap (λ (c : Card). change c k from text) (s .card)) in
+      let answer = ap (λ (x : Answered). x .answer)
+      (change-is (m .block) (m .loan) (s .room) k from text ∙ ap (λ (c : Card). change c k from text) (s .card)) in
       let none = change-numbers (m .block) k from text in
       (entries-append xs (changing ∷ ys) (openedMemory t b l) ∙ rw none, switches t (entriesByValue t b l xs) following k from text (sym answer ∙ taken))

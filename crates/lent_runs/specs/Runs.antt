@@ -6,7 +6,7 @@ use mathlib.Core.Bool.{Bool, true, false, cond, not}
 use mathlib.Core.List.{List, [], _∷_}
 use lib.Dec.{eqb}
 use lib.ListN.{take}
-use Rattle.construction.specs.declared.{Answer.Answer, Card.Card, Report.Report}
+use Rattle.construction.specs.declared.{answers.Answer.Answer, card.Card.Card, answers.Report.Report}
 use Rattle.construction.specs.Answers.{numberOf, isRefused}
 use Rattle.construction.specs.Tracing.{trace, noReport}
 use Rattle.construction.specs.History.{Entry, act, eventOf, History, finishing, withFinishes, withEntry, Observation, opening, run}

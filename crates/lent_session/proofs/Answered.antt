@@ -4,8 +4,8 @@ use mathlib.Core.Bool.{Bool, true, false, not}
 use mathlib.Core.List.{List}
 use mathlib.Core.Path.{_≡_, refl, sym, _∙_, ap}
 use borrow.Author.Tests.{lt-ltb, le-ltb}
-use Rattle.construction.specs.declared.{Words.Words, Answer.Answer}
-use Rattle.construction.specs.declared.Refusal.the-variants.{Malformed}
+use Rattle.construction.specs.declared.{cells.Words.Words, answers.Answer.Answer}
+use Rattle.construction.specs.declared.answers.Refusal.the-variants.{Malformed}
 use Rattle.commands.specs.declared.Command.{Command}
 use Rattle.commands.specs.Commands.{part}
 use Rattle.loan.specs.Loans.{loanWords}
@@ -16,7 +16,8 @@ use Rattle.lent_session.specs.Answering.{untold, lentExecuted, Executes,
 
 module _ (t b l : List ℕ) {m : Command} {a : Answer} {r : Told} where
   pub called :
-      {i p : ℕ} {x : Words} {c : List ℕ} → m ≡ Command.Call i p x → a ≡ callAnswer b i p → c ≡ callBlock b i p x → r ≡ untold a → Executes (lentExecuted t b l m) r c l
+      {i p : ℕ} {x : Words} {c : List ℕ} → m ≡ Command.Call i p x → a ≡ callAnswer b i p → c ≡ callBlock b i p x → r ≡ untold a →
+      Executes (lentExecuted t b l m) r c l
   unfolding lentExecuted
   called e ea ec er = rw e (record { told = er ∙ ap untold ea; block = ec; loan = refl })
 
@@ -25,7 +26,8 @@ module _ (t b l : List ℕ) {m : Command} {a : Answer} {r : Told} where
   exited e ea ec er = rw e (record { told = er ∙ ap untold ea; block = ec; loan = refl })
 
   pub stepped :
-      {i : ℕ} {c k : List ℕ} → m ≡ Command.Step i → a ≡ answerTo b l i → c ≡ stepBlock b l i → k ≡ stepLoan b l i → r ≡ untold a → Executes (lentExecuted t b l m) r c k
+      {i : ℕ} {c k : List ℕ} → m ≡ Command.Step i → a ≡ answerTo b l i → c ≡ stepBlock b l i → k ≡ stepLoan b l i → r ≡ untold a →
+      Executes (lentExecuted t b l m) r c k
   unfolding lentExecuted
   stepped e ea ec ek er = rw e (record { told = er ∙ ap untold ea; block = ec; loan = ek })
 

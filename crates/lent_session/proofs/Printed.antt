@@ -7,7 +7,7 @@ use borrow.Author.Tests.{lt-ltb, le-ltb}
 use lib.ListN.{length, take}
 use lib.Seq.{length-take-le, length-sets}
 use Rattle.grammar.specs.Writing.{Put}
-use Rattle.construction.specs.declared.{Card.Card, Refusal.Refusal, Verdict.Verdict}
+use Rattle.construction.specs.declared.{card.Card.Card, answers.Refusal.Refusal, texts.Verdict.Verdict}
 use Rattle.construction.specs.Opening.{readCard}
 use Rattle.commands.specs.declared.Command.{Command}
 use Rattle.commands.specs.Printing.{lineText, longest, cardRefusal, callsRefusal}

@@ -1,8 +1,8 @@
 // The answer of the card to a command.
 use answers::kinds::is_refused;
 use commands::Command;
-use construction::Answer;
-use construction::Refusal;
+use construction::answers::Answer;
+use construction::answers::Refusal;
 use lent_card::changing::change;
 use lent_card::requesting::call;
 use lent_card::requesting::read;

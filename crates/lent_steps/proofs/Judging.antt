@@ -7,29 +7,29 @@ use native.Mathlib.Omega.{arith}
 use lib.Dec.{ltb}
 use lib.ListN.{length}
 use borrow.Author.Tests.{lt-ltb, le-ltb}
-use Rattle.construction.specs.declared.{Refusal.Refusal, Answer.Answer}
-use Rattle.construction.specs.declared.Refusal.the-variants.{ShortBuffer}
+use Rattle.construction.specs.declared.{answers.Refusal.Refusal, answers.Answer.Answer}
+use Rattle.construction.specs.declared.answers.Refusal.the-variants.{ShortBuffer}
 use Rattle.construction.specs.Answers.{isRefused}
 use Rattle.construction.specs.Requests.{isIdle}
 use Rattle.requests.specs.Judging.{judged, stepJudged}
 use Rattle.requests.proofs.Arrays.{in-room}
-use Rattle.codes.specs.Types.{Task}
-use Rattle.block.specs.Layout.{processCountIn, limitIn, stepsIn, taskIn}
+use Rattle.codes.specs.Types.{Control}
+use Rattle.block.specs.Layout.{processCountIn, limitIn, stepsIn, controlIn}
 use Rattle.loan.specs.Loans.{loanWords}
 use Rattle.lent_helping.specs.Steps.{accessLoan}
-use Rattle.lent_card.proofs.Judging.{task-narrow}
+use Rattle.lent_card.proofs.Judging.{control-narrow}
 use Rattle.lent_steps.specs.Steps.{lentJudged, stepVerdict, accessAt, advanced, stepBlock, stepLoan, answerIn, answerTo}
 
 -- refusals 5, 8 and 10 on what stands in a block
 abbrev pub judgedIn : List ℕ → ℕ → Answer
-judgedIn b i = stepJudged i (processCountIn b) (taskIn b i .place) (stepsIn b) (limitIn b)
+judgedIn b i = stepJudged i (processCountIn b) (controlIn b i .place) (stepsIn b) (limitIn b)
 
 -- what code judges
 module _ (b : List ℕ) (i : ℕ) where
   pub judged-by :
-      {n : ℕ} {t : Task} {p s m : ℕ} {x : Answer} → n ≡ min i 255 → t ≡ taskIn b n → p ≡ processCountIn b → s ≡ stepsIn b → m ≡ limitIn b →
+      {n : ℕ} {t : Control} {p s m : ℕ} {x : Answer} → n ≡ min i 255 → t ≡ controlIn b n → p ≡ processCountIn b → s ≡ stepsIn b → m ≡ limitIn b →
       x ≡ stepJudged i p (t .place) s m → x ≡ judgedIn b i
-  judged-by en et ep es em ex = rw (ep, es, em, et, en, task-narrow b i) at ex
+  judged-by en et ep es em ex = rw (ep, es, em, et, en, control-narrow b i) at ex
 
 -- the verdict, by whether refusals 5, 8 and 10 leave the step and by the loan
 module _ (b l : List ℕ) (i : ℕ) where
@@ -38,7 +38,8 @@ module _ (b l : List ℕ) (i : ℕ) where
   verdict-refused {x} e r = rw (← e, r)
 
   pub verdict-short :
-      {x : Answer} {words : ℕ} → x ≡ judgedIn b i → isRefused x ≡ false → words ≡ loanWords b → length l < words → Answer.Refused ShortBuffer ≡ stepVerdict b l i
+      {x : Answer} {words : ℕ} → x ≡ judgedIn b i → isRefused x ≡ false → words ≡ loanWords b → length l < words →
+      Answer.Refused ShortBuffer ≡ stepVerdict b l i
   unfolding stepVerdict
   verdict-short e r ew h = let s : ltb (length l) (loanWords b) ≡ true = lt-ltb (length l) (loanWords b) (rw ew at h) in rw (← e, r, s)
 
@@ -56,7 +57,8 @@ module _ (b l : List ℕ) (i : ℕ) where
   pub accepted-process : isRefused (stepVerdict b l i) ≡ false → ltb i (processCountIn b) && ltb i 8 ≡ true
   unfolding stepVerdict
   accepted-process e =
-      accepted-below (ltb i (processCountIn b) && ltb i 8) (not (isIdle (taskIn b i .place))) (ltb (stepsIn b) (limitIn b)) (ltb (length l) (loanWords b)) _ _ _ e
+      accepted-below (ltb i (processCountIn b) && ltb i 8) (not (isIdle (controlIn b i .place))) (ltb (stepsIn b) (limitIn b)) (ltb (length l) (loanWords b)) _
+      _ _ e
 
   pub accepted-small : isRefused (stepVerdict b l i) ≡ false → i < 8
   accepted-small e = in-room i (processCountIn b) 8 (accepted-process e)

@@ -8,8 +8,8 @@ use mathlib.Core.List.{List}
 use lib.Dec.{ltb}
 use lib.ListN.{length, getD}
 use borrow.Author.Tests.{lt-ltb, le-ltb, ltb-true}
-use Rattle.construction.specs.declared.{Access.Access, Answer.Answer, Answered.Answered, Card.Card, Label.Label}
-use Rattle.construction.specs.declared.Refusal.the-variants.{NoProcess, NotBusy, LimitReached, ShortBuffer}
+use Rattle.construction.specs.declared.{accesses.Access.Access, answers.Answer.Answer, answers.Answered.Answered, card.Card.Card, accesses.Label.Label}
+use Rattle.construction.specs.declared.answers.Refusal.the-variants.{NoProcess, NotBusy, LimitReached, ShortBuffer}
 use Rattle.construction.specs.Dictionary.{noItem}
 use Rattle.construction.specs.Parts.{localAt}
 use Rattle.construction.specs.Answers.{isRefused}
@@ -21,9 +21,9 @@ use Rattle.construction.proofs.Basics.{and-true}
 use Rattle.construction.proofs.Statements.Tracing.{answers}
 use Rattle.requests.specs.Judging.{judged}
 use Rattle.requests.proofs.Arrays.{in-room}
-use Rattle.block.specs.Layout.{processCountIn, limitIn, stepsIn, roomIn, taskIn, exitIn, lastGateIn, maskIn, notedIn}
+use Rattle.block.specs.Layout.{processCountIn, limitIn, stepsIn, roomIn, controlIn, exitIn, lastGateIn, maskIn, notedIn}
 use Rattle.block.specs.Cards.{cardOf}
-use Rattle.block.proofs.Gets.{process-count-is, limit-is, steps-is, task-is, exit-is, count-is, last-gate-is, last-is, mask-is, dictionary-is}
+use Rattle.block.proofs.Gets.{process-count-is, limit-is, steps-is, control-is, exit-is, count-is, last-gate-is, last-is, mask-is, dictionary-is}
 use Rattle.loan.specs.Loans.{loanWords, hasItems, heldDictionary}
 use Rattle.loan.proofs.Kept.{held-is}
 use Rattle.lent_helping.specs.Steps.{accessLoan}
@@ -36,7 +36,7 @@ use Rattle.lent_steps.proofs.Judging.{judgedIn}
 -- the answer of a process, by the card that stands in a block
 answer-is : (b l : List ℕ) (i : ℕ) (d : Card) → cardOf b l ≡ d → answerIn b i ≡ answerOf (localAt d i)
 answer-is b l i d e =
-    let t = task-is b l i in
+    let t = control-is b l i in
     let a = last-is b l i in
     let n = count-is b l i in
     (λ j. stepAnswer (t j .place) (a j) (n j)) ∙ ap (λ (x : Card). answerOf (localAt x i)) e
@@ -85,7 +85,7 @@ module _ (b l : List ℕ) (i : ℕ) where
   -- the access is the machine's
   access-at-is : accessAt b i ≡ accessIn (localAt c i)
   access-at-is =
-      let t = task-is b l i in
+      let t = control-is b l i in
       let e = exit-is b l i in
       λ j. accessOf (t j .place) (e j)
 
@@ -119,11 +119,12 @@ module _ (b l : List ℕ) (i : ℕ) where
   unfolding step
   judged-is =
       let processes = process-count-is b l in
-      let task = task-is b l i in
+      let control = control-is b l i in
       let steps = steps-is b l in
       let limit = limit-is b l in
-      rw (processes, task, steps, limit)
-      (same-refused (ltb i (c .processCount) && ltb i 8) (not (isIdle (localAt c i .task .place))) (ltb (c .steps) (c .limit)) after (answers (localAt (advance c i) i)))
+      rw (processes, control, steps, limit)
+      (same-refused (ltb i (c .processCount) && ltb i 8) (not (isIdle (localAt c i .control .place))) (ltb (c .steps) (c .limit)) after
+      (answers (localAt (advance c i) i)))
 
   -- a step that 5, 8 or 10 refuses: with any loan
   pub step-turned-back :
@@ -135,36 +136,38 @@ module _ (b l : List ℕ) (i : ℕ) where
 
   -- a step with a loan too short that they leave: 11
   pub step-short :
-      length l < loanWords b → isRefused (step c i .answer) ≡ false → (answerTo b l i ≡ Answer.Refused ShortBuffer) × (stepBlock b l i ≡ b) × (stepLoan b l i ≡ l)
+      length l < loanWords b → isRefused (step c i .answer) ≡ false →
+      (answerTo b l i ≡ Answer.Refused ShortBuffer) × (stepBlock b l i ≡ b) × (stepLoan b l i ≡ l)
   unfolding answerTo stepBlock stepLoan stepVerdict
   step-short h k =
       let e : isRefused (judgedIn b i) ≡ false = judged-is .0 ∙ k in
       let s = lt-ltb (length l) (loanWords b) h in
       (rw (e, s), rw (e, s), rw (e, s))
 
-  module _ (lent : loanWords b ≤ length l) (room : taskIn b i .place ≡ Label.H21 → notedIn b i < roomIn b) where
+  module _ (lent : loanWords b ≤ length l) (room : controlIn b i .place ≡ Label.H21 → notedIn b i < roomIn b) where
     items : ltb i (processCountIn b) && ltb i 8 ≡ true → hasItems b l i ≡ true
     items p = has-items b l i (ltb-true i (processCountIn b) (and-true (ltb i (processCountIn b)) (ltb i 8) p .0)) lent
 
     -- an accepted step
     advanced-is : ltb i (processCountIn b) && ltb i 8 ≡ true → cardOf (advanced b l i) (accessLoan (accessAt b i) b l i) ≡ advance c i
     advanced-is p =
-        advance-is b l (there-long b 0 i (ltb i 8) p) i (in-room i (processCountIn b) 8 p) (items p) (λ e. room (noting (taskIn b i .place) (exitIn b i) e))
+        advance-is b l (there-long b 0 i (ltb i 8) p) i (in-room i (processCountIn b) 8 p) (items p) (λ e. room (noting (controlIn b i .place) (exitIn b i) e))
 
     pub step-is : _≡_ {A = Answered} (record { card = cardOf (stepBlock b l i) (stepLoan b l i); answer = answerTo b l i }) (step (cardOf b l) i)
     unfolding step answerTo stepBlock stepLoan stepVerdict
     step-is =
         let processes = process-count-is b l in
-        let task = task-is b l i in
+        let control = control-is b l i in
         let steps = steps-is b l in
         let limit = limit-is b l in
         let short = le-ltb (length l) (loanWords b) lent in
         rw short
-        (stepped-by (ltb i (processCountIn b) && ltb i 8) (not (isIdle (taskIn b i .place))) (ltb (stepsIn b) (limitIn b)) (advanced b l i)
+        (stepped-by (ltb i (processCountIn b) && ltb i 8) (not (isIdle (controlIn b i .place))) (ltb (stepsIn b) (limitIn b)) (advanced b l i)
         (accessLoan (accessAt b i) b l i) (answerIn (advanced b l i) i) after
-        (λ p. let e = advanced-is p in let x = answer-is (advanced b l i) (accessLoan (accessAt b i) b l i) i (advance c i) e in λ j. record { card = e j; answer = x j }))
+        (λ p. let e = advanced-is p in let x = answer-is (advanced b l i) (accessLoan (accessAt b i) b l i) i (advance c i) e in
+        λ j. record { card = e j; answer = x j }))
         ∙ λ j. cond (not (ltb i (processes j) && ltb i 8)) (refused c NoProcess)
-        (cond (not (not (isIdle (task j .place)))) (refused c NotBusy)
+        (cond (not (not (isIdle (control j .place)))) (refused c NotBusy)
         (cond (not (ltb (steps j) (limit j))) (refused c LimitReached) after))
 
     -- WHAT IS TOLD OF IT
@@ -172,11 +175,11 @@ module _ (b l : List ℕ) (i : ℕ) where
       own-dictionary : heldDictionary b l i ≡ localAt c i .dictionary
       own-dictionary = held-is b l i (items p) ∙ dictionary-is b l i
 
-      item-to-is : itemTo b l i ≡ writing (localAt c i .gate .seq) (localAt c i .task) (localAt c i .dictionary) .item
+      item-to-is : itemTo b l i ≡ writing (localAt c i .gate .seq) (localAt c i .control) (localAt c i .dictionary) .item
       unfolding writing
       item-to-is =
           let d = own-dictionary in
-          let t = task-is b l i in
+          let t = control-is b l i in
           λ j. getD (d j .items) (t j .target) noItem
 
       cell-to-is : cellTo b l i ≡ touchedCell c i
@@ -184,7 +187,7 @@ module _ (b l : List ℕ) (i : ℕ) where
           let a = access-at-is in
           let processes = process-count-is b l in
           let g = last-gate-is b l i in
-          let t = task-is b l i in
+          let t = control-is b l i in
           let e = item-to-is in
           λ j. cellBy (a j) (processes j) i (g j) (t j .target) (e j .variable)
 
@@ -195,14 +198,15 @@ module _ (b l : List ℕ) (i : ℕ) where
           access-swap-is b l (there-long b 0 i (ltb i 8) p) i (in-room i (processCountIn b) 8 p) (items p) (accessAt b i) ∙ λ j. perform (a j) c i .swap
 
       told-is :
-          reportWith (labelOf (taskIn b i .place) (exitIn b i)) (cellTo b l i) (swapTo b l i) (lastGateIn (advanced b l i) i .seq) (maskIn (advanced b l i) i)
+          reportWith (labelOf (controlIn b i .place) (exitIn b i)) (cellTo b l i) (swapTo b l i) (lastGateIn (advanced b l i) i .seq)
+          (maskIn (advanced b l i) i)
           ≡ reportOf c i
       unfolding reportOf
       told-is =
           let d = advanced b l i in
           let m = accessLoan (accessAt b i) b l i in
           let e = advanced-is p in
-          let t = task-is b l i in
+          let t = control-is b l i in
           let x = exit-is b l i in
           let cell = cell-to-is in
           let swap = swap-to-is in
@@ -219,10 +223,12 @@ module _ (b l : List ℕ) (i : ℕ) where
         go :
             (q : Bool) → isRefused (judgedIn b i) ≡ q →
             cond (isRefused (lentJudged (judgedIn b i) false)) noReport
-            (reportWith (labelOf (taskIn b i .place) (exitIn b i)) (cellTo b l i) (swapTo b l i) (lastGateIn (advanced b l i) i .seq) (maskIn (advanced b l i) i))
+            (reportWith (labelOf (controlIn b i .place) (exitIn b i)) (cellTo b l i) (swapTo b l i) (lastGateIn (advanced b l i) i .seq)
+            (maskIn (advanced b l i) i))
             ≡ cond (isRefused (step c i .answer)) noReport (reportOf c i)
         go true e = rw (e, e, sym (judged-is .0) ∙ e)
-        go false e = rw (e, sym (judged-is .0) ∙ e) (told-is (below (ltb i (processCountIn b) && ltb i 8) (not (isIdle (taskIn b i .place))) (ltb (stepsIn b) (limitIn b)) e))
+        go false e = rw (e, sym (judged-is .0) ∙ e)
+            (told-is (below (ltb i (processCountIn b) && ltb i 8) (not (isIdle (controlIn b i .place))) (ltb (stepsIn b) (limitIn b)) e))
           where
             below : (t₁ t₂ t₃ : Bool) → isRefused (judged t₁ NoProcess t₂ NotBusy t₃ LimitReached) ≡ false → t₁ ≡ true
             below true t₂ t₃ h = refl

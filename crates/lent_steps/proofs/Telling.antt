@@ -7,13 +7,14 @@ use native.Mathlib.Omega.{arith}
 use lib.ListN.{getD}
 use types.Run.{OneOf, miss}
 use denote.Enum.Declared.{tagOf}
-use Rattle.construction.specs.declared.{Access.Access, Answer.Answer, Cell.Cell, Gate.Gate, Item.Item, Label.Label, Report.Report, Swap.Swap, Task.Task}
-use Rattle.construction.proofs.Access.{the-type}
+use Rattle.construction.specs.declared.{accesses.Access.Access, answers.Answer.Answer, accesses.Cell.Cell, cells.Gate.Gate, simulations.Item.Item}
+use Rattle.construction.specs.declared.{accesses.Label.Label, answers.Report.Report, accesses.Swap.Swap, accesses.Control.Control}
+use Rattle.construction.proofs.accesses.Access.{the-type}
 use Rattle.construction.specs.Dictionary.{noItem}
 use Rattle.construction.specs.Machine.{cellBy}
 use Rattle.construction.specs.Answers.{isRefused}
 use Rattle.construction.specs.Tracing.{labelOf, reportWith, noReport}
-use Rattle.block.specs.Layout.{processCountIn, taskIn, exitIn, lastGateIn, maskIn}
+use Rattle.block.specs.Layout.{processCountIn, controlIn, exitIn, lastGateIn, maskIn}
 use Rattle.loan.specs.Loans.{heldDictionary}
 use Rattle.lent_helping.specs.Steps.{accessLoan}
 use Rattle.lent_steps.specs.Steps.{stepVerdict, accessAt, advanced, stepBlock, stepLoan, answerIn, answerTo, itemTo, cellTo, swapTo, reportTo}
@@ -31,15 +32,16 @@ unwritten Access.Write p i g v x y h = absurd (miss (0 ∷ 1 ∷ 2 ∷ 3 ∷ 4 �
 
 module _ (b l : List ℕ) (i : ℕ) where
   pub cell-written :
-      {a : Access} {t : Task} {e : Item} → t ≡ taskIn b i → a ≡ accessAt b i → a ≡ Access.Write → e ≡ getD (heldDictionary b l i .items) (t .target) noItem →
+      {a : Access} {t : Control} {e : Item} → t ≡ controlIn b i → a ≡ accessAt b i → a ≡ Access.Write →
+      e ≡ getD (heldDictionary b l i .items) (t .target) noItem →
       Cell.Record (e .variable) ≡ cellTo b l i
   cell-written et ea w ee =
-      let item : _ ≡ itemTo b l i = ee ∙ ap (λ (t : Task). getD (heldDictionary b l i .items) (t .target) noItem) et in
+      let item : _ ≡ itemTo b l i = ee ∙ ap (λ (t : Control). getD (heldDictionary b l i .items) (t .target) noItem) et in
       ap (λ (e : Item). Cell.Record (e .variable)) item
-      ∙ ap (λ (a : Access). cellBy a (processCountIn b) i (lastGateIn b i) (taskIn b i .target) (itemTo b l i .variable)) (sym w ∙ ea)
+      ∙ ap (λ (a : Access). cellBy a (processCountIn b) i (lastGateIn b i) (controlIn b i .target) (itemTo b l i .variable)) (sym w ∙ ea)
 
   pub cell-other :
-      {a : Access} {t : Task} {p : ℕ} {g : Gate} {x : Cell} → t ≡ taskIn b i → a ≡ accessAt b i → OneOf (0 ∷ 1 ∷ 2 ∷ 3 ∷ 4 ∷ []) (tagOf the-type a) →
+      {a : Access} {t : Control} {p : ℕ} {g : Gate} {x : Cell} → t ≡ controlIn b i → a ≡ accessAt b i → OneOf (0 ∷ 1 ∷ 2 ∷ 3 ∷ 4 ∷ []) (tagOf the-type a) →
       p ≡ processCountIn b → g ≡ lastGateIn b i → x ≡ cellBy a p i g (t .target) 0 → x ≡ cellTo b l i
   cell-other {a} {t} {p} {g} et ea h ep eg ex =
       ex ∙ unwritten a p i g (t .target) 0 (itemTo b l i .variable) h ∙ λ j. cellBy (ea j) (ep j) i (eg j) (et j .target) (itemTo b l i .variable)
@@ -55,7 +57,7 @@ module _ (b l : List ℕ) (i : ℕ) where
 
   pub trace-taken :
       {x y : Answer} {n : ℕ} {label : Label} {cell : Cell} {swap : Swap} {c m : List ℕ} {g : Gate} {mask : ℕ} {r : Report} → x ≡ stepVerdict b l i →
-      isRefused x ≡ false → n ≡ min i 255 → label ≡ labelOf (taskIn b n .place) (exitIn b n) → cell ≡ cellTo b l n → swap ≡ swapTo b l n →
+      isRefused x ≡ false → n ≡ min i 255 → label ≡ labelOf (controlIn b n .place) (exitIn b n) → cell ≡ cellTo b l n → swap ≡ swapTo b l n →
       c ≡ advanced b l n → m ≡ accessLoan (accessAt b n) b l n → g ≡ lastGateIn c n → mask ≡ maskIn c n → r ≡ reportWith label cell swap (g .seq) mask →
       y ≡ answerIn c n → (y ≡ answerTo b l i) × (r ≡ reportTo b l i) × (c ≡ stepBlock b l i) × (m ≡ stepLoan b l i)
   unfolding reportTo

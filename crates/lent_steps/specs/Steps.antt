@@ -6,15 +6,16 @@ use mathlib.Core.Bool.{Bool, cond}
 use mathlib.Core.List.{List}
 use lib.Dec.{ltb}
 use lib.ListN.{length, getD}
-use Rattle.construction.specs.declared.{Access.Access, Answer.Answer, Cell.Cell, Item.Item, Report.Report, Swap.Swap}
-use Rattle.construction.specs.declared.Refusal.the-variants.{ShortBuffer}
+use Rattle.construction.specs.declared.{accesses.Access.Access, answers.Answer.Answer, accesses.Cell.Cell, simulations.Item.Item, answers.Report.Report}
+use Rattle.construction.specs.declared.{accesses.Swap.Swap}
+use Rattle.construction.specs.declared.answers.Refusal.the-variants.{ShortBuffer}
 use Rattle.construction.specs.Answers.{isRefused}
 use Rattle.construction.specs.Dictionary.{noItem}
 use Rattle.construction.specs.Machine.{accessOf, cellBy}
 use Rattle.construction.specs.Requests.{stepAnswer}
 use Rattle.construction.specs.Tracing.{labelOf, reportWith, noReport}
 use Rattle.requests.specs.Judging.{stepJudged}
-use Rattle.block.specs.Layout.{processCountIn, limitIn, stepsIn, taskIn, exitIn, countIn, lastGateIn, lastIn, maskIn}
+use Rattle.block.specs.Layout.{processCountIn, limitIn, stepsIn, controlIn, exitIn, countIn, lastGateIn, lastIn, maskIn}
 use Rattle.loan.specs.Loans.{loanWords, heldDictionary}
 use Rattle.lent_machine.specs.Accesses.{counted}
 use Rattle.lent_helping.specs.Steps.{accessBlock, accessLoan, accessSwap}
@@ -25,11 +26,11 @@ lentJudged x short = cond (isRefused x) x (cond short (Answer.Refused ShortBuffe
 
 unfoldable pub stepVerdict : List ℕ → List ℕ → ℕ → Answer
 stepVerdict b l i =
-    lentJudged (stepJudged i (processCountIn b) (taskIn b i .place) (stepsIn b) (limitIn b)) (ltb (length l) (loanWords b))
+    lentJudged (stepJudged i (processCountIn b) (controlIn b i .place) (stepsIn b) (limitIn b)) (ltb (length l) (loanWords b))
 
 -- the access of process i, by its place
 abbrev pub accessAt : List ℕ → ℕ → Access
-accessAt b i = accessOf (taskIn b i .place) (exitIn b i)
+accessAt b i = accessOf (controlIn b i .place) (exitIn b i)
 
 -- an accepted step: its access, then it is counted
 abbrev pub advanced : List ℕ → List ℕ → ℕ → List ℕ
@@ -43,17 +44,17 @@ stepLoan b l i = cond (isRefused (stepVerdict b l i)) l (accessLoan (accessAt b 
 
 -- its answer, by what process i keeps in the block after it
 abbrev pub answerIn : List ℕ → ℕ → Answer
-answerIn b i = stepAnswer (taskIn b i .place) (lastIn b i) (countIn b i)
+answerIn b i = stepAnswer (controlIn b i .place) (lastIn b i) (countIn b i)
 
 unfoldable pub answerTo : List ℕ → List ℕ → ℕ → Answer
 answerTo b l i = cond (isRefused (stepVerdict b l i)) (stepVerdict b l i) (answerIn (advanced b l i) i)
 
 -- what is told of an accepted step: the item that H36 writes, the cell that the access touches, and its swap
 abbrev pub itemTo : List ℕ → List ℕ → ℕ → Item
-itemTo b l i = getD (heldDictionary b l i .items) (taskIn b i .target) noItem
+itemTo b l i = getD (heldDictionary b l i .items) (controlIn b i .target) noItem
 
 abbrev pub cellTo : List ℕ → List ℕ → ℕ → Cell
-cellTo b l i = cellBy (accessAt b i) (processCountIn b) i (lastGateIn b i) (taskIn b i .target) (itemTo b l i .variable)
+cellTo b l i = cellBy (accessAt b i) (processCountIn b) i (lastGateIn b i) (controlIn b i .target) (itemTo b l i .variable)
 
 abbrev pub swapTo : List ℕ → List ℕ → ℕ → Swap
 swapTo b l i = accessSwap (accessAt b i) b l i
@@ -62,4 +63,4 @@ unfoldable pub reportTo : List ℕ → List ℕ → ℕ → Report
 reportTo b l i =
     let after = advanced b l i in
     cond (isRefused (stepVerdict b l i)) noReport
-    (reportWith (labelOf (taskIn b i .place) (exitIn b i)) (cellTo b l i) (swapTo b l i) (lastGateIn after i .seq) (maskIn after i))
+    (reportWith (labelOf (controlIn b i .place) (exitIn b i)) (cellTo b l i) (swapTo b l i) (lastGateIn after i .seq) (maskIn after i))

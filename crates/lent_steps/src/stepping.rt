@@ -3,14 +3,14 @@ use answers::kinds::is_refused;
 use block::cells::limit;
 use block::cells::process_count;
 use block::cells::steps;
+use block::own::control;
 use block::own::count;
 use block::own::exit;
 use block::own::last;
-use block::own::task;
-use construction::Access;
-use construction::Answer;
-use construction::Refusal;
-use construction::Swap;
+use construction::accesses::Access;
+use construction::accesses::Swap;
+use construction::answers::Answer;
+use construction::answers::Refusal;
 use lent_card::narrow::narrow;
 use lent_helping::access::step_access;
 use lent_machine::counting::put_counted;
@@ -24,13 +24,13 @@ ghost use Prim.Native.Nat.{min};
 ghost use Rattle.lent_helping.specs.Steps.{accessLoan};
 ghost use Rattle.lent_steps.specs.Steps.{stepVerdict, accessAt, advanced, stepBlock, stepLoan, answerIn, answerTo, swapTo};
 
-// Whether a step is accepted: refusals 5, 8, 10, and then 11. The caller narrows the number of the process, so that the task is read once.
+// Whether a step is accepted: refusals 5, 8, 10, and then 11. The caller narrows the number of the process, so that the control is read once.
 pub(crate) fn judge(b: &[u64], l: &[u64], process: u32, i: u8) -> Answer
     requires { ⌜ i ≡ min process 255 ⌝ }
     ensures { λ r. ⌜ r ≡ stepVerdict (now (b .entry)) (now (l .entry)) process ⌝ }
 {
-    let task = task(b, i);
-    let place = task.place;
+    let control = control(b, i);
+    let place = control.place;
     let judged = judge_step(process, process_count(b), place, steps(b), limit(b));
     if is_refused(judged) {
         return judged;
@@ -52,8 +52,8 @@ pub fn verdict(b: &[u64], l: &[u64], process: u32) -> Answer
 pub(crate) fn access_at(b: &[u64], i: u8) -> Access
     ensures { λ r. ⌜ r ≡ accessAt (now (b .entry)) i ⌝ }
 {
-    let task = task(b, i);
-    let place = task.place;
+    let control = control(b, i);
+    let place = control.place;
     access_of(place, exit(b, i))
 }
 
@@ -71,8 +71,8 @@ pub fn advance(b: &mut [u64], l: &mut [u64], i: u8) -> Swap
 pub fn answer_in(b: &[u64], i: u8) -> Answer
     ensures { λ r. ⌜ r ≡ answerIn (now (b .entry)) i ⌝ }
 {
-    let task = task(b, i);
-    let place = task.place;
+    let control = control(b, i);
+    let place = control.place;
     if is_idle(place) {
         returned(last(b, i), count(b, i))
     } else {

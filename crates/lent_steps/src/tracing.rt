@@ -5,15 +5,15 @@ use crate::stepping::answer_in;
 use crate::stepping::judge;
 use answers::kinds::is_refused;
 use block::cells::process_count;
+use block::own::control;
 use block::own::exit;
 use block::own::last_gate;
 use block::own::mask;
-use block::own::task;
-use construction::Access;
-use construction::Answer;
-use construction::Cell;
-use construction::Label;
-use construction::Report;
+use construction::accesses::Access;
+use construction::accesses::Cell;
+use construction::accesses::Label;
+use construction::answers::Answer;
+use construction::answers::Report;
 use lent_card::narrow::narrow;
 use loan::dictionaries::item;
 use reports::cell_of;
@@ -22,7 +22,7 @@ use reports::no_report;
 use reports::report_with;
 ghost use mathlib.Core.Path.{_≡_};
 ghost use Rattle.construction.specs.Tracing.{labelOf};
-ghost use Rattle.block.specs.Layout.{taskIn, exitIn};
+ghost use Rattle.block.specs.Layout.{controlIn, exitIn};
 ghost use Rattle.lent_steps.specs.Steps.{stepBlock, stepLoan, answerTo, cellTo, reportTo};
 
 // The answer to a step, and what is told of it.
@@ -33,10 +33,10 @@ pub struct Told {
 
 // The label of the access of process i.
 fn label_at(b: &[u64], i: u8) -> Label
-    ensures { λ r. ⌜ r ≡ labelOf (taskIn (now (b .entry)) i .place) (exitIn (now (b .entry)) i) ⌝ }
+    ensures { λ r. ⌜ r ≡ labelOf (controlIn (now (b .entry)) i .place) (exitIn (now (b .entry)) i) ⌝ }
 {
-    let task = task(b, i);
-    let place = task.place;
+    let control = control(b, i);
+    let place = control.place;
     label_of(place, exit(b, i))
 }
 
@@ -44,11 +44,11 @@ fn label_at(b: &[u64], i: u8) -> Label
 fn cell_to(b: &[u64], l: &[u64], i: u8) -> Cell
     ensures { λ r. ⌜ r ≡ cellTo (now (b .entry)) (now (l .entry)) i ⌝ }
 {
-    let task = task(b, i);
+    let control = control(b, i);
     let access = access_at(b, i);
     match access {
         Access::Write => {
-            let item = item(b, l, i, task.target);
+            let item = item(b, l, i, control.target);
             Cell::Record(item.variable)
         }
         _ => cell_of(
@@ -56,7 +56,7 @@ fn cell_to(b: &[u64], l: &[u64], i: u8) -> Cell
             process_count(b),
             i,
             last_gate(b, i),
-            task.target,
+            control.target,
             0,
         ),
     }

@@ -5,7 +5,8 @@ use mathlib.Core.Bool.{Bool, true, false, cond}
 use mathlib.Core.List.{List, [], _∷_, _++_, append-assoc, append-nil}
 use native.Mathlib.Omega.{arith}
 use lib.ListN.{length}
-use Rattle.construction.specs.declared.{Announcement.Announcement, Answer.Answer, Answered.Answered, Card.Card, Flag.Flag, Label.Label, Words.Words}
+use Rattle.construction.specs.declared.{cells.Announcement.Announcement, answers.Answer.Answer, answers.Answered.Answered, card.Card.Card, cells.Flag.Flag}
+use Rattle.construction.specs.declared.{accesses.Label.Label, cells.Words.Words}
 use Rattle.construction.specs.Parts.{localAt}
 use Rattle.construction.specs.Machine.{advance}
 use Rattle.construction.specs.Requests.{isIdle, returned, stepAnswer, call, step}
@@ -46,13 +47,14 @@ answer-counts k place a steps = by (isIdle place)
     by true = returned-counts k a (a .flag) steps
     by false = refl
 
-step-counts : (k : Counts) (c : Card) (i : ℕ) → c .limit ≤ 1000000000000000000 → step c i .card .steps + k .accepted ≡ c .steps + withAnswer k (step c i .answer) .accepted
+step-counts : (k : Counts) (c : Card) (i : ℕ) → c .limit ≤ 1000000000000000000 →
+    step c i .card .steps + k .accepted ≡ c .steps + withAnswer k (step c i .answer) .accepted
 unfolding advance
 step-counts k c i capped =
     on-step (λ (r : Answered). r .card .steps + k .accepted ≡ c .steps + withAnswer k (r .answer) .accepted) c (λ why. refl) i
     (λ l b h.
     let l' = localAt (advance c i) i in
-    omega (arith, answer-counts k (l' .task .place) (l' .announcement) (l' .steps)))
+    omega (arith, answer-counts k (l' .control .place) (l' .announcement) (l' .steps)))
 
 call-steps : (c : Card) (i k : ℕ) (inputs : Words) → call c i k inputs .card .steps ≡ c .steps
 call-steps c i k inputs = on-call (λ (r : Answered). r .card .steps ≡ c .steps) c (λ why. refl) i k inputs (λ _ _ _. refl)
@@ -69,11 +71,13 @@ follow-steps o m true calls i = call-steps (m .card) i (requestIn calls i .progr
 follow-steps o m false calls i = refl
 
 -- the entries of a schedule, one step after the other
-pub entries-more : (calls : List ℕ) (s : Sweep) (i : ℕ) (is : List ℕ) → entries calls s (i ∷ is) ≡ entries calls s (i ∷ []) ++ entries calls (sweepStep calls s i) is
+pub entries-more : (calls : List ℕ) (s : Sweep) (i : ℕ) (is : List ℕ) →
+    entries calls s (i ∷ is) ≡ entries calls s (i ∷ []) ++ entries calls (sweepStep calls s i) is
 unfolding entries
 entries-more calls s i is = by (isAgain calls i (answerTo (s .block) (s .loan) i))
   where
-    by : (t : Bool) → _≡_ {A = List Entry} (Entry.Step i ∷ follows t (callOf calls i) (entries calls (sweepStep calls s i) is)) (Entry.Step i ∷ (follows t (callOf calls i) [] ++ entries calls (sweepStep calls s i) is))
+    by : (t : Bool) → _≡_ {A = List Entry} (Entry.Step i ∷ follows t (callOf calls i) (entries calls (sweepStep calls s i) is))
+        (Entry.Step i ∷ (follows t (callOf calls i) [] ++ entries calls (sweepStep calls s i) is))
     by true = refl
     by false = refl
 
@@ -121,8 +125,12 @@ module _
         let next : at (es ++ made) (withAnswer k x) ≡ sweepStep calls s i = λ j. record { block = q j .block; loan = q j .loan; counts = withAnswer k x } in
         let here = one-step es fits k i in
         let rest = accepted-from is (es ++ made) (fit-append es made first fits (entries-fit calls words (i ∷ []) s)) (withAnswer k x) in
-        let rest' = subst (λ (z : Sweep). run o ((es ++ made) ++ entries calls z is) .card .steps + withAnswer k x .accepted ≡ run o (es ++ made) .card .steps + swept calls z is .counts .accepted) next rest in
-        let list : es ++ entries calls s (i ∷ is) ≡ (es ++ made) ++ entries calls (sweepStep calls s i) is = ap (λ (z : List Entry). es ++ z) (entries-more calls s i is) ∙ sym (append-assoc es made (entries calls (sweepStep calls s i) is)) in
+        let rest' = subst
+        (λ (z : Sweep). run o ((es ++ made) ++ entries calls z is) .card .steps + withAnswer k x .accepted ≡ run o (es ++ made) .card .steps + swept calls
+        z is .counts .accepted)
+        next rest in
+        let list : es ++ entries calls s (i ∷ is) ≡ (es ++ made) ++ entries calls (sweepStep calls s i) is =
+        ap (λ (z : List Entry). es ++ z) (entries-more calls s i is) ∙ sym (append-assoc es made (entries calls (sweepStep calls s i) is)) in
         omega (arith, ap (λ (z : List Entry). run o z .card .steps) list)
 
     pub accepted-steps :
@@ -131,7 +139,8 @@ module _
         cardOf (z .block) (z .loan) .steps ≡ run o es .card .steps + z .counts .accepted
     accepted-steps es fits schedule =
         let r = sweep-runs t b l long lent es fits calls words schedule in
-        let card : cardOf (memoryOf t b l _ .block) (memoryOf t b l _ .loan) ≡ run o (withSweep t b l es calls schedule) .card = ap (λ (m : Observation). m .card) (r .observed) in
+        let card : cardOf (memoryOf t b l _ .block) (memoryOf t b l _ .loan) ≡ run o (withSweep t b l es calls schedule) .card =
+        ap (λ (m : Observation). m .card) (r .observed) in
         let after = ap (λ (m : Memory). cardOf (m .block) (m .loan) .steps) (r .memory) in
         let a = accepted-from schedule es fits none in
         omega (arith, ap (λ (c : Card). c .steps) card)

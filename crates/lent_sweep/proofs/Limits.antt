@@ -12,10 +12,11 @@ use lib.Dec.{ltb}
 use lib.ListN.{length}
 use lib.Seq.{getD-set-same, getD-set-other}
 use borrow.Author.Tests.{lt-ltb, le-ltb, ltb-true, ltb-false}
-use Rattle.construction.specs.declared.{Announcement.Announcement, Answer.Answer, Answered.Answered, Card.Card, Contents.Contents, Flag.Flag, Task.Task}
-use Rattle.construction.specs.declared.Label.the-variants.{P1}
-use Rattle.construction.specs.declared.Refusal.the-variants.{LimitReached}
-use Rattle.construction.specs.Parts.{idleTask, localAt, withLocal}
+use Rattle.construction.specs.declared.{cells.Announcement.Announcement, answers.Answer.Answer, answers.Answered.Answered, card.Card.Card}
+use Rattle.construction.specs.declared.{texts.Contents.Contents, cells.Flag.Flag, accesses.Control.Control}
+use Rattle.construction.specs.declared.accesses.Label.the-variants.{P1}
+use Rattle.construction.specs.declared.answers.Refusal.the-variants.{LimitReached}
+use Rattle.construction.specs.Parts.{idleControl, localAt, withLocal}
 use Rattle.construction.specs.Machine.{advance, accessOf}
 use Rattle.construction.specs.Requests.{isProcess, isProgram, isIdle, isBusy, refused, returned, invoked, call, step}
 use Rattle.construction.specs.Opening.{opened}
@@ -64,10 +65,10 @@ step-busy c i busy below =
     (λ lt b l.
     let p = ap (λ (x : Contents). x .processCount) (one-access c i .text .0) in
     record {
-      own = answer-is-return (isIdle (localAt (advance c i) i .task .place)) (localAt (advance c i) i .announcement) (localAt (advance c i) i .steps);
+      own = answer-is-return (isIdle (localAt (advance c i) i .control .place)) (localAt (advance c i) i .announcement) (localAt (advance c i) i .steps);
       others =
           λ j lj ne.
-          ap (λ (t : Task). not (isIdle (t .place))) (sym (one-access c i .others j ne .0 .elements)) ∙ busy j (omega (arith, p));
+          ap (λ (t : Control). not (isIdle (t .place))) (sym (one-access c i .others j ne .0 .elements)) ∙ busy j (omega (arith, p));
     })
 
 -- .. and after the call that follows it
@@ -92,23 +93,25 @@ module _ (o : Card) (m : Observation) (O : Consistent o m) (calls : List ℕ) (c
       there : isProgram c k ≡ true
       there = subst (λ (x : Contents). ltb k (x .programCount) && ltb k 8 ≡ true) (sym (O .text)) (called i below .1)
 
-      new : Task
+      new : Control
       new = record { place = P1; target = 0 }
 
-      has : i < length (c .tasks)
-      has = omega (arith, O .inv .sizes .tasks, O .inv .good .fits .few, same-processes)
+      has : i < length (c .controls)
+      has = omega (arith, O .inv .sizes .controls, O .inv .good .fits .few, same-processes)
 
       go : (j : ℕ) → j < c .processCount → Dec (j ≡ i) → isBusy (withLocal c i (invoked (localAt c i) k (requestIn calls i .inputs))) j ≡ true
-      go j lj (yes e) = rw e (ap (λ (t : Task). not (isIdle (t .place))) (getD-set-same (c .tasks) i new idleTask has))
-      go j lj (no ne) = ap (λ (t : Task). not (isIdle (t .place))) (getD-set-other (c .tasks) i j new idleTask ne) ∙ others j lj ne
+      go j lj (yes e) = rw e (ap (λ (t : Control). not (isIdle (t .place))) (getD-set-same (c .controls) i new idleControl has))
+      go j lj (no ne) = ap (λ (t : Control). not (isIdle (t .place))) (getD-set-other (c .controls) i j new idleControl ne) ∙ others j lj ne
 
-  follows-busy : (t : Bool) → (t ≡ true → AllBusy (call c i k (requestIn calls i .inputs) .card)) → (t ≡ false → AllBusy c) → AllBusy (observeAll o m (follows t (callOf calls i) []) .card)
+  follows-busy : (t : Bool) → (t ≡ true → AllBusy (call c i k (requestIn calls i .inputs) .card)) → (t ≡ false → AllBusy c) →
+      AllBusy (observeAll o m (follows t (callOf calls i) []) .card)
   unfolding observeAll observe
   follows-busy true f g = f refl
   follows-busy false f g = g refl
 
   follow-busy : (x : Answer) → BusyBut c i x → AllBusy (observeAll o m (follows (isAgain calls i x) (callOf calls i) []) .card)
-  follow-busy x h = follows-busy (isAgain calls i x) (λ e. called-busy (h .own ∙ ap not (and-true (isReturn x) (hasRequest calls i) e .0)) (h .others)) (λ e j lj. go e j lj (ℕ-discrete j i))
+  follow-busy x h = follows-busy (isAgain calls i x) (λ e. called-busy (h .own ∙ ap not (and-true (isReturn x) (hasRequest calls i) e .0)) (h .others))
+      (λ e j lj. go e j lj (ℕ-discrete j i))
     where
       ran : isAgain calls i x ≡ false → isReturn x ≡ false
       ran e = sym (and-true-right (isReturn x) (hasRequest calls i) (called i below .0)) ∙ e
@@ -122,7 +125,8 @@ unfolding step
 step-limited c i p b h = rw (p, b, le-ltb (c .steps) (c .limit) h)
 
 -- a step of a sweep, and the call that follows it, leave every process with an operation under way; it is accepted below the limit, and refused at it
-module _ (t : List ℕ) (es : List Entry) (calls : List ℕ) (called : AllCalled (opened t .card) calls) (busy : AllBusy (run (opened t .card) es .card)) (i : ℕ) (below : i < opened t .card .processCount) where
+module _ (t : List ℕ) (es : List Entry) (calls : List ℕ) (called : AllCalled (opened t .card) calls) (busy : AllBusy (run (opened t .card) es .card)) (i : ℕ)
+    (below : i < opened t .card .processCount) where
   abbrev o₁ : Card
   o₁ = opened t .card
 
@@ -151,14 +155,15 @@ module _ (t : List ℕ) (es : List Entry) (calls : List ℕ) (called : AllCalled
   counts-below n h =
       let l' = localAt (advance (m₁ .card) i) i in
       ap (λ (r : Answered). withAnswer n (r .answer) .accepted) (step-accepted (m₁ .card) i process (busy i inside) h)
-      ∙ answer-counts n (l' .task .place) (l' .announcement) (l' .steps)
+      ∙ answer-counts n (l' .control .place) (l' .announcement) (l' .steps)
 
   pub counts-at : (n : Counts) → m₁ .card .limit ≤ m₁ .card .steps → withAnswer n x₁ .accepted ≡ n .accepted
   counts-at n h = ap (λ (r : Answered). withAnswer n (r .answer) .accepted) (step-limited (m₁ .card) i process (busy i inside) h)
 
 -- accepted steps by the limit, one step and then n more
 tally :
-    (n limit s s' k k' r : ℕ) → s' + k ≡ s + k' → (s < limit → k' ≡ k + 1) → (limit ≤ s → k' ≡ k) → r ≡ k' + min n (limit - s') → r ≡ k + min (suc n) (limit - s)
+    (n limit s s' k k' r : ℕ) → s' + k ≡ s + k' → (s < limit → k' ≡ k + 1) → (limit ≤ s → k' ≡ k) → r ≡ k' + min n (limit - s') →
+    r ≡ k + min (suc n) (limit - s)
 tally n limit s s' k k' r e f g h = by (ltb s limit) refl
   where
     by : (t : Bool) → ltb s limit ≡ t → r ≡ k + min (suc n) (limit - s)
@@ -200,7 +205,8 @@ module _
         let q : reached (es ++ made) ≡ memoryIn (sweepStep calls s i) = remember-append es made first ∙ one-remembers calls s i in
         let next : at (es ++ made) (withAnswer k x) ≡ sweepStep calls s i = λ j. record { block = q j .block; loan = q j .loan; counts = withAnswer k x } in
         let still : AllBusy (run o₂ (es ++ made) .card) =
-        subst (λ (y : Answer). AllBusy (run o₂ (es ++ (Entry.Step i ∷ follows (isAgain calls i y) (callOf calls i) [])) .card)) (sym e) (stays-busy t es calls called busy i (w .0)) in
+        subst (λ (y : Answer). AllBusy (run o₂ (es ++ (Entry.Step i ∷ follows (isAgain calls i y) (callOf calls i) [])) .card)) (sym e)
+        (stays-busy t es calls called busy i (w .0)) in
         let rest = accepts is (w .1) (es ++ made) (fit-append es made first fits (entries-fit calls words (i ∷ []) s)) still (withAnswer k x) in
         let there = subst (λ (z : Sweep). Accepts (es ++ made) (withAnswer k x) z is) next rest in
         let limit : run o₂ es .card .limit ≡ o₂ .limit = ap (λ (z : Contents). z .limit) (opened-consistent t es .text) in
@@ -212,7 +218,8 @@ module _
           accepted =
               tally (length is) (o₂ .limit) (run o₂ es .card .steps) (run o₂ (es ++ made) .card .steps) (k .accepted) (withAnswer k x .accepted)
               (swept calls (sweepStep calls s i) is .counts .accepted) (one-step t b l long lent calls words es fits k i)
-              (λ h. a ∙ counts-below t es calls called busy i (w .0) k (omega arith)) (λ h. a ∙ counts-at t es calls called busy i (w .0) k (omega arith)) (there .accepted);
+              (λ h. a ∙ counts-below t es calls called busy i (w .0) k (omega arith)) (λ h. a ∙ counts-at t es calls called busy i (w .0) k (omega arith))
+              (there .accepted);
         }
 
     -- after entries that leave every process with an operation under way, a sweep accepts all steps of its schedule up to the limit

@@ -8,9 +8,9 @@ use native.Mathlib.Omega.{arith}
 use lib.Dec.{ltb}
 use lib.ListN.{length}
 use borrow.Author.Tests.{le-ltb}
-use Rattle.construction.specs.declared.Answer.{Answer}
+use Rattle.construction.specs.declared.answers.Answer.{Answer}
 use Rattle.construction.specs.Requests.{isIdle}
-use Rattle.block.specs.Layout.{processCountIn, limitIn, stepsIn, taskIn}
+use Rattle.block.specs.Layout.{processCountIn, limitIn, stepsIn, controlIn}
 use Rattle.lent_steps.specs.Steps.{answerTo, stepBlock, stepLoan}
 use Rattle.lent_sweep.specs.declared.Counts.{Counts}
 use Rattle.lent_sweep.specs.Sweeps.{none, withDone, withAnswer, again, sumOf, Sweep, start, sweepStep, swept, isAccepted}
@@ -47,10 +47,14 @@ swept-behind calls [] c s = refl
 swept-behind calls (i ∷ xs) c s =
     let x = answerTo (s .block) (s .loan) i in
     let e = sum-answer c (s .counts) x in
-    ap (λ (k : Counts). swept calls (record { block = again calls (stepBlock (s .block) (s .loan) i) i x; loan = stepLoan (s .block) (s .loan) i; counts = k }) xs) e
+    ap
+    (λ (k : Counts). swept calls
+    (record { block = again calls (stepBlock (s .block) (s .loan) i) i x; loan = stepLoan (s .block) (s .loan) i; counts = k }) xs)
+    e
     ∙ swept-behind calls xs c (sweepStep calls s i)
 
-pub swept-from : (calls : List ℕ) (b l xs : List ℕ) (c : Counts) → swept calls (record { block = b; loan = l; counts = c }) xs ≡ behind c (swept calls (start b l) xs)
+pub swept-from : (calls : List ℕ) (b l xs : List ℕ) (c : Counts) →
+    swept calls (record { block = b; loan = l; counts = c }) xs ≡ behind c (swept calls (start b l) xs)
 swept-from calls b l xs c =
     let e : c ≡ sumOf c none = counts-same (omega arith) (omega arith) (omega arith) (omega arith) (omega arith) in
     ap (λ (k : Counts). swept calls (record { block = b; loan = l; counts = k }) xs) e ∙ swept-behind calls xs c (start b l)
@@ -61,11 +65,13 @@ never true true = refl
 never true false = refl
 never false q = refl
 
-pub swept-limit : (calls b l : List ℕ) (c : Counts) → limitIn b ≤ stepsIn b → (xs : List ℕ) → swept calls (record { block = b; loan = l; counts = c }) xs ≡ record { block = b; loan = l; counts = c }
+pub swept-limit : (calls b l : List ℕ) (c : Counts) → limitIn b ≤ stepsIn b → (xs : List ℕ) →
+    swept calls (record { block = b; loan = l; counts = c }) xs ≡ record { block = b; loan = l; counts = c }
 unfolding swept
 swept-limit calls b l c h [] = refl
 swept-limit calls b l c h (i ∷ xs) =
-    let full : isAccepted b i ≡ false = rw (le-ltb (stepsIn b) (limitIn b) h) (never (ltb i (processCountIn b) && ltb i 8) (not (isIdle (taskIn b i .place)))) in
+    let full : isAccepted b i ≡ false = rw (le-ltb (stepsIn b) (limitIn b) h)
+    (never (ltb i (processCountIn b) && ltb i 8) (not (isIdle (controlIn b i .place)))) in
     rw (step-unmoved calls b l c i full) (swept-limit calls b l c h xs)
 
 -- the counts of a part are no more than its steps

@@ -13,7 +13,8 @@ use Rattle.lent_sweep.specs.Sweeps.{none, Sweep, start, sweepStep, swept
 use Rattle.lent_sweep.proofs.Steps.{short-unmoved, step-sizes, Tallied, tallied-more}
 
 -- with a loan too short no step is accepted
-pub short-swept : (calls : List ℕ) (b l : List ℕ) (c : Counts) → length l < loanWords b → (schedule : List ℕ) → swept calls (record { block = b; loan = l; counts = c }) schedule ≡ record { block = b; loan = l; counts = c }
+pub short-swept : (calls : List ℕ) (b l : List ℕ) (c : Counts) → length l < loanWords b → (schedule : List ℕ) →
+    swept calls (record { block = b; loan = l; counts = c }) schedule ≡ record { block = b; loan = l; counts = c }
 unfolding swept
 short-swept calls b l c h [] = refl
 short-swept calls b l c h (i ∷ is) = rw (short-unmoved calls b l c i h) (short-swept calls b l c h is)
@@ -35,7 +36,15 @@ pub record SweptTo (calls : List ℕ) (b₀ l₀ schedule : List ℕ) (k : ℕ) 
 module _ {calls : List ℕ} {b₀ l₀ schedule : List ℕ} where
   pub swept-none : {c : Counts} → c ≡ none → loanWords b₀ ≤ length l₀ → SweptTo calls b₀ l₀ schedule 0 b₀ l₀ c
   swept-none e h =
-      record { rest = rw e refl; lent = h; block = refl; loan = refl; few = rw e (record { accepted = omega arith; returned = omega arith }); inside = omega arith }
+      record {
+        rest = rw e refl;
+        lent = h;
+        block = refl;
+        loan = refl;
+        few = rw e (record { accepted = omega arith; returned = omega arith });
+        inside =
+            omega arith;
+      }
 
   module _ {k : ℕ} {b l : List ℕ} {c : Counts} (h : SweptTo calls b₀ l₀ schedule k b l c) where
     pub swept-on :

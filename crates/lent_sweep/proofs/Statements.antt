@@ -65,7 +65,8 @@ unfolding remember handing
 remember-append [] fs m = refl
 remember-append (e ∷ es) fs m = remember-append es fs (memoryAfter m (asLeft m e))
 
-pub one-remembers : (calls : List ℕ) (s : Sweep) (i : ℕ) → remember (memoryIn s) (handing (memoryIn s) (entries calls s (i ∷ []))) ≡ memoryIn (sweepStep calls s i)
+pub one-remembers : (calls : List ℕ) (s : Sweep) (i : ℕ) →
+    remember (memoryIn s) (handing (memoryIn s) (entries calls s (i ∷ []))) ≡ memoryIn (sweepStep calls s i)
 unfolding swept
 one-remembers calls s i = remembers calls (i ∷ []) s
 
@@ -75,12 +76,14 @@ unfolding AllFit handing
 fit-append [] fs m f g = g m
 fit-append (e ∷ es) fs m f g = (f .0, fit-append es fs (memoryAfter m (asLeft m e)) (f .1) g)
 
-fit-follows : (t : Bool) (e : Entry) (es : List Entry) → ((k : Memory) → AllFit (handing k (e ∷ []))) → ((k : Memory) → AllFit (handing k es)) → (k : Memory) → AllFit (handing k (follows t e es))
+fit-follows : (t : Bool) (e : Entry) (es : List Entry) → ((k : Memory) → AllFit (handing k (e ∷ []))) → ((k : Memory) → AllFit (handing k es)) → (k : Memory) →
+    AllFit (handing k (follows t e es))
 unfolding AllFit handing
 fit-follows true e es f g k = (f k .0, g (memoryAfter k (asLeft k e)))
 fit-follows false e es f g k = g k
 
-pub entries-fit : (calls : List ℕ) → ((i : ℕ) → FitsWords (requestIn calls i .inputs)) → (schedule : List ℕ) (s : Sweep) (k : Memory) → AllFit (handing k (entries calls s schedule))
+pub entries-fit : (calls : List ℕ) → ((i : ℕ) → FitsWords (requestIn calls i .inputs)) → (schedule : List ℕ) (s : Sweep) (k : Memory) →
+    AllFit (handing k (entries calls s schedule))
 unfolding AllFit handing entries
 entries-fit calls fits [] s k = tt
 entries-fit calls fits (i ∷ is) s k = (
@@ -90,7 +93,8 @@ entries-fit calls fits (i ∷ is) s k = (
 )
 
 -- the loan stays long enough
-after-long : (es : List Entry) (m : Memory) → loanWords (m .block) ≤ length (m .loan) → loanWords (remember m (handing m es) .block) ≤ length (remember m (handing m es) .loan)
+after-long : (es : List Entry) (m : Memory) → loanWords (m .block) ≤ length (m .loan) →
+    loanWords (remember m (handing m es) .block) ≤ length (remember m (handing m es) .loan)
 unfolding remember handing
 after-long [] m h = h
 after-long (e ∷ es) m h = after-long es (memoryAfter m (asLeft m e)) (still m e h)
@@ -109,7 +113,8 @@ answer-is t b l long lent es fits i =
     rw (h .1) at (ap (λ (x : Reply). x .answer) r)
 
 module _
-    (t b l : List ℕ) (long : 1456 ≤ length b) (lent : loanWords (openedBlock t b) ≤ length l) (es : List Entry) (fits : AllFit (handing (openedMemory t b l) es))
+    (t b l : List ℕ) (long : 1456 ≤ length b) (lent : loanWords (openedBlock t b) ≤ length l) (es : List Entry)
+    (fits : AllFit (handing (openedMemory t b l) es))
     (calls : List ℕ) (words : (i : ℕ) → FitsWords (requestIn calls i .inputs)) (schedule : List ℕ)
   where
     pub sweep-fits : AllFit (handedIn t b l es calls schedule)

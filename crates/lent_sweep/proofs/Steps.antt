@@ -7,15 +7,15 @@ use mathlib.Core.List.{List}
 use native.Mathlib.Omega.{arith}
 use lib.Dec.{ltb}
 use lib.ListN.{length}
-use Rattle.construction.specs.declared.{Answer.Answer, Refusal.Refusal}
-use Rattle.construction.specs.declared.Refusal.the-variants.{NoProcess, NotBusy, LimitReached, ShortBuffer}
+use Rattle.construction.specs.declared.{answers.Answer.Answer, answers.Refusal.Refusal}
+use Rattle.construction.specs.declared.answers.Refusal.the-variants.{NoProcess, NotBusy, LimitReached, ShortBuffer}
 use Rattle.construction.specs.Answers.{isRefused}
 use Rattle.construction.specs.Requests.{isIdle}
 use Rattle.construction.specs.History.{Entry}
 use Rattle.requests.specs.Judging.{judged}
 use Rattle.calls.specs.Tables.{requestIn}
-use Rattle.codes.specs.Types.{Task}
-use Rattle.block.specs.Layout.{processCountIn, limitIn, stepsIn, taskIn}
+use Rattle.codes.specs.Types.{Control}
+use Rattle.block.specs.Layout.{processCountIn, limitIn, stepsIn, controlIn}
 use Rattle.loan.specs.Loans.{loanWords}
 use Rattle.lent_helping.specs.Steps.{accessLoan}
 use Rattle.lent_steps.specs.Steps.{stepVerdict, accessAt, advanced, stepBlock, stepLoan, answerIn, answerTo}
@@ -34,18 +34,20 @@ tests true false t₃ r₁ r₂ r₃ = refl
 tests false t₂ t₃ r₁ r₂ r₃ = refl
 
 judged-is : (b : List ℕ) (i : ℕ) → isRefused (judgedIn b i) ≡ not (isAccepted b i)
-judged-is b i = tests (ltb i (processCountIn b) && ltb i 8) (not (isIdle (taskIn b i .place))) (ltb (stepsIn b) (limitIn b)) NoProcess NotBusy LimitReached
+judged-is b i = tests (ltb i (processCountIn b) && ltb i 8) (not (isIdle (controlIn b i .place))) (ltb (stepsIn b) (limitIn b)) NoProcess NotBusy LimitReached
 
 -- .. one after the other
 module _ (b : List ℕ) (i : ℕ) where
   pub no-process : {p : ℕ} {t : Bool} → p ≡ processCountIn b → t ≡ (ltb i p && ltb i 8) → t ≡ false → false ≡ isAccepted b i
   no-process ep et e = sym (rw (← ep, ← et, e) refl)
 
-  pub idle-process : {p : ℕ} {t idle : Bool} {k : Task} → p ≡ processCountIn b → t ≡ (ltb i p && ltb i 8) → t ≡ true → k ≡ taskIn b i → idle ≡ isIdle (k .place) → idle ≡ true → false ≡ isAccepted b i
+  pub idle-process : {p : ℕ} {t idle : Bool} {k : Control} → p ≡ processCountIn b → t ≡ (ltb i p && ltb i 8) → t ≡ true → k ≡ controlIn b i →
+      idle ≡ isIdle (k .place) → idle ≡ true → false ≡ isAccepted b i
   idle-process ep et e ek ei h = sym (rw (← ep, ← et, e, ← ek, ← ei, h) refl)
 
   pub within-limit :
-      {p s m : ℕ} {t idle : Bool} {k : Task} → p ≡ processCountIn b → t ≡ (ltb i p && ltb i 8) → t ≡ true → k ≡ taskIn b i → idle ≡ isIdle (k .place) → idle ≡ false →
+      {p s m : ℕ} {t idle : Bool} {k : Control} → p ≡ processCountIn b → t ≡ (ltb i p && ltb i 8) → t ≡ true → k ≡ controlIn b i → idle ≡ isIdle (k .place) →
+      idle ≡ false →
       s ≡ stepsIn b → m ≡ limitIn b → ltb s m ≡ isAccepted b i
   within-limit ep et e ek ei h es em = sym (rw (← ep, ← et, e, ← ek, ← ei, h, ← es, ← em) refl)
 

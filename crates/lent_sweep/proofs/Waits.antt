@@ -9,7 +9,7 @@ use native.Mathlib.Omega.{arith}
 use lib.Dec.{eqb, ltb}
 use lib.ListN.{length}
 use borrow.Author.Tests.{ltb-true}
-use Rattle.construction.specs.declared.{Answer.Answer, Card.Card, Contents.Contents}
+use Rattle.construction.specs.declared.{answers.Answer.Answer, card.Card.Card, texts.Contents.Contents}
 use Rattle.construction.specs.Answers.{isRefused}
 use Rattle.construction.specs.Parts.{contentsOf, localAt}
 use Rattle.construction.specs.Requests.{isProcess, step}
@@ -85,7 +85,8 @@ module _ (t : List ℕ) (es : List Entry) (none : NoExits es) (i : ℕ) where
           let below = ltb-true i (c .processCount) (and-true (ltb i (c .processCount)) (ltb i 8) e .0) in
           let same = ap (λ (x : Contents). x .processCount) (opened-consistent t es .text) in
           let w = no-wish in
-          let z : waitOf (contentsOf o) + extra (localAt c i .exit) ≡ waitOf (contentsOf o) = ap (λ (x : Bool). waitOf (contentsOf o) + extra x) w ∙ add-zero (waitOf (contentsOf o)) in
+          let z : waitOf (contentsOf o) + extra (localAt c i .exit) ≡ waitOf (contentsOf o) =
+          ap (λ (x : Bool). waitOf (contentsOf o) + extra x) w ∙ add-zero (waitOf (contentsOf o)) in
           subst (λ (k : ℕ). TellsAtMost k (step c i .answer)) z (wait-free t es .returns i (omega arith))
       go false e = rw e tt
 

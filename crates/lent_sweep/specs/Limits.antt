@@ -4,7 +4,7 @@ use Prim.Native.Nat.{ℕ, _<_}
 use mathlib.Core.Path.{_≡_}
 use mathlib.Core.Bool.{true}
 use mathlib.Core.List.{List, [], _∷_}
-use Rattle.construction.specs.declared.Card.{Card}
+use Rattle.construction.specs.declared.card.Card.{Card}
 use Rattle.construction.specs.Requests.{isProgram, isBusy}
 use Rattle.calls.specs.Tables.{hasRequest, requestIn}
 

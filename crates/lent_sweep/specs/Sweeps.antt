@@ -6,10 +6,10 @@ use mathlib.Core.Path.{_≡_}
 use mathlib.Core.Bool.{Bool, true, false, cond, not, _&&_}
 use mathlib.Core.List.{List, [], _∷_}
 use lib.Dec.{ltb}
-use Rattle.construction.specs.declared.Answer.{Answer}
+use Rattle.construction.specs.declared.answers.Answer.{Answer}
 use Rattle.construction.specs.Requests.{isIdle}
 use Rattle.calls.specs.Tables.{hasRequest, requestIn}
-use Rattle.block.specs.Layout.{processCountIn, limitIn, stepsIn, taskIn}
+use Rattle.block.specs.Layout.{processCountIn, limitIn, stepsIn, controlIn}
 use Rattle.lent_card.specs.Requests.{callBlock}
 use Rattle.lent_steps.specs.Steps.{stepBlock, stepLoan, answerTo}
 use Rattle.lent_sweep.specs.declared.Counts.{Counts}
@@ -109,7 +109,7 @@ pub record Turns (calls b l : List ℕ) (c : Counts) (i : ℕ) (r : Counts) (b' 
 
 -- none of refusals 5, 8 and 10: a step is accepted where the loan is long enough
 abbrev pub isAccepted : List ℕ → ℕ → Bool
-isAccepted b i = (ltb i (processCountIn b) && ltb i 8) && (not (isIdle (taskIn b i .place)) && ltb (stepsIn b) (limitIn b))
+isAccepted b i = (ltb i (processCountIn b) && ltb i 8) && (not (isIdle (controlIn b i .place)) && ltb (stepsIn b) (limitIn b))
 
 -- counts that have room for one more
 pub record Below (c : Counts) : Type 0 where

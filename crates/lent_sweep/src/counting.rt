@@ -1,6 +1,6 @@
 // The counts of a run, answer by answer.
 use crate::Counts;
-use construction::Answer;
+use construction::answers::Answer;
 ghost use mathlib.Core.Path.{_≡_};
 ghost use Prim.Native.Nat.{_<_, max};
 ghost use Rattle.lent_sweep.specs.Sweeps.{none, withRun, withDone, withExited, withAnswer, isReturn, Below};

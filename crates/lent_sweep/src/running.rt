@@ -6,10 +6,10 @@ use crate::counting::with_answer;
 use block::cells::limit;
 use block::cells::process_count;
 use block::cells::steps;
-use block::own::task;
+use block::own::control;
 use calls::has_request;
 use calls::request_in;
-use construction::Answer;
+use construction::answers::Answer;
 use lent_card::requesting::call;
 use lent_steps::stepping::advance;
 use lent_steps::stepping::answer_in;
@@ -29,8 +29,8 @@ fn is_accepted(b: &[u64], i: u8) -> bool
     if !is_below(i as u32, process_count(b), 8) {
         return false;
     }
-    let task = task(b, i);
-    let place = task.place;
+    let control = control(b, i);
+    let place = control.place;
     if is_idle(place) {
         return false;
     }

@@ -12,7 +12,8 @@ use Rattle.construction.specs.Dictionary.{empty}
 use Rattle.construction.specs.Opening.{fresh, noContents}
 use Rattle.construction.specs.Parts.{noGate, withGate}
 use Rattle.codes.specs.Parts.{wordAt, table, rows}
-use Rattle.codes.specs.Codes.{byte, half, odd, holderFrom, flagFrom, placeFrom, instructionFrom, gateOf, taskOf, announcementOf, recordOf, operationOf, simulationOf, programOf}
+use Rattle.codes.specs.Codes.{byte, half, odd, holderFrom, flagFrom, placeFrom, instructionFrom, gateOf, controlOf, announcementOf, recordOf, operationOf}
+use Rattle.codes.specs.Codes.{simulationOf, programOf}
 use Rattle.codes.proofs.Blocks.{part-same, table-same, rows-same}
 use Rattle.block.specs.Layout.{isRoom, numberAt, roomIn, notedIn}
 use Rattle.block.specs.Cards.{dictionaryAt, dictionaryIn, numbers, standing, cardOf}
@@ -63,7 +64,8 @@ module _ (b : List ℕ) where
         let e : length (zeros n) ≡ n = length-replicate n 0 in
         let f : q ≡ length (zeros n) + (q - n) = omega arith in
         let g : n + (q - n) ≡ q = omega arith in
-        ap (λ (k : ℕ). getD (zeros n ++ drop n b) k 0) f ∙ getD-append-add (zeros n) (drop n b) (q - n) 0 ∙ getD-drop n b (q - n) 0 ∙ ap (λ (k : ℕ). getD b k 0) g
+        ap (λ (k : ℕ). getD (zeros n ++ drop n b) k 0) f ∙ getD-append-add (zeros n) (drop n b) (q - n) 0 ∙ getD-drop n b (q - n) 0 ∙ ap (λ (k : ℕ). getD b k 0)
+        g
 
     zeroed-length : n ≤ length b → length (zeroed n b) ≡ length b
     unfolding zeroed
@@ -118,12 +120,12 @@ module _ (c l : List ℕ) (none : (q : ℕ) → q < 1456 → wordAt c q ≡ 0) w
       let gate = ap gateOf (part-same [] c 5 2 (λ q r s. none q (omega arith))) in
       let announcements = many 8 9 8 announcementOf (omega arith) in
       let records = many 80 4 64 recordOf (omega arith) in
-      let tasks = many 336 2 8 taskOf (omega arith) in
+      let controls = many 336 2 8 controlOf (omega arith) in
       let operations = many 352 5 8 operationOf (omega arith) in
       let exits = each 392 8 odd (omega arith) in
       let counts = each 400 8 (λ (w : ℕ). w) (omega arith) in
-      let gates = many 408 2 8 gateOf (omega arith) in
-      let copies = many 424 9 8 announcementOf (omega arith) in
+      let gatesRead = many 408 2 8 gateOf (omega arith) in
+      let announcementsRead = many 424 9 8 announcementOf (omega arith) in
       let simulations = many 496 10 8 simulationOf (omega arith) in
       let dictionaries = table-same 8 (λ i. empty) (λ i. dictionaryIn c l i) no-items in
       let masks = each 584 8 (λ (w : ℕ). w) (omega arith) in
@@ -141,12 +143,12 @@ module _ (c l : List ℕ) (none : (q : ℕ) → q < 1456 → wordAt c q ≡ 0) w
         announcements = announcements j;
         records = records j;
         steps = steps j;
-        tasks = tasks j;
+        controls = controls j;
         operations = operations j;
         exits = exits j;
         counts = counts j;
-        gates = gates j;
-        copies = copies j;
+        gatesRead = gatesRead j;
+        announcementsRead = announcementsRead j;
         simulations = simulations j;
         dictionaries = dictionaries j;
         masks = masks j;

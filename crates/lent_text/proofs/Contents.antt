@@ -8,7 +8,7 @@ use native.Mathlib.Numerals.{add-one}
 use lib.Dec.{leb}
 use lib.ListN.{length, getD, set, take}
 use lib.Seq.{take-all, take-suc-set, ext-getD}
-use Rattle.construction.specs.declared.{Contents.Contents, Program.Program, Written.Written}
+use Rattle.construction.specs.declared.{texts.Contents.Contents, programs.Program.Program, texts.Written.Written}
 use Rattle.construction.specs.Instructions.{noProgram}
 use Rattle.construction.specs.Opening.{fresh, noContents}
 use Rattle.construction.specs.Parts.{contentsOf}

@@ -8,7 +8,7 @@ use lib.Dec.{eqb}
 use lib.ListN.{length, getD, set, length-set}
 use lib.Seq.{getD-set-same, getD-set-other}
 use borrow.Author.Tests.{eqb-true, eqb-false, le-leb}
-use Rattle.construction.specs.declared.{Contents.Contents, Program.Program}
+use Rattle.construction.specs.declared.{texts.Contents.Contents, programs.Program.Program}
 use Rattle.construction.specs.Cells.{openGate, openRecord}
 use Rattle.construction.specs.Instructions.{noProgram}
 use Rattle.construction.specs.Weight.{cardWeight}

@@ -7,12 +7,14 @@ use native.Mathlib.Omega.{arith}
 use lib.Dec.{eqb, ltb}
 use lib.ListN.{length, getD, replicate, length-set}
 use borrow.Author.Tests.{eqb-true, eqb-false, not-false}
-use Rattle.construction.specs.declared.{Contents.Contents, Line.Line, Instruction.Instruction, Encoded.Encoded, Decoded.Decoded, ProgramReading.ProgramReading, Reading.Reading, CardLine.CardLine}
-use Rattle.construction.specs.declared.{Format.Format, OperandKind.OperandKind}
-use Rattle.construction.specs.declared.Format.the-variants.{Unknown, Known}
+use Rattle.construction.specs.declared.{texts.Contents.Contents, programs.Line.Line, programs.Instruction.Instruction, programs.Encoded.Encoded}
+use Rattle.construction.specs.declared.{programs.Decoded.Decoded, texts.ProgramReading.ProgramReading, texts.Reading.Reading, texts.CardLine.CardLine}
+use Rattle.construction.specs.declared.{programs.Format.Format, programs.OperandKind.OperandKind}
+use Rattle.construction.specs.declared.programs.Format.the-variants.{Unknown, Known}
 use Rattle.construction.specs.Instructions.{codes, rowOf, instructionOf, ranged, unusedZero, eachOperand, decode, decodeAs, encoded, noLine, noProgram}
 use Rattle.construction.specs.Lines.{cardLine, varLine, sheetLine, insLine}
-use Rattle.construction.specs.Opening.{noContents, withLine, insFrom, readProgram, withProgram, programsFrom, withStart, varsFrom, atEnd, thenPrograms, afterCard, readCard}
+use Rattle.construction.specs.Opening.{noContents, withLine, insFrom, readProgram, withProgram, programsFrom, withStart, varsFrom, atEnd, thenPrograms}
+use Rattle.construction.specs.Opening.{afterCard, readCard}
 use Rattle.construction.proofs.Basics.{on-test, clash, set-keeps, getD-replicate-same}
 use Rattle.construction.proofs.Text.Decoding.{rows-at, decode-constant, decode-bytes}
 use Rattle.construction.proofs.Text.Lines.{card-read, var-read, sheet-read, ins-read}
@@ -23,8 +25,46 @@ use Rattle.codes.proofs.Programs.{FitsInstruction, FitsProgram, no-program-fits
 -- an instruction of bytes fits
 bytes-fit : (code a b c : ℕ) → a < 256 → b < 256 → c < 256 → FitsInstruction (instructionOf (encoded code a b c))
 bytes-fit code =
-    rows-at (λ k r. (a b c : ℕ) → a < 256 → b < 256 → c < 256 → FitsInstruction (r .instruction a b c)) codes
-    ((λ a b c p q s. tt), ((λ a b c p q s. (p, q)), ((λ a b c p q s. (p, omega arith)), ((λ a b c p q s. (p, q)), ((λ a b c p q s. (p, q)), ((λ a b c p q s. (p, q)), ((λ a b c p q s. (p, q)), ((λ a b c p q s. (p, q)), ((λ a b c p q s. (p, q)), ((λ a b c p q s. (p, q, s)), ((λ a b c p q s. (p, q, s)), ((λ a b c p q s. (p, q)), ((λ a b c p q s. tt), ((λ a b c p q s. p), ((λ a b c p q s. p), (λ k a b c p q s. tt))))))))))))))))
+    rows-at (λ k r. (a b c : ℕ) → a < 256 → b < 256 → c < 256 → FitsInstruction (r .instruction a b c)) codes (
+      (λ a b c p q s. tt),
+      (
+        (λ a b c p q s. (p, q)),
+        (
+          (λ a b c p q s. (p, omega arith)),
+          (
+            (λ a b c p q s. (p, q)),
+            (
+              (λ a b c p q s. (p, q)),
+              (
+                (λ a b c p q s. (p, q)),
+                (
+                  (λ a b c p q s. (p, q)),
+                  (
+                    (λ a b c p q s. (p, q)),
+                    (
+                      (λ a b c p q s. (p, q)),
+                      (
+                        (λ a b c p q s. (p, q, s)),
+                        (
+                          (λ a b c p q s. (p, q, s)),
+                          (
+                            (λ a b c p q s. (p, q)),
+                            (
+                              (λ a b c p q s. tt),
+                              ((λ a b c p q s. p), ((λ a b c p q s. p), (λ k a b c p q s. tt))),
+                            ),
+                          ),
+                        ),
+                      ),
+                    ),
+                  ),
+                ),
+              ),
+            ),
+          ),
+        ),
+      ),
+    )
     code
 
 -- and so does every one that is decoded
@@ -140,7 +180,8 @@ programs-fit t (suc m) k r f =
       programCount = f .programCount;
       starts = f .starts;
       programs = λ j.
-          set-keeps FitsProgram (r .contents .programs) k j (x .program) noProgram (λ _. program-fits n 32 (omega (arith, f .variableCount)) t (r .at) (r .line))
+          set-keeps FitsProgram (r .contents .programs) k j (x .program) noProgram
+          (λ _. program-fits n 32 (omega (arith, f .variableCount)) t (r .at) (r .line))
           (f .programs j);
     }))
     (λ why line. empty-fits)

@@ -8,14 +8,15 @@ use mathlib.Core.List.{List}
 use native.Mathlib.Omega.{arith}
 use lib.ListN.{length, getD, set}
 use lib.Seq.{getD-set-other}
-use Rattle.construction.specs.declared.{Contents.Contents, Program.Program}
+use Rattle.construction.specs.declared.{texts.Contents.Contents, programs.Program.Program}
 use Rattle.construction.specs.Cells.{openGate, openRecord}
 use Rattle.construction.specs.Instructions.{noProgram}
 use Rattle.construction.specs.Weight.{cardWeight}
 use Rattle.codes.specs.Parts.{wordAt, stores, table}
 use Rattle.codes.specs.Codes.{gateWords, recordWords, programWords}
 use Rattle.codes.proofs.Blocks.{kept, inside}
-use Rattle.block.specs.Layout.{isRoom, putRow, putNumber, putRoom, putProcessCount, putVariableCount, putProgramCount, putLimit, putStart, putOpening, putEarlier}
+use Rattle.block.specs.Layout.{isRoom, putRow, putNumber, putRoom, putProcessCount, putVariableCount, putProgramCount, putLimit, putStart, putOpening}
+use Rattle.block.specs.Layout.{putEarlier}
 use Rattle.block.proofs.Rooms.{room-here}
 use Rattle.block.proofs.Puts.{put-row-length, put-number-length, put-row-short, put-number-short}
 use Rattle.lent_text.specs.Opened.{cleared, putHead, putValue, putValues, putTexts, putPrograms, contentsBlock}

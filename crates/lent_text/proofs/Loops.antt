@@ -5,8 +5,8 @@ use mathlib.Core.List.{List}
 use native.Mathlib.Numerals.{add-one}
 use lib.ListN.{length, getD}
 use borrow.Author.Tests.{le-leb, lt-leb}
-use Rattle.construction.specs.declared.{Program.Program, Verdict.Verdict, Reading.Reading}
-use Rattle.construction.specs.declared.Refusal.the-variants.{ShortBuffer}
+use Rattle.construction.specs.declared.{programs.Program.Program, texts.Verdict.Verdict, texts.Reading.Reading}
+use Rattle.construction.specs.declared.answers.Refusal.the-variants.{ShortBuffer}
 use Rattle.construction.specs.Instructions.{noProgram}
 use Rattle.construction.specs.Opening.{readCard}
 use Rattle.opening.proofs.Laws.{inside}

@@ -6,7 +6,7 @@ use mathlib.Core.List.{List, [], _∷_, _++_, map}
 use native.Mathlib.Omega.{arith}
 use lib.ListN.{length, getD, set, take, replicate, length-set}
 use lib.Seq.{take-all, take-suc, take-suc-set}
-use Rattle.construction.specs.declared.{Contents.Contents, Program.Program}
+use Rattle.construction.specs.declared.{texts.Contents.Contents, programs.Program.Program}
 use Rattle.construction.specs.Cells.{openGate, openRecord}
 use Rattle.construction.specs.Instructions.{noProgram}
 use Rattle.construction.specs.Opening.{begun, gathered, fresh}
@@ -90,7 +90,8 @@ module _ (l : List ℕ) where
     values-stored xs p zero = e
     values-stored xs p (suc n) =
         let same = values-same 7 (inl refl) n b xs .size in
-        value-stored (putValues n b xs) (omega arith) (gathered y (filled {A = ℕ} 0 n (y .starts) xs) (y .programs)) (values-stored xs p n) n (getD xs n 0) (p n)
+        value-stored (putValues n b xs) (omega arith) (gathered y (filled {A = ℕ} 0 n (y .starts) xs) (y .programs)) (values-stored xs p n) n (getD xs n 0)
+        (p n)
 
     programs-stored :
         (xs : List Program) → ((k : ℕ) → FitsProgram (getD xs k noProgram)) → (n : ℕ) →
@@ -99,11 +100,13 @@ module _ (l : List ℕ) where
     programs-stored xs p zero = e
     programs-stored xs p (suc n) =
         let same = programs-same 7 (inl refl) n b xs .size in
-        texts-stored (putPrograms n b xs) (omega arith) (gathered y (y .starts) (filled noProgram n (y .programs) xs)) (programs-stored xs p n) n (getD xs n noProgram) (p n)
+        texts-stored (putPrograms n b xs) (omega arith) (gathered y (y .starts) (filled noProgram n (y .programs) xs)) (programs-stored xs p n) n
+        (getD xs n noProgram) (p n)
 
   module _ (b : List ℕ) (long : 1456 ≤ length b) (x : Contents) where
     -- w, where nothing is noted
-    cleared-room : (cardOf (putRoom (cleared b) (cardWeight x)) l ≡ cardOf (cleared b) l) × (roomIn (putRoom (cleared b) (cardWeight x)) ≡ min (cardWeight x) 32)
+    cleared-room : (cardOf (putRoom (cleared b) (cardWeight x)) l ≡ cardOf (cleared b) l) ×
+        (roomIn (putRoom (cleared b) (cardWeight x)) ≡ min (cardWeight x) 32)
     cleared-room =
         let same = cleared-length b long in
         puts.room-stored (cleared b) l (omega arith) (cardWeight x) (λ i p. no-number (cleared b) l (cleared-word b long) 576 8 i (omega arith) p)
@@ -124,9 +127,12 @@ module _ (l : List ℕ) where
         let z3 = puts.put-number-length b2 2 1 0 (x .programCount) in
         let z4 = puts.put-number-length b3 3 1 0 (x .limit) in
         let e0 = cleared-room .0 ∙ cleared-card b l long in
-        let e1 = puts.process-count-stored b0 l (omega arith) (x .processCount) (f .processCount) ∙ ap (λ (k : Card). cards.withProcessCount k (x .processCount)) e0 in
-        let e2 = puts.variable-count-stored b1 l (omega arith) (x .variableCount) (f .variableCount) ∙ ap (λ (k : Card). cards.withVariableCount k (x .variableCount)) e1 in
-        let e3 = puts.program-count-stored b2 l (omega arith) (x .programCount) (f .programCount) ∙ ap (λ (k : Card). cards.withProgramCount k (x .programCount)) e2 in
+        let e1 = puts.process-count-stored b0 l (omega arith) (x .processCount) (f .processCount) ∙ ap
+        (λ (k : Card). cards.withProcessCount k (x .processCount)) e0 in
+        let e2 = puts.variable-count-stored b1 l (omega arith) (x .variableCount) (f .variableCount) ∙ ap
+        (λ (k : Card). cards.withVariableCount k (x .variableCount)) e1 in
+        let e3 = puts.program-count-stored b2 l (omega arith) (x .programCount) (f .programCount) ∙ ap
+        (λ (k : Card). cards.withProgramCount k (x .programCount)) e2 in
         let e4 = puts.limit-stored b3 l (omega arith) (x .limit) ∙ ap (λ (k : Card). cards.withLimit k (x .limit)) e3 in
         puts.gate-stored b4 l (omega arith) openGate nobody-fits ∙ ap (λ (k : Card). withGate k openGate) e4
 
@@ -141,8 +147,10 @@ module _ (l : List ℕ) where
         let z2 = values-same 7 (inl refl) 64 head (x .starts) .size in
         let some = values-stored head (omega arith) first (head-stored f) (x .starts) (f .starts) 64 in
         let starts : filled {A = ℕ} 0 64 (replicate 64 0) (x .starts) ≡ x .starts = filled-all {A = ℕ} 0 64 (replicate 64 0) (x .starts) refl p in
-        let programs : filled noProgram 8 (replicate 8 noProgram) (x .programs) ≡ x .programs = filled-all noProgram 8 (replicate 8 noProgram) (x .programs) refl q in
-        programs-stored (putValues 64 head (x .starts)) (omega arith) (gathered first (filled {A = ℕ} 0 64 (replicate 64 0) (x .starts)) (replicate 8 noProgram)) some
+        let programs : filled noProgram 8 (replicate 8 noProgram) (x .programs) ≡ x .programs =
+        filled-all noProgram 8 (replicate 8 noProgram) (x .programs) refl q in
+        programs-stored (putValues 64 head (x .starts)) (omega arith)
+        (gathered first (filled {A = ℕ} 0 64 (replicate 64 0) (x .starts)) (replicate 8 noProgram)) some
         (x .programs) (f .programs) 8
         ∙ λ j. fresh (gathered first (starts j) (programs j))
 

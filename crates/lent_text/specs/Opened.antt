@@ -5,13 +5,14 @@ use mathlib.Core.List.{List, _++_}
 use mathlib.Core.Path.{_≡_}
 use lib.Dec.{leb}
 use lib.ListN.{length, getD, drop, replicate}
-use Rattle.construction.specs.declared.{Contents.Contents, Program.Program, Verdict.Verdict}
-use Rattle.construction.specs.declared.Refusal.the-variants.{ShortBuffer}
+use Rattle.construction.specs.declared.{texts.Contents.Contents, programs.Program.Program, texts.Verdict.Verdict}
+use Rattle.construction.specs.declared.answers.Refusal.the-variants.{ShortBuffer}
 use Rattle.construction.specs.Cells.{openGate, openRecord}
 use Rattle.construction.specs.Instructions.{noProgram}
 use Rattle.construction.specs.Opening.{readCard}
 use Rattle.construction.specs.Weight.{cardWeight}
-use Rattle.block.specs.Layout.{putRoom, putProcessCount, putVariableCount, putProgramCount, putLimit, putGate, putStart, putRecord, putOpening, putEarlier, putLater}
+use Rattle.block.specs.Layout.{putRoom, putProcessCount, putVariableCount, putProgramCount, putLimit, putGate, putStart, putRecord, putOpening, putEarlier}
+use Rattle.block.specs.Layout.{putLater}
 
 -- the first n words are 0, the words past them are kept
 unfoldable pub zeroed : ℕ → List ℕ → List ℕ

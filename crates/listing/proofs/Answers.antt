@@ -9,8 +9,8 @@ use lib.Dec.{leb}
 use borrow.Author.Tests.{le-leb, lt-leb}
 use Rattle.grammar.specs.Writing.{Put}
 use Rattle.grammar.proofs.Puts.{put-front}
-use Rattle.construction.specs.declared.{Card.Card, Refusal.Refusal, Written.Written}
-use Rattle.construction.specs.declared.Refusal.the-variants.{NoProgram, TooLarge, ShortBuffer}
+use Rattle.construction.specs.declared.{card.Card.Card, answers.Refusal.Refusal, texts.Written.Written}
+use Rattle.construction.specs.declared.answers.Refusal.the-variants.{NoProgram, TooLarge, ShortBuffer}
 use Rattle.construction.specs.History.{run}
 use Rattle.construction.proofs.Basics.{clash}
 use Rattle.executions.specs.declared.{Request.Request}
@@ -38,7 +38,8 @@ module _ (first left j : ℕ) (c : Card) {b : List ℕ} where
 
   pub piece-long : c .processCount ≤ 3 → 16 < first + left → Put b 0 (pieceText first left j c) 0 b × (0 ≤ capacity left 2129)
   unfolding pieceText
-  piece-long p h = (subst (λ (t : List ℕ). Put b 0 t 0 b) (sym (rw (le-leb (c .processCount) 3 p, lt-leb (first + left) 16 h))) (put-none b 0 (omega arith)), omega arith)
+  piece-long p h =
+      (subst (λ (t : List ℕ). Put b 0 t 0 b) (sym (rw (le-leb (c .processCount) 3 p, lt-leb (first + left) 16 h))) (put-none b 0 (omega arith)), omega arith)
 
   pub piece-whole :
       c .processCount ≤ 3 → first + left ≤ 16 → {r : ℕ} {z numbers numbers′ answers answers′ : List ℕ} →
@@ -104,7 +105,8 @@ judged-bytes true false n size e = clash (cc)
 judged-bytes true true n size e = (refl, refl, cc)
 
 judged-refused : (a b f : Bool) (n : ℕ) (r : Refusal) (t l : List ℕ) → Written.Refused r ≡ judged a b n →
-    (Written.Refused r ≡ cond (not a) (Written.Refused NoProgram) (cond (not b) (Written.Refused TooLarge) (cond f (Written.Bytes n) (Written.Refused ShortBuffer))))
+    (Written.Refused r ≡ cond (not a) (Written.Refused NoProgram)
+    (cond (not b) (Written.Refused TooLarge) (cond f (Written.Bytes n) (Written.Refused ShortBuffer))))
     × (l ≡ cond (a && (b && f)) t l)
 judged-refused false b f n r t l e = (e, refl)
 judged-refused true false f n r t l e = (e, refl)
@@ -129,7 +131,8 @@ module _ (c : Card) (calls : List Request) (L : ℕ) (l : List ℕ) where
     unfolding listed listedInto
     listed-short h =
         let s = said c calls L m e in
-        let f : leb (length (listingText (reopened c) calls L)) (length l) ≡ false = lt-leb (length (listingText (reopened c) calls L)) (length l) (omega (arith, s .2)) in
+        let f : leb (length (listingText (reopened c) calls L)) (length l) ≡ false =
+        lt-leb (length (listingText (reopened c) calls L)) (length l) (omega (arith, s .2)) in
         record { answer = rw (s .0, s .1, f); bytes = rw (s .0, s .1, f) }
 
     pub listed-fits :
@@ -138,7 +141,8 @@ module _ (c : Card) (calls : List Request) (L : ℕ) (l : List ℕ) where
     unfolding listed listedInto
     listed-fits {o} {d} opens starts {z} {n} h p =
         let s = said c calls L m e in
-        let f : leb (length (listingText (reopened c) calls L)) (length l) ≡ true = le-leb (length (listingText (reopened c) calls L)) (length l) (omega (arith, s .2)) in
+        let f : leb (length (listingText (reopened c) calls L)) (length l) ≡ true =
+        le-leb (length (listingText (reopened c) calls L)) (length l) (omega (arith, s .2)) in
         let x = text-from c calls L opens starts in
         record {
           answer = rw (s .0, s .1, f) (ap Written.Bytes (s .2));

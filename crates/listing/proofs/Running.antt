@@ -11,8 +11,9 @@ use lib.ListN.{length}
 use lib.Dec.{ltb, leb}
 use borrow.Author.Tests.{lt-ltb, ltb-true, leb-true}
 use Rattle.grammar.specs.Writing.{decimal}
-use Rattle.construction.specs.declared.{Label.Label, Task.Task, Card.Card, Answer.Answer, Answered.Answered, Contents.Contents}
-use Rattle.construction.specs.declared.Label.the-variants.{Idle, P1, P3, P5, P7, P10, C2, C4, P13, P14, P16, H21, H36, P19, P20, P21, P22, F1, F3, P6}
+use Rattle.construction.specs.declared.{accesses.Label.Label, accesses.Control.Control, card.Card.Card, answers.Answer.Answer, answers.Answered.Answered}
+use Rattle.construction.specs.declared.{texts.Contents.Contents}
+use Rattle.construction.specs.declared.accesses.Label.the-variants.{Idle, P1, P3, P5, P7, P10, C2, C4, P13, P14, P16, H21, H36, P19, P20, P21, P22, F1, F3, P6}
 use Rattle.construction.specs.Answers.{isRefused}
 use Rattle.construction.specs.Parts.{localAt}
 use Rattle.construction.specs.Machine.{accessOf, advance}
@@ -27,7 +28,7 @@ use Rattle.executions.proofs.Branches.{accepted-busy, quiet-idle}
 use mir.Val.{Val}
 use denote.Laws.{Is}
 use denote.Struct.Declared.{row}
-use Rattle.construction.proofs.Card.{the-type}
+use Rattle.construction.proofs.card.Card.{the-type}
 use Rattle.listing.specs.Runs.{distance, placeAt, areFar, runsOn, runText, runsFrom, runsText}
 
 -- a step brings a return at most one step nearer
@@ -80,45 +81,46 @@ far-busy P6 h = refl
 -- a card whose processes can make n steps within the limit
 pub record Steady (n : ℕ) (c : Card) : Type 0 where
   pub few : c .processCount ≤ 8
-  pub tasks : length (c .tasks) ≡ 8
+  pub controls : length (c .controls) ≡ 8
   pub limit : c .limit < 18446744073709551616
   pub steps : c .steps + n ≤ c .limit
 
 -- no process can return with n steps
 abbrev pub Far : ℕ → Card → Type 0
-Far n c = (i : ℕ) → i < c .processCount → isIdle (placeAt (c .tasks) i) ≡ false → n < distance (placeAt (c .tasks) i)
+Far n c = (i : ℕ) → i < c .processCount → isIdle (placeAt (c .controls) i) ≡ false → n < distance (placeAt (c .controls) i)
 
 -- one step of a process that cannot return with it nor with n more
-module _ (n : ℕ) (c : Card) (k : ℕ) (S : Steady (suc n) c) (lt : k < c .processCount) (far : suc n < distance (placeAt (c .tasks) k)) where
+module _ (n : ℕ) (c : Card) (k : ℕ) (S : Steady (suc n) c) (lt : k < c .processCount) (far : suc n < distance (placeAt (c .controls) k)) where
   abbrev d : Card
   d = advance c k
 
-  here : isIdle (placeAt (c .tasks) k) ≡ false
-  here = far-busy (placeAt (c .tasks) k) (omega arith)
+  here : isIdle (placeAt (c .controls) k) ≡ false
+  here = far-busy (placeAt (c .controls) k) (omega arith)
 
-  nearer : n < distance (placeAt (d .tasks) k)
+  nearer : n < distance (placeAt (d .controls) k)
   unfolding advance
   nearer =
-      let h : distance (placeAt (c .tasks) k) ≤ suc (distance (placeAt (d .tasks) k)) =
-      leads (λ l. distance (placeAt (c .tasks) k) ≤ suc (distance l)) c k (omega (arith, S .few, S .tasks)) (accessOf (placeAt (c .tasks) k) (localAt c k .exit))
-      (closer (placeAt (c .tasks) k) (localAt c k .exit) here) in
+      let h : distance (placeAt (c .controls) k) ≤ suc (distance (placeAt (d .controls) k)) =
+      leads (λ l. distance (placeAt (c .controls) k) ≤ suc (distance l)) c k (omega (arith, S .few, S .controls))
+      (accessOf (placeAt (c .controls) k) (localAt c k .exit))
+      (closer (placeAt (c .controls) k) (localAt c k .exit) here) in
       omega (arith, h)
 
-  there : isIdle (placeAt (d .tasks) k) ≡ false
-  there = far-busy (placeAt (d .tasks) k) (omega (arith, nearer))
+  there : isIdle (placeAt (d .controls) k) ≡ false
+  there = far-busy (placeAt (d .controls) k) (omega (arith, nearer))
 
   taken : step c k ≡ record { card = d; answer = Answer.Run }
   taken =
       step-accepted c k (rw (lt-ltb k (c .processCount) lt, lt-ltb k 8 (omega (arith, S .few)))) (rw here) (omega (arith, S .steps))
       ∙ ap (λ (a : Answer). record { card = d; answer = a }) (rw there)
 
-  same-place : (i : ℕ) → i ≢ k → placeAt (c .tasks) i ≡ placeAt (d .tasks) i
-  same-place i ne = ap (λ (t : Task). t .place) (one-access c k .others i ne .0 .elements)
+  same-place : (i : ℕ) → i ≢ k → placeAt (c .controls) i ≡ placeAt (d .controls) i
+  same-place i ne = ap (λ (t : Control). t .place) (one-access c k .others i ne .0 .elements)
 
-  same-idle : (i : ℕ) → isIdle (placeAt (d .tasks) i) ≡ isIdle (placeAt (c .tasks) i)
+  same-idle : (i : ℕ) → isIdle (placeAt (d .controls) i) ≡ isIdle (placeAt (c .controls) i)
   same-idle i = go (ℕ-discrete i k)
     where
-      go : Dec (i ≡ k) → isIdle (placeAt (d .tasks) i) ≡ isIdle (placeAt (c .tasks) i)
+      go : Dec (i ≡ k) → isIdle (placeAt (d .controls) i) ≡ isIdle (placeAt (c .controls) i)
       go (yes e) = rw e (there ∙ sym here)
       go (no ne) = sym (ap isIdle (same-place i ne))
 
@@ -129,10 +131,10 @@ module _ (n : ℕ) (c : Card) (k : ℕ) (S : Steady (suc n) c) (lt : k < c .proc
   steady-next =
       let l : d .limit ≡ c .limit = sym (ap (λ (x : Contents). x .limit) (one-access c k .text .0)) in
       let s : d .steps ≡ (c .steps + 1) % 18446744073709551616 = one-access c k .steps in
-      let t : length (c .tasks) ≡ length (d .tasks) = one-access c k .others (suc k) (λ e. omega arith) .0 .lengths in
+      let t : length (c .controls) ≡ length (d .controls) = one-access c k .others (suc k) (λ e. omega arith) .0 .lengths in
       record {
         few = omega (arith, processes, S .few);
-        tasks = sym t ∙ S .tasks;
+        controls = sym t ∙ S .controls;
         limit = omega (arith, l, S .limit);
         steps = omega (arith, l, s, S .steps, S .limit);
       }
@@ -140,7 +142,7 @@ module _ (n : ℕ) (c : Card) (k : ℕ) (S : Steady (suc n) c) (lt : k < c .proc
   pub far-next : Far n c → Far n d
   far-next F i h b = go (ℕ-discrete i k)
     where
-      go : Dec (i ≡ k) → n < distance (placeAt (d .tasks) i)
+      go : Dec (i ≡ k) → n < distance (placeAt (d .controls) i)
       go (yes e) = rw e nearer
       go (no ne) =
           subst (λ (p : Label). n < distance p) (same-place i ne)
@@ -154,33 +156,37 @@ module _ (n : ℕ) (c : Card) (k : ℕ) (S : Steady (suc n) c) (lt : k < c .proc
 
 -- the text of a card is that of its idle processes
 runs-from-same :
-    (l m : List Task) → ((i : ℕ) → isIdle (placeAt l i) ≡ isIdle (placeAt m i)) → (x y : List ℕ) (f g : List ℕ → List ℕ → List ℕ) → ((z w : List ℕ) → f z w ≡ g z w) →
+    (l m : List Control) → ((i : ℕ) → isIdle (placeAt l i) ≡ isIdle (placeAt m i)) → (x y : List ℕ) (f g : List ℕ → List ℕ → List ℕ) →
+    ((z w : List ℕ) → f z w ≡ g z w) →
     (q k : ℕ) → runsFrom l x y f q k ≡ runsFrom m x y g q k
 unfolding runsFrom
 runs-from-same l m e x y f g h zero k = refl
 runs-from-same l m e x y f g h (suc q) k =
     rw (e k, h (x ++ decimal k) (y ++ answerText Answer.Run), runs-from-same l m e x y f g h q (suc k))
 
-runs-same : (n : ℕ) (l m : List Task) → ((i : ℕ) → isIdle (placeAt l i) ≡ isIdle (placeAt m i)) → (count : ℕ) (x y : List ℕ) → runsText n l count x y ≡ runsText n m count x y
+runs-same : (n : ℕ) (l m : List Control) → ((i : ℕ) → isIdle (placeAt l i) ≡ isIdle (placeAt m i)) → (count : ℕ) (x y : List ℕ) →
+    runsText n l count x y ≡ runsText n m count x y
 unfolding runsText
 runs-same zero l m e count x y = refl
 runs-same (suc n) l m e count x y =
     runs-from-same l m e x y (λ z w. runsText n l count z w) (λ z w. runsText n m count z w) (λ z w. runs-same n l m e count z w) count 0
 
 abbrev Known : ℕ → Type 0
-Known n = (d : Card) (z w : List ℕ) → Steady n d → Far n d → isQuiet d (d .processCount) ≡ false → textAfter n d z w ≡ runsText n (d .tasks) (d .processCount) z w
+Known n = (d : Card) (z w : List ℕ) → Steady n d → Far n d → isQuiet d (d .processCount) ≡ false →
+    textAfter n d z w ≡ runsText n (d .controls) (d .processCount) z w
 
 branch-runs :
-    (n : ℕ) → Known n → (c : Card) (k : ℕ) → Steady (suc n) c → k < c .processCount → suc n < distance (placeAt (c .tasks) k) → Far n c → (x y : List ℕ) →
-    branchText k (step c k) x y (λ d z w. textAfter n d z w) ≡ runsText n (c .tasks) (c .processCount) (x ++ decimal k) (y ++ answerText Answer.Run)
+    (n : ℕ) → Known n → (c : Card) (k : ℕ) → Steady (suc n) c → k < c .processCount → suc n < distance (placeAt (c .controls) k) → Far n c → (x y : List ℕ) →
+    branchText k (step c k) x y (λ d z w. textAfter n d z w) ≡ runsText n (c .controls) (c .processCount) (x ++ decimal k) (y ++ answerText Answer.Run)
 branch-runs n known c k S lt far F x y =
     ap (λ (r : Answered). branchText k r x y (λ d z w. textAfter n d z w)) (taken n c k S lt far)
     ∙ known (advance c k) (x ++ decimal k) (y ++ answerText Answer.Run) (steady-next n c k S lt far) (far-next n c k S lt far F) (busy-next n c k S lt far)
-    ∙ ap (λ (p : ℕ). runsText n (advance c k .tasks) p (x ++ decimal k) (y ++ answerText Answer.Run)) (processes n c k S lt far)
-    ∙ runs-same n (advance c k .tasks) (c .tasks) (same-idle n c k S lt far) (c .processCount) (x ++ decimal k) (y ++ answerText Answer.Run)
+    ∙ ap (λ (p : ℕ). runsText n (advance c k .controls) p (x ++ decimal k) (y ++ answerText Answer.Run)) (processes n c k S lt far)
+    ∙ runs-same n (advance c k .controls) (c .controls) (same-idle n c k S lt far) (c .processCount) (x ++ decimal k) (y ++ answerText Answer.Run)
 
 -- an idle process begins nothing
-idle-branch : (c : Card) (k : ℕ) (x y : List ℕ) (rest : Card → List ℕ → List ℕ → List ℕ) → isIdle (placeAt (c .tasks) k) ≡ true → branchText k (step c k) x y rest ≡ []
+idle-branch : (c : Card) (k : ℕ) (x y : List ℕ) (rest : Card → List ℕ → List ℕ → List ℕ) → isIdle (placeAt (c .controls) k) ≡ true →
+    branchText k (step c k) x y rest ≡ []
 idle-branch c k x y rest h =
     ⊎-elim (λ (e : isRefused (step c k .answer) ≡ true). rw e)
     (λ (e : isRefused (step c k .answer) ≡ false). absurd (true-false (isBusy c k) (accepted-busy c k e .1) (rw h)))
@@ -190,13 +196,15 @@ module _ (n : ℕ) (known : Known n) (c : Card) (S : Steady (suc n) c) (F : Far 
   less : Far n c
   less i h b = omega (arith, F i h b)
 
-  one-runs : (k : ℕ) → k < c .processCount → branchText k (step c k) x y (λ d z w. textAfter n d z w) ≡ runText (c .tasks) k x y (λ z w. runsText n (c .tasks) (c .processCount) z w)
+  one-runs : (k : ℕ) → k < c .processCount → branchText k (step c k) x y (λ d z w. textAfter n d z w) ≡ runText (c .controls) k x y
+      (λ z w. runsText n (c .controls) (c .processCount) z w)
   one-runs k lt =
-      ⊎-elim (λ (e : isIdle (placeAt (c .tasks) k) ≡ true). idle-branch c k x y (λ d z w. textAfter n d z w) e ∙ sym (rw e))
-      (λ (e : isIdle (placeAt (c .tasks) k) ≡ false). branch-runs n known c k S lt (F k lt e) less x y ∙ sym (rw e))
-      (true-or-false (isIdle (placeAt (c .tasks) k)))
+      ⊎-elim (λ (e : isIdle (placeAt (c .controls) k) ≡ true). idle-branch c k x y (λ d z w. textAfter n d z w) e ∙ sym (rw e))
+      (λ (e : isIdle (placeAt (c .controls) k) ≡ false). branch-runs n known c k S lt (F k lt e) less x y ∙ sym (rw e))
+      (true-or-false (isIdle (placeAt (c .controls) k)))
 
-  all-run : (m k : ℕ) → k + m ≤ c .processCount → branchesText c x y (λ d z w. textAfter n d z w) m k ≡ runsFrom (c .tasks) x y (λ z w. runsText n (c .tasks) (c .processCount) z w) m k
+  all-run : (m k : ℕ) → k + m ≤ c .processCount → branchesText c x y (λ d z w. textAfter n d z w) m k ≡ runsFrom (c .controls) x y
+      (λ z w. runsText n (c .controls) (c .processCount) z w) m k
   unfolding branchesText runsFrom
   all-run zero k h = refl
   all-run (suc m) k h = rw (one-runs k (omega arith), all-run m (suc k) (omega arith))
@@ -211,7 +219,7 @@ pub limit-fits : (c : Card) (vs : List Val) → Is (row the-type) c vs → c .li
 limit-fits c vs p = omega (arith, p .1 .1 .1 .0)
 
 -- the test of code
-far-all : (n : ℕ) (l : List Task) (m : ℕ) → areFar n l m ≡ true → (i : ℕ) → i < m → isIdle (placeAt l i) ≡ false → n < distance (placeAt l i)
+far-all : (n : ℕ) (l : List Control) (m : ℕ) → areFar n l m ≡ true → (i : ℕ) → i < m → isIdle (placeAt l i) ≡ false → n < distance (placeAt l i)
 unfolding areFar
 far-all n l zero e i h b = absurd (omega arith)
 far-all n l (suc m) e i h b = go (ℕ-discrete i m) (λ g. far-all n l m (parts .1) i g b)
@@ -227,17 +235,19 @@ far-all n l (suc m) e i h b = go (ℕ-discrete i m) (λ g. far-all n l m (parts 
     go (no ne) below = below (omega arith)
 
 pub runs-branch :
-    (left : ℕ) (c : Card) (k : ℕ) → 0 < left → c .processCount ≤ 8 → length (c .tasks) ≡ 8 → c .limit < 18446744073709551616 → k < c .processCount → {t : Bool} →
-    t ≡ runsOn left (c .tasks) (c .processCount) k (c .steps) (c .limit) → t ≡ true → (x y : List ℕ) →
-    branchText k (step c k) x y (λ d z w. textAfter (left - 1) d z w) ≡ runText (c .tasks) k x y (λ z w. runsText (left - 1) (c .tasks) (c .processCount) z w)
+    (left : ℕ) (c : Card) (k : ℕ) → 0 < left → c .processCount ≤ 8 → length (c .controls) ≡ 8 → c .limit < 18446744073709551616 → k < c .processCount →
+    {t : Bool} →
+    t ≡ runsOn left (c .controls) (c .processCount) k (c .steps) (c .limit) → t ≡ true → (x y : List ℕ) →
+    branchText k (step c k) x y (λ d z w. textAfter (left - 1) d z w) ≡ runText (c .controls) k x y
+    (λ z w. runsText (left - 1) (c .controls) (c .processCount) z w)
 unfolding runsOn
-runs-branch zero c k some few tasks limit lt e f x y = absurd (omega arith)
-runs-branch (suc n) c k some few tasks limit lt {t} e f x y =
+runs-branch zero c k some few controls limit lt e f x y = absurd (omega arith)
+runs-branch (suc n) c k some few controls limit lt {t} e f x y =
     let m : suc n - 1 ≡ n = omega arith in
-    let h = and-true (ltb (suc n) (distance (placeAt (c .tasks) k))) _ (sym e ∙ f) in
-    let g = and-true (areFar (suc n - 1) (c .tasks) (c .processCount)) (leb (c .steps + suc n) (c .limit)) (h .1) in
-    let far : suc n < distance (placeAt (c .tasks) k) = ltb-true (suc n) (distance (placeAt (c .tasks) k)) (h .0) in
-    let all : areFar n (c .tasks) (c .processCount) ≡ true = subst (λ (i : ℕ). areFar i (c .tasks) (c .processCount) ≡ true) m (g .0) in
-    let S : Steady (suc n) c = record { few = few; tasks = tasks; limit = limit; steps = leb-true (c .steps + suc n) (c .limit) (g .1) } in
-    let idle : isIdle (placeAt (c .tasks) k) ≡ false = far-busy (placeAt (c .tasks) k) (omega (arith, far)) in
-    rw (m, idle) (branch-runs n (runs-text n) c k S lt far (far-all n (c .tasks) (c .processCount) all) x y)
+    let h = and-true (ltb (suc n) (distance (placeAt (c .controls) k))) _ (sym e ∙ f) in
+    let g = and-true (areFar (suc n - 1) (c .controls) (c .processCount)) (leb (c .steps + suc n) (c .limit)) (h .1) in
+    let far : suc n < distance (placeAt (c .controls) k) = ltb-true (suc n) (distance (placeAt (c .controls) k)) (h .0) in
+    let all : areFar n (c .controls) (c .processCount) ≡ true = subst (λ (i : ℕ). areFar i (c .controls) (c .processCount) ≡ true) m (g .0) in
+    let S : Steady (suc n) c = record { few = few; controls = controls; limit = limit; steps = leb-true (c .steps + suc n) (c .limit) (g .1) } in
+    let idle : isIdle (placeAt (c .controls) k) ≡ false = far-busy (placeAt (c .controls) k) (omega (arith, far)) in
+    rw (m, idle) (branch-runs n (runs-text n) c k S lt far (far-all n (c .controls) (c .processCount) all) x y)

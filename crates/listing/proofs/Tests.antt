@@ -8,8 +8,8 @@ use native.Mathlib.Numerals.{add-one}
 use lib.ListN.{getD}
 use lib.Dec.{ltb}
 use borrow.Author.Tests.{lt-ltb, le-ltb, lt-leb, le-leb}
-use Rattle.construction.specs.declared.{Label.Label, Task.Task, Card.Card}
-use Rattle.construction.specs.Parts.{idleTask}
+use Rattle.construction.specs.declared.{accesses.Label.Label, accesses.Control.Control, card.Card.Card}
+use Rattle.construction.specs.Parts.{idleControl}
 use Rattle.construction.specs.Requests.{isIdle, isProgram, call}
 use Rattle.executions.specs.declared.{Request.Request}
 use Rattle.executions.specs.Schedules.{noRequest, isQuiet}
@@ -23,24 +23,24 @@ not-not : (b : Bool) → not (not b) ≡ b
 not-not true = refl
 not-not false = refl
 
-pub quiet-tasks : (c : Card) (n : ℕ) → isQuiet c n ≡ areIdle (c .tasks) n
+pub quiet-controls : (c : Card) (n : ℕ) → isQuiet c n ≡ areIdle (c .controls) n
 unfolding isQuiet areIdle
-quiet-tasks c zero = refl
-quiet-tasks c (suc n) = rw (not-not (isIdle (getD (c .tasks) n idleTask .place)), quiet-tasks c n)
+quiet-controls c zero = refl
+quiet-controls c (suc n) = rw (not-not (isIdle (getD (c .controls) n idleControl .place)), quiet-controls c n)
 
-module _ (l : List Task) where
-  idle-suc : (n : ℕ) → areIdle l (suc n) ≡ (isIdle (getD l n idleTask .place) && areIdle l n)
+module _ (l : List Control) where
+  idle-suc : (n : ℕ) → areIdle l (suc n) ≡ (isIdle (getD l n idleControl .place) && areIdle l n)
   unfolding areIdle
   idle-suc n = refl
 
-  idle-step : (n : ℕ) → 0 < n → areIdle l n ≡ (isIdle (getD l (n - 1) idleTask .place) && areIdle l (n - 1))
+  idle-step : (n : ℕ) → 0 < n → areIdle l n ≡ (isIdle (getD l (n - 1) idleControl .place) && areIdle l (n - 1))
   idle-step zero h = absurd (omega arith)
   idle-step (suc n) h = let e : suc n - 1 ≡ n = omega arith in rw e (idle-suc n)
 
-  pub idle-turn : (n : ℕ) {b : Bool} → 0 < n → b ≡ isIdle (getD l (n - 1) idleTask .place) → b ≡ true → areIdle l n ≡ areIdle l (n - 1)
+  pub idle-turn : (n : ℕ) {b : Bool} → 0 < n → b ≡ isIdle (getD l (n - 1) idleControl .place) → b ≡ true → areIdle l n ≡ areIdle l (n - 1)
   idle-turn n h e t = idle-step n h ∙ rw (sym e ∙ t)
 
-  pub idle-stop : (n : ℕ) {b : Bool} → 0 < n → b ≡ isIdle (getD l (n - 1) idleTask .place) → b ≡ false → areIdle l n ≡ false
+  pub idle-stop : (n : ℕ) {b : Bool} → 0 < n → b ≡ isIdle (getD l (n - 1) idleControl .place) → b ≡ false → areIdle l n ≡ false
   idle-stop n h e t = idle-step n h ∙ rw (sym e ∙ t)
 
   pub idle-none : (n : ℕ) → n ≤ 0 → areIdle l n ≡ true
@@ -49,7 +49,7 @@ module _ (l : List Task) where
   idle-none (suc n) h = absurd (omega arith)
 
 -- processes that are far from their return
-module _ (n : ℕ) (l : List Task) where
+module _ (n : ℕ) (l : List Control) where
   far-suc : (m : ℕ) → areFar n l (suc m) ≡ ((isIdle (placeAt l m) || ltb n (distance (placeAt l m))) && areFar n l m)
   unfolding areFar
   far-suc m = refl
@@ -74,7 +74,7 @@ module _ (n : ℕ) (l : List Task) where
   far-none (suc m) h = absurd (omega arith)
 
 -- the test whether a branch runs on, in its three parts
-module _ (left : ℕ) (l : List Task) (count k steps limit : ℕ) {p : Label} (e : p ≡ placeAt l k) {d : ℕ} (q : d ≡ distance p) where
+module _ (left : ℕ) (l : List Control) (count k steps limit : ℕ) {p : Label} (e : p ≡ placeAt l k) {d : ℕ} (q : d ≡ distance p) where
   near-told : distance (placeAt l k) ≡ d
   near-told = ap (λ (r : Label). distance r) (sym e) ∙ sym q
 
@@ -104,7 +104,8 @@ module _ (c : Card) (calls : List Request) where
   unfolding areCallable
   callable-suc m k = refl
 
-  callable-step : (m k : ℕ) → k < m → areCallable c calls (m - k) k ≡ (isProgram c (getD calls k noRequest .program) && areCallable c calls (m - (k + 1)) (k + 1))
+  callable-step : (m k : ℕ) → k < m → areCallable c calls (m - k) k ≡
+      (isProgram c (getD calls k noRequest .program) && areCallable c calls (m - (k + 1)) (k + 1))
   callable-step m k h =
       let e : m - k ≡ suc (m - (k + 1)) = omega arith in
       rw (e, add-one k) (callable-suc (m - (suc k)) k)
@@ -126,11 +127,13 @@ module _ (c : Card) (calls : List Request) where
 
 -- the calls
 module _ (calls : List Request) where
-  called-suc : (c : Card) (m k : ℕ) → calledFrom c calls (suc m) k ≡ calledFrom (call c k (getD calls k noRequest .program) (getD calls k noRequest .inputs) .card) calls m (suc k)
+  called-suc : (c : Card) (m k : ℕ) → calledFrom c calls (suc m) k ≡ calledFrom
+      (call c k (getD calls k noRequest .program) (getD calls k noRequest .inputs) .card) calls m (suc k)
   unfolding calledFrom
   called-suc c m k = refl
 
-  pub called-turn : (c d : Card) (m k : ℕ) {x : Request} → k < m → x ≡ getD calls k noRequest → d ≡ call c k (x .program) (x .inputs) .card → calledFrom c calls (m - k) k ≡ calledFrom d calls (m - (k + 1)) (k + 1)
+  pub called-turn : (c d : Card) (m k : ℕ) {x : Request} → k < m → x ≡ getD calls k noRequest → d ≡ call c k (x .program) (x .inputs) .card →
+      calledFrom c calls (m - k) k ≡ calledFrom d calls (m - (k + 1)) (k + 1)
   called-turn c d m k {x} h r e =
       let n : m - k ≡ suc (m - (k + 1)) = omega arith in
       rw (n, add-one k)

@@ -2,7 +2,7 @@
 use Prim.Native.Nat.{ℕ}
 use mathlib.Core.Path.{_≡_}
 use mathlib.Core.List.{List}
-use Rattle.construction.specs.declared.{Card.Card, Written.Written}
+use Rattle.construction.specs.declared.{card.Card.Card, texts.Written.Written}
 use Rattle.executions.specs.declared.{Request.Request}
 use Rattle.executions.specs.Listings.{listed, listedInto}
 

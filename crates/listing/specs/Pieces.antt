@@ -3,7 +3,7 @@ use Prim.Native.Nat.{ℕ, _+_, _^_}
 use mathlib.Core.Bool.{cond, _&&_}
 use mathlib.Core.List.{List, []}
 use lib.Dec.{leb}
-use Rattle.construction.specs.declared.{Card.Card}
+use Rattle.construction.specs.declared.{card.Card.Card}
 use Rattle.executions.specs.Listings.{pieceAfter}
 
 abbrev pub piecesOf : ℕ → ℕ → ℕ

@@ -1,18 +1,18 @@
--- What the recursion of the listing holds on its way: idle processes by their tasks, and the printed steps so far in two buffers with room for those still to choose.
+-- What the recursion of the listing holds on its way: idle processes by their controls, and the printed steps so far in two buffers with room for those still to choose.
 use Prim.Native.Nat.{ℕ, zero, suc, _+_, _*_, _<_, _≤_}
 use mathlib.Core.Path.{_≡_}
 use mathlib.Core.Bool.{Bool, true, _&&_}
 use mathlib.Core.List.{List}
 use lib.ListN.{length, getD, take}
 use Rattle.grammar.specs.Writing.{largest, Put}
-use Rattle.construction.specs.declared.{Task.Task}
-use Rattle.construction.specs.Parts.{idleTask}
+use Rattle.construction.specs.declared.{accesses.Control.Control}
+use Rattle.construction.specs.Parts.{idleControl}
 use Rattle.construction.specs.Requests.{isIdle}
 
--- none of the first n processes has an operation under way, by their tasks
-unfoldable pub areIdle : List Task → ℕ → Bool
+-- none of the first n processes has an operation under way, by their controls
+unfoldable pub areIdle : List Control → ℕ → Bool
 areIdle l zero = true
-areIdle l (suc n) = isIdle (getD l n idleTask .place) && areIdle l n
+areIdle l (suc n) = isIdle (getD l n idleControl .place) && areIdle l n
 
 -- Of at most three processes the numbers have one digit, and an answer has at most 132 bytes: the first x bytes of `numbers` and y of `answers` are in use,
 -- and each step still to choose has room.

@@ -6,8 +6,8 @@ use crate::runs::runs_on;
 use answers::kinds::is_refused;
 use answers::put_answer;
 use card::step;
-use construction::Card;
-use construction::Task;
+use construction::accesses::Control;
+use construction::card::Card;
 use grammar::writing::put_byte;
 use grammar::writing::put_decimal;
 use grammar::writing::put_word;
@@ -19,32 +19,32 @@ ghost use Prim.Native.Nat.{_+_, _-_, _<_};
 ghost use lib.ListN.{getD, take};
 ghost use lib.Dec.{eqb};
 ghost use Rattle.grammar.specs.Writing.{Put};
-ghost use Rattle.construction.specs.Parts.{idleTask};
+ghost use Rattle.construction.specs.Parts.{idleControl};
 ghost use Rattle.construction.specs.Requests.{isIdle, step};
 ghost use Rattle.executions.specs.Listings.{branchText, textAfter};
 ghost use Rattle.listing.specs.Prefixes.{areIdle, Holds, longest, capacity, Lines};
 
 // Whether process k is idle; one past the last is.
-pub(crate) fn is_idle_at(tasks: [Task; 8], k: u8) -> bool
-    ensures { λ r. ⌜ r ≡ isIdle (getD tasks k idleTask .place) ⌝ }
+pub(crate) fn is_idle_at(controls: [Control; 8], k: u8) -> bool
+    ensures { λ r. ⌜ r ≡ isIdle (getD controls k idleControl .place) ⌝ }
 {
     let at = k as usize;
     if at < 8 {
-        let task = tasks[at];
-        let place = task.place;
+        let control = controls[at];
+        let place = control.place;
         return is_idle(place);
     }
     true
 }
 
 // Whether none of the first processes has an operation under way.
-pub(crate) fn are_idle(tasks: [Task; 8], count: u8) -> bool
-    ensures { λ r. ⌜ r ≡ areIdle tasks count ⌝ }
+pub(crate) fn are_idle(controls: [Control; 8], count: u8) -> bool
+    ensures { λ r. ⌜ r ≡ areIdle controls count ⌝ }
 {
     let mut n = count;
     while n > 0 {
         n = n - 1;
-        if !is_idle_at(tasks, n) {
+        if !is_idle_at(controls, n) {
             return false;
         }
     }
@@ -52,13 +52,13 @@ pub(crate) fn are_idle(tasks: [Task; 8], count: u8) -> bool
 }
 
 // Whether a schedule ends: no step is left to choose, or nothing is under way.
-fn has_ended(left: u8, tasks: [Task; 8], count: u8) -> bool
-    ensures { λ r. ⌜ r ≡ (eqb left 0 || areIdle tasks count) ⌝ }
+fn has_ended(left: u8, controls: [Control; 8], count: u8) -> bool
+    ensures { λ r. ⌜ r ≡ (eqb left 0 || areIdle controls count) ⌝ }
 {
     if left == 0 {
         return true;
     }
-    are_idle(tasks, count)
+    are_idle(controls, count)
 }
 
 // A line: the process numbers, the answers, byte 10.
@@ -118,9 +118,9 @@ pub(crate) fn put_after(
         (capacity left (longest left x y)) r (now (buffer .exit))
         (now (numbers .entry)) x (now (numbers .exit)) (now (answers .entry)) y (now (answers .exit)) ⌝ }
 {
-    let tasks = card.tasks;
+    let controls = card.controls;
     let count = card.processCount;
-    if has_ended(left, tasks, count) {
+    if has_ended(left, controls, count) {
         return put_line(buffer, at, &numbers[..x], &answers[..y]);
     }
     let mut i = at;
@@ -128,12 +128,12 @@ pub(crate) fn put_after(
     while k < count {
         let process = k;
         k = k + 1;
-        if runs_on(left, tasks, count, process, card.steps, card.limit) {
+        if runs_on(left, controls, count, process, card.steps, card.limit) {
             i = put_run(
                 buffer,
                 i,
                 left,
-                tasks,
+                controls,
                 count,
                 process,
                 numbers,

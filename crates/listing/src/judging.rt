@@ -1,5 +1,5 @@
 // Whether a listing is made at all (document 02, order 13): every call's program is there (6), and neither the card nor the length is too large (17).
-use construction::Card;
+use construction::card::Card;
 use executions::Request;
 use opening::zeros;
 use requests::judging::is_below;

@@ -5,7 +5,7 @@ use crate::branches::put_line;
 use answers::kinds::is_refused;
 use answers::put_answer;
 use card::step;
-use construction::Card;
+use construction::card::Card;
 use grammar::writing::put_decimal;
 ghost use mathlib.Core.Path.{_≡_};
 ghost use Prim.Native.Nat.{_+_, _^_, _≤_};
@@ -63,9 +63,9 @@ fn put_from(
     if first == 0 {
         return put_after(buffer, at, left, card, numbers, x, answers, y);
     }
-    let tasks = card.tasks;
+    let controls = card.controls;
     let count = card.processCount;
-    if are_idle(tasks, count) {
+    if are_idle(controls, count) {
         if j == 0 {
             return put_line(buffer, at, &numbers[..x], &answers[..y]);
         }

@@ -3,9 +3,9 @@
 use crate::branches::is_idle_at;
 use crate::branches::put_line;
 use answers::put_answer;
-use construction::Answer;
-use construction::Label;
-use construction::Task;
+use construction::accesses::Control;
+use construction::accesses::Label;
+use construction::answers::Answer;
 use grammar::writing::put_decimal;
 use machine::places::is_idle;
 ghost use mathlib.Core.Path.{_≡_};
@@ -46,13 +46,13 @@ fn distance(place: Label) -> u8
 }
 
 // The place of process k, idle past the last.
-fn place_at(tasks: [Task; 8], k: u8) -> Label
-    ensures { λ r. ⌜ r ≡ placeAt tasks k ⌝ }
+fn place_at(controls: [Control; 8], k: u8) -> Label
+    ensures { λ r. ⌜ r ≡ placeAt controls k ⌝ }
 {
     let at = k as usize;
     if at < 8 {
-        let task = tasks[at];
-        let place = task.place;
+        let control = controls[at];
+        let place = control.place;
         return place;
     }
     Label::Idle
@@ -69,13 +69,13 @@ fn is_far(n: u8, place: Label) -> bool
 }
 
 // Whether none of the first processes can.
-fn are_far(n: u8, tasks: [Task; 8], count: u8) -> bool
-    ensures { λ r. ⌜ r ≡ areFar n tasks count ⌝ }
+fn are_far(n: u8, controls: [Control; 8], count: u8) -> bool
+    ensures { λ r. ⌜ r ≡ areFar n controls count ⌝ }
 {
     let mut m = count;
     while m > 0 {
         m = m - 1;
-        let place = place_at(tasks, m);
+        let place = place_at(controls, m);
         if !is_far(n, place) {
             return false;
         }
@@ -84,16 +84,23 @@ fn are_far(n: u8, tasks: [Task; 8], count: u8) -> bool
 }
 
 // Whether process k can step, and neither with that step nor with those left after it can any process return or reach the step limit.
-pub(crate) fn runs_on(left: u8, tasks: [Task; 8], count: u8, k: u8, steps: u64, limit: u64) -> bool
+pub(crate) fn runs_on(
+    left: u8,
+    controls: [Control; 8],
+    count: u8,
+    k: u8,
+    steps: u64,
+    limit: u64,
+) -> bool
     requires { ⌜ 0 < left ⌝ }
-    ensures { λ r. ⌜ r ≡ runsOn left tasks count k steps limit ⌝ }
+    ensures { λ r. ⌜ r ≡ runsOn left controls count k steps limit ⌝ }
 {
-    let place = place_at(tasks, k);
+    let place = place_at(controls, k);
     let near = distance(place);
     if near <= left {
         return false;
     }
-    if !are_far(left - 1, tasks, count) {
+    if !are_far(left - 1, controls, count) {
         return false;
     }
     if limit < steps {
@@ -110,7 +117,7 @@ pub(crate) fn put_run(
     buffer: &mut [u8],
     at: usize,
     left: u8,
-    tasks: [Task; 8],
+    controls: [Control; 8],
     count: u8,
     k: u8,
     numbers: &mut [u8],
@@ -121,16 +128,26 @@ pub(crate) fn put_run(
     requires { ⌜ (0 < left) × (k < count) × Holds count left (now numbers) x (now answers) y ⌝ }
     ensures { λ r. ⌜
         Lines (now (buffer .entry)) at
-        (runText tasks k (take x (now (numbers .entry))) (take y (now (answers .entry))) (λ z w. runsText (left - 1) tasks count z w))
+        (runText controls k (take x (now (numbers .entry))) (take y (now (answers .entry))) (λ z w. runsText (left - 1) controls count z w))
         (capacity (left - 1) (longest left x y)) r (now (buffer .exit))
         (now (numbers .entry)) x (now (numbers .exit)) (now (answers .entry)) y (now (answers .exit)) ⌝ }
 {
-    if is_idle_at(tasks, k) {
+    if is_idle_at(controls, k) {
         return at;
     }
     let i = put_decimal(numbers, x, k as u64);
     let j = put_answer(answers, y, Answer::Run);
-    put_runs(buffer, at, left - 1, tasks, count, numbers, i, answers, j)
+    put_runs(
+        buffer,
+        at,
+        left - 1,
+        controls,
+        count,
+        numbers,
+        i,
+        answers,
+        j,
+    )
 }
 
 // All schedules of this many steps.
@@ -138,7 +155,7 @@ fn put_runs(
     buffer: &mut [u8],
     at: usize,
     left: u8,
-    tasks: [Task; 8],
+    controls: [Control; 8],
     count: u8,
     numbers: &mut [u8],
     x: usize,
@@ -147,7 +164,7 @@ fn put_runs(
 ) -> usize
     requires { ⌜ Holds count left (now numbers) x (now answers) y ⌝ }
     ensures { λ r. ⌜
-        Lines (now (buffer .entry)) at (runsText left tasks count (take x (now (numbers .entry))) (take y (now (answers .entry))))
+        Lines (now (buffer .entry)) at (runsText left controls count (take x (now (numbers .entry))) (take y (now (answers .entry))))
         (capacity left (longest left x y)) r (now (buffer .exit))
         (now (numbers .entry)) x (now (numbers .exit)) (now (answers .entry)) y (now (answers .exit)) ⌝ }
 {
@@ -157,7 +174,7 @@ fn put_runs(
     let mut i = at;
     let mut k: u8 = 0;
     while k < count {
-        i = put_run(buffer, i, left, tasks, count, k, numbers, x, answers, y);
+        i = put_run(buffer, i, left, controls, count, k, numbers, x, answers, y);
         k = k + 1;
     }
     i

@@ -1,8 +1,8 @@
 // Where a listing begins: the card as it was opened, whatever it has done since, and one call per process made then.
 use crate::judging::request_at;
 use card::call;
-use construction::Card;
-use construction::Contents;
+use construction::card::Card;
+use construction::texts::Contents;
 use executions::Request;
 use opening::fresh;
 ghost use mathlib.Core.Path.{_≡_};

@@ -11,9 +11,9 @@ use lib.ListN.{length, getD, set, take, replicate, length-set, length-take, leng
 use lib.Seq.{getD-set-same, getD-set-other}
 use borrow.Author.Tests.{eqb-true, eqb-false, le-ltb}
 use Rattle.construction.specs.Dictionary.{noItem, noted, withValue, nextWrite}
-use Rattle.construction.specs.Machine.{writeTask, writeFrom}
+use Rattle.construction.specs.Machine.{writeControl, writeFrom}
 use Rattle.helping.specs.Numbers.{revalued, withValues, Numbered}
-use Rattle.codes.specs.Types.{Item, Dictionary, Task}
+use Rattle.codes.specs.Types.{Item, Dictionary, Control}
 use Rattle.codes.specs.Parts.{wordAt, table}
 use Rattle.codes.specs.Codes.{byte, half, odd, bit, pair, upper, itemOf}
 use Rattle.codes.proofs.Blocks.{length-table, table-same, getD-table}
@@ -30,7 +30,9 @@ module _ (l : List ℕ) (base n : ℕ) where
   unfolding dictionaryAt
   noted-length p =
       let t = length-table n (λ k. itemAt l base k) in
-      sym (length-take n (table n (λ k. itemAt l base k) ++ replicate (32 - n) noItem) ∙ rw (length-append (table n (λ k. itemAt l base k)) (replicate (32 - n) noItem), t) (omega arith))
+      sym
+      (length-take n (table n (λ k. itemAt l base k) ++ replicate (32 - n) noItem) ∙ rw
+      (length-append (table n (λ k. itemAt l base k)) (replicate (32 - n) noItem), t) (omega arith))
 
   pub item-is : (k : ℕ) → k < n → getD (dictionaryAt l base n .items) k noItem ≡ itemAt l base k
   unfolding dictionaryAt
@@ -46,20 +48,23 @@ module _ (l : List ℕ) (base n : ℕ) where
   unfolding dictionaryAt
   numbered p =
       record {
-        keyed = table-taken n (λ k. itemAt l base k .variable) (replicate (32 - n) 0) ∙ sym (table-mapped (λ (x : Item). x .variable) n (λ k. itemAt l base k) (replicate (32 - n) noItem));
-        valued = table-taken n (λ k. itemAt l base k .value) (replicate (32 - n) 0) ∙ sym (table-mapped (λ (x : Item). x .value) n (λ k. itemAt l base k) (replicate (32 - n) noItem));
+        keyed = table-taken n (λ k. itemAt l base k .variable) (replicate (32 - n) 0) ∙ sym
+            (table-mapped (λ (x : Item). x .variable) n (λ k. itemAt l base k) (replicate (32 - n) noItem));
+        valued = table-taken n (λ k. itemAt l base k .value) (replicate (32 - n) 0) ∙ sym
+            (table-mapped (λ (x : Item). x .value) n (λ k. itemAt l base k) (replicate (32 - n) noItem));
         count = noted-length p;
       }
 
   -- where a helper goes on that wrote item k
   module _ (narrow : n ≤ 32) (seq k : ℕ) where
-    pub writes-on : (next : ℕ) → next ≡ nextWrite seq (dictionaryAt l base n) (k + 1) → (t : Task) → t ≡ writeTask next n → t ≡ writeFrom seq (dictionaryAt l base n) (suc k)
+    pub writes-on : (next : ℕ) → next ≡ nextWrite seq (dictionaryAt l base n) (k + 1) → (t : Control) → t ≡ writeControl next n →
+        t ≡ writeFrom seq (dictionaryAt l base n) (suc k)
     writes-on next en t et =
         let e : next ≡ nextWrite seq (dictionaryAt l base n) (suc k) = en ∙ ap (nextWrite seq (dictionaryAt l base n)) (add-one k) in
         let c = noted-length narrow in
-        et ∙ (λ j. writeTask (e j) (c j))
+        et ∙ (λ j. writeControl (e j) (c j))
 
-    pub writes-none : n ≤ k → (t : Task) → t ≡ writeTask 0 0 → t ≡ writeFrom seq (dictionaryAt l base n) (suc k)
+    pub writes-none : n ≤ k → (t : Control) → t ≡ writeControl 0 0 → t ≡ writeFrom seq (dictionaryAt l base n) (suc k)
     unfolding nextWrite
     writes-none p t et =
         let c = noted-length narrow in
@@ -115,7 +120,8 @@ module _ (l : List ℕ) (base : ℕ) (xs : List ℕ) where
   value-word (suc n) k p h = go (eqb k n) refl (λ q. value-word n k q (omega arith))
     where
       go :
-          (t : Bool) → eqb k n ≡ t → (k < n → wordAt (putValues l base n xs) ((base + k) * 3 + 2) ≡ pair (getD xs k 0) (upper (wordAt l ((base + k) * 3 + 2)))) →
+          (t : Bool) → eqb k n ≡ t → (k < n → wordAt (putValues l base n xs) ((base + k) * 3 + 2) ≡ pair (getD xs k 0) (upper (wordAt l ((base + k) * 3 + 2))))
+          →
           wordAt (putValue (putValues l base n xs) (base + n) (getD xs n 0)) ((base + k) * 3 + 2) ≡ pair (getD xs k 0) (upper (wordAt l ((base + k) * 3 + 2)))
       go true e before =
           let z = eqb-true k n e in
@@ -140,7 +146,13 @@ module _ (l : List ℕ) (base : ℕ) (xs : List ℕ) where
       ∙ (λ i. record {
         variable = byte (high i);
         value = low i;
-        cell = record { val0 = half (wordAt l ((base + k) * 3 + 1)); val1 = half (upper (wordAt l ((base + k) * 3 + 1))); toggle = odd (high i / 256); seq = wordAt l ((base + k) * 3) };
+        cell = record {
+          val0 = half (wordAt l ((base + k) * 3 + 1));
+          val1 = half (upper (wordAt l ((base + k) * 3 + 1)));
+          toggle = odd (high i / 256);
+          seq =
+              wordAt l ((base + k) * 3);
+        };
       })
 
 revalued-rest : (r : List Item) → revalued r [] ≡ r
@@ -162,6 +174,7 @@ pub values-are :
     dictionaryAt (putValues l base n xs) base n ≡ withValues (dictionaryAt l base n) (take n xs)
 unfolding dictionaryAt
 values-are l base n xs h p s =
-    let e = table-same n (λ k. withValue (itemAt l base k) (getD xs k 0)) (λ k. itemAt (putValues l base n xs) base k) (λ k q. item-revalued l base xs n k q h (s k q)) in
+    let e = table-same n (λ k. withValue (itemAt l base k) (getD xs k 0)) (λ k. itemAt (putValues l base n xs) base k)
+    (λ k q. item-revalued l base xs n k q h (s k q)) in
     let f = revalued-table n (λ k. itemAt l base k) xs (replicate (32 - n) noItem) p in
     λ i. record { length = n; items = (ap (λ (t : List Item). t ++ replicate (32 - n) noItem) e ∙ sym f) i }

@@ -29,7 +29,7 @@ use Rattle.loan.proofs.Held.{values-length, values-kept, values-are}
 use Rattle.loan.proofs.Inserting.{item-more}
 use Rattle.loan.proofs.Spans.{has-long, span-fits}
 use Rattle.loan.proofs.Sizes.{Small, SmallValues, simulate-small}
-use Rattle.loan.proofs.Pauses.{pause-narrow, task-narrow}
+use Rattle.loan.proofs.Pauses.{pause-narrow, control-narrow}
 use Rattle.loan.proofs.Revaluing.{Revalued, simulate-revalued, by-values}
 
 dictionary-length : (l : List ℕ) (base n : ℕ) → n ≡ dictionaryAt l base n .length
@@ -138,7 +138,8 @@ module _ (b l : List ℕ) (i number : ℕ) where
       let s = spanIn b l i in
       let fits = span-fits b l i p s refl in
       put-back l (s .base) (s .end) (fits .end) (fits .long) (simulatedIn b l i number .dictionary)
-      (simulate-revalued (variableCountIn b) (textIn b (lastIn b i .program) number) (lastIn b i .words) (simulationIn b i) (heldDictionary b l i)) (simulated-fits .1)
+      (simulate-revalued (variableCountIn b) (textIn b (lastIn b i .program) number) (lastIn b i .words) (simulationIn b i) (heldDictionary b l i))
+      (simulated-fits .1)
 
   pub simulated-is : i < 256 → hasItems b l i ≡ true → dictionaryIn b (simulatedLoan b l i number) i ≡ simulatedIn b l i number .dictionary
   simulated-is p has = rw has (rw has at (simulated-held p))
@@ -152,7 +153,7 @@ module _ (b l : List ℕ) (i number : ℕ) where
       let inputs = lastIn b i .words in
       let count = simulate-length (variableCountIn b) program inputs (simulationIn b i) (heldDictionary b l i) in
       let fits = span-fits b l i p (spanIn b l i) refl in
-      task-narrow number (x .dictionary) (x .pause) (noted-most (x .dictionary) (omega (arith, fits .end)))
+      control-narrow number (x .dictionary) (x .pause) (noted-most (x .dictionary) (omega (arith, fits .end)))
       (pause-narrow (variableCountIn b) (variable-count-fits b) program inputs (simulationIn b i) (heldDictionary b l i))
 
 -- a program that begins: its state fits, its dictionary is empty, and where the process goes on fits
@@ -170,5 +171,5 @@ module _ (b : List ℕ) (number : ℕ) (a : Announcement) where
   pub begun-target : afterPause number (begunIn b number a .dictionary) (begunIn b number a .pause) .target < 256
   begun-target =
       let x = begunIn b number a in
-      task-narrow number (x .dictionary) (x .pause) (rw begun-empty (omega arith))
+      control-narrow number (x .dictionary) (x .pause) (rw begun-empty (omega arith))
       (pause-narrow (variableCountIn b) (variable-count-fits b) (textIn b (a .program) number) (a .words) started empty)

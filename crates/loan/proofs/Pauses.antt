@@ -1,4 +1,4 @@
--- A simulation that stands still for want of a variable wants one that fits a byte, and goes on at a task that does.
+-- A simulation that stands still for want of a variable wants one that fits a byte, and goes on at a control that does.
 use Prim.Native.Nat.{ℕ, zero, suc, _+_, _<_, _≤_}
 use mathlib.Core.Path.{_≡_, refl}
 use mathlib.Core.Bool.{Bool, true, false, cond, not, _&&_}
@@ -7,16 +7,16 @@ use native.Mathlib.Omega.{arith}
 use lib.Dec.{eqb, ltb}
 use lib.ListN.{length, length-take}
 use borrow.Author.Tests.{ltb-true}
-use Rattle.construction.specs.declared.Words.{Words}
-use Rattle.construction.specs.declared.Program.{Program}
-use Rattle.construction.specs.declared.Effect.{Effect}
-use Rattle.construction.specs.declared.Instruction.{Instruction}
-use Rattle.construction.specs.declared.Simulation.{Simulation}
-use Rattle.construction.specs.declared.Simulated.{Simulated}
-use Rattle.construction.specs.declared.Dictionary.{Dictionary}
-use Rattle.construction.specs.declared.Task.{Task}
-use Rattle.construction.specs.declared.Pause.{Pause}
-use Rattle.construction.specs.declared.Pause.the-variants.{Ended, Faulted, Lacks}
+use Rattle.construction.specs.declared.cells.Words.{Words}
+use Rattle.construction.specs.declared.programs.Program.{Program}
+use Rattle.construction.specs.declared.programs.Effect.{Effect}
+use Rattle.construction.specs.declared.programs.Instruction.{Instruction}
+use Rattle.construction.specs.declared.simulations.Simulation.{Simulation}
+use Rattle.construction.specs.declared.simulations.Simulated.{Simulated}
+use Rattle.construction.specs.declared.simulations.Dictionary.{Dictionary}
+use Rattle.construction.specs.declared.accesses.Control.{Control}
+use Rattle.construction.specs.declared.simulations.Pause.{Pause}
+use Rattle.construction.specs.declared.simulations.Pause.the-variants.{Ended, Faulted, Lacks}
 use Rattle.construction.specs.Instructions.{word, load, store, isCell, free, effectOf, nextEffect, nextInstruction}
 use Rattle.construction.specs.Effects.{touched, execute}
 use Rattle.construction.specs.Dictionary.{has, noted, nextWrite}
@@ -98,10 +98,10 @@ module _ (n : ℕ) (narrow : n < 256) (program : Program) (inputs : Words) where
 
 pub write-narrow : (number : ℕ) (d : Dictionary) (k : ℕ) → length (noted d) ≤ 32 → writeFrom number d k .target < 256
 write-narrow number d k p =
-    on-test (λ (t : Task). t .target < 256) (ltb (nextWrite number d k) (length (noted d)))
+    on-test (λ (t : Control). t .target < 256) (ltb (nextWrite number d k) (length (noted d)))
     (λ t. let z = ltb-true (nextWrite number d k) (length (noted d)) t in omega arith) (λ _. omega arith)
 
-pub task-narrow : (number : ℕ) (d : Dictionary) (p : Pause) → length (noted d) ≤ 32 → NarrowPause p → afterPause number d p .target < 256
-task-narrow number d Ended q h = write-narrow number d 0 q
-task-narrow number d Faulted q h = omega arith
-task-narrow number d (Lacks v) q h = h
+pub control-narrow : (number : ℕ) (d : Dictionary) (p : Pause) → length (noted d) ≤ 32 → NarrowPause p → afterPause number d p .target < 256
+control-narrow number d Ended q h = write-narrow number d 0 q
+control-narrow number d Faulted q h = omega arith
+control-narrow number d (Lacks v) q h = h

@@ -8,9 +8,9 @@ use lib.Dec.{ltb}
 use lib.ListN.{length, getD, set, take, length-set, length-take}
 use lib.Seq.{ext-getD, getD-take, length-take-le}
 use borrow.Author.Tests.{ltb-true, ltb-false}
-use Rattle.construction.specs.declared.Words.{Words}
-use Rattle.construction.specs.declared.Program.{Program}
-use Rattle.construction.specs.declared.Simulation.{Simulation}
+use Rattle.construction.specs.declared.cells.Words.{Words}
+use Rattle.construction.specs.declared.programs.Program.{Program}
+use Rattle.construction.specs.declared.simulations.Simulation.{Simulation}
 use Rattle.construction.specs.Dictionary.{noItem, noted, find, has, valueAt, withValue, assign}
 use Rattle.construction.specs.Effects.{Store}
 use Rattle.construction.specs.Helping.{withNotes, simulate}
@@ -66,7 +66,8 @@ simulate-revalued n program inputs s d =
     (record { count = refl; long = refl; item = λ k. refl; past = λ k p. refl })
 
 -- by the values alone
-revalued-get : (es : List Item) (ys : List ℕ) (k : ℕ) → k < length ys → k < length es → getD (revalued es ys) k noItem ≡ withValue (getD es k noItem) (getD ys k 0)
+revalued-get : (es : List Item) (ys : List ℕ) (k : ℕ) → k < length ys → k < length es →
+    getD (revalued es ys) k noItem ≡ withValue (getD es k noItem) (getD ys k 0)
 unfolding revalued
 revalued-get [] ys k p q = absurd (omega arith)
 revalued-get (e ∷ es) [] k p q = absurd (omega arith)

@@ -6,8 +6,9 @@ use mathlib.Core.List.{List, [], _∷_}
 use native.Mathlib.Omega.{arith}
 use lib.Dec.{eqb, ltb}
 use lib.ListN.{getD, set}
-use Rattle.construction.specs.declared.Effect.{Effect}
-use Rattle.construction.specs.Instructions.{word, withWord, sum, difference, load, store, isCell, free, effectOf, forward, withRegister, withOutput, skipped, faulted, fetch, shortened, nextInstruction, nextEffect}
+use Rattle.construction.specs.declared.programs.Effect.{Effect}
+use Rattle.construction.specs.Instructions.{word, withWord, sum, difference, load, store, isCell, free, effectOf, forward, withRegister, withOutput, skipped}
+use Rattle.construction.specs.Instructions.{faulted, fetch, shortened, nextInstruction, nextEffect}
 use Rattle.construction.specs.Effects.{Store, Executed, allocated, execute}
 use Rattle.construction.specs.Dictionary.{noItem, assign, find}
 use Rattle.construction.specs.Helping.{noteOf, withNotes, simulate}
@@ -118,7 +119,8 @@ module _ (s : Simulation) (p : FitsSimulation s) where
 
   faulted-small : FitsSimulation (faulted s)
   unfolding faulted
-  faulted-small = record { counter = p .counter; registers = p .registers; outputs = record { w0 = omega arith; w1 = omega arith; w2 = omega arith; w3 = omega arith } }
+  faulted-small = record
+      { counter = p .counter; registers = p .registers; outputs = record { w0 = omega arith; w1 = omega arith; w2 = omega arith; w3 = omega arith } }
 
 abbrev SmallStores : List Store → Type 0
 SmallStores [] = Unit {0}

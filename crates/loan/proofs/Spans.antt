@@ -8,10 +8,10 @@ use native.Mathlib.Nat.{mul-le-mul-left}
 use lib.Dec.{leb, ltb}
 use lib.ListN.{length, getD}
 use borrow.Author.Tests.{leb-true, lt-ltb, le-ltb}
-use Rattle.construction.specs.declared.Writing.{Writing}
+use Rattle.construction.specs.declared.accesses.Writing.{Writing}
 use Rattle.construction.specs.Dictionary.{noItem, nextWrite}
 use Rattle.construction.specs.Machine.{writeFrom, writing}
-use Rattle.codes.specs.Types.{Item, Task}
+use Rattle.codes.specs.Types.{Item, Control}
 use Rattle.codes.specs.Parts.{stores}
 use Rattle.codes.specs.Codes.{byte, itemWords}
 use Rattle.block.specs.Layout.{numberAt, roomIn, notedIn, putNoted}
@@ -65,14 +65,14 @@ module _ (b l : List ℕ) (i : ℕ) (s : Span) (e : s ≡ spanIn b l i) where
   next-of seq k r h = h ∙ ap (λ (z : Span). nextWrite seq (dictionaryAt l (z .base) (z .end)) k) e
 
   pub writing-of :
-      (number : ℕ) (task : Task) (x : Item) (t : Task) → x ≡ getD (dictionaryAt l (s .base) (s .end) .items) (task .target) noItem →
-      t ≡ writeFrom number (dictionaryAt l (s .base) (s .end)) (suc (task .target)) →
-      _≡_ {A = Writing} (record { item = x; task = t }) (writing number task (heldDictionary b l i))
+      (number : ℕ) (control : Control) (x : Item) (t : Control) → x ≡ getD (dictionaryAt l (s .base) (s .end) .items) (control .target) noItem →
+      t ≡ writeFrom number (dictionaryAt l (s .base) (s .end)) (suc (control .target)) →
+      _≡_ {A = Writing} (record { item = x; control = t }) (writing number control (heldDictionary b l i))
   unfolding writing
-  writing-of number task x t ex et =
-      let item = item-of (task .target) x ex in
-      let next = et ∙ ap (λ (z : Span). writeFrom number (dictionaryAt l (z .base) (z .end)) (suc (task .target))) e in
-      λ j. record { item = item j; task = next j }
+  writing-of number control x t ex et =
+      let item = item-of (control .target) x ex in
+      let next = et ∙ ap (λ (z : Span). writeFrom number (dictionaryAt l (z .base) (z .end)) (suc (control .target))) e in
+      λ j. record { item = item j; control = next j }
 
 -- one item more, by the tests that decide it
 module _ (b l : List ℕ) (i : ℕ) (e : Item) (t : Bool) (has : t ≡ hasItems b l i) where

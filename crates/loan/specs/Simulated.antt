@@ -3,8 +3,8 @@ use Prim.Native.Nat.{ℕ}
 use mathlib.Core.List.{List}
 use mathlib.Core.Path.{_≡_}
 use lib.ListN.{length, take}
-use Rattle.construction.specs.declared.Pause.{Pause}
-use Rattle.construction.specs.declared.Simulated.{Simulated}
+use Rattle.construction.specs.declared.simulations.Pause.{Pause}
+use Rattle.construction.specs.declared.simulations.Simulated.{Simulated}
 use Rattle.construction.specs.Instructions.{started}
 use Rattle.construction.specs.Dictionary.{valueAt, empty}
 use Rattle.construction.specs.Helping.{simulate}

@@ -4,9 +4,9 @@ use block::cells::process_count;
 use block::cells::room;
 use block::own::noted;
 use block::own::put_noted;
-use construction::Item;
-use construction::Task;
-use construction::Writing;
+use construction::accesses::Control;
+use construction::accesses::Writing;
+use construction::simulations::Item;
 ghost use mathlib.Core.Path.{_≡_};
 ghost use lib.ListN.{getD};
 ghost use Rattle.construction.specs.Dictionary.{noItem, nextWrite};
@@ -65,13 +65,13 @@ pub fn next_write(b: &[u64], l: &[u64], i: u8, seq: u64, from: u8) -> u8
 }
 
 // Line H36: the item that process i writes, and where it goes on.
-pub fn writing(b: &[u64], l: &[u64], i: u8, number: u64, task: Task) -> Writing
-    ensures { λ r. ⌜ r ≡ writing number task (heldDictionary (now (b .entry)) (now (l .entry)) i) ⌝ }
+pub fn writing(b: &[u64], l: &[u64], i: u8, number: u64, control: Control) -> Writing
+    ensures { λ r. ⌜ r ≡ writing number control (heldDictionary (now (b .entry)) (now (l .entry)) i) ⌝ }
 {
     let s = items_of(b, l, i);
     Writing {
-        item: items::item_or(l, s.base, s.end, task.target),
-        task: items::after_write(l, s.base, s.end, number, task.target),
+        item: items::item_or(l, s.base, s.end, control.target),
+        control: items::after_write(l, s.base, s.end, number, control.target),
     }
 }
 

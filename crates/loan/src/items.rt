@@ -3,9 +3,9 @@ use codes::bit;
 use codes::byte;
 use codes::half;
 use codes::odd;
-use construction::Item;
-use construction::Record;
-use construction::Task;
+use construction::accesses::Control;
+use construction::cells::Record;
+use construction::simulations::Item;
 use helping::write_from;
 ghost use mathlib.Core.Path.{_≡_};
 ghost use Prim.Native.Nat.{ℕ, suc, _+_, _*_, _<_, _≤_};
@@ -129,7 +129,7 @@ pub(crate) fn next_write(l: &[u64], base: usize, end: u8, seq: u64, from: u8) ->
 }
 
 // Lines H31 and H32: where a helper goes on that wrote item k.
-pub(crate) fn after_write(l: &[u64], base: usize, end: u8, seq: u64, k: u8) -> Task
+pub(crate) fn after_write(l: &[u64], base: usize, end: u8, seq: u64, k: u8) -> Control
     requires { ⌜ (base < 10000) × (end ≤ 32) × ((base + end) * 3 ≤ length (now l)) ⌝ }
     ensures { λ r. ⌜ r ≡ writeFrom seq (dictionaryAt (now (l .entry)) base end) (suc k) ⌝ }
 {

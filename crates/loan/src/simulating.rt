@@ -6,11 +6,11 @@ use block::own::last;
 use block::own::put_simulation;
 use block::own::simulation;
 use block::texts::is_earlier;
-use construction::Announcement;
-use construction::Pause;
-use construction::Simulation;
-use construction::Task;
-use construction::Words;
+use construction::accesses::Control;
+use construction::cells::Announcement;
+use construction::cells::Words;
+use construction::simulations::Pause;
+use construction::simulations::Simulation;
 use helping::after_pause;
 use helping::simulation::Paused;
 use helping::simulation::turn;
@@ -88,7 +88,7 @@ fn simulate(
 }
 
 // Lines P18 and H1: the program of an announcement begins on no items. The answer is where process i goes on.
-pub fn begin(b: &mut [u64], i: u8, number: u64, cell: Announcement) -> Task
+pub fn begin(b: &mut [u64], i: u8, number: u64, cell: Announcement) -> Control
     ensures { λ r. ⌜ (now (b .exit) ≡ putSimulation (now (b .entry)) i (begunIn (now (b .entry)) number cell .simulation)) × (r ≡ afterPause number (begunIn (now (b .entry)) number cell .dictionary) (begunIn (now (b .entry)) number cell .pause)) ⌝ }
 {
     let keys = [0u8; 32];
@@ -107,7 +107,7 @@ pub fn begin(b: &mut [u64], i: u8, number: u64, cell: Announcement) -> Task
 }
 
 // Lines H20 to H30: the simulation of process i goes on, on the items that it has noted. The answer is where the process goes on.
-pub fn go_on(b: &mut [u64], l: &mut [u64], i: u8, number: u64) -> Task
+pub fn go_on(b: &mut [u64], l: &mut [u64], i: u8, number: u64) -> Control
     ensures { λ r. ⌜ (now (b .exit) ≡ putSimulation (now (b .entry)) i (simulatedIn (now (b .entry)) (now (l .entry)) i number .simulation)) × (now (l .exit) ≡ simulatedLoan (now (b .entry)) (now (l .entry)) i number) × (r ≡ afterPause number (simulatedIn (now (b .entry)) (now (l .entry)) i number .dictionary) (simulatedIn (now (b .entry)) (now (l .entry)) i number .pause)) ⌝ }
 {
     let s = items_of(b, l, i);

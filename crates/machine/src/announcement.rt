@@ -4,17 +4,17 @@ use crate::outcome;
 use crate::places::by_flag;
 use crate::places::first_choice;
 use crate::places::holder_of;
-use construction::Announcement;
-use construction::AnnouncementAccess;
-use construction::AnnouncementAccessed;
-use construction::Answer;
-use construction::Flag;
-use construction::Gate;
-use construction::Label;
-use construction::Operation;
-use construction::Swap;
-use construction::Task;
-use construction::Yield;
+use construction::accesses::AnnouncementAccess;
+use construction::accesses::AnnouncementAccessed;
+use construction::accesses::Control;
+use construction::accesses::Label;
+use construction::accesses::Swap;
+use construction::answers::Answer;
+use construction::card::Operation;
+use construction::cells::Announcement;
+use construction::cells::Flag;
+use construction::cells::Gate;
+use construction::cells::Yield;
 ghost use mathlib.Core.Path.{_≡_};
 ghost use Rattle.construction.specs.Machine.{announced, flagged, withdrawn, finished, readAnnouncement, replaceAnnouncement, whose, announce, withdraw, readFlag, finish, accessAnnouncement};
 ghost use Rattle.construction.specs.Requests.{returned};
@@ -87,7 +87,7 @@ fn read_announcement(cell: Announcement, m: u8, next: Label) -> AnnouncementAcce
     AnnouncementAccessed {
         cell,
         read: cell,
-        task: Task {
+        control: Control {
             place: next,
             target: m,
         },
@@ -99,21 +99,21 @@ fn read_announcement(cell: Announcement, m: u8, next: Label) -> AnnouncementAcce
 fn replace_announcement(
     cell: Announcement,
     last: Announcement,
-    task: Task,
+    control: Control,
     expected: Announcement,
     new: Announcement,
     next: Label,
 ) -> AnnouncementAccessed
-    ensures { λ r. ⌜ r ≡ replaceAnnouncement cell last task expected new next ⌝ }
+    ensures { λ r. ⌜ r ≡ replaceAnnouncement cell last control expected new next ⌝ }
 {
     let swapped = cells::swap_announcement(cell, expected, new);
     let after = swapped.cell;
     AnnouncementAccessed {
         cell: after,
         read: last,
-        task: Task {
+        control: Control {
             place: next,
-            target: task.target,
+            target: control.target,
         },
         swap: outcome(swapped.won),
     }
@@ -138,16 +138,16 @@ pub fn whose(access: AnnouncementAccess, processCount: u8, process: u8, gate: Ga
 }
 
 // Lines P2 and P3: an operation is announced.
-pub fn announce(operation: Operation, gate: Gate, task: Task) -> AnnouncementAccessed
-    ensures { λ r. ⌜ r ≡ announce operation gate task ⌝ }
+pub fn announce(operation: Operation, gate: Gate, control: Control) -> AnnouncementAccessed
+    ensures { λ r. ⌜ r ≡ announce operation gate control ⌝ }
 {
     let new = announced(operation, gate);
     AnnouncementAccessed {
         cell: new,
         read: new,
-        task: Task {
+        control: Control {
             place: Label::P5,
-            target: task.target,
+            target: control.target,
         },
         swap: Swap::None,
     }
@@ -158,14 +158,14 @@ pub fn withdraw(
     cell: Announcement,
     operation: Operation,
     last: Announcement,
-    task: Task,
+    control: Control,
 ) -> AnnouncementAccessed
-    ensures { λ r. ⌜ r ≡ withdraw cell operation last task ⌝ }
+    ensures { λ r. ⌜ r ≡ withdraw cell operation last control ⌝ }
 {
     replace_announcement(
         cell,
         last,
-        task,
+        control,
         last,
         withdrawn(last, operation),
         Label::P7,
@@ -194,14 +194,14 @@ pub fn finish(
     gate: Gate,
     last: Announcement,
     yields: Yield,
-    task: Task,
+    control: Control,
 ) -> AnnouncementAccessed
-    ensures { λ r. ⌜ r ≡ finish flag next cell gate last yields task ⌝ }
+    ensures { λ r. ⌜ r ≡ finish flag next cell gate last yields control ⌝ }
 {
     replace_announcement(
         cell,
         last,
-        task,
+        control,
         flagged(last, flag),
         finished(last, gate, yields),
         next,
@@ -217,13 +217,13 @@ pub fn access_announcement(
     gate: Gate,
     last: Announcement,
     yields: Yield,
-    task: Task,
+    control: Control,
 ) -> AnnouncementAccessed
-    ensures { λ r. ⌜ r ≡ accessAnnouncement access m cell operation gate last yields task ⌝ }
+    ensures { λ r. ⌜ r ≡ accessAnnouncement access m cell operation gate last yields control ⌝ }
 {
     match access {
-        AnnouncementAccess::Announce => announce(operation, gate, task),
-        AnnouncementAccess::Withdraw => withdraw(cell, operation, last, task),
+        AnnouncementAccess::Announce => announce(operation, gate, control),
+        AnnouncementAccess::Withdraw => withdraw(cell, operation, last, control),
         AnnouncementAccess::ReadOwn { done, active, exit } => read_flag(
             cell,
             m,
@@ -239,7 +239,7 @@ pub fn access_announcement(
             gate,
             last,
             yields,
-            task,
+            control,
         ),
     }
 }

@@ -6,7 +6,7 @@ pub mod gate; // gate.rt: the accesses of the gate
 pub mod places; // places.rt: the access of each place, and the choices between places
 pub mod record; // record.rt: the swap of a record
 
-use construction::Swap;
+use construction::accesses::Swap;
 ghost use mathlib.Core.Path.{_≡_};
 ghost use Rattle.construction.specs.Machine.{outcome};
 

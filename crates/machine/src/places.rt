@@ -1,10 +1,10 @@
 // The access of each place (lines P1 to P24, C1 to C6, F1 to F4, H21, H36), and the choices that the lines make between places.
-use construction::Access;
-use construction::AnnouncementAccess;
-use construction::Flag;
-use construction::GateAccess;
-use construction::Holder;
-use construction::Label;
+use construction::accesses::Access;
+use construction::accesses::AnnouncementAccess;
+use construction::accesses::GateAccess;
+use construction::accesses::Label;
+use construction::cells::Flag;
+use construction::cells::Holder;
 use labels::same_label;
 ghost use mathlib.Core.Path.{_≡_};
 ghost use Rattle.construction.specs.Machine.{accessOf, byHolder, byFlag, holderOf, firstChoice, afterLast};

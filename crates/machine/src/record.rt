@@ -1,7 +1,7 @@
 // The swap of a record (line H36).
-use construction::Item;
-use construction::Record;
-use construction::SwappedRecord;
+use construction::cells::Record;
+use construction::cells::SwappedRecord;
+use construction::simulations::Item;
 ghost use mathlib.Core.Path.{_≡_};
 ghost use Rattle.construction.specs.Machine.{write};
 

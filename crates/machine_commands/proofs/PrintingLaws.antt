@@ -7,7 +7,7 @@ use lib.ListN.{length}
 use native.Mathlib.Omega.{arith}
 use Rattle.grammar.specs.Writing.{decimal, largest, Put}
 use Rattle.grammar.proofs.Puts.{Room, rest-all, rest-step, rest-last, put-both}
-use Rattle.construction.specs.declared.{Answer.Answer, Report.Report, Verdict.Verdict}
+use Rattle.construction.specs.declared.{answers.Answer.Answer, answers.Report.Report, texts.Verdict.Verdict}
 use Rattle.construction.specs.Answers.{bytes, answerFields, verdictFields, numbersText, fieldsText}
 use Rattle.construction.specs.Reports.{reportText}
 use Rattle.answers.proofs.Texts.{PutWithin, put-short, put-as-within}

@@ -3,7 +3,7 @@
 use Prim.Native.Nat.{ℕ}
 use mathlib.Core.Bool.{cond}
 use mathlib.Core.List.{List, [], _∷_, _++_}
-use Rattle.construction.specs.declared.{Answer.Answer, Report.Report, Verdict.Verdict}
+use Rattle.construction.specs.declared.{answers.Answer.Answer, answers.Report.Report, texts.Verdict.Verdict}
 use Rattle.construction.specs.Answers.{bytes, answerFields, verdictFields, numbersText}
 use Rattle.construction.specs.Reports.{reportText}
 use Rattle.commands.specs.declared.Command.{Command}

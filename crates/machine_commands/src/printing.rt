@@ -8,15 +8,15 @@ use commands::Command;
 use commands::printing::first_of;
 use commands::printing::is_malformed;
 use commands::printing::put_verb;
-use construction::Answer;
-use construction::Refusal;
-use construction::Report;
-use construction::Verdict;
+use construction::answers::Answer;
+use construction::answers::Refusal;
+use construction::answers::Report;
+use construction::texts::Verdict;
 use grammar::writing::put_byte;
 use grammar::writing::put_word;
 ghost use Prim.Native.Nat.{_+_, _≤_};
 ghost use Rattle.grammar.specs.Writing.{Put};
-ghost use Rattle.construction.specs.declared.Verdict.{Verdict as VerdictOf};
+ghost use Rattle.construction.specs.declared.texts.Verdict.{Verdict as VerdictOf};
 ghost use Rattle.machine_commands.specs.Printing.{machineText, toText, headText, lineText, longest, termsRefusal, cardRefusal};
 
 // The number of a command's machine, but of a malformed one.

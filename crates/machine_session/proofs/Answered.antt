@@ -6,8 +6,8 @@ use mathlib.Core.Path.{_≡_, refl, sym, _∙_, ap}
 use mathlib.Core.Logic.{_⊎_, inl, inr}
 use lib.Dec.{ltb}
 use borrow.Author.Tests.{eq-eqb}
-use Rattle.construction.specs.declared.{Words.Words, Answer.Answer}
-use Rattle.construction.specs.declared.Refusal.the-variants.{Malformed}
+use Rattle.construction.specs.declared.{cells.Words.Words, answers.Answer.Answer}
+use Rattle.construction.specs.declared.answers.Refusal.the-variants.{Malformed}
 use Rattle.construction.specs.History.{Entry}
 use Rattle.construction.proofs.Basics.{true-or-false}
 use Rattle.commands.specs.declared.Command.{Command}

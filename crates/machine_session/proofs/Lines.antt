@@ -24,7 +24,7 @@ front-text {b} {x} {n} p h l =
     ap (λ (y : List ℕ). take n y) (put-front (omega arith) p) ∙ take-at x (drop (length x) b) n (omega arith)
 
 -- ---- the loop that prints: s₀ and b₀ as it began, s and b as they stand, n bytes printed
-pub record Going (t : List ℕ) (s₀ : Stage) (b₀ : List ℕ) (s : Stage) (n : ℕ) (b : List ℕ) : Type 0 where
+pub record PrintLoop (t : List ℕ) (s₀ : Stage) (b₀ : List ℕ) (s : Stage) (n : ℕ) (b : List ℕ) : Type 0 where
   pub lines : List ℕ
   pub text : linesText t s₀ ≡ lines ++ linesText t s
   pub gathered : fitting t s₀ (length b₀) ≡ gather t (length b₀) (record { text = lines; stage = s }) (requests t (s .state .at))
@@ -34,9 +34,9 @@ pub record Going (t : List ℕ) (s₀ : Stage) (b₀ : List ℕ) (s : Stage) (n 
   pub later : s₀ .state .at ≤ s .state .at
   pub onward : 0 < n → s₀ .state .at < s .state .at
 
-pub going : (t : List ℕ) (s₀ : Stage) (b₀ : List ℕ) → length b₀ < largest → Going t s₀ b₀ s₀ 0 b₀
+pub print-loop : (t : List ℕ) (s₀ : Stage) (b₀ : List ℕ) → length b₀ < largest → PrintLoop t s₀ b₀ s₀ 0 b₀
 unfolding fitting
-going t s₀ b₀ small =
+print-loop t s₀ b₀ small =
     record {
       lines = [];
       text = refl;
@@ -48,7 +48,7 @@ going t s₀ b₀ small =
       onward = λ l. omega arith;
     }
 
-module _ {t : List ℕ} {s₀ : Stage} {b₀ : List ℕ} {s : Stage} {n : ℕ} {b : List ℕ} (g : Going t s₀ b₀ s n b) where
+module _ {t : List ℕ} {s₀ : Stage} {b₀ : List ℕ} {s : Stage} {n : ℕ} {b : List ℕ} (g : PrintLoop t s₀ b₀ s n b) where
   count : n ≡ length (g .lines)
   count = let p = g .put .place in let w = g .within in let l = g .small in omega arith
 
@@ -121,7 +121,7 @@ module _ {t : List ℕ} {s₀ : Stage} {b₀ : List ℕ} {s : Stage} {n : ℕ} {
 
       pub again :
           {l : ℕ} → l ≡ placeAfter (s .state .line) (m .lines) →
-          Going t s₀ b₀ (stage (record { allowance = r .allowance; at = m .next; line = l }) bs ls) e z
+          PrintLoop t s₀ b₀ (stage (record { allowance = r .allowance; at = m .next; line = l }) bs ls) e z
       unfolding linesText linesOf gather
       again {l} el =
           let near = p .1 in

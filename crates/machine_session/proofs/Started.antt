@@ -7,7 +7,7 @@ use borrow.Author.Tests.{lt-ltb, le-ltb}
 use lib.ListN.{length, take}
 use lib.Seq.{length-take-le, length-sets}
 use Rattle.grammar.specs.Writing.{Put}
-use Rattle.construction.specs.declared.{Refusal.Refusal, Verdict.Verdict}
+use Rattle.construction.specs.declared.{answers.Refusal.Refusal, texts.Verdict.Verdict}
 use Rattle.commands.specs.Printing.{callsRefusal}
 use Rattle.shared_processor.specs.Opening.{cardVerdict, withCard}
 use Rattle.machine_commands.specs.Printing.{longest, termsRefusal, cardRefusal}
@@ -92,7 +92,8 @@ module _ (text : List ℕ) (cards : List (List ℕ)) (calls bs : List ℕ) {w : 
       pub started :
           length calls ≤ 65536 → {b : List ℕ} {r : Printed} →
           r ≡ record { state = record { allowance = w .allowance; at = 0; line = 1 }; length = 0 } → Starts text cards calls bs b r bs' b
-      started h f = starts-with {x = record { text = []; state = record { allowance = w .allowance; at = 0; line = 1 }; blocks = bs' }} (opens ∙ rw (u, le-ltb 65536 (length calls) h)) (record { place = refl; bytes = refl }) (omega arith) f
+      started h f = starts-with {x = record { text = []; state = record { allowance = w .allowance; at = 0; line = 1 }; blocks = bs' }}
+          (opens ∙ rw (u, le-ltb 65536 (length calls) h)) (record { place = refl; bytes = refl }) (omega arith) f
 
 -- the printed bytes stand in the buffer
 pub starts-count :

@@ -3,8 +3,8 @@
 use Prim.Native.Nat.{ℕ}
 use mathlib.Core.List.{List, [], _∷_}
 use mathlib.Core.Path.{_≡_}
-use Rattle.construction.specs.declared.Answer.{Answer}
-use Rattle.construction.specs.declared.Refusal.the-variants.{Malformed}
+use Rattle.construction.specs.declared.answers.Answer.{Answer}
+use Rattle.construction.specs.declared.answers.Refusal.the-variants.{Malformed}
 use Rattle.construction.specs.Tracing.{noReport}
 use Rattle.construction.specs.History.{Entry}
 use Rattle.commands.specs.declared.Command.{Command}

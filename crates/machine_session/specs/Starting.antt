@@ -7,7 +7,7 @@ use mathlib.Core.List.{List, [], _∷_, _++_}
 use lib.ListN.{length, take, replicate}
 use lib.Dec.{ltb}
 use Rattle.grammar.specs.Writing.{Put}
-use Rattle.construction.specs.declared.Verdict.{Verdict}
+use Rattle.construction.specs.declared.texts.Verdict.{Verdict}
 use Rattle.allowance.specs.declared.Allowance.{Allowance}
 use Rattle.commands.specs.Printing.{callsRefusal}
 use Rattle.shared_processor.specs.Opening.{cardVerdict, withCard}

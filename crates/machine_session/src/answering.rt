@@ -2,8 +2,8 @@
 use allowance::Allowance;
 use allowance::turned;
 use commands::Command;
-use construction::Answer;
-use construction::Refusal;
+use construction::answers::Answer;
+use construction::answers::Refusal;
 use machine_commands::Request;
 use shared_processor::requesting::call;
 use shared_processor::requesting::change;

@@ -7,7 +7,7 @@ pub mod starting; // starting.rt: where a session starts
 pub mod running; // running.rt: its lines, as many at a time as a buffer has room for
 
 use allowance::Allowance;
-use construction::Verdict;
+use construction::texts::Verdict;
 
 // A session under way, besides its words: the allowance, the place of the next request and the number of its line.
 pub struct State {

@@ -4,7 +4,7 @@ use crate::Printed;
 use crate::State;
 use allowance::Allowance;
 use commands::printing::put_calls_refusal;
-use construction::Verdict;
+use construction::texts::Verdict;
 use machine_commands::printing::put_card_refusal;
 use machine_commands::printing::put_terms_refusal;
 use machine_terms::read_terms;

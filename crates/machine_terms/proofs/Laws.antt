@@ -9,7 +9,7 @@ use lib.ListN.{length, set, replicate}
 use borrow.Author.Tests.{lt-ltb, le-ltb}
 use Rattle.grammar.specs.Reading.{hasWord}
 use Rattle.grammar.proofs.Bytes.{word-within}
-use Rattle.construction.specs.declared.Refusal.the-variants as refusals
+use Rattle.construction.specs.declared.answers.Refusal.the-variants as refusals
 use Rattle.allowance.specs.declared.{Quota.Quota, Opened.Opened}
 use Rattle.allowance.specs.Opening.{openedAs}
 use Rattle.machine_terms.specs.declared.{Pair.Pair, QuotasRead.QuotasRead, Terms.Terms}

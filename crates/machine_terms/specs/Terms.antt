@@ -9,8 +9,8 @@ use lib.ListN.{length, set, replicate}
 use lib.Dec.{ltb}
 use Rattle.grammar.specs.declared.Number.{Number}
 use Rattle.grammar.specs.Reading.{field, hasWord}
-use Rattle.construction.specs.declared.{Refusal.Refusal, Verdict.Verdict}
-use Rattle.construction.specs.declared.Refusal.the-variants as refusals
+use Rattle.construction.specs.declared.{answers.Refusal.Refusal, texts.Verdict.Verdict}
+use Rattle.construction.specs.declared.answers.Refusal.the-variants as refusals
 use Rattle.construction.specs.Answers.{isRefused}
 use Rattle.allowance.specs.declared.{Quota.Quota, Opened.Opened}
 use Rattle.allowance.specs.Opening.{allowanceFrom, openedAs}

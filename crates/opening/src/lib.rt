@@ -1,23 +1,23 @@
 // What stands at opening, by value: the opening value of each part of a card, and the card of given contents as its text opens it
 // (document 01, "Shared cells"). It rests on the crate construction, which declares the types and defines each result.
-use construction::Announcement;
-use construction::Card;
-use construction::Contents;
-use construction::Dictionary;
-use construction::Flag;
-use construction::Gate;
-use construction::Holder;
-use construction::Instruction;
-use construction::Item;
-use construction::Label;
-use construction::Line;
-use construction::Operation;
-use construction::Program;
-use construction::Record;
-use construction::Simulation;
-use construction::Task;
-use construction::Words;
-use construction::Yield;
+use construction::accesses::Control;
+use construction::accesses::Label;
+use construction::card::Card;
+use construction::card::Operation;
+use construction::cells::Announcement;
+use construction::cells::Flag;
+use construction::cells::Gate;
+use construction::cells::Holder;
+use construction::cells::Record;
+use construction::cells::Words;
+use construction::cells::Yield;
+use construction::programs::Instruction;
+use construction::programs::Line;
+use construction::programs::Program;
+use construction::simulations::Dictionary;
+use construction::simulations::Item;
+use construction::simulations::Simulation;
+use construction::texts::Contents;
 ghost use mathlib.Core.Path.{_≡_};
 ghost use mathlib.Core.List.{map};
 ghost use Rattle.construction.specs.Cells.{zeros, openAnnouncement, openRecord};
@@ -153,7 +153,7 @@ pub fn fresh(contents: Contents) -> Card
         announcements: [announcement; 8],
         records: open_records(starts),
         steps: 0,
-        tasks: [Task {
+        controls: [Control {
             place: Label::Idle,
             target: 0,
         }; 8],
@@ -163,11 +163,11 @@ pub fn fresh(contents: Contents) -> Card
         }; 8],
         exits: [false; 8],
         counts: [0; 8],
-        gates: [Gate {
+        gatesRead: [Gate {
             holder: Holder::Nobody,
             seq: 0,
         }; 8],
-        copies: [announcement; 8],
+        announcementsRead: [announcement; 8],
         simulations: [started(); 8],
         dictionaries: [empty(); 8],
         masks: [0; 8],

@@ -6,7 +6,8 @@ use native.Mathlib.Omega.{arith}
 use lib.Dec.{eqb, leb, ltb}
 use lib.ListN.{length, getD, List·getD-eq-default}
 use borrow.Author.Tests.{ne-eqb, lt-ltb, le-ltb, ltb-true, ltb-false}
-use Rattle.construction.specs.declared.{Words.Words, Instruction.Instruction, Line.Line, Program.Program, Effect.Effect}
+use Rattle.construction.specs.declared.{cells.Words.Words, programs.Instruction.Instruction, programs.Line.Line, programs.Program.Program}
+use Rattle.construction.specs.declared.{programs.Effect.Effect}
 use Rattle.construction.specs.Instructions.{withWord, load, store, isCell, free, noLine, fetch}
 use Rattle.construction.proofs.Basics.{and-true}
 use Rattle.programs.specs.Fetching.{instructionAt}

@@ -7,7 +7,7 @@ use native.Mathlib.Numerals.{add-one}
 use lib.ListN.{length, getD, drop, drop-of-length-le}
 use lib.Seq.{drop-cons}
 use borrow.Author.Tests.{lt-ltb}
-use Rattle.construction.specs.declared.{Instruction.Instruction, Program.Program}
+use Rattle.construction.specs.declared.{programs.Instruction.Instruction, programs.Program.Program}
 use Rattle.construction.specs.Instructions.{noLine, fetch}
 use Rattle.construction.specs.Weight.{weightOf, weightBefore, weight, heaviest}
 use Rattle.construction.proofs.Simulating.Weights.{weight-places}

@@ -2,7 +2,7 @@
 use Prim.Native.Nat.{ℕ}
 use mathlib.Core.Bool.{cond}
 use lib.Dec.{ltb}
-use Rattle.construction.specs.declared.{Instruction.Instruction, Line.Line}
+use Rattle.construction.specs.declared.{programs.Instruction.Instruction, programs.Line.Line}
 
 -- the instruction at place k of a program of this length, whose line there is given: document 01, 'a sheet also stops past its
 -- end', and no sheet has more than 32 instructions

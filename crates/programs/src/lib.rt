@@ -2,12 +2,12 @@
 // running program. It rests on the crate construction, which declares the types and defines each result.
 pub mod weights; // weights.rt: how many records programs can touch
 
-use construction::Effect;
-use construction::Instruction;
-use construction::Line;
-use construction::Simulation;
-use construction::Words;
-use construction::Yield;
+use construction::cells::Words;
+use construction::cells::Yield;
+use construction::programs::Effect;
+use construction::programs::Instruction;
+use construction::programs::Line;
+use construction::simulations::Simulation;
 ghost use mathlib.Core.Path.{_≡_};
 ghost use mathlib.Core.Bool.{cond};
 ghost use Prim.Native.Nat.{suc, _-_, min};

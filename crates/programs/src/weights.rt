@@ -1,7 +1,7 @@
 // How much programs weigh (document 02, order 3): how many records their instructions can touch for the first time, reached or not.
 use crate::instruction_at;
-use construction::Instruction;
-use construction::Program;
+use construction::programs::Instruction;
+use construction::programs::Program;
 ghost use mathlib.Core.Path.{_≡_};
 ghost use Rattle.construction.specs.Weight.{weightOf, weight, heaviest};
 

@@ -5,11 +5,12 @@ use Prim.Native.Nat.{ℕ, zero, suc, _+_, _-_, _<_, _≤_}
 use lib.ListN.{length}
 use native.Mathlib.Omega.{arith}
 use borrow.Author.Tests.{eq-eqb, ne-eqb, lt-ltb, le-ltb}
-use Rattle.construction.specs.declared.{Refusal.Refusal, Verdict.Verdict, ProgramReading.ProgramReading, Reading.Reading}
-use Rattle.construction.specs.declared.Refusal.the-variants.{Malformed, TooHeavy}
+use Rattle.construction.specs.declared.{answers.Refusal.Refusal, texts.Verdict.Verdict, texts.ProgramReading.ProgramReading, texts.Reading.Reading}
+use Rattle.construction.specs.declared.answers.Refusal.the-variants.{Malformed, TooHeavy}
 use Rattle.construction.specs.Weight.{weight}
 use Rattle.construction.specs.Lines.{varLine, sheetLine, insLine}
-use Rattle.construction.specs.Opening.{refusedAt, programRefusedAt, weighed, withLine, insFrom, readProgram, programsFrom, withStart, varsFrom, ifAccepted, atEnd, thenEnd, thenPrograms}
+use Rattle.construction.specs.Opening.{refusedAt, programRefusedAt, weighed, withLine, insFrom, readProgram, programsFrom, withStart, varsFrom, ifAccepted}
+use Rattle.construction.specs.Opening.{atEnd, thenEnd, thenPrograms}
 use Rattle.construction.specs.Changes.{programThenEnd}
 use Rattle.construction.proofs.Text.Lines.{sheet-read}
 use Rattle.construction.proofs.Text.Reading.{afterLength, on-ins, on-sheet, on-weighed, on-var}

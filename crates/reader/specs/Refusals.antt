@@ -1,6 +1,7 @@
 -- The refusal of a line (document 01, 'The card text').
-use Rattle.construction.specs.declared.{Refusal.Refusal, CardLine.CardLine, VarLine.VarLine, SheetLine.SheetLine, InsLine.InsLine}
-use Rattle.construction.specs.declared.Refusal.the-variants.{Malformed}
+use Rattle.construction.specs.declared.{answers.Refusal.Refusal, texts.CardLine.CardLine, texts.VarLine.VarLine, texts.SheetLine.SheetLine}
+use Rattle.construction.specs.declared.{texts.InsLine.InsLine}
+use Rattle.construction.specs.declared.answers.Refusal.the-variants.{Malformed}
 
 -- the refusal of a `card` line ('each line yields either its fields or a refusal number'); a line with fields has none to ask for
 abbrev pub cardRefusal : CardLine → Refusal

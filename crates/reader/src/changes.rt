@@ -1,9 +1,9 @@
 // The text of a change (document 02, order 11): one program as a card text has it, and nothing after it.
 use crate::read_program;
 use crate::refusals::program_refused_at;
-use construction::ProgramReading;
-use construction::Refusal;
-use construction::Verdict;
+use construction::answers::Refusal;
+use construction::texts::ProgramReading;
+use construction::texts::Verdict;
 ghost use mathlib.Core.Path.{_≡_};
 ghost use Rattle.construction.specs.Changes.{programThenEnd, programText};
 

@@ -1,13 +1,13 @@
 // What a refused text is read to, and the refusal of a line: `let .. else` cannot bind that, so a match gives it.
 use crate::begun_contents;
-use construction::CardLine;
-use construction::InsLine;
-use construction::ProgramReading;
-use construction::Reading;
-use construction::Refusal;
-use construction::SheetLine;
-use construction::VarLine;
-use construction::Verdict;
+use construction::answers::Refusal;
+use construction::texts::CardLine;
+use construction::texts::InsLine;
+use construction::texts::ProgramReading;
+use construction::texts::Reading;
+use construction::texts::SheetLine;
+use construction::texts::VarLine;
+use construction::texts::Verdict;
 ghost use mathlib.Core.Path.{_≡_};
 ghost use Rattle.construction.specs.Opening.{refusedAt, programRefusedAt};
 ghost use Rattle.reader.specs.Refusals.{cardRefusal, varRefusal, sheetRefusal, insRefusal};

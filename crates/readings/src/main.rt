@@ -2,7 +2,7 @@
 // by the crate dump_reader, which forms the lines too; reading the file and the arguments and writing bytes is left to do here.
 use arguments::Argument;
 use arguments::decimal_of;
-use construction::Verdict;
+use construction::texts::Verdict;
 use dump_reader::rows::first_scan;
 use dump_reader::rows::put_row;
 use dump_reader::rows::put_rows;

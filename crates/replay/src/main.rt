@@ -6,7 +6,7 @@
 // What is searched for, played and compared equals its definition in specs/; what only prints gives nothing back.
 use commands::Command;
 use commands::reading::command_at;
-use construction::Card;
+use construction::card::Card;
 use grammar::reading::has_byte;
 use libc::STDIN_FILENO;
 use libc::STDOUT_FILENO;

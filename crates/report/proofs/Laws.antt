@@ -9,7 +9,8 @@ pub starts : (test : ℕ → Bool) → true ≡ allBelow 0 test
 unfolding allBelow
 starts test = refl
 
-pub goes-on : (test : ℕ → Bool) (n : ℕ) {before this after : Bool} → before ≡ allBelow n test → this ≡ test n → after ≡ (before && this) → after ≡ allBelow (n + 1) test
+pub goes-on : (test : ℕ → Bool) (n : ℕ) {before this after : Bool} → before ≡ allBelow n test → this ≡ test n → after ≡ (before && this) →
+    after ≡ allBelow (n + 1) test
 unfolding allBelow
 goes-on test n p q e = rw (e, p, q, add-one)
 

@@ -4,13 +4,15 @@ use mathlib.Core.Bool.{Bool, true, false, _&&_}
 use mathlib.Core.List.{List, []}
 use lib.Dec.{eqb}
 use lib.ListN.{getD}
-use Rattle.construction.specs.declared.{Yield.Yield, Record.Record, Instruction.Instruction, Program.Program, Item.Item, Dictionary.Dictionary, Simulation.Simulation, Task.Task, Operation.Operation, Card.Card}
+use Rattle.construction.specs.declared.{cells.Yield.Yield, cells.Record.Record, programs.Instruction.Instruction, programs.Program.Program}
+use Rattle.construction.specs.declared.{simulations.Item.Item, simulations.Dictionary.Dictionary, simulations.Simulation.Simulation, accesses.Control.Control}
+use Rattle.construction.specs.declared.{card.Operation.Operation, card.Card.Card}
 use Rattle.construction.specs.Cells.{sameBool, sameWords, sameGate, sameAnnouncement, sameRecord, openAnnouncement, openRecord}
 use Rattle.construction.specs.Instructions.{noLine, started}
 use Rattle.construction.specs.Dictionary.{noItem}
-use Rattle.construction.specs.Parts.{idleTask, noOperation, noGate}
+use Rattle.construction.specs.Parts.{idleControl, noOperation, noGate}
 use Rattle.codes.specs.Codes.{instructionWord, placeWord}
-use Rattle.report.specs.declared.same.{Texts.Texts, Work.Work, Copies.Copies}
+use Rattle.report.specs.declared.same.{Texts.Texts, Work.Work, Reads.Reads}
 
 -- a test holds of every number below n
 unfoldable pub allBelow : ℕ → (ℕ → Bool) → Bool
@@ -49,8 +51,8 @@ unfoldable pub sameDictionary : Dictionary → Dictionary → Bool
 sameDictionary a b = eqb (a .length) (b .length) && allBelow 32 (sameItemAt a b)
 
 -- a place is known by its word (`place-back`, crates/codes/proofs/Values)
-unfoldable pub sameTask : Task → Task → Bool
-sameTask a b = eqb (placeWord (a .place)) (placeWord (b .place)) && eqb (a .target) (b .target)
+unfoldable pub sameControl : Control → Control → Bool
+sameControl a b = eqb (placeWord (a .place)) (placeWord (b .place)) && eqb (a .target) (b .target)
 
 unfoldable pub sameOperation : Operation → Operation → Bool
 sameOperation a b = eqb (a .program) (b .program) && sameWords (a .inputs) (b .inputs)
@@ -80,7 +82,7 @@ sameTexts a b =
 abbrev pub workAt : Card → ℕ → Work
 workAt c i =
     record {
-      task = getD (c .tasks) i idleTask;
+      control = getD (c .controls) i idleControl;
       operation = getD (c .operations) i noOperation;
       exit = getD (c .exits) i false;
       count = getD (c .counts) i 0;
@@ -89,23 +91,23 @@ workAt c i =
 
 unfoldable pub sameWork : Work → Work → Bool
 sameWork a b =
-    sameTask (a .task) (b .task)
+    sameControl (a .control) (b .control)
     && (sameOperation (a .operation) (b .operation)
     && (sameBool (a .exit) (b .exit) && (eqb (a .count) (b .count) && eqb (a .mask) (b .mask))))
 
 -- the announcement of process i, what it last read and what it simulates
-abbrev pub copiesAt : Card → ℕ → Copies
-copiesAt c i =
+abbrev pub readsAt : Card → ℕ → Reads
+readsAt c i =
     record {
       announcement = getD (c .announcements) i openAnnouncement;
-      gate = getD (c .gates) i noGate;
-      copy = getD (c .copies) i openAnnouncement;
+      gate = getD (c .gatesRead) i noGate;
+      copy = getD (c .announcementsRead) i openAnnouncement;
       simulation = getD (c .simulations) i started;
       dictionary = getD (c .dictionaries) i (record { length = 0; items = [] });
     }
 
-unfoldable pub sameCopies : Copies → Copies → Bool
-sameCopies a b =
+unfoldable pub sameReads : Reads → Reads → Bool
+sameReads a b =
     sameAnnouncement (a .announcement) (b .announcement)
     && (sameGate (a .gate) (b .gate)
     && (sameAnnouncement (a .copy) (b .copy) && (sameSimulation (a .simulation) (b .simulation) && sameDictionary (a .dictionary) (b .dictionary))))
@@ -113,7 +115,7 @@ sameCopies a b =
 -- all that stands at place i of an array of eight: the texts of program i, the announcement of process i, and its own state
 unfoldable pub sameAt : Card → Card → ℕ → Bool
 sameAt a b i =
-    sameTexts (textsAt a i) (textsAt b i) && (sameWork (workAt a i) (workAt b i) && sameCopies (copiesAt a i) (copiesAt b i))
+    sameTexts (textsAt a i) (textsAt b i) && (sameWork (workAt a i) (workAt b i) && sameReads (readsAt a i) (readsAt b i))
 
 -- the fields that are no arrays
 unfoldable pub sameNumbers : Card → Card → Bool

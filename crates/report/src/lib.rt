@@ -2,13 +2,13 @@
 // codes, io and libc. What is computed equals its definition in specs/; no contract can say what is written, so whatever writes gives nothing back.
 pub mod same; // same.rt: whether two cards are the same in every part
 
-use construction::Announcement;
-use construction::Card;
-use construction::Flag;
-use construction::Gate;
-use construction::Holder;
-use construction::Record;
-use construction::Words;
+use construction::card::Card;
+use construction::cells::Announcement;
+use construction::cells::Flag;
+use construction::cells::Gate;
+use construction::cells::Holder;
+use construction::cells::Record;
+use construction::cells::Words;
 use libc::STDOUT_FILENO;
 
 fn write(text: &[u8]) {

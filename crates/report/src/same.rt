@@ -6,25 +6,25 @@ use cells::same_record;
 use cells::same_words;
 use codes::instruction_word;
 use codes::place_word;
-use construction::Announcement;
-use construction::Card;
-use construction::Dictionary;
-use construction::Gate;
-use construction::Instruction;
-use construction::Item;
-use construction::Operation;
-use construction::Program;
-use construction::Record;
-use construction::Simulation;
-use construction::Task;
-use construction::Yield;
+use construction::accesses::Control;
+use construction::card::Card;
+use construction::card::Operation;
+use construction::cells::Announcement;
+use construction::cells::Gate;
+use construction::cells::Record;
+use construction::cells::Yield;
+use construction::programs::Instruction;
+use construction::programs::Program;
+use construction::simulations::Dictionary;
+use construction::simulations::Item;
+use construction::simulations::Simulation;
 ghost use mathlib.Core.Path.{_≡_};
 ghost use mathlib.Core.Bool.{_&&_};
 ghost use Prim.Native.Nat.{_<_};
 ghost use lib.Dec.{eqb};
 ghost use Rattle.construction.specs.Cells.{sameBool};
-ghost use Rattle.report.specs.Same.{sameInstruction, sameProgram, sameStarts, sameRecords, sameItem, sameDictionary, sameTask, sameOperation, sameYield, sameSimulation};
-ghost use Rattle.report.specs.Same.{textsAt, sameTexts, workAt, sameWork, copiesAt, sameCopies, sameAt, sameNumbers, sameCard};
+ghost use Rattle.report.specs.Same.{sameInstruction, sameProgram, sameStarts, sameRecords, sameItem, sameDictionary, sameControl, sameOperation, sameYield, sameSimulation};
+ghost use Rattle.report.specs.Same.{textsAt, sameTexts, workAt, sameWork, readsAt, sameReads, sameAt, sameNumbers, sameCard};
 
 // The texts of a program: as it was opened, and as it was changed (document 02, order 11).
 struct Texts {
@@ -36,7 +36,7 @@ struct Texts {
 
 // What the call of a process asked for and how far it came, and the variables that it noted.
 struct Work {
-    task: Task,
+    control: Control,
     operation: Operation,
     exit: bool,
     count: u64,
@@ -44,7 +44,7 @@ struct Work {
 }
 
 // The announcement of a process, what it last read and what it simulates.
-struct Copies {
+struct Reads {
     announcement: Announcement,
     gate: Gate,
     copy: Announcement,
@@ -132,8 +132,8 @@ fn same_dictionary(a: Dictionary, b: Dictionary) -> bool
     both(same_number(a.length as u64, b.length as u64), same)
 }
 
-fn same_task(a: Task, b: Task) -> bool
-    ensures { λ r. ⌜ r ≡ sameTask a b ⌝ }
+fn same_control(a: Control, b: Control) -> bool
+    ensures { λ r. ⌜ r ≡ sameControl a b ⌝ }
 {
     let left = a.place;
     let right = b.place;
@@ -208,13 +208,13 @@ fn work_at(card: Card, i: usize) -> Work
     requires { ⌜ i < 8 ⌝ }
     ensures { λ r. ⌜ r ≡ workAt card i ⌝ }
 {
-    let task = card.tasks[i];
+    let control = card.controls[i];
     let operation = card.operations[i];
     let exit = card.exits[i];
     let count = card.counts[i];
     let mask = card.masks[i];
     Work {
-        task,
+        control,
         operation,
         exit,
         count,
@@ -226,7 +226,7 @@ fn same_work(a: Work, b: Work) -> bool
     ensures { λ r. ⌜ r ≡ sameWork a b ⌝ }
 {
     both(
-        same_task(a.task, b.task),
+        same_control(a.control, b.control),
         both(
             same_operation(a.operation, b.operation),
             both(
@@ -237,16 +237,16 @@ fn same_work(a: Work, b: Work) -> bool
     )
 }
 
-fn copies_at(card: Card, i: usize) -> Copies
+fn reads_at(card: Card, i: usize) -> Reads
     requires { ⌜ i < 8 ⌝ }
-    ensures { λ r. ⌜ r ≡ copiesAt card i ⌝ }
+    ensures { λ r. ⌜ r ≡ readsAt card i ⌝ }
 {
     let announcement = card.announcements[i];
-    let gate = card.gates[i];
-    let copy = card.copies[i];
+    let gate = card.gatesRead[i];
+    let copy = card.announcementsRead[i];
     let simulation = card.simulations[i];
     let dictionary = card.dictionaries[i];
-    Copies {
+    Reads {
         announcement,
         gate,
         copy,
@@ -255,8 +255,8 @@ fn copies_at(card: Card, i: usize) -> Copies
     }
 }
 
-fn same_copies(a: Copies, b: Copies) -> bool
-    ensures { λ r. ⌜ r ≡ sameCopies a b ⌝ }
+fn same_reads(a: Reads, b: Reads) -> bool
+    ensures { λ r. ⌜ r ≡ sameReads a b ⌝ }
 {
     both(
         same_announcement(a.announcement, b.announcement),
@@ -279,8 +279,8 @@ fn same_at(a: Card, b: Card, i: usize) -> bool
 {
     let texts = same_texts(texts_at(a, i), texts_at(b, i));
     let work = same_work(work_at(a, i), work_at(b, i));
-    let copies = same_copies(copies_at(a, i), copies_at(b, i));
-    both(texts, both(work, copies))
+    let reads = same_reads(reads_at(a, i), reads_at(b, i));
+    both(texts, both(work, reads))
 }
 
 fn same_numbers(a: Card, b: Card) -> bool

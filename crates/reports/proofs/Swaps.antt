@@ -1,7 +1,7 @@
 -- The swap of an access by pieces is that of the access on the card
 use Prim.Native.Nat.{ℕ}
 use mathlib.Core.Path.{_≡_, refl}
-use Rattle.construction.specs.declared.{Access.Access, Card.Card}
+use Rattle.construction.specs.declared.{accesses.Access.Access, card.Card.Card}
 use Rattle.construction.specs.Parts.{contentsOf, announcementAt, recordAt, localAt}
 use Rattle.construction.specs.Machine.{cellOf, writing, perform}
 use Rattle.reports.specs.Pieces.{announcementIn, recordIn, swapBy}
@@ -11,7 +11,7 @@ pub swap-is :
     let x = cellOf a (contentsOf c) i l in
     perform a c i .swap
     ≡ swapBy a i (announcementIn x) (c .gate) (announcementAt c (announcementIn x)) (recordAt c (recordIn x)) (l .gate) (l .announcement) (l .operation)
-    (l .simulation .yields) (l .task) (writing (l .gate .seq) (l .task) (l .dictionary) .item)
+    (l .simulation .yields) (l .control) (writing (l .gate .seq) (l .control) (l .dictionary) .item)
 unfolding perform
 swap-is c i Access.None = refl
 swap-is c i (Access.Gate a) = refl

@@ -1,6 +1,7 @@
 -- The swap of an access by the pieces of a card and of its process that decide it, and the place of the cell that it touches
 use Prim.Native.Nat.{ℕ}
-use Rattle.construction.specs.declared.{Gate.Gate, Yield.Yield, Announcement.Announcement, Record.Record, Item.Item, Access.Access, Cell.Cell, Swap.Swap, Task.Task, Operation.Operation}
+use Rattle.construction.specs.declared.{cells.Gate.Gate, cells.Yield.Yield, cells.Announcement.Announcement, cells.Record.Record, simulations.Item.Item}
+use Rattle.construction.specs.declared.{accesses.Access.Access, accesses.Cell.Cell, accesses.Swap.Swap, accesses.Control.Control, card.Operation.Operation}
 use Rattle.construction.specs.Machine.{accessGate, accessAnnouncement, outcome, write}
 
 -- the process or the variable whose cell it is
@@ -20,12 +21,12 @@ recordIn (Cell.Record v) = v
 -- `swapOf` of construction, which gives the swap together with the card that the access leaves, told without a card: the function that tells it has
 -- none. `swap-is` (proofs/Swaps) says that the two are the same on every card.
 abbrev pub swapBy :
-    Access → ℕ → ℕ → Gate → Announcement → Record → Gate → Announcement → Operation → Yield → Task → Item → Swap
-swapBy Access.None i m held announced recorded g last operation yields task item = Swap.None
-swapBy (Access.Gate a) i m held announced recorded g last operation yields task item = accessGate a i held g task .swap
-swapBy (Access.Announcement a) i m held announced recorded g last operation yields task item =
-    accessAnnouncement a m announced operation g last yields task .swap
-swapBy Access.Help i m held announced recorded g last operation yields task item = Swap.None
-swapBy Access.Note i m held announced recorded g last operation yields task item = Swap.None
-swapBy Access.Write i m held announced recorded g last operation yields task item =
+    Access → ℕ → ℕ → Gate → Announcement → Record → Gate → Announcement → Operation → Yield → Control → Item → Swap
+swapBy Access.None i m held announced recorded g last operation yields control item = Swap.None
+swapBy (Access.Gate a) i m held announced recorded g last operation yields control item = accessGate a i held g control .swap
+swapBy (Access.Announcement a) i m held announced recorded g last operation yields control item =
+    accessAnnouncement a m announced operation g last yields control .swap
+swapBy Access.Help i m held announced recorded g last operation yields control item = Swap.None
+swapBy Access.Note i m held announced recorded g last operation yields control item = Swap.None
+swapBy Access.Write i m held announced recorded g last operation yields control item =
     outcome (write recorded item (g .seq) .won)

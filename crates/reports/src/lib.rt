@@ -1,19 +1,19 @@
 // What is told of a step (document 02, order 1), on small values: the label of an access, the cell that it touches, whether its swap won, and the report.
 // It rests on the crates construction (types and definitions), answers, labels and machine; both representations of the card tell their steps by it.
 use answers::kinds::is_refused;
-use construction::Access;
-use construction::Announcement;
-use construction::Answer;
-use construction::Cell;
-use construction::Gate;
-use construction::Item;
-use construction::Label;
-use construction::Operation;
-use construction::Record;
-use construction::Report;
-use construction::Swap;
-use construction::Task;
-use construction::Yield;
+use construction::accesses::Access;
+use construction::accesses::Cell;
+use construction::accesses::Control;
+use construction::accesses::Label;
+use construction::accesses::Swap;
+use construction::answers::Answer;
+use construction::answers::Report;
+use construction::card::Operation;
+use construction::cells::Announcement;
+use construction::cells::Gate;
+use construction::cells::Record;
+use construction::cells::Yield;
+use construction::simulations::Item;
 use labels::label_row;
 use labels::same_label;
 use machine::announcement::access_announcement;
@@ -111,15 +111,15 @@ pub fn swap_of(
     last: Announcement,
     operation: Operation,
     yields: Yield,
-    task: Task,
+    control: Control,
     item: Item,
 ) -> Swap
-    ensures { λ r. ⌜ r ≡ swapBy access process m held announced recorded gate last operation yields task item ⌝ }
+    ensures { λ r. ⌜ r ≡ swapBy access process m held announced recorded gate last operation yields control item ⌝ }
 {
     match access {
         Access::None => Swap::None,
         Access::Gate(access) => {
-            let after = access_gate(access, process, held, gate, task);
+            let after = access_gate(access, process, held, gate, control);
             after.swap
         }
         Access::Announcement(access) => {
@@ -131,7 +131,7 @@ pub fn swap_of(
                 gate,
                 last,
                 yields,
-                task,
+                control,
             );
             after.swap
         }

@@ -12,35 +12,35 @@ use mir.Val.{Val}
 use denote.Laws.{Is}
 use denote.Struct.Declared.{row}
 use Rattle.opening.proofs.Laws.{inside}
-use Rattle.construction.proofs.Card.{the-type}
-use Rattle.construction.specs.declared.Card.{Card}
+use Rattle.construction.proofs.card.Card.{the-type}
+use Rattle.construction.specs.declared.card.Card.{Card}
 
-pub record Rooms (c : Card) : Type 0 where
+pub record FullArrays (c : Card) : Type 0 where
   pub from : length (c .from) ≡ 8
   pub earlier : length (c .earlier) ≡ 8
   pub later : length (c .later) ≡ 8
   pub announcements : length (c .announcements) ≡ 8
   pub records : length (c .records) ≡ 64
-  pub tasks : length (c .tasks) ≡ 8
+  pub controls : length (c .controls) ≡ 8
   pub counts : length (c .counts) ≡ 8
-  pub copies : length (c .copies) ≡ 8
+  pub announcementsRead : length (c .announcementsRead) ≡ 8
   pub dictionaries : length (c .dictionaries) ≡ 8
-  pub gates : length (c .gates) ≡ 8
+  pub gatesRead : length (c .gatesRead) ≡ 8
   pub masks : length (c .masks) ≡ 8
 
-pub rooms : (c : Card) (vs : List Val) → Is (row the-type) c vs → Rooms c
-rooms c vs p =
+pub fullArrays : (c : Card) (vs : List Val) → Is (row the-type) c vs → FullArrays c
+fullArrays c vs p =
     let limit = p .1 .1 .1 .1 .1 in
     let from = limit .1 .1 .1 in
     let earlier = from .1 in
     let later = earlier .1 in
     let announcements = later .1 .1 in
     let records = announcements .1 in
-    let tasks = records .1 .1 in
-    let counts = tasks .1 .1 .1 in
-    let copies = counts .1 .1 in
-    let dictionaries = copies .1 .1 in
-    let gates = counts .1 in
+    let controls = records .1 .1 in
+    let counts = controls .1 .1 .1 in
+    let announcementsRead = counts .1 .1 in
+    let dictionaries = announcementsRead .1 .1 in
+    let gatesRead = counts .1 in
     let masks = dictionaries .1 in
     record {
       from = simp length-map at (from .0 .1 .0 .1);
@@ -48,11 +48,11 @@ rooms c vs p =
       later = simp length-map at (later .0 .1 .0 .1);
       announcements = simp length-map at (announcements .0 .1 .0 .1);
       records = simp length-map at (records .0 .1 .0 .1);
-      tasks = simp length-map at (tasks .0 .1 .0 .1);
+      controls = simp length-map at (controls .0 .1 .0 .1);
       counts = simp length-map at (counts .0 .1 .0 .1);
-      copies = simp length-map at (copies .0 .1 .0 .1);
+      announcementsRead = simp length-map at (announcementsRead .0 .1 .0 .1);
       dictionaries = simp length-map at (dictionaries .0 .1 .0 .1);
-      gates = simp length-map at (gates .0 .1 .0 .1);
+      gatesRead = simp length-map at (gatesRead .0 .1 .0 .1);
       masks = simp length-map at (masks .0 .1 .0 .1);
     }
 

@@ -4,8 +4,8 @@
 use Prim.Native.Nat.{ℕ}
 use mathlib.Core.Bool.{Bool, cond, not, _&&_, _||_}
 use lib.Dec.{ltb}
-use Rattle.construction.specs.declared.{Label.Label, Refusal.Refusal, Answer.Answer, Verdict.Verdict}
-use Rattle.construction.specs.declared.Refusal.the-variants.{NoProcess, NoProgram, Busy, NotBusy, LimitReached, NotAhead, Unsettled}
+use Rattle.construction.specs.declared.{accesses.Label.Label, answers.Refusal.Refusal, answers.Answer.Answer, texts.Verdict.Verdict}
+use Rattle.construction.specs.declared.answers.Refusal.the-variants.{NoProcess, NoProgram, Busy, NotBusy, LimitReached, NotAhead, Unsettled}
 use Rattle.construction.specs.Requests.{isIdle}
 
 -- the first of three tests that fails gives its refusal

@@ -1,8 +1,8 @@
 // Whether an operation under way is behind a gate number (document 02, order 11: 'some operation under way last read a gate number below it'), by the
 // places of the processes and the gates that they last read.
-use construction::Gate;
-use construction::Label;
-use construction::Task;
+use construction::accesses::Control;
+use construction::accesses::Label;
+use construction::cells::Gate;
 use labels::same_label;
 ghost use mathlib.Core.Path.{_≡_};
 ghost use mathlib.Core.Bool.{_&&_};
@@ -34,16 +34,21 @@ fn is_behind_at(i: u8, processCount: u8, place: Label, gate: Gate, number: u64) 
 }
 
 // Whether the operation of some process is behind a number.
-pub fn some_behind(tasks: [Task; 8], gates: [Gate; 8], processCount: u8, number: u64) -> bool
-    ensures { λ r. ⌜ r ≡ someBehind tasks gates processCount number 8 ⌝ }
+pub fn some_behind(
+    controls: [Control; 8],
+    gatesRead: [Gate; 8],
+    processCount: u8,
+    number: u64,
+) -> bool
+    ensures { λ r. ⌜ r ≡ someBehind controls gatesRead processCount number 8 ⌝ }
 {
     let mut behind = false;
     let mut i: u8 = 0;
     while i < 8 {
         let at = i as usize;
-        let task = tasks[at];
-        let gate = gates[at];
-        let place = task.place;
+        let control = controls[at];
+        let gate = gatesRead[at];
+        let place = control.place;
         if is_behind_at(i, processCount, place, gate, number) {
             behind = true;
         }

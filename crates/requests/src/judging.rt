@@ -1,11 +1,11 @@
 // Whether a request is taken, by numbers and the place of its process (document 01, 'Turned back': refusals 5 to 8 and 10; document 02, order 11: 15
 // and 16), and the answer to a step that was.
-use construction::Announcement;
-use construction::Answer;
-use construction::Label;
-use construction::Refusal;
-use construction::Task;
-use construction::Verdict;
+use construction::accesses::Control;
+use construction::accesses::Label;
+use construction::answers::Answer;
+use construction::answers::Refusal;
+use construction::cells::Announcement;
+use construction::texts::Verdict;
 use machine::announcement::returned;
 use machine::places::is_idle;
 ghost use mathlib.Core.Path.{_≡_};
@@ -109,12 +109,12 @@ pub fn judge_change(
     Answer::Taken
 }
 
-// 'Returning is local work of the last access': the answer to a step that was taken, by the task after it, the announcement last read and
+// 'Returning is local work of the last access': the answer to a step that was taken, by the control after it, the announcement last read and
 // the operation's own steps.
-pub fn answer_of(task: Task, last: Announcement, steps: u64) -> Answer
-    ensures { λ r. ⌜ r ≡ stepAnswer (task .place) last steps ⌝ }
+pub fn answer_of(control: Control, last: Announcement, steps: u64) -> Answer
+    ensures { λ r. ⌜ r ≡ stepAnswer (control .place) last steps ⌝ }
 {
-    let place = task.place;
+    let place = control.place;
     if is_idle(place) {
         return returned(last, steps);
     }

@@ -4,4 +4,4 @@
 pub mod behind; // behind.rt: whether an operation under way is behind a gate number
 pub mod judging; // judging.rt: whether a request is taken, and the answer to a step
 pub mod reading; // reading.rt: what a read shows
-pub mod rooms; // rooms.rt: places past the room of an array
+pub mod lookups; // lookups.rt: places past the room of an array

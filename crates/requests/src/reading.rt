@@ -1,8 +1,8 @@
 // What a read shows (document 01: look), by the gate, the announcement of its holder and the record of the variable.
-use construction::Announcement;
-use construction::Gate;
-use construction::Holder;
-use construction::Record;
+use construction::cells::Announcement;
+use construction::cells::Gate;
+use construction::cells::Holder;
+use construction::cells::Record;
 ghost use mathlib.Core.Path.{_≡_};
 ghost use Rattle.construction.specs.Requests.{pending, unfinished, shown};
 

@@ -6,7 +6,7 @@ use mathlib.Core.List.{List, [], _∷_, _++_}
 use lib.ListN.{length}
 use lib.Dec.{ltb}
 use Rattle.grammar.specs.Writing.{Put}
-use Rattle.construction.specs.declared.{Card.Card, Verdict.Verdict}
+use Rattle.construction.specs.declared.{card.Card.Card, texts.Verdict.Verdict}
 use Rattle.construction.specs.Answers.{bytes, refusedWith, fieldsText}
 use Rattle.construction.specs.Opening.{opened}
 use Rattle.construction.specs.History.{run}

@@ -3,7 +3,7 @@
 // writing the bytes and telling how far it is are left to do here.
 use arguments::Argument;
 use arguments::decimal_of;
-use construction::Card;
+use construction::card::Card;
 use grammar::writing::put_decimal;
 use grammar::writing::put_word;
 use libc::STDERR_FILENO;

@@ -3,7 +3,7 @@ use mathlib.Core.Path.{_≡_, refl}
 use mathlib.Core.List.{List, [], _∷_, _++_}
 use Prim.Native.Nat.{ℕ}
 use Rattle.grammar.specs.Writing.{placeAfter}
-use Rattle.construction.specs.declared.Card.{Card}
+use Rattle.construction.specs.declared.card.Card.{Card}
 use Rattle.construction.specs.Opening.{opened}
 use Rattle.construction.specs.History.{Entry, Observation, observe, observeAll, opening, run}
 use Rattle.commands.specs.declared.{Command.Command, Parsed.Parsed}

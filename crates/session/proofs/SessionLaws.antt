@@ -8,7 +8,7 @@ use native.Mathlib.Omega.{arith}
 use borrow.Author.Tests.{lt-ltb, le-leb, lt-leb}
 use Rattle.grammar.specs.Writing.{placeAfter, largest, Put}
 use Rattle.grammar.proofs.Puts.{put-both, put-front, put-fits}
-use Rattle.construction.specs.declared.{Card.Card, Refusal.Refusal, Traced.Traced, Verdict.Verdict, Opened.Opened}
+use Rattle.construction.specs.declared.{card.Card.Card, answers.Refusal.Refusal, answers.Traced.Traced, texts.Verdict.Verdict, texts.Opened.Opened}
 use Rattle.construction.specs.Opening.{opened}
 use Rattle.construction.specs.Answers.{answerFields}
 use Rattle.commands.specs.declared.{Command.Command, Parsed.Parsed}
@@ -17,7 +17,8 @@ use Rattle.commands.specs.CommandFields.{commandFields}
 use Rattle.commands.specs.Printing.{lineText, longest, cardRefusal, callsRefusal}
 use Rattle.commands.proofs.CommandsLaws.{command-past, commands-end, commands-more}
 use Rattle.session.specs.declared.{State.State, Printed.Printed}
-use Rattle.session.specs.Session.{execute, lineOf, afterLine, advanced, linesOf, linesText, gather, fitting, firstLine, printed, printedInto, Prints, overState, verdictBeginning, beginning, session, Starts}
+use Rattle.session.specs.Session.{execute, lineOf, afterLine, advanced, linesOf, linesText, gather, fitting, firstLine, printed, printedInto, Prints}
+use Rattle.session.specs.Session.{overState, verdictBeginning, beginning, session, Starts}
 
 -- a malformed command is answered as its fields say
 pub malformed-refused : (t : List ℕ) (c : Card) → answerFields (execute t c Command.Malformed .answer) ≡ commandFields Command.Malformed
@@ -26,7 +27,8 @@ malformed-refused t c = refl
 
 -- a command carried out; m, a and l are what the code computes
 pub advances :
-    (t : List ℕ) (s : State) {m : Parsed} {a : Traced} {l : ℕ} → m ≡ command t (s .at) → a ≡ execute t (s .card) (m .command) → l ≡ placeAfter (s .line) (m .lines) →
+    (t : List ℕ) (s : State) {m : Parsed} {a : Traced} {l : ℕ} → m ≡ command t (s .at) → a ≡ execute t (s .card) (m .command) →
+    l ≡ placeAfter (s .line) (m .lines) →
     record { state = record { card = a .card; at = m .next; line = l }; command = m .command; answer = a .answer } ≡ advanced t s
 unfolding advanced afterLine
 advances t s em ea el = rw (← em, ← ea, ← el)
@@ -51,7 +53,7 @@ take-sets x b n = go x b n n (omega arith)
     go (a ∷ x) b n i h = go x (set b i a) n (suc i) (omega arith) ∙ take-set-le n b i a h
 
 -- ---- the loop that prints: s₀ and b₀ as it began, s and b as they stand, n bytes printed
-pub record Going (t : List ℕ) (s₀ : State) (b₀ : List ℕ) (s : State) (n : ℕ) (b : List ℕ) : Type 0 where
+pub record PrintLoop (t : List ℕ) (s₀ : State) (b₀ : List ℕ) (s : State) (n : ℕ) (b : List ℕ) : Type 0 where
   pub lines : List ℕ
   pub text : linesText t s₀ ≡ lines ++ linesText t s
   pub gathered : fitting t s₀ (length b₀) ≡ gather t (length b₀) (record { text = lines; state = s }) (commands t (s .at))
@@ -61,8 +63,8 @@ pub record Going (t : List ℕ) (s₀ : State) (b₀ : List ℕ) (s : State) (n 
   pub later : s₀ .at ≤ s .at
   pub onward : 0 < n → s₀ .at < s .at
 
-pub going : (t : List ℕ) (s₀ : State) (b₀ : List ℕ) → length b₀ < largest → Going t s₀ b₀ s₀ 0 b₀
-going t s₀ b₀ small =
+pub print-loop : (t : List ℕ) (s₀ : State) (b₀ : List ℕ) → length b₀ < largest → PrintLoop t s₀ b₀ s₀ 0 b₀
+print-loop t s₀ b₀ small =
     record {
       lines = [];
       text = refl;
@@ -74,7 +76,7 @@ going t s₀ b₀ small =
       onward = λ l. omega arith;
     }
 
-module _ {t : List ℕ} {s₀ : State} {b₀ : List ℕ} {s : State} {n : ℕ} {b : List ℕ} (g : Going t s₀ b₀ s n b) where
+module _ {t : List ℕ} {s₀ : State} {b₀ : List ℕ} {s : State} {n : ℕ} {b : List ℕ} (g : PrintLoop t s₀ b₀ s n b) where
   count : n ≡ length (g .lines)
   count = let p = g .put .place in let w = g .within in let l = g .small in omega arith
 
@@ -122,7 +124,7 @@ module _ {t : List ℕ} {s₀ : State} {b₀ : List ℕ} {s : State} {n : ℕ} {
 
     -- the line fits
     pub again :
-        {l : ℕ} → l ≡ placeAfter (s .line) (m .lines) → e ≤ length z → Going t s₀ b₀ (record { card = a .card; at = m .next; line = l }) e z
+        {l : ℕ} → l ≡ placeAfter (s .line) (m .lines) → e ≤ length z → PrintLoop t s₀ b₀ (record { card = a .card; at = m .next; line = l }) e z
     unfolding linesText linesOf afterLine gather
     again {l} el fits =
         let lz = stopped-length in

@@ -7,8 +7,8 @@ use lib.ListN.{length, take}
 use lib.Seq.{sets}
 use lib.Dec.{ltb, leb}
 use Rattle.grammar.specs.Writing.{placeAfter, Put}
-use Rattle.construction.specs.declared.{Card.Card, Answered.Answered, Report.Report, Traced.Traced, Verdict.Verdict}
-use Rattle.construction.specs.declared.Refusal.the-variants.{Malformed}
+use Rattle.construction.specs.declared.{card.Card.Card, answers.Answered.Answered, answers.Report.Report, answers.Traced.Traced, texts.Verdict.Verdict}
+use Rattle.construction.specs.declared.answers.Refusal.the-variants.{Malformed}
 use Rattle.construction.specs.Requests.{refused}
 use Rattle.construction.specs.Tracing.{noReport, trace}
 use Rattle.construction.specs.History.{Entry, act}

@@ -5,8 +5,8 @@
 pub mod running; // running.rt: the session, as many whole lines at a time as a buffer takes
 
 use commands::Command;
-use construction::Answer;
-use construction::Card;
+use construction::answers::Answer;
+use construction::card::Card;
 
 // A session under way: the card, the place of the next command and the number of its line.
 pub struct State {

@@ -5,8 +5,8 @@ use mathlib.Core.Bool.{Bool, true, false, cond}
 use mathlib.Core.List.{List}
 use lib.ListN.{length}
 use borrow.Author.Tests.{lt-ltb, le-ltb}
-use Rattle.construction.specs.declared.Answer.{Answer}
-use Rattle.construction.specs.declared.Refusal.the-variants as refusals
+use Rattle.construction.specs.declared.answers.Answer.{Answer}
+use Rattle.construction.specs.declared.answers.Refusal.the-variants as refusals
 use Rattle.construction.specs.Answers.{isRefused}
 use Rattle.lent_steps.specs.Steps.{stepVerdict}
 use Rattle.allowance.specs.declared.{Allowance.Allowance, Allowed.Allowed}

@@ -9,7 +9,7 @@ use borrow.Author.Tests.{leb-true, leb-false}
 use Rattle.construction.proofs.Basics.{true-or-false}
 use native.Mathlib.Omega.{arith}
 use lib.ListN.{length}
-use Rattle.construction.specs.declared.Verdict.{Verdict}
+use Rattle.construction.specs.declared.texts.Verdict.{Verdict}
 use Rattle.construction.specs.Opening.{readCard}
 use Rattle.lent_text.specs.Opened.{Opens, openedBlock, judged}
 use Rattle.lent_text.proofs.Theorems.{opened-short}

@@ -83,12 +83,14 @@ module _ (size : ℕ) (words : List ℕ) (m : ℕ) (w : List ℕ) (e : length w 
 pub part-kept : (size : ℕ) (words : List ℕ) (m : ℕ) → withPart size words m (part size words m) ≡ words
 unfolding withPart
 part-kept size words m =
-    ext-getD 0 (withPart size words m w) words (with-length size words m w) (λ i h. at i (true-or-false (ltb i (size * m))) (true-or-false (ltb i (size * m + length w))))
+    ext-getD 0 (withPart size words m w) words (with-length size words m w)
+    (λ i h. at i (true-or-false (ltb i (size * m))) (true-or-false (ltb i (size * m + length w))))
   where
     w : List ℕ
     w = part size words m
 
-    at : (i : ℕ) → (ltb i (size * m) ≡ true) ⊎ (ltb i (size * m) ≡ false) → (ltb i (size * m + length w) ≡ true) ⊎ (ltb i (size * m + length w) ≡ false) → getD (sets words (size * m) w) i 0 ≡ getD words i 0
+    at : (i : ℕ) → (ltb i (size * m) ≡ true) ⊎ (ltb i (size * m) ≡ false) → (ltb i (size * m + length w) ≡ true) ⊎ (ltb i (size * m + length w) ≡ false) →
+        getD (sets words (size * m) w) i 0 ≡ getD words i 0
     at i (inl p) _ = out w words (size * m) i (inl (ltb-true i (size * m) p))
     at i (inr p) (inr q) = out w words (size * m) i (inr (ltb-false i (size * m + length w) q))
     at i (inr p) (inl q) =
@@ -118,7 +120,8 @@ module _ (size : ℕ) (words : List ℕ) (m s e : ℕ) (at : s ≡ min (size * m
       (λ i h.
       let n : length (take (e - s) (drop s words)) ≡ min (e - s) (length words - s) = simp (length-take, length-drop) in
       let k : i < e - s = omega arith in
-      getD-take (e - s) (drop s words) i 0 k ∙ (getD-drop s words i 0 ∙ (ap (λ (q : ℕ). getD words (q + i) 0) (omega arith) ∙ sym (part-at size words m i (omega arith)))))
+      getD-take (e - s) (drop s words) i 0 k ∙
+      (getD-drop s words i 0 ∙ (ap (λ (q : ℕ). getD words (q + i) 0) (omega arith) ∙ sym (part-at size words m i (omega arith)))))
     where
       same : length (take (e - s) (drop s words)) ≡ length (part size words m)
       same =
@@ -139,7 +142,8 @@ module _ (size : ℕ) (words : List ℕ) (m s e : ℕ) (at : s ≡ min (size * m
       nothing [] i z = refl
       nothing (a ∷ v) i z = absurd (omega arith)
 
-      go : (ltb (length words) (size * m) ≡ true) ⊎ (ltb (length words) (size * m) ≡ false) → take s words ++ (w ++ drop (e - s) (drop s words)) ≡ sets words (size * m) w
+      go : (ltb (length words) (size * m) ≡ true) ⊎ (ltb (length words) (size * m) ≡ false) →
+          take s words ++ (w ++ drop (e - s) (drop s words)) ≡ sets words (size * m) w
       go (inl p) =
           let l = ltb-true (length words) (size * m) p in
           whole ∙ (nothing w s (omega arith) ∙ sym (nothing w (size * m) (omega arith)))

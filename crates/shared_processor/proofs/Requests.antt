@@ -7,12 +7,12 @@ use native.Mathlib.Omega.{arith}
 use lib.Dec.{eqb, ltb}
 use lib.ListN.{length, take, drop, length-take, length-drop}
 use borrow.Author.Tests.{lt-ltb, ltb-true, ltb-false, eq-eqb}
-use Rattle.construction.specs.declared.{Answer.Answer, Refusal.Refusal}
-use Rattle.construction.specs.declared.Refusal.the-variants as refusals
+use Rattle.construction.specs.declared.{answers.Answer.Answer, answers.Refusal.Refusal}
+use Rattle.construction.specs.declared.answers.Refusal.the-variants as refusals
 use Rattle.construction.specs.Answers.{isRefused}
 use Rattle.construction.specs.History.{Entry, Steps}
 use Rattle.construction.proofs.Basics.{on-test, clash}
-use Rattle.block.specs.Layout.{taskIn, lastIn, countIn}
+use Rattle.block.specs.Layout.{controlIn, lastIn, countIn}
 use Rattle.lent_card.specs.Requests.{readAnswer}
 use Rattle.lent_steps.specs.Steps.{stepVerdict, advanced, answerTo}
 use Rattle.lent_runs.specs.Runs.{Memory, Reply, untraced, replyIn, blockAfter, loanAfter, isAccepted, asLeft}
@@ -68,8 +68,12 @@ module _ (a : Allowance) (stride : ℕ) (blocks loans : List ℕ) (m : ℕ) (e :
       record {
         reply = ap (λ (y : Answered Memory Reply). replyFor e (y .outcome)) (sym h);
         allowance = ap (λ (y : Answered Memory Reply). y .machines .allowance) (sym h);
-        blocks = sym (ap (λ (y : Answered Memory Reply). withPart 1456 blocks m (y .machines .states m .block)) h ∙ ap (λ (y : Memory). withPart 1456 blocks m (y .block)) own);
-        loans = sym (ap (λ (y : Answered Memory Reply). withPart stride loans m (y .machines .states m .loan)) h ∙ ap (λ (y : Memory). withPart stride loans m (y .loan)) own);
+        blocks = sym
+            (ap (λ (y : Answered Memory Reply). withPart 1456 blocks m (y .machines .states m .block)) h ∙ ap
+            (λ (y : Memory). withPart 1456 blocks m (y .block)) own);
+        loans = sym
+            (ap (λ (y : Answered Memory Reply). withPart stride loans m (y .machines .states m .loan)) h ∙ ap
+            (λ (y : Memory). withPart stride loans m (y .loan)) own);
       }
 
   absent-is : a .count ≤ m → requestTo a stride blocks loans m e ≡ kept machines Outcome.NoMachine
@@ -174,7 +178,7 @@ module _ (a : Allowance) (stride : ℕ) (blocks loans : List ℕ) (m i : ℕ) wh
   accepted-step v =
       let b = part 1456 blocks m in
       let d = advanced b (part stride loans m) i in
-      rw v (answer-accepts (taskIn d i .place) (lastIn d i) (countIn d i) .0)
+      rw v (answer-accepts (controlIn d i .place) (lastIn d i) (countIn d i) .0)
 
   -- what the card itself takes, and what it refuses
   takes : {e : Entry} → Steps e i → isRefused verdict ≡ false →

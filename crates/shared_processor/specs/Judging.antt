@@ -3,8 +3,8 @@ use Prim.Native.Nat.{ℕ}
 use mathlib.Core.Bool.{cond}
 use mathlib.Core.List.{List}
 use lib.Dec.{ltb}
-use Rattle.construction.specs.declared.Answer.{Answer}
-use Rattle.construction.specs.declared.Refusal.the-variants as refusals
+use Rattle.construction.specs.declared.answers.Answer.{Answer}
+use Rattle.construction.specs.declared.answers.Refusal.the-variants as refusals
 use Rattle.construction.specs.Answers.{isRefused}
 use Rattle.lent_steps.specs.Steps.{stepVerdict}
 use Rattle.allowance.specs.declared.Allowance.{Allowance}

@@ -4,8 +4,8 @@ use Prim.Native.Nat.{ℕ}
 use mathlib.Core.Path.{_≡_}
 use mathlib.Core.Bool.{Bool, false, not}
 use mathlib.Core.List.{List}
-use Rattle.construction.specs.declared.{Answer.Answer, Refusal.Refusal}
-use Rattle.construction.specs.declared.Refusal.the-variants as refusals
+use Rattle.construction.specs.declared.{answers.Answer.Answer, answers.Refusal.Refusal}
+use Rattle.construction.specs.declared.answers.Refusal.the-variants as refusals
 use Rattle.construction.specs.Answers.{isRefused}
 use Rattle.construction.specs.History.{Entry}
 use Rattle.lent_runs.specs.Runs.{Handed, Memory, Reply, untraced, replyIn, memoryAfter, asLeft}

@@ -2,7 +2,7 @@
 use crate::places::BLOCK;
 use crate::places::end_of;
 use crate::places::start_of;
-use construction::Verdict;
+use construction::texts::Verdict;
 ghost use mathlib.Core.Path.{_≡_};
 ghost use Rattle.shared_processor.specs.Opening.{cardVerdict, withCard};
 

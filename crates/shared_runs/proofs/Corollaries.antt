@@ -3,7 +3,7 @@ use Prim.Native.Nat.{ℕ, _<_, _≤_}
 use mathlib.Core.Path.{_≡_, ap, _∙_}
 use mathlib.Core.List.{List}
 use lib.ListN.{length, getD}
-use Rattle.construction.specs.declared.{Answer.Answer, Answered.Answered, Card.Card, Verdict.Verdict}
+use Rattle.construction.specs.declared.{answers.Answer.Answer, answers.Answered.Answered, card.Card.Card, texts.Verdict.Verdict}
 use Rattle.construction.specs.Parts.{localAt}
 use Rattle.construction.specs.Requests.{read}
 use Rattle.construction.specs.Tracing.{TellsNoted}
@@ -86,7 +86,8 @@ module _
     pub tells-swap-shared : (i : ℕ) → Says (λ es. TellsSwap (run (opened t .card) es .card) i)
     tells-swap-shared i = speaks-of (λ es. tells-swap (run (opened t .card) es .card) i)
 
-    pub noted-sets-shared : (i : ℕ) → Says (λ es. Marks (localAt (run (opened t .card) es .card) i .mask) (localAt (run (opened t .card) es .card) i .dictionary))
+    pub noted-sets-shared : (i : ℕ) → Says
+        (λ es. Marks (localAt (run (opened t .card) es .card) i .mask) (localAt (run (opened t .card) es .card) i .dictionary))
     noted-sets-shared i = speaks-of (λ es. noted-sets t es i)
 
     pub tells-noted-shared : (i : ℕ) → Says (λ es. i < run (opened t .card) es .card .processCount → TellsNoted (run (opened t .card) es .card) i)
@@ -100,7 +101,8 @@ module _
 
     -- order 4
     pub log-sorts-shared :
-        (log : List Finish) → Says (λ es. Permuted (logOf (run (opened t .card) es .history .returns)) log → SortsToOrder (run (opened t .card) es .history) log)
+        (log : List Finish) → Says
+        (λ es. Permuted (logOf (run (opened t .card) es .history .returns)) log → SortsToOrder (run (opened t .card) es .history) log)
     log-sorts-shared log = speaks-of (λ es. log-sorts t es log)
 
     pub numbers-kept-shared : Says (λ es. NumbersKept (run (opened t .card) es))

@@ -7,16 +7,17 @@ use mathlib.Core.Logic.{_⊎_, inl, inr}
 use mathlib.Core.List.{List}
 use lib.Dec.{eqb, ltb}
 use borrow.Author.Tests.{ltb-false}
-use Rattle.construction.specs.declared.{Answer.Answer, Announcement.Announcement, Flag.Flag, Label.Label, Refusal.Refusal, Verdict.Verdict}
-use Rattle.construction.specs.declared.Flag.the-variants.{Done, Active, Exit}
-use Rattle.construction.specs.declared.Refusal.the-variants as refusals
+use Rattle.construction.specs.declared.{answers.Answer.Answer, cells.Announcement.Announcement, cells.Flag.Flag, accesses.Label.Label, answers.Refusal.Refusal}
+use Rattle.construction.specs.declared.{texts.Verdict.Verdict}
+use Rattle.construction.specs.declared.cells.Flag.the-variants.{Done, Active, Exit}
+use Rattle.construction.specs.declared.answers.Refusal.the-variants as refusals
 use Rattle.construction.specs.Answers.{refusedWith, numberOf, isRefused, answerFields}
 use Rattle.construction.specs.Requests.{isIdle, returned, stepAnswer}
 use Rattle.construction.specs.History.{Entry}
 use Rattle.construction.proofs.Basics.{clash}
 use Rattle.construction.proofs.Statements.AnswerFields.{answer-known}
 use Rattle.requests.specs.Judging.{judged, ifTextAccepted}
-use Rattle.block.specs.Layout.{processCountIn, programCountIn, variableCountIn, limitIn, stepsIn, gateIn, fromIn, taskIn, countIn, lastIn}
+use Rattle.block.specs.Layout.{processCountIn, programCountIn, variableCountIn, limitIn, stepsIn, gateIn, fromIn, controlIn, countIn, lastIn}
 use Rattle.loan.specs.Loans.{loanWords}
 use Rattle.lent_card.specs.Requests.{callAnswer, exitAnswer, readAnswer, changeAnswer, valueIn, changeText, behindIn}
 use Rattle.lent_steps.specs.Steps.{lentJudged, stepVerdict, advanced, answerTo}
@@ -26,23 +27,26 @@ use Rattle.allowance.specs.Opening.{isAccepted, allowance}
 use Rattle.allowance.specs.Requests.{Request, Outcome, Machines, Answered, kept, request, after}
 use Rattle.allowance.specs.Counting.{stepsOf, stepsOfAll}
 use Rattle.allowance.proofs.Cases.{on-request}
-use Rattle.allowance.proofs.Statements.{not-there, Stopped, nineteen-only, nineteen, Exceeds, nineteen-says, exceeds-nineteen, never-above-ceiling, never-above-turn, share-is-sure, share, ceiling}
+use Rattle.allowance.proofs.Statements.{not-there, Stopped, nineteen-only, nineteen, Exceeds, nineteen-says, exceeds-nineteen, never-above-ceiling}
+use Rattle.allowance.proofs.Statements.{never-above-turn, share-is-sure, share, ceiling}
 use Rattle.shared_processor.specs.Requests.{isCardStep, lentCards, refusalOf, replyFor, memoryIn, machinesIn, requestTo, replyTo}
 use Rattle.shared_processor.specs.Parts.{part}
 use Rattle.shared_runs.specs.Runs.{fiveFields, Shared, sharedReply, sharedRun, standing, handedAll, sharedLog}
 use Rattle.shared_runs.proofs.Standing.{standing-run}
 
 -- FROM AN ACCEPTED OPENING, with any words: 'Nobody passes a ceiling, all together never pass T', by the requests and replies alone
-module _ (count steps : ℕ) (qs : List Quota) (accepted : isAccepted count steps qs ≡ true) (stride : ℕ) (blocks loans : List ℕ) (rs : List (Request Entry)) where
-  abbrev first : Shared
-  first = record { allowance = allowance count steps qs; blocks = blocks; loans = loans }
+module _ (count steps : ℕ) (qs : List Quota) (accepted : isAccepted count steps qs ≡ true) (stride : ℕ) (blocks loans : List ℕ) (rs : List (Request Entry))
+  where
+    abbrev first : Shared
+    first = record { allowance = allowance count steps qs; blocks = blocks; loans = loans }
 
-  pub ceilings-shared :
-      (m : ℕ) → stepsOf lentCards m 0 (sharedLog stride first rs) ≤ ceiling lentCards count steps qs accepted (memoryIn stride blocks loans) (handedAll stride first rs) m
-  ceilings-shared = never-above-ceiling lentCards count steps qs accepted (memoryIn stride blocks loans) (handedAll stride first rs)
+    pub ceilings-shared :
+        (m : ℕ) → stepsOf lentCards m 0 (sharedLog stride first rs) ≤ ceiling lentCards count steps qs accepted (memoryIn stride blocks loans)
+        (handedAll stride first rs) m
+    ceilings-shared = never-above-ceiling lentCards count steps qs accepted (memoryIn stride blocks loans) (handedAll stride first rs)
 
-  pub turn-shared : stepsOfAll lentCards 0 (sharedLog stride first rs) ≤ steps
-  turn-shared = never-above-turn lentCards count steps qs accepted (memoryIn stride blocks loans) (handedAll stride first rs)
+    pub turn-shared : stepsOfAll lentCards 0 (sharedLog stride first rs) ≤ steps
+    turn-shared = never-above-turn lentCards count steps qs accepted (memoryIn stride blocks loans) (handedAll stride first rs)
 
 -- 19 is no answer of a card
 abbrev isNineteen : Answer → Bool
@@ -92,9 +96,10 @@ step-own : (b l : List ℕ) (i : ℕ) → isNineteen (answerTo b l i) ≡ false
 unfolding answerTo stepVerdict
 step-own b l i = go (isRefused (stepVerdict b l i))
   where
-    go : (t : Bool) → isNineteen (cond t (stepVerdict b l i) (stepAnswer (taskIn (advanced b l i) i .place) (lastIn (advanced b l i) i) (countIn (advanced b l i) i))) ≡ false
-    go true = step-by (ltb i (processCountIn b) && ltb i 8) (not (isIdle (taskIn b i .place))) (ltb (stepsIn b) (limitIn b)) (ltb (length l) (loanWords b))
-    go false = answer-by (taskIn (advanced b l i) i .place) (lastIn (advanced b l i) i) (countIn (advanced b l i) i)
+    go : (t : Bool) → isNineteen
+        (cond t (stepVerdict b l i) (stepAnswer (controlIn (advanced b l i) i .place) (lastIn (advanced b l i) i) (countIn (advanced b l i) i))) ≡ false
+    go true = step-by (ltb i (processCountIn b) && ltb i 8) (not (isIdle (controlIn b i .place))) (ltb (stepsIn b) (limitIn b)) (ltb (length l) (loanWords b))
+    go false = answer-by (controlIn (advanced b l i) i .place) (lastIn (advanced b l i) i) (countIn (advanced b l i) i)
 
 change-by :
     (p : Bool) (v : Verdict) (q r : Bool) →
@@ -109,8 +114,8 @@ change-by true Verdict.Accepted true false = refl
 own-numbers : (b l : List ℕ) (e : Entry) → isNineteen (replyIn b l e .answer) ≡ false
 unfolding callAnswer exitAnswer readAnswer changeAnswer
 own-numbers b l (Entry.Call i k inputs) =
-    call-by (ltb i (processCountIn b) && ltb i 8) (ltb k (programCountIn b) && ltb k 8) (isIdle (taskIn b i .place))
-own-numbers b l (Entry.Exit i) = exit-by (ltb i (processCountIn b) && ltb i 8) (not (isIdle (taskIn b i .place)))
+    call-by (ltb i (processCountIn b) && ltb i 8) (ltb k (programCountIn b) && ltb k 8) (isIdle (controlIn b i .place))
+own-numbers b l (Entry.Exit i) = exit-by (ltb i (processCountIn b) && ltb i 8) (not (isIdle (controlIn b i .place)))
 own-numbers b l (Entry.Step i) = step-own b l i
 own-numbers b l (Entry.Trace i) = step-own b l i
 own-numbers b l (Entry.Read v) = read-by (ltb v (variableCountIn b) && ltb v 64) (valueIn b v)
@@ -185,9 +190,11 @@ module _ (a : Allowance) (stride : ℕ) (blocks loans : List ℕ) (m : ℕ) (e :
   -- 19 by its number: exactly a step that the card itself accepts and that the rule does not allow; and then everything stays as it was
   pub nineteen-number : answerFields (replyTo a stride blocks loans m e .answer) ≡ refusedWith 19 → Stopped lentCards machines m asked
   unfolding requestTo answerFields
-  nineteen-number h = nineteen-only lentCards machines m asked (outcome (answer-known (replyTo a stride blocks loans m e .answer) (Answer.Refused refusals.NoAllowance) h))
+  nineteen-number h = nineteen-only lentCards machines m asked
+      (outcome (answer-known (replyTo a stride blocks loans m e .answer) (Answer.Refused refusals.NoAllowance) h))
     where
-      outcome : replyTo a stride blocks loans m e .answer ≡ Answer.Refused refusals.NoAllowance → request lentCards machines (Request.To m asked) .outcome ≡ Outcome.NoAllowance
+      outcome : replyTo a stride blocks loans m e .answer ≡ Answer.Refused refusals.NoAllowance →
+          request lentCards machines (Request.To m asked) .outcome ≡ Outcome.NoAllowance
       outcome =
           on-request lentCards machines m asked
           (λ (y : Answered Memory Reply). replyFor e (y .outcome) .answer ≡ Answer.Refused refusals.NoAllowance → y .outcome ≡ Outcome.NoAllowance)
@@ -206,45 +213,46 @@ module _ (a : Allowance) (stride : ℕ) (blocks loans : List ℕ) (m : ℕ) (e :
       (ap answerFields answer, same)
 
 -- FROM AN ACCEPTED OPENING: 19 by its number after every list of requests, by the terms of the opening and the requests and replies so far
-module _ (count steps : ℕ) (qs : List Quota) (accepted : isAccepted count steps qs ≡ true) (stride : ℕ) (blocks loans : List ℕ) (rs : List (Request Entry)) where
-  abbrev start : Shared
-  start = first count steps qs accepted stride blocks loans rs
+module _ (count steps : ℕ) (qs : List Quota) (accepted : isAccepted count steps qs ≡ true) (stride : ℕ) (blocks loans : List ℕ) (rs : List (Request Entry))
+  where
+    abbrev start : Shared
+    start = first count steps qs accepted stride blocks loans rs
 
-  abbrev now : Shared
-  now = sharedRun stride start rs
+    abbrev now : Shared
+    now = sharedRun stride start rs
 
-  abbrev next : ℕ → Entry → Handed
-  next m e = asLeft (memoryIn stride (now .blocks) (now .loans) m) e
+    abbrev next : ℕ → Entry → Handed
+    next m e = asLeft (memoryIn stride (now .blocks) (now .loans) m) e
 
-  abbrev ExceedsNow : ℕ → Entry → Type 0
-  ExceedsNow m e = Exceeds lentCards count steps qs accepted (memoryIn stride blocks loans) (handedAll stride start rs) m (next m e)
+    abbrev ExceedsNow : ℕ → Entry → Type 0
+    ExceedsNow m e = Exceeds lentCards count steps qs accepted (memoryIn stride blocks loans) (handedAll stride start rs) m (next m e)
 
-  abbrev reply : ℕ → Entry → Answer
-  reply m e = sharedReply stride now (Request.To m e) .answer
+    abbrev reply : ℕ → Entry → Answer
+    reply m e = sharedReply stride now (Request.To m e) .answer
 
-  stopped-now : (m : ℕ) (e : Entry) → answerFields (reply m e) ≡ refusedWith 19 →
-      request lentCards (after lentCards (standing stride start) (handedAll stride start rs)) (Request.To m (next m e)) .outcome ≡ Outcome.NoAllowance
-  stopped-now m e h =
-      subst (λ (x : Machines Memory). request lentCards x (Request.To m (next m e)) .outcome ≡ Outcome.NoAllowance) (standing-run stride start rs)
-      (ap (λ (y : Answered Memory Reply). y .outcome)
-      (nineteen lentCards (standing stride now) m (next m e) (nineteen-number (now .allowance) stride (now .blocks) (now .loans) m e h)))
+    stopped-now : (m : ℕ) (e : Entry) → answerFields (reply m e) ≡ refusedWith 19 →
+        request lentCards (after lentCards (standing stride start) (handedAll stride start rs)) (Request.To m (next m e)) .outcome ≡ Outcome.NoAllowance
+    stopped-now m e h =
+        subst (λ (x : Machines Memory). request lentCards x (Request.To m (next m e)) .outcome ≡ Outcome.NoAllowance) (standing-run stride start rs)
+        (ap (λ (y : Answered Memory Reply). y .outcome)
+        (nineteen lentCards (standing stride now) m (next m e) (nineteen-number (now .allowance) stride (now .blocks) (now .loans) m e h)))
 
-  pub nineteen-shared : (m : ℕ) (e : Entry) → answerFields (reply m e) ≡ refusedWith 19 → ExceedsNow m e
-  nineteen-shared m e h =
-      nineteen-says lentCards count steps qs accepted (memoryIn stride blocks loans) (handedAll stride start rs) m (next m e) (stopped-now m e h)
+    pub nineteen-shared : (m : ℕ) (e : Entry) → answerFields (reply m e) ≡ refusedWith 19 → ExceedsNow m e
+    nineteen-shared m e h =
+        nineteen-says lentCards count steps qs accepted (memoryIn stride blocks loans) (handedAll stride start rs) m (next m e) (stopped-now m e h)
 
-  pub shared-nineteen : (m : ℕ) (e : Entry) → ExceedsNow m e → answerFields (reply m e) ≡ refusedWith 19
-  shared-nineteen m e x =
-      number-nineteen (now .allowance) stride (now .blocks) (now .loans) m e
-      (nineteen-only lentCards (standing stride now) m (next m e)
-      (subst (λ (y : Machines Memory). request lentCards y (Request.To m (next m e)) .outcome ≡ Outcome.NoAllowance) (sym (standing-run stride start rs))
-      (ap (λ (y : Answered Memory Reply). y .outcome)
-      (exceeds-nineteen lentCards count steps qs accepted (memoryIn stride blocks loans) (handedAll stride start rs) m (next m e) x)))) .0
+    pub shared-nineteen : (m : ℕ) (e : Entry) → ExceedsNow m e → answerFields (reply m e) ≡ refusedWith 19
+    shared-nineteen m e x =
+        number-nineteen (now .allowance) stride (now .blocks) (now .loans) m e
+        (nineteen-only lentCards (standing stride now) m (next m e)
+        (subst (λ (y : Machines Memory). request lentCards y (Request.To m (next m e)) .outcome ≡ Outcome.NoAllowance) (sym (standing-run stride start rs))
+        (ap (λ (y : Answered Memory Reply). y .outcome)
+        (exceeds-nineteen lentCards count steps qs accepted (memoryIn stride blocks loans) (handedAll stride start rs) m (next m e) x)))) .0
 
-  -- 'Within its share a machine's step always has its allowance'
-  pub share-shared :
-      (m : ℕ) (e : Entry) →
-      stepsOf lentCards m 0 (sharedLog stride start rs) < share lentCards count steps qs accepted (memoryIn stride blocks loans) (handedAll stride start rs) m →
-      answerFields (reply m e) ≡ refusedWith 19 → ⊥
-  share-shared m e p h =
-      share-is-sure lentCards count steps qs accepted (memoryIn stride blocks loans) (handedAll stride start rs) m (next m e) p (stopped-now m e h)
+    -- 'Within its share a machine's step always has its allowance'
+    pub share-shared :
+        (m : ℕ) (e : Entry) →
+        stepsOf lentCards m 0 (sharedLog stride start rs) < share lentCards count steps qs accepted (memoryIn stride blocks loans) (handedAll stride start rs) m →
+        answerFields (reply m e) ≡ refusedWith 19 → ⊥
+    share-shared m e p h =
+        share-is-sure lentCards count steps qs accepted (memoryIn stride blocks loans) (handedAll stride start rs) m (next m e) p (stopped-now m e h)

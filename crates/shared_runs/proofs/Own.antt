@@ -46,7 +46,8 @@ module _ (stride : ℕ) (s : Shared) (m : ℕ) (there : m < s .allowance .count)
       go :
           (eqb j m ≡ true) ⊎ (eqb j m ≡ false) →
           withRequest m (Request.To j asked) (Outcome.Own (replyIn (memoryIn stride (s .blocks) (s .loans) j .block) (asked .loan) e)) rest
-          ≡ handing mine (entries (withRequest m (Request.To j asked) (Outcome.Own (replyIn (memoryIn stride (s .blocks) (s .loans) j .block) (asked .loan) e)) rest))
+          ≡ handing mine
+          (entries (withRequest m (Request.To j asked) (Outcome.Own (replyIn (memoryIn stride (s .blocks) (s .loans) j .block) (asked .loan) e)) rest))
       go (inl p) =
           let same = eqb-true j m p in
           let after : rest ≡ handing (memoryAfter (memoryIn stride (s .blocks) (s .loans) j) asked) (entries rest) = rw p at h in
@@ -73,7 +74,8 @@ module _ (stride m : ℕ) where
   own-step s Request.Turn there rest h = h
 
   count-after : (s : Shared) (r : Request Entry) → sharedAfter stride s r .allowance .count ≡ s .allowance .count
-  count-after s r = ap (λ (x : Machines Memory). x .allowance .count) (standing-after stride s r) ∙ request-count lentCards (standing stride s) (handed stride s r)
+  count-after s r = ap (λ (x : Machines Memory). x .allowance .count) (standing-after stride s r) ∙ request-count lentCards (standing stride s)
+      (handed stride s r)
 
   -- every list
   pub own-handed :

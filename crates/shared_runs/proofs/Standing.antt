@@ -22,7 +22,8 @@ use Rattle.shared_runs.specs.Runs.{Shared, sharedAfter, sharedReply, sha
 lengths-after :
     (m : Memory) (e : Entry) → (length (memoryAfter m (asLeft m e) .block) ≡ length (m .block)) × (length (memoryAfter m (asLeft m e) .loan) ≡ length (m .loan))
 lengths-after m e =
-    let u = untouched (m .block) (m .loan) e in (u .block .size, either (isAccepted (m .block) (m .loan) e) (loanAfter (m .block) (m .loan) e) (m .loan) (u .size))
+    let u = untouched (m .block) (m .loan) e in
+    (u .block .size, either (isAccepted (m .block) (m .loan) e) (loanAfter (m .block) (m .loan) e) (m .loan) (u .size))
   where
     either : (t : Bool) (k l : List ℕ) → length k ≡ length l → length (cond t k l) ≡ length l
     either true k l h = h
@@ -39,7 +40,8 @@ module _ (stride : ℕ) (s : Shared) (m : ℕ) (e : Entry) where
   unfolding requestTo
   lengths =
       on-request lentCards (standing stride s) m (asLeft here e)
-      (λ (y : Answered Memory Reply). (length (y .machines .states m .block) ≡ length (here .block)) × (length (y .machines .states m .loan) ≡ length (here .loan)))
+      (λ (y : Answered Memory Reply). (length (y .machines .states m .block) ≡ length (here .block)) ×
+      (length (y .machines .states m .loan) ≡ length (here .loan)))
       (λ t. (refl, refl)) (λ t u v. (refl, refl)) (λ t u v. rw (eq-eqb m m refl) (lengths-after here e)) (λ t u. rw (eq-eqb m m refl) (lengths-after here e))
 
   -- the words of every machine after the request are its memory in the definitions
@@ -70,7 +72,8 @@ module _ (stride : ℕ) (s : Shared) (m : ℕ) (e : Entry) where
           ∙ sym (others-kept lentCards (standing stride s) m j (asLeft here e) (λ q. other (sym q)))
 
 module _ (stride : ℕ) where
-  pub standing-after : (s : Shared) (r : Request Entry) → standing stride (sharedAfter stride s r) ≡ request lentCards (standing stride s) (handed stride s r) .machines
+  pub standing-after : (s : Shared) (r : Request Entry) → standing stride (sharedAfter stride s r) ≡ request lentCards (standing stride s)
+      (handed stride s r) .machines
   unfolding requestTo request
   standing-after s (Request.To m e) =
       λ i. record { allowance = requestTo (s .allowance) stride (s .blocks) (s .loans) m e .machines .allowance; states = λ j. state-after stride s m e j i }
@@ -86,7 +89,8 @@ module _ (stride : ℕ) where
   pub log-first :
       (s : Shared) (r : Request Entry) (rs : List (Request Entry)) →
       sharedLog stride s (r ∷ rs)
-      ≡ record { request = handed stride s r; outcome = request lentCards (standing stride s) (handed stride s r) .outcome } ∷ sharedLog stride (sharedAfter stride s r) rs
+      ≡ record { request = handed stride s r; outcome = request lentCards (standing stride s) (handed stride s r) .outcome } ∷ sharedLog stride
+      (sharedAfter stride s r) rs
   unfolding log handedAll
   log-first s r rs =
       ap
@@ -95,7 +99,8 @@ module _ (stride : ℕ) where
       (sym (standing-after s r))
 
   -- EVERY LIST: what stands in the words, and what the functions answer
-  pub standing-run : (s : Shared) (rs : List (Request Entry)) → standing stride (sharedRun stride s rs) ≡ after lentCards (standing stride s) (handedAll stride s rs)
+  pub standing-run : (s : Shared) (rs : List (Request Entry)) →
+      standing stride (sharedRun stride s rs) ≡ after lentCards (standing stride s) (handedAll stride s rs)
   unfolding sharedRun after handedAll
   standing-run s [] = refl
   standing-run s (r ∷ rs) =

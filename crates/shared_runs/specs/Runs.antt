@@ -5,7 +5,7 @@ use Prim.Native.Nat.{ℕ, _≤_}
 use mathlib.Core.Path.{_≡_}
 use mathlib.Core.List.{List, [], _∷_, map}
 use lib.ListN.{length}
-use Rattle.construction.specs.declared.{Answer.Answer}
+use Rattle.construction.specs.declared.{answers.Answer.Answer}
 use Rattle.construction.specs.Answers.{Fields, fields, refusedWith}
 use Rattle.construction.specs.History.{Entry, run}
 use Rattle.construction.specs.Opening.{opened}

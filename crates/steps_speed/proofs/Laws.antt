@@ -4,7 +4,7 @@ use mathlib.Core.Bool.{Bool, true, false, not}
 use mathlib.Core.Path.{_≡_}
 use native.Mathlib.Omega.{arith}
 use borrow.Author.Tests.{not-true, not-false}
-use Rattle.construction.specs.declared.{Words.Words, Answered.Answered}
+use Rattle.construction.specs.declared.{cells.Words.Words, answers.Answered.Answered}
 use Rattle.construction.specs.Requests.{call, step}
 use Rattle.construction.specs.Answers.{isRun}
 use Rattle.xorshift.specs.Xorshift.{next}

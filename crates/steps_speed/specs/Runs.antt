@@ -1,7 +1,7 @@
 -- The calls and steps that steps_speed makes, as one run of the requests of document 01.
 use Prim.Native.Nat.{ℕ, zero, suc, _+_, _%_}
 use mathlib.Core.Bool.{cond}
-use Rattle.construction.specs.declared.{Words.Words, Card.Card, Answer.Answer, Answered.Answered}
+use Rattle.construction.specs.declared.{cells.Words.Words, card.Card.Card, answers.Answer.Answer, answers.Answered.Answered}
 use Rattle.construction.specs.Answers.{isRun}
 use Rattle.construction.specs.Requests.{call, step}
 use Rattle.xorshift.specs.Xorshift.{next}

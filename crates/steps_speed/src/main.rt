@@ -3,10 +3,10 @@
 // tests/speed/run.sh times it against tests/speed/steps/steps.rs, which ends with the same cells.
 // The card stands in one variable, the last request's result, so that nothing but the requests copies it.
 use answers::kinds::is_run;
-use construction::Answer;
-use construction::Answered;
-use construction::Card;
-use construction::Words;
+use construction::answers::Answer;
+use construction::answers::Answered;
+use construction::card::Card;
+use construction::cells::Words;
 use grammar::Number;
 use grammar::reading::number_at;
 use libc::STDIN_FILENO;

@@ -5,7 +5,7 @@
 use block::cells::announcement;
 use block::cells::gate;
 use block::cells::record;
-use construction::Words;
+use construction::cells::Words;
 use grammar::Numbers;
 use grammar::reading::four_at;
 use grammar::writing::put_field;

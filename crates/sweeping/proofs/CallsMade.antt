@@ -6,7 +6,7 @@ use mathlib.Core.List.{List}
 use native.Mathlib.Numerals.{add-one, unary-clauses}
 use native.Mathlib.Omega.{arith}
 use Rattle.grammar.specs.Writing.{Put}
-use Rattle.construction.specs.declared.{Answer.Answer, Report.Report}
+use Rattle.construction.specs.declared.{answers.Answer.Answer, answers.Report.Report}
 use Rattle.construction.specs.Answers.{isRefused}
 use Rattle.construction.specs.Tracing.{noReport}
 use Rattle.executions.specs.declared.Request.{Request}
@@ -36,7 +36,8 @@ module _ {calls : List ℕ} {b₀ : List ℕ} {n : ℕ} {b : List ℕ} {i : ℕ}
       record { rest = rw (add-one, eb, ex) (rw (m, r) at (h .rest)); inside = omega arith }
 
   pub called-refused :
-      {a : Answer} {b' buffer z : List ℕ} {t : _} {report : Report} {r : ℕ} → i < n → a ≡ callAnswer b i (x .program) → b' ≡ callBlock b i (x .program) (x .inputs) →
+      {a : Answer} {b' buffer z : List ℕ} {t : _} {report : Report} {r : ℕ} → i < n → a ≡ callAnswer b i (x .program) →
+      b' ≡ callBlock b i (x .program) (x .inputs) →
       t ≡ isRefused a → t ≡ true → report ≡ noReport → Put buffer 0 (lineText 0 (Command.Call i (x .program) (x .inputs)) report a) r z → r ≤ longest →
       Calls calls b₀ buffer r b' z
   unfolding calledFrom

@@ -5,7 +5,7 @@ use mathlib.Core.List.{List}
 use lib.ListN.{length}
 use borrow.Author.Tests.{lt-ltb, le-ltb}
 use Rattle.grammar.specs.Writing.{Put}
-use Rattle.construction.specs.declared.{Refusal.Refusal, Verdict.Verdict}
+use Rattle.construction.specs.declared.{answers.Refusal.Refusal, texts.Verdict.Verdict}
 use Rattle.calls.specs.declared.Calls.{Calls as CallsOf}
 use Rattle.calls.specs.Texts.{callsOf, lineRefusal}
 use Rattle.commands.specs.Printing.{longest, cardRefusal, callsRefusal}
@@ -24,7 +24,8 @@ stops :
 stops text e p er = rw er (record { put = rw e (p .0); short = p .1; block = rw e refl; table = rw e refl })
 
 module _ {card b buffer b₁ z : List ℕ} (calls : List ℕ) {v : Verdict} {n : ℕ} (o : Opens card b v b₁) where
-  pub card-refused : {why : Refusal} {line : ℕ} {r : Started} → v ≡ Verdict.Refused why line → Line buffer (cardRefusal (Verdict.Refused why line)) n z → r ≡ over n → Starts card calls b buffer r b₁ z
+  pub card-refused : {why : Refusal} {line : ℕ} {r : Started} → v ≡ Verdict.Refused why line → Line buffer (cardRefusal (Verdict.Refused why line)) n z →
+      r ≡ over n → Starts card calls b buffer r b₁ z
   unfolding starting
   card-refused {why} {line} e p er = stops (cardRefusal (Verdict.Refused why line)) (rw (← o .answer, e, ← o .words) refl) p er
 
@@ -34,13 +35,15 @@ module _ {card b buffer b₁ z : List ℕ} (calls : List ℕ) {v : Verdict} {n :
 
 -- the lines of the calls
 read :
-    {card b b₁ : List ℕ} (calls : List ℕ) {v : Verdict} {k : ℕ} {x : CallsOf} → Opens card b v b₁ → v ≡ Verdict.Accepted → length calls ≤ 65536 → k ≡ processCountIn b₁ →
+    {card b b₁ : List ℕ} (calls : List ℕ) {v : Verdict} {k : ℕ} {x : CallsOf} → Opens card b v b₁ → v ≡ Verdict.Accepted → length calls ≤ 65536 →
+    k ≡ processCountIn b₁ →
     x ≡ callsOf calls k → starting card calls b ≡ callsStarting b₁ x
 unfolding starting
 read calls o e h ek ex = rw (← o .answer, e, ← o .words, le-ltb 65536 (length calls) h, ← ek, ← ex) refl
 
 module _
-    {card b buffer b₁ z : List ℕ} (calls : List ℕ) {v : Verdict} {n k : ℕ} {x : CallsOf} (o : Opens card b v b₁) (e : v ≡ Verdict.Accepted) (h : length calls ≤ 65536)
+    {card b buffer b₁ z : List ℕ} (calls : List ℕ) {v : Verdict} {n k : ℕ} {x : CallsOf} (o : Opens card b v b₁) (e : v ≡ Verdict.Accepted)
+    (h : length calls ≤ 65536)
     (ek : k ≡ processCountIn b₁) (ex : x ≡ callsOf calls k)
   where
     pub line-refused :

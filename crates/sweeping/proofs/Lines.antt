@@ -7,7 +7,7 @@ use native.Mathlib.Omega.{arith}
 use lib.ListN.{length}
 use Rattle.grammar.specs.Writing.{Put}
 use Rattle.grammar.proofs.Puts.{Room, Rest, rest-all, rest-step, rest-last, rest-none, rest-length}
-use Rattle.construction.specs.declared.{Answer.Answer, Report.Report}
+use Rattle.construction.specs.declared.{answers.Answer.Answer, answers.Report.Report}
 use Rattle.construction.specs.Tracing.{noReport}
 use Rattle.commands.specs.declared.Command.{Command}
 use Rattle.commands.specs.Printing.{lineText}
@@ -38,7 +38,8 @@ module _ {b buffer₀ : List ℕ} {at n : ℕ} {buffer : List ℕ} {i v : ℕ} (
   read-on {a} {t} {j} {z} below ea et p =
       let e : n - v ≡ suc (n - suc v) = omega arith in
       let q : Put buffer i (lineText 0 (Command.Read v) noReport (readAnswer b v)) j z = rw (ea, et) at p in
-      let r : Rest buffer₀ at (readsText b n 0) buffer i (lineText 0 (Command.Read v) noReport (readAnswer b v) ++ readsText b (n - suc v) (suc v)) = rw e at (h .rest) in
+      let r : Rest buffer₀ at (readsText b n 0) buffer i (lineText 0 (Command.Read v) noReport (readAnswer b v) ++ readsText b (n - suc v) (suc v)) =
+      rw e at (h .rest) in
       record { rest = rw add-one (rest-step r q); inside = omega arith }
 
   pub read-all : n ≤ v → Put buffer₀ at (readsText b n 0) i buffer

@@ -79,7 +79,8 @@ module _ {calls : List ℕ} {s₀ : Stage} {b l : List ℕ} {q : Progress} (h : 
       let e : nextStage calls (stage b l q) ≡ stage b' l' r = sym (λ j. record { progress = progress j; block = block j; loan = loan j }) in
       go (h .n) (h .rest) (h .enough) e
     where
-      go : (n : ℕ) → inPieces (s₀ .progress .left) calls s₀ ≡ inPieces n calls (stage b l q) → q .left ≤ n → nextStage calls (stage b l q) ≡ stage b' l' r → PiecesTo calls s₀ (stage b' l' r)
+      go : (n : ℕ) → inPieces (s₀ .progress .left) calls s₀ ≡ inPieces n calls (stage b l q) → q .left ≤ n → nextStage calls (stage b l q) ≡ stage b' l' r →
+          PiecesTo calls s₀ (stage b' l' r)
       go zero g k e = absurd (omega arith)
       go (suc n) g k e =
           record {

@@ -9,7 +9,7 @@ use lib.Dec.{eqb}
 use lib.ListN.{length}
 use borrow.Author.Tests.{eqb-true, eqb-false}
 use Rattle.grammar.specs.Writing.{largest}
-use Rattle.construction.specs.declared.{Card.Card, Contents.Contents}
+use Rattle.construction.specs.declared.{card.Card.Card, texts.Contents.Contents}
 use Rattle.construction.specs.Opening.{opened}
 use Rattle.construction.specs.History.{Entry, Observation, run}
 use Rattle.construction.proofs.Observing.Runs.{opened-consistent}
@@ -47,7 +47,8 @@ pub record Small (q : Progress) : Type 0 where
   pub accepted : q .counts .accepted + q .left ≤ largest
   pub returned : q .counts .done + (q .counts .faulted + q .counts .exited) ≤ q .counts .accepted
 
-added-sum : (c d : Counts) → c .accepted + d .accepted ≤ largest → c .done + (c .faulted + c .exited) ≤ c .accepted → d .done + (d .faulted + d .exited) ≤ d .accepted → added c d ≡ sumOf c d
+added-sum : (c d : Counts) → c .accepted + d .accepted ≤ largest → c .done + (c .faulted + c .exited) ≤ c .accepted →
+    d .done + (d .faulted + d .exited) ≤ d .accepted → added c d ≡ sumOf c d
 added-sum c d h f g =
     let e0 : added c d .accepted ≡ c .accepted + d .accepted = omega arith in
     let e1 : added c d .done ≡ c .done + d .done = omega arith in
@@ -123,11 +124,14 @@ module _
       summed = added-sum (q .counts) (part .counts) (omega (arith, few, small .accepted)) (small .returned) (tallied .returned)
 
       -- the whole schedule from here on is the piece and then the rest
-      split : swept calls (record { block = reached es .block; loan = reached es .loan; counts = q .counts }) (drawn (q .left) (q .x) p) ≡ swept calls (behind (q .counts) part) rest
+      split : swept calls (record { block = reached es .block; loan = reached es .loan; counts = q .counts }) (drawn (q .left) (q .x) p) ≡ swept calls
+          (behind (q .counts) part) rest
       split =
           let e : m + (q .left - m) ≡ q .left = omega arith in
           ap (λ (k : ℕ). swept calls (record { block = reached es .block; loan = reached es .loan; counts = q .counts }) (drawn k (q .x) p)) (sym e)
-          ∙ (ap (λ (z : List ℕ). swept calls (record { block = reached es .block; loan = reached es .loan; counts = q .counts }) z) (drawn-append m (q .left - m) (q .x) p)
+          ∙
+          (ap (λ (z : List ℕ). swept calls (record { block = reached es .block; loan = reached es .loan; counts = q .counts }) z)
+          (drawn-append m (q .left - m) (q .x) p)
           ∙ (swept-append calls xs rest (record { block = reached es .block; loan = reached es .loan; counts = q .counts })
           ∙ ap (λ (z : Sweep). swept calls z rest) (swept-from calls (reached es .block) (reached es .loan) xs (q .counts))))
 
@@ -145,7 +149,8 @@ module _
       at-limit : (part .counts .accepted ≡ m → ⊥) → limitIn (part .block) ≤ stepsIn (part .block)
       at-limit ne =
           let a = only-limit t b l long lent calls words called es fits busy xs (drawn-within m (q .x) p some) in
-          let s : stepsIn (part .block) ≡ run o es .card .steps + part .counts .accepted = steps-is (part .block) (part .loan) ∙ accepted-steps t b l long lent calls words es fits xs in
+          let s : stepsIn (part .block) ≡ run o es .card .steps + part .counts .accepted =
+          steps-is (part .block) (part .loan) ∙ accepted-steps t b l long lent calls words es fits xs in
           let k : limitIn (part .block) ≡ o .limit = ap (λ (z : Memory). limitIn (z .block)) (sym leads) ∙ limits (es ++ made) fits' in
           omega (arith, drawn-length m (q .x) p, ne)
 
@@ -156,9 +161,13 @@ module _
       is-onward : nextStage calls (stage (reached es .block) (reached es .loan) q) ≡ onward (leftAfter (q .left) m (part .counts .accepted))
       is-onward =
           ap
-          (λ (z : Sweep). stage (z .block) (z .loan) (record { x = after m (q .x); left = leftAfter (q .left) m (z .counts .accepted); counts = added (q .counts) (z .counts) }))
+          (λ (z : Sweep). stage (z .block) (z .loan)
+          (record { x = after m (q .x); left = leftAfter (q .left) m (z .counts .accepted); counts = added (q .counts) (z .counts) }))
           is-part
-          ∙ ap (λ (k : Counts). stage (part .block) (part .loan) (record { x = after m (q .x); left = leftAfter (q .left) m (part .counts .accepted); counts = k })) summed
+          ∙ ap
+          (λ (k : Counts). stage (part .block) (part .loan)
+          (record { x = after m (q .x); left = leftAfter (q .left) m (part .counts .accepted); counts = k }))
+          summed
 
       abbrev whole : Sweep
       whole = swept calls (record { block = reached es .block; loan = reached es .loan; counts = q .counts }) (drawn (q .left) (q .x) p)
@@ -167,7 +176,9 @@ module _
       last : (part .counts .accepted ≡ m → ⊥) → (n : ℕ) → whole ≡ sweepAt (inPieces n calls (onward 0))
       last ne n =
           split
-          ∙ (swept-limit calls (part .block) (part .loan) (sumOf (q .counts) (part .counts)) (at-limit ne) rest ∙ ap sweepAt (sym (ended n calls (onward 0) (omega arith))))
+          ∙
+          (swept-limit calls (part .block) (part .loan) (sumOf (q .counts) (part .counts)) (at-limit ne) rest ∙ ap sweepAt
+          (sym (ended n calls (onward 0) (omega arith))))
 
       abbrev From : ℕ → Type 0
       From n =
@@ -180,10 +191,14 @@ module _
           let r : Progress = record { x = after m (q .x); left = q .left - m; counts = sumOf (q .counts) (part .counts) } in
           let more : Small r = record { accepted = omega (arith, small .accepted); returned = omega (arith, small .returned, tallied .returned) } in
           split
-          ∙ subst (λ (z : Memory). swept calls (record { block = z .block; loan = z .loan; counts = r .counts }) rest ≡ sweepAt (inPieces n calls (stage (z .block) (z .loan) r))) leads
+          ∙ subst
+          (λ (z : Memory). swept calls (record { block = z .block; loan = z .loan; counts = r .counts }) rest ≡ sweepAt
+          (inPieces n calls (stage (z .block) (z .loan) r)))
+          leads
           (from r more (omega arith))
 
-      one-piece : (n : ℕ) → 0 < q .left → q .left ≤ suc n → From n → whole ≡ sweepAt (inPieces n calls (nextStage calls (stage (reached es .block) (reached es .loan) q)))
+      one-piece : (n : ℕ) → 0 < q .left → q .left ≤ suc n → From n →
+          whole ≡ sweepAt (inPieces n calls (nextStage calls (stage (reached es .block) (reached es .loan) q)))
       one-piece n some' le from = by (eqb (part .counts .accepted) m) refl ∙ ap (λ (z : Stage). sweepAt (inPieces n calls z)) (sym is-onward)
         where
           by : (z : Bool) → eqb (part .counts .accepted) m ≡ z → whole ≡ sweepAt (inPieces n calls (onward (leftAfter (q .left) m (part .counts .accepted))))
@@ -215,5 +230,7 @@ module _
     -- a sweep of so many steps: counts, block and loan are those of the fold over the drawn schedule
     pub pieces-are-one :
         (es : List Entry) → AllFit (handing first es) → AllBusy (run o es .card) → (steps seed : ℕ) → steps ≤ largest →
-        swept calls (start (reached es .block) (reached es .loan)) (drawn steps seed p) ≡ sweepAt (inPieces steps calls (stage (reached es .block) (reached es .loan) (begun steps seed)))
-    pieces-are-one es fits busy steps seed h = pieces-from steps es fits busy (begun steps seed) (record { accepted = omega arith; returned = omega arith }) (omega arith)
+        swept calls (start (reached es .block) (reached es .loan)) (drawn steps seed p) ≡ sweepAt
+        (inPieces steps calls (stage (reached es .block) (reached es .loan) (begun steps seed)))
+    pieces-are-one es fits busy steps seed h = pieces-from steps es fits busy (begun steps seed) (record { accepted = omega arith; returned = omega arith })
+        (omega arith)

@@ -7,7 +7,7 @@ use mathlib.Core.List.{List, []}
 use lib.Dec.{ltb}
 use lib.ListN.{length, replicate}
 use Rattle.grammar.specs.Writing.{Put}
-use Rattle.construction.specs.declared.Verdict.{Verdict}
+use Rattle.construction.specs.declared.texts.Verdict.{Verdict}
 use Rattle.construction.specs.Answers.{isRefused}
 use Rattle.construction.specs.Opening.{readCard}
 use Rattle.construction.specs.Tracing.{noReport}

@@ -9,7 +9,7 @@ use commands::Command;
 use commands::printing::put_calls_refusal;
 use commands::printing::put_card_refusal;
 use commands::printing::put_line;
-use construction::Verdict;
+use construction::texts::Verdict;
 use lent_card::requesting::call;
 use reports::no_report;
 ghost use mathlib.Core.Path.{_≡_};

@@ -7,7 +7,7 @@ use lib.ListN.{length, take, drop, replicate, length-append, length-take, length
 use native.Mathlib.Omega.{arith}
 use Rattle.grammar.specs.Writing.{Put}
 use Rattle.grammar.proofs.Puts.{Room, rest-all, rest-step, rest-last}
-use Rattle.construction.specs.declared.{Card.Card, Written.Written}
+use Rattle.construction.specs.declared.{card.Card.Card, texts.Written.Written}
 use Rattle.writer.specs.Written.{Writes}
 use Rattle.text_cases.specs.declared.Outcome.{Outcome}
 use Rattle.text_cases.specs.Comparing.{filler, agreesWith, bytesOf, outcomeIn}

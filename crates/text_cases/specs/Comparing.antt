@@ -4,7 +4,7 @@ use mathlib.Core.Bool.{Bool, cond}
 use mathlib.Core.List.{List, _++_}
 use lib.ListN.{length, getD, take, drop, replicate}
 use lib.Dec.{eqb, ltb}
-use Rattle.construction.specs.declared.{Card.Card, Written.Written}
+use Rattle.construction.specs.declared.{card.Card.Card, texts.Written.Written}
 use Rattle.construction.specs.Writing.{written, writtenInto}
 use Rattle.report.specs.Same.{allBelow}
 use Rattle.text_cases.specs.declared.{Outcome.Outcome, Outcomes.Outcomes}

@@ -5,7 +5,7 @@ use mathlib.Core.Bool.{Bool, cond}
 use mathlib.Core.List.{List, [], _∷_, _++_}
 use lib.ListN.{length}
 use Rattle.grammar.specs.Writing.{decimal}
-use Rattle.construction.specs.declared.Opened.{Opened}
+use Rattle.construction.specs.declared.texts.Opened.{Opened}
 use Rattle.construction.specs.Answers.{bytes, verdictFields, writtenFields, fieldsText}
 use Rattle.construction.specs.Opening.{opened}
 use Rattle.text_cases.specs.declared.{Outcome.Outcome, Outcomes.Outcomes}

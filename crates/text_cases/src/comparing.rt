@@ -1,8 +1,8 @@
 // What the writer does in a buffer, and whether the buffer then holds what it must.
 use crate::Outcome;
 use crate::Outcomes;
-use construction::Card;
-use construction::Written;
+use construction::card::Card;
+use construction::texts::Written;
 use grammar::reading::byte_at;
 use report::same::both;
 ghost use mathlib.Core.Path.{_≡_};

@@ -9,7 +9,7 @@ mod lines; // lines.rt: the line of a case
 
 use crate::cases::case_at;
 use crate::lines::put_case;
-use construction::Written;
+use construction::texts::Written;
 use libc::STDIN_FILENO;
 use libc::STDOUT_FILENO;
 

@@ -46,7 +46,8 @@ part-table b at j zero = refl
 part-table b at j (suc n) =
     let e : wordAt b (place at j) ≡ wordAt b (at + (j + 0)) = ap (wordAt b) (place-is at j ∙ omega arith) in
     let f = part-table b at (suc j) n in
-    let g = table-same n (λ k. wordAt b (at + (j + suc k))) (λ k. wordAt b (at + (suc j + k))) (λ k p. ap (wordAt b) (let z : at + (suc j + k) ≡ at + (j + suc k) = omega arith in z)) in
+    let g = table-same n (λ k. wordAt b (at + (j + suc k))) (λ k. wordAt b (at + (suc j + k)))
+    (λ k p. ap (wordAt b) (let z : at + (suc j + k) ≡ at + (j + suc k) = omega arith in z)) in
     λ i. e i ∷ (f ∙ g) i
 
 -- one word more is stored behind the others
@@ -183,5 +184,6 @@ copy-turn b c start to k e p q =
 
 pub copy-done : (b c : List ℕ) (start to k : ℕ) → c ≡ copied b start to k → k ≡ 33 → c ≡ stores b to (part b start 33)
 copy-done b c start to k e h =
-    let g = table-same 33 (λ j. wordAt b (start + j)) (λ j. wordAt b (start + (0 + j))) (λ j p. ap (wordAt b) (let z : start + (0 + j) ≡ start + j = omega arith in z)) in
+    let g = table-same 33 (λ j. wordAt b (start + j)) (λ j. wordAt b (start + (0 + j)))
+    (λ j p. ap (wordAt b) (let z : start + (0 + j) ≡ start + j = omega arith in z)) in
     e ∙ rw h (ap (λ (l : List ℕ). stores b to l) (sym (part-table b start 0 33 ∙ g)))

@@ -8,9 +8,10 @@ use native.Mathlib.Omega.{arith}
 use lib.Dec.{ltb, eqb}
 use lib.ListN.{length, length-set}
 use borrow.Author.Tests.{ltb-true, not-false}
-use Rattle.construction.specs.declared.{Format.Format, Decoded.Decoded, Encoded.Encoded, Instruction.Instruction, Line.Line, Verdict.Verdict, ProgramReading.ProgramReading}
-use Rattle.construction.specs.declared.Format.the-variants.{Unknown, Known}
-use Rattle.construction.specs.declared.Refusal.the-variants.{Malformed}
+use Rattle.construction.specs.declared.{programs.Format.Format, programs.Decoded.Decoded, programs.Encoded.Encoded, programs.Instruction.Instruction}
+use Rattle.construction.specs.declared.{programs.Line.Line, texts.Verdict.Verdict, texts.ProgramReading.ProgramReading}
+use Rattle.construction.specs.declared.programs.Format.the-variants.{Unknown, Known}
+use Rattle.construction.specs.declared.answers.Refusal.the-variants.{Malformed}
 use Rattle.construction.specs.Instructions.{noLine, codes, rowOf, instructionOf, ranged, unusedZero, eachOperand, decodeAs, decode}
 use Rattle.construction.specs.Lines.{sheetLine, insLine}
 use Rattle.construction.specs.Opening.{programRefusedAt, withLine, insFrom, readProgram}
@@ -36,8 +37,46 @@ FitAs (Known ka kb kc) make =
 
 row-fits : (k : ℕ) → FitAs (rowOf k .format) (rowOf k .instruction)
 row-fits =
-    rows-at (λ k r. FitAs (r .format) (r .instruction)) codes
-    (tt, (λ n a b c h p q r. (register a p, register b q), (λ n a b c h p q r. (register a p, ltb-true b 4294967296 q), (λ n a b c h p q r. (register a p, variable n b h q), (λ n a b c h p q r. (variable n a h p, register b q), (λ n a b c h p q r. (register a p, register b q), (λ n a b c h p q r. (register a p, register b q), (λ n a b c h p q r. (register a p, register b q), (λ n a b c h p q r. (register a p, register b q), (λ n a b c h p q r. (register a p, register b q, omega (arith, range-true 1 31 c r)), (λ n a b c h p q r. (register a p, register b q, omega (arith, range-true 1 31 c r)), (λ n a b c h p q r. (register a p, register b q), (λ n a b c h p q r. tt, (λ n a b c h p q r. register a p, (λ n a b c h p q r. register a p, λ k. tt)))))))))))))))
+    rows-at (λ k r. FitAs (r .format) (r .instruction)) codes (
+      tt,
+      (
+        λ n a b c h p q r. (register a p, register b q),
+        (
+          λ n a b c h p q r. (register a p, ltb-true b 4294967296 q),
+          (
+            λ n a b c h p q r. (register a p, variable n b h q),
+            (
+              λ n a b c h p q r. (variable n a h p, register b q),
+              (
+                λ n a b c h p q r. (register a p, register b q),
+                (
+                  λ n a b c h p q r. (register a p, register b q),
+                  (
+                    λ n a b c h p q r. (register a p, register b q),
+                    (
+                      λ n a b c h p q r. (register a p, register b q),
+                      (
+                        λ n a b c h p q r. (register a p, register b q, omega (arith, range-true 1 31 c r)),
+                        (
+                          λ n a b c h p q r. (register a p, register b q, omega (arith, range-true 1 31 c r)),
+                          (
+                            λ n a b c h p q r. (register a p, register b q),
+                            (
+                              λ n a b c h p q r. tt,
+                              (λ n a b c h p q r. register a p, (λ n a b c h p q r. register a p, λ k. tt)),
+                            ),
+                          ),
+                        ),
+                      ),
+                    ),
+                  ),
+                ),
+              ),
+            ),
+          ),
+        ),
+      ),
+    )
 
 module _ (n : ℕ) (small : n ≤ 256) where
   -- an instruction that decodes
@@ -67,7 +106,8 @@ module _ (n : ℕ) (small : n ≤ 256) where
     line-fits r k y i p h =
         record {
           size = h .size;
-          lines = λ j. set-keeps (λ (x : Line). FitsInstruction (x .instruction)) (r .program .lines) k j (record { instruction = y }) noLine (λ _. p) (h .lines j);
+          lines = λ j. set-keeps (λ (x : Line). FitsInstruction (x .instruction)) (r .program .lines) k j (record { instruction = y }) noLine (λ _. p)
+              (h .lines j);
           count = rw length-set (h .count);
         }
 

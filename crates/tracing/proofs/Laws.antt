@@ -8,8 +8,10 @@ use native.Mathlib.Omega.{arith}
 use lib.Dec.{ltb}
 use lib.ListN.{getD}
 use Rattle.opening.proofs.Laws.{inside}
-use Rattle.construction.specs.declared.{Announcement.Announcement, Record.Record, Access.Access, Cell.Cell, Swap.Swap, Writing.Writing, Card.Card, Refusal.Refusal, Answered.Answered, Label.Label, Report.Report, Traced.Traced}
-use Rattle.construction.specs.declared.Refusal.the-variants.{NoProcess, NotBusy, LimitReached}
+use Rattle.construction.specs.declared.{cells.Announcement.Announcement, cells.Record.Record, accesses.Access.Access, accesses.Cell.Cell, accesses.Swap.Swap}
+use Rattle.construction.specs.declared.{accesses.Writing.Writing, card.Card.Card, answers.Refusal.Refusal, answers.Answered.Answered, accesses.Label.Label}
+use Rattle.construction.specs.declared.{answers.Report.Report, answers.Traced.Traced}
+use Rattle.construction.specs.declared.answers.Refusal.the-variants.{NoProcess, NotBusy, LimitReached}
 use Rattle.construction.specs.Cells.{openAnnouncement, openRecord}
 use Rattle.construction.specs.Dictionary.{empty}
 use Rattle.construction.specs.Parts.{noGate, contentsOf, announcementAt, recordAt, localAt}
@@ -21,7 +23,7 @@ use Rattle.construction.specs.Tracing.{labelOf, reportWith, reportOf, noReport,
 use Rattle.reports.specs.Pieces.{announcementIn, recordIn, swapBy}
 use Rattle.reports.proofs.Swaps.{swap-is}
 use Rattle.card.proofs.Requests.{steppedAt}
-use Rattle.requests.proofs.Arrays.{Rooms, found, in-room}
+use Rattle.requests.proofs.Arrays.{FullArrays, found, in-room}
 
 -- a step that is not refused passed its three tests
 module _ (c : Card) (r s t : Refusal) where
@@ -37,15 +39,16 @@ module _ (c : Card) (r s t : Refusal) where
 accepted : (c : Card) (i : ℕ) → isRefused (step c i .answer) ≡ false → (i < 8) × (step c i ≡ steppedAt c i)
 unfolding step
 accepted c i h =
-    let p = unrefused c NoProcess NotBusy LimitReached (isProcess c i) (not (isIdle (localAt c i .task .place))) (ltb (c .steps) (c .limit)) (steppedAt c i) h in
+    let p = unrefused c NoProcess NotBusy LimitReached (isProcess c i) (not (isIdle (localAt c i .control .place))) (ltb (c .steps) (c .limit)) (steppedAt c i)
+    h in
     (in-room i (c .processCount) 8 (p .0), p .1)
 
 -- the pieces of process i, the cell and what stands there, as code takes them out
 pub record Pieces (c : Card) (i : ℕ) (label : Label) (a : Access) (w : Writing) (x : Cell) (m v : ℕ) (b : Announcement) (r : Record) (s : Swap) : Type 0 where
-  pub labelled : label ≡ labelOf (localAt c i .task .place) (localAt c i .exit)
-  pub chosen : a ≡ accessOf (localAt c i .task .place) (localAt c i .exit)
-  pub writes : w ≡ writing (localAt c i .gate .seq) (localAt c i .task) (getD (c .dictionaries) i (record { length = 0; items = [] }))
-  pub touches : x ≡ cellBy a (c .processCount) i (localAt c i .gate) (localAt c i .task .target) (w .item .variable)
+  pub labelled : label ≡ labelOf (localAt c i .control .place) (localAt c i .exit)
+  pub chosen : a ≡ accessOf (localAt c i .control .place) (localAt c i .exit)
+  pub writes : w ≡ writing (localAt c i .gate .seq) (localAt c i .control) (getD (c .dictionaries) i (record { length = 0; items = [] }))
+  pub touches : x ≡ cellBy a (c .processCount) i (localAt c i .gate) (localAt c i .control .target) (w .item .variable)
   pub process : m ≡ announcementIn x
   pub variable : v ≡ recordIn x
   pub announced : b ≡ cond (ltb m 8) (getD (c .announcements) (m % 8) openAnnouncement) openAnnouncement
@@ -53,14 +56,14 @@ pub record Pieces (c : Card) (i : ℕ) (label : Label) (a : Access) (w : Writing
   pub swaps :
       s
       ≡ swapBy a i m (c .gate) b r (localAt c i .gate) (localAt c i .announcement) (localAt c i .operation) (localAt c i .simulation .yields)
-      (localAt c i .task) (w .item)
+      (localAt c i .control) (w .item)
 
 module _ {c : Card} {i : ℕ} {label : Label} {a : Access} {w : Writing} {x : Cell} {m v : ℕ} {b : Announcement} {r : Record} {s : Swap}
-    (R : Rooms c) (lt : i < 8) (p : Pieces c i label a w x m v b r s) where
+    (R : FullArrays c) (lt : i < 8) (p : Pieces c i label a w x m v b r s) where
   own-dictionary : getD (c .dictionaries) i (record { length = 0; items = [] }) ≡ localAt c i .dictionary
   own-dictionary = inside (c .dictionaries) i (record { length = 0; items = [] }) empty (omega (arith, R .dictionaries))
 
-  written-is : w ≡ writing (localAt c i .gate .seq) (localAt c i .task) (localAt c i .dictionary)
+  written-is : w ≡ writing (localAt c i .gate .seq) (localAt c i .control) (localAt c i .dictionary)
   written-is = rw own-dictionary at (p .writes)
 
   touched-is : x ≡ touchedCell c i
@@ -81,15 +84,16 @@ module _ {c : Card} {i : ℕ} {label : Label} {a : Access} {w : Writing} {x : Ce
       ) (sym (swap-is c i (accessIn (localAt c i))))
 
   report-is :
-      reportWith label x s (getD (advance c i .gates) i noGate .seq) (getD (advance c i .masks) i 0) ≡ reportOf c i
+      reportWith label x s (getD (advance c i .gatesRead) i noGate .seq) (getD (advance c i .masks) i 0) ≡ reportOf c i
   unfolding reportOf
   report-is = rw (p .labelled, touched-is, swap-told)
 
 -- what code gives
 pub trace-is :
-    (c : Card) (i : ℕ) → Rooms c → {label : Label} {a : Access} {w : Writing} {x : Cell} {m v : ℕ} {b : Announcement} {r : Record} {s : Swap} →
+    (c : Card) (i : ℕ) → FullArrays c → {label : Label} {a : Access} {w : Writing} {x : Cell} {m v : ℕ} {b : Announcement} {r : Record} {s : Swap} →
     Pieces c (i % 8) label a w x m v b r s → (y : Answered) → y ≡ step c i →
-    (t : Report) → t ≡ cond (isRefused (y .answer)) noReport (reportWith label x s (getD (y .card .gates) (i % 8) noGate .seq) (getD (y .card .masks) (i % 8) 0)) →
+    (t : Report) → t ≡ cond (isRefused (y .answer)) noReport
+    (reportWith label x s (getD (y .card .gatesRead) (i % 8) noGate .seq) (getD (y .card .masks) (i % 8) 0)) →
     _≡_ {A = Traced} (record { card = y .card; answer = y .answer; report = t }) (trace c i)
 unfolding trace
 trace-is c i R {label} {a} {w} {x} {m} {v} {b} {r} {s} p y e t told = rw (told, e) (go (isRefused (step c i .answer)) refl)
@@ -97,7 +101,12 @@ trace-is c i R {label} {a} {w} {x} {m} {v} {b} {r} {s} p y e t told = rw (told, 
     go :
         (q : Bool) → isRefused (step c i .answer) ≡ q →
         _≡_ {A = Traced}
-        (record { card = step c i .card; answer = step c i .answer; report = cond q noReport (reportWith label x s (getD (step c i .card .gates) (i % 8) noGate .seq) (getD (step c i .card .masks) (i % 8) 0)) })
+        (record {
+          card = step c i .card;
+          answer = step c i .answer;
+          report =
+              cond q noReport (reportWith label x s (getD (step c i .card .gatesRead) (i % 8) noGate .seq) (getD (step c i .card .masks) (i % 8) 0));
+        })
         (record { card = step c i .card; answer = step c i .answer; report = cond q noReport (reportOf c i) })
     go true h = refl
     go false h =

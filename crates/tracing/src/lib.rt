@@ -1,7 +1,7 @@
 // The line behind each step (document 02, order 1): a step of the card with its report. It rests on the crates construction (types and
 // definitions), card, helping, machine, reports and requests.
-use construction::Card;
-use construction::Traced;
+use construction::answers::Traced;
+use construction::card::Card;
 use helping::writing;
 use machine::places::access_of;
 use reports::announcement_in;
@@ -10,8 +10,8 @@ use reports::label_of;
 use reports::record_in;
 use reports::swap_of;
 use reports::told;
-use requests::rooms::announcement_at;
-use requests::rooms::record_at;
+use requests::lookups::announcement_at;
+use requests::lookups::record_at;
 ghost use mathlib.Core.Path.{_≡_};
 ghost use Rattle.construction.specs.Tracing.{trace};
 
@@ -22,25 +22,25 @@ pub fn trace(card: Card, process: u32) -> Traced
 {
     let id = (process % 8) as u8;
     let i = id as usize;
-    let task = card.tasks[i];
-    let gate = card.gates[i];
-    let last = card.copies[i];
+    let control = card.controls[i];
+    let gate = card.gatesRead[i];
+    let last = card.announcementsRead[i];
     let operation = card.operations[i];
     let simulation = card.simulations[i];
     let dictionary = card.dictionaries[i];
     let exit = card.exits[i];
-    let place = task.place;
+    let place = control.place;
     let yields = simulation.yields;
     let label = label_of(place, exit);
     let access = access_of(place, exit);
-    let written = writing(gate.seq, task, dictionary);
+    let written = writing(gate.seq, control, dictionary);
     let item = written.item;
     let cell = cell_of(
         access,
         card.processCount,
         id,
         gate,
-        task.target,
+        control.target,
         item.variable,
     );
     let m = announcement_in(cell);
@@ -61,13 +61,13 @@ pub fn trace(card: Card, process: u32) -> Traced
         last,
         operation,
         yields,
-        task,
+        control,
         item,
     );
     let answered = card::step(card, process);
     let answer = answered.answer;
     let after = answered.card;
-    let read = after.gates[i];
+    let read = after.gatesRead[i];
     let report = told(answer, label, cell, swap, read.seq, after.masks[i]);
     Traced {
         card: after,

@@ -7,7 +7,7 @@ use native.Mathlib.Omega.{arith}
 use native.Mathlib.Decide.{decLt}
 use native.Mathlib.Nat.{max-le}
 use lib.ListN.{length, getD}
-use Rattle.construction.specs.declared.Program.{Program}
+use Rattle.construction.specs.declared.programs.Program.{Program}
 use Rattle.construction.specs.Answers.{Fields, fields}
 use Rattle.construction.specs.Parts.{contentsOf}
 use Rattle.construction.specs.Opening.{fresh, readCard, opened}
@@ -68,4 +68,5 @@ pub wait-of-opened :
     waitFor (opened t .card .processCount) (cardWeight (contentsOf (opened t .card))) ≡ Wait.Steps (waitOf (contentsOf (opened t .card)))
 unfolding opened fresh
 wait-of-opened t some =
-    wait-there (readCard t .contents .processCount) (cardWeight (readCard t .contents)) some (opened-bounded t .processCount) (heaviest-most (readCard t .contents .programs) (opened-bounded t .weights))
+    wait-there (readCard t .contents .processCount) (cardWeight (readCard t .contents)) some (opened-bounded t .processCount)
+    (heaviest-most (readCard t .contents .programs) (opened-bounded t .weights))

@@ -1,6 +1,6 @@
 // The longest wait (document 02, order 3): the handbook's table of 264 numbers, for p processes (1 to 8) and the weight w of a card
 // (0 to 32), and its text. It rests on the crates grammar, construction and programs.
-use construction::Card;
+use construction::card::Card;
 use grammar::writing::put_field;
 use programs::weights::heaviest;
 ghost use mathlib.Core.Path.{_≡_};

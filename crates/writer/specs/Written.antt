@@ -2,7 +2,7 @@
 use Prim.Native.Nat.{ℕ}
 use mathlib.Core.List.{List}
 use mathlib.Core.Path.{_≡_}
-use Rattle.construction.specs.declared.{Card.Card, Written.Written}
+use Rattle.construction.specs.declared.{card.Card.Card, texts.Written.Written}
 use Rattle.construction.specs.Writing.{written, writtenInto}
 
 -- the answer r and the bytes z that the writer gives for a card and the bytes b of a lent buffer: the length and the text, or refusal 11 and

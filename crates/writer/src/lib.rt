@@ -1,13 +1,13 @@
 // The writer of a card text (document 01, "Turned back"): the card as it was opened, after any steps, put into a lent buffer.
 // It rests on the crates grammar, opening and construction.
-use construction::Card;
-use construction::Contents;
-use construction::Encoded;
-use construction::Instruction;
-use construction::Line;
-use construction::Program;
-use construction::Refusal;
-use construction::Written;
+use construction::answers::Refusal;
+use construction::card::Card;
+use construction::programs::Encoded;
+use construction::programs::Instruction;
+use construction::programs::Line;
+use construction::programs::Program;
+use construction::texts::Contents;
+use construction::texts::Written;
 use grammar::writing::put_field;
 use grammar::writing::put_four;
 use grammar::writing::put_word;

@@ -40,7 +40,15 @@ both-requires-4 : tie.Need-both-requires-4
 both-requires-4 c κs = search needs
 
 returns : tie.Need-returns
-returns c = let start = c .before .before .before .before .before .before .before .before .before .before .before .before in cc (ordered-four (start .args .t1) (start .good .0 .1 .0 .1) (c .before .before .before .before .before .before .before .before .before .before .is-ordered .ensures) (c .before .before .before .before .before .before .before .before .is-ordered2 .ensures) (c .before .before .before .before .before .before .is-ordered3 .ensures) (c .before .before .before .before .is-ordered4 .ensures))
+returns c =
+    let c4 = c .before .before .before .before in
+    let c6 = c4 .before .before in
+    let c8 = c6 .before .before in
+    let c10 = c8 .before .before in
+    let start = c10 .before .before in
+    cc
+    (ordered-four (start .args .t1) (start .good .0 .1 .0 .1) (c10 .is-ordered .ensures) (c8 .is-ordered2 .ensures) (c6 .is-ordered3 .ensures)
+    (c4 .is-ordered4 .ensures))
 
 pub are-ordered-spec : {M : Type 1} → statement M
 are-ordered-spec =

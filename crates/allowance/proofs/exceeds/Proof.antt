@@ -33,7 +33,8 @@ sub-result-3 : tie.Need-sub-result-3
 sub-result-3 c = search needs
 
 returns-4 : tie.Need-returns-4
-returns-4 c = let a = c .before .before .before .args in ltb-same (a .d) (a .steps - a .a - a .b - a .c) (a .a + (a .b + (a .c + (a .d + 0)))) (a .steps) (λ h. omega arith) (λ h. omega arith)
+returns-4 c = let a = c .before .before .before .args in ltb-same (a .d) (a .steps - a .a - a .b - a .c) (a .a + (a .b + (a .c + (a .d + 0)))) (a .steps)
+    (λ h. omega arith) (λ h. omega arith)
 
 pub exceeds-spec : {M : Type 1} → statement M
 exceeds-spec =

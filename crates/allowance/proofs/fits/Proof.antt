@@ -24,7 +24,8 @@ sub-result-2 : tie.Need-sub-result-2
 sub-result-2 c = search needs
 
 returns-4 : tie.Need-returns-4
-returns-4 c = let a = c .before .before .before .args in leb-same (a .d) (a .steps - a .a - a .b - a .c) (a .a + (a .b + (a .c + (a .d + 0)))) (a .steps) (λ h. omega arith) (λ h. omega arith)
+returns-4 c = let a = c .before .before .before .args in leb-same (a .d) (a .steps - a .a - a .b - a .c) (a .a + (a .b + (a .c + (a .d + 0)))) (a .steps)
+    (λ h. omega arith) (λ h. omega arith)
 
 pub fits-spec : {M : Type 1} → statement M
 fits-spec =

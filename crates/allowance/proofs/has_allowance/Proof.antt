@@ -14,10 +14,14 @@ has-room-requires : tie.Need-has-room-requires
 has-room-requires c κs = search needs
 
 returns-2 : tie.Need-returns-2
-returns-2 c = let start = c .before .before .before .before .before .before in allowed-beyond (start .args .a) (start .args .m) _ (c .before .before .before .before .before .quota-at .ensures) _ (c .has-room .ensures) (omega arith) (omega arith)
+returns-2 c =
+    let c5 = c .before .before .before .before .before in
+    let start = c5 .before in
+    allowed-beyond (start .args .a) (start .args .m) _ (c5 .quota-at .ensures) _ (c .has-room .ensures) (omega arith) (omega arith)
 
 returns-3 : tie.Need-returns-3
-returns-3 c = let start = c .before .before .before .before .before in allowed-no (start .args .a) (start .args .m) _ (c .before .before .before .before .quota-at .ensures) (omega arith) (omega arith)
+returns-3 c = let start = c .before .before .before .before .before in
+    allowed-no (start .args .a) (start .args .m) _ (c .before .before .before .before .quota-at .ensures) (omega arith) (omega arith)
 
 pub has-allowance-spec : {M : Type 1} → statement M
 has-allowance-spec =

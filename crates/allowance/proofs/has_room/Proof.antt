@@ -35,7 +35,14 @@ exceeds-requires : tie.Need-exceeds-requires
 exceeds-requires c κs = search needs
 
 returns : tie.Need-returns
-returns c = let start = c .before .before .before .before .before .before .before .before .before in let a = start .args .t1 in c .exceeds .ensures ∙ ap (λ (n : ℕ). ltb n (a .steps)) (reserved-four (a .quotas) (quotas-four a _ (start .good .0)) (c .before .before .before .before .before .before .before .larger-of .ensures) (c .before .before .before .before .before .larger-of2 .ensures) (c .before .before .before .larger-of3 .ensures) (c .before .larger-of4 .ensures))
+returns c =
+    let c5 = c .before .before .before .before .before in
+    let c7 = c5 .before .before in
+    let start = c7 .before .before in
+    let a = start .args .t1 in
+    c .exceeds .ensures ∙ ap (λ (n : ℕ). ltb n (a .steps))
+    (reserved-four (a .quotas) (quotas-four a _ (start .good .0)) (c7 .larger-of .ensures) (c5 .larger-of2 .ensures)
+    (c .before .before .before .larger-of3 .ensures) (c .before .larger-of4 .ensures))
 
 pub has-room-spec : {M : Type 1} → statement M
 has-room-spec =

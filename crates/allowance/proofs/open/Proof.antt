@@ -1,6 +1,6 @@
 use borrow.Author.Needs.{needs}
-use Rattle.construction.specs.declared.Answer.{Answer}
-use Rattle.construction.specs.declared.Refusal.the-variants.{BadTerms}
+use Rattle.construction.specs.declared.answers.Answer.{Answer}
+use Rattle.construction.specs.declared.answers.Refusal.the-variants.{BadTerms}
 use Rattle.allowance.specs.Opening.{allowanceFrom}
 use Rattle.allowance.proofs.open.Statement.{statement}
 use Rattle.allowance.proofs.open.Tie as tie

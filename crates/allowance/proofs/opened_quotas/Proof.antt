@@ -28,7 +28,12 @@ opened-quota-requires-4 : tie.Need-opened-quota-requires-4
 opened-quota-requires-4 c κs = search needs
 
 returns : tie.Need-returns
-returns c = let start = c .before .before .before .before .before .before .before .before in opened-four (start .args .t2) (start .good .1 .0 .1 .0 .1) (start .args .count) (c .before .before .before .before .before .before .opened-quota .ensures) (c .before .before .before .before .opened-quota2 .ensures) (c .before .before .opened-quota3 .ensures) (c .opened-quota4 .ensures)
+returns c =
+    let c4 = c .before .before .before .before in
+    let c6 = c4 .before .before in
+    let start = c6 .before .before in
+    opened-four (start .args .t2) (start .good .1 .0 .1 .0 .1) (start .args .count) (c6 .opened-quota .ensures) (c4 .opened-quota2 .ensures)
+    (c .before .before .opened-quota3 .ensures) (c .opened-quota4 .ensures)
 
 pub opened-quotas-spec : {M : Type 1} → statement M
 opened-quotas-spec =

@@ -20,7 +20,8 @@ returns : tie.Need-returns
 returns c = search needs
 
 returns-2 : tie.Need-returns-2
-returns-2 c = let start = c .before .before in c .no-quota .ensures ∙ sym (getD-past (start .args .t1 .quotas) (start .args .m) empty (omega (arith, quotas-four (start .args .t1) _ (start .good .0), c .before .if1 .left)))
+returns-2 c = let start = c .before .before in c .no-quota .ensures ∙ sym
+    (getD-past (start .args .t1 .quotas) (start .args .m) empty (omega (arith, quotas-four (start .args .t1) _ (start .good .0), c .before .if1 .left)))
 
 pub quota-at-spec : {M : Type 1} → statement M
 quota-at-spec =

@@ -22,7 +22,8 @@ fits-requires : tie.Need-fits-requires
 fits-requires c κs = search needs
 
 returns : tie.Need-returns
-returns c = let start = c .before .before .before .before .before in c .fits2 .ensures ∙ ap (λ (n : ℕ). leb n (start .args .steps)) (shares-four (start .args .t2) (start .good .1 .0 .1 .0 .1))
+returns c = let start = c .before .before .before .before .before in
+    c .fits2 .ensures ∙ ap (λ (n : ℕ). leb n (start .args .steps)) (shares-four (start .args .t2) (start .good .1 .0 .1 .0 .1))
 
 pub shares-fit-spec : {M : Type 1} → statement M
 shares-fit-spec =

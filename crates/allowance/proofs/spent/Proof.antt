@@ -15,7 +15,8 @@ element-copy-out-q : tie.Need-element-copy-out-q
 element-copy-out-q c = search needs
 
 add-t11 : tie.Need-add-t11
-add-t11 c = let a = c .before .before .before .args in omega (arith, allowed-fits (a .t1) (a .m) 18446744073709551615 (c .before .before .before .pre) (omega arith) (omega arith))
+add-t11 c = let a = c .before .before .before .args in omega
+    (arith, allowed-fits (a .t1) (a .m) 18446744073709551615 (c .before .before .before .pre) (omega arith) (omega arith))
 
 mul-t7 : tie.Need-mul-t7
 mul-t7 c = search needs
@@ -29,7 +30,13 @@ returns c = refl
 
 returns-2 : tie.Need-returns-2
 unfolding spend
-returns-2 c = let start = c .before in let a = start .args .t1 in λ i. record { steps = a .steps; count = a .count; quotas = sym (set-out (a .quotas) (start .args .m) (withStep (quotaAt a (start .args .m))) (omega (arith, quotas-four a _ (start .good .0), c .if1 .left))) i }
+returns-2 c = let start = c .before in let a = start .args .t1 in
+    λ i. record {
+      steps = a .steps;
+      count = a .count;
+      quotas = sym
+          (set-out (a .quotas) (start .args .m) (withStep (quotaAt a (start .args .m))) (omega (arith, quotas-four a _ (start .good .0), c .if1 .left))) i;
+    }
 
 pub spent-spec : {M : Type 1} → statement M
 spent-spec =

@@ -31,7 +31,17 @@ unused-quota-requires-4 c κs = search needs
 
 returns : tie.Need-returns
 unfolding turn
-returns c = let start = c .before .before .before .before .before .before .before .before in let a = start .args .t1 in λ i. record { steps = a .steps; count = a .count; quotas = unused-four (a .quotas) (quotas-four a _ (start .good .0)) (c .before .before .before .before .before .before .unused-quota .ensures) (c .before .before .before .before .unused-quota2 .ensures) (c .before .before .unused-quota3 .ensures) (c .unused-quota4 .ensures) i }
+returns c =
+    let c4 = c .before .before .before .before in
+    let c6 = c4 .before .before in
+    let start = c6 .before .before in
+    let a = start .args .t1 in
+    λ i. record {
+      steps = a .steps;
+      count = a .count;
+      quotas = unused-four (a .quotas) (quotas-four a _ (start .good .0)) (c6 .unused-quota .ensures)
+          (c4 .unused-quota2 .ensures) (c .before .before .unused-quota3 .ensures) (c .unused-quota4 .ensures) i;
+    }
 
 pub turned-spec : {M : Type 1} → statement M
 turned-spec =

@@ -19,19 +19,25 @@ returns-3 c = rw ((c .before .before .before .before .before .answer .given .1))
 
 returns-4 : tie.Need-returns-4
 unfolding fieldsText answerFields numbersText
-returns-4 c = laws.put-as-within 132 (c .before .before .put-number .ensures) (omega arith) (rw ((c .before .before .before .before .before .before .answer2 .given .1), append-nil))
+returns-4 c =
+    let c6 = c .before .before .before .before .before .before in
+    laws.put-as-within 132 (c .before .before .put-number .ensures) (omega arith) (rw ((c6 .answer2 .given .1), append-nil))
 
 returns-5 : tie.Need-returns-5
 unfolding fieldsText answerFields numbersText
-returns-5 c = laws.put-as-within 132 (c .before .before .put-number2 .ensures) (omega arith) (rw ((c .before .before .before .before .before .before .answer3 .given .1), append-nil))
+returns-5 c =
+    let c6 = c .before .before .before .before .before .before in
+    laws.put-as-within 132 (c .before .before .put-number2 .ensures) (omega arith) (rw ((c6 .answer3 .given .1), append-nil))
 
 returns-6 : tie.Need-returns-6
 unfolding answerFields
-returns-6 c = laws.put-as-within 132 (c .before .before .put-refusal .ensures) (omega arith) (rw ((c .before .before .before .before .before .answer4 .given .1)))
+returns-6 c = laws.put-as-within 132 (c .before .before .put-refusal .ensures) (omega arith)
+    (rw ((c .before .before .before .before .before .answer4 .given .1)))
 
 returns-7 : tie.Need-returns-7
 unfolding answerFields
-returns-7 c = laws.put-as-within 132 (c .before .before .put-refused-at .ensures) (omega arith) (rw ((c .before .before .before .before .before .answer5 .given .1)))
+returns-7 c = laws.put-as-within 132 (c .before .before .put-refused-at .ensures) (omega arith)
+    (rw ((c .before .before .before .before .before .answer5 .given .1)))
 
 pub put-answer-spec : {M : Type 1} → statement M
 put-answer-spec =

@@ -6,10 +6,14 @@ use Rattle.answers.proofs.put_done.Tie as tie
 
 returns : tie.Need-returns
 returns c =
-    laws.put-done _ _ _ (omega (arith, c .before .before .before .before .before .before .before .before .before .before .before .before .before .before .before .before .before .before .before .before .good .0 .0, c .before .before .before .before .before .before .before .before .before .before .before .before .before .before .before .before .before .before .before .before .fits .at))
-    (c .before .before .before .before .before .before .before .before .before .before .before .before .before .before .before .before .put-done-word .ensures)
-    (c .before .before .before .before .before .before .before .before .before .before .before .put-number .ensures)
-    (c .before .before .before .before .before .before .before .put-outputs .ensures)
+    let c7 = c .before .before .before .before .before .before .before in
+    let c11 = c7 .before .before .before .before in
+    let c16 = c11 .before .before .before .before .before in
+    let c20 = c16 .before .before .before .before in
+    laws.put-done _ _ _ (omega (arith, c20 .good .0 .0, c20 .fits .at))
+    (c16 .put-done-word .ensures)
+    (c11 .put-number .ensures)
+    (c7 .put-outputs .ensures)
     (c .before .before .put-number2 .ensures)
 
 pub put-done-spec : {M : Type 1} → statement M

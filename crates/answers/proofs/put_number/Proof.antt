@@ -5,7 +5,9 @@ use Rattle.answers.proofs.put_number.Statement.{statement}
 use Rattle.answers.proofs.put_number.Tie as tie
 
 returns : tie.Need-returns
-returns c = laws.put-word-number _ _ (omega arith) (omega arith) (c .before .before .before .before .before .before .put-word .ensures) (c .before .before .put-decimal .ensures)
+returns c =
+    let c6 = c .before .before .before .before .before .before in
+    laws.put-word-number _ _ (omega arith) (omega arith) (c6 .put-word .ensures) (c .before .before .put-decimal .ensures)
 
 pub put-number-spec : {M : Type 1} → statement M
 put-number-spec =

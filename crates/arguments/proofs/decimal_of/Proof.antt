@@ -20,25 +20,41 @@ loop-holds : tie.Need-loop-holds Inv-loop μ-loop
 loop-holds c = digits-none (c .before .before .before .args .text .now) (c .before .begins-wrong .ensures) (c .if1 .left)
 
 returns-2 : tie.Need-returns-2 Inv-loop μ-loop
-returns-2 c = digit-wrong (c .before .before .before .before .loop .inv) refl (c .before .is-fit .ensures) (c .before .before .before .loop-test .taken) (not-true _ (c .if2 .taken))
+returns-2 c = digit-wrong (c .before .before .before .before .loop .inv) refl (c .before .is-fit .ensures) (c .before .before .before .loop-test .taken)
+    (not-true _ (c .if2 .taken))
 
 mul-value : tie.Need-mul-value Inv-loop μ-loop
-mul-value c = omega (arith, fit-bounds (c .before .before .before .before .loop .value) (getD (c .before .before .before .before .before .before .before .before .args .text .now) (c .before .before .before .before .loop .k) 0) (sym (c .before .is-fit .ensures) ∙ not-false _ (c .if2 .left)))
+mul-value c =
+    let c4 = c .before .before .before .before in
+    let c8 = c4 .before .before .before .before in
+    omega (arith, fit-bounds (c4 .loop .value) (getD (c8 .args .text .now) (c4 .loop .k) 0) (sym (c .before .is-fit .ensures) ∙ not-false _ (c .if2 .left)))
 
 sub-value : tie.Need-sub-value Inv-loop μ-loop
-sub-value c = omega (arith, fit-bounds (c .before .before .before .before .loop .value) (getD (c .before .before .before .before .before .before .before .before .args .text .now) (c .before .before .before .before .loop .k) 0) (sym (c .before .is-fit .ensures) ∙ not-false _ (c .if2 .left)))
+sub-value c =
+    let c4 = c .before .before .before .before in
+    let c8 = c4 .before .before .before .before in
+    omega (arith, fit-bounds (c4 .loop .value) (getD (c8 .args .text .now) (c4 .loop .k) 0) (sym (c .before .is-fit .ensures) ∙ not-false _ (c .if2 .left)))
 
 cast-value : tie.Need-cast-value Inv-loop μ-loop
-cast-value c = omega (arith, fit-bounds (c .before .before .before .before .loop .value) (getD (c .before .before .before .before .before .before .before .before .args .text .now) (c .before .before .before .before .loop .k) 0) (sym (c .before .is-fit .ensures) ∙ not-false _ (c .if2 .left)))
+cast-value c =
+    let c4 = c .before .before .before .before in
+    let c8 = c4 .before .before .before .before in
+    omega (arith, fit-bounds (c4 .loop .value) (getD (c8 .args .text .now) (c4 .loop .k) 0) (sym (c .before .is-fit .ensures) ∙ not-false _ (c .if2 .left)))
 
 add-value : tie.Need-add-value Inv-loop μ-loop
-add-value c = omega (arith, fit-bounds (c .before .before .before .before .loop .value) (getD (c .before .before .before .before .before .before .before .before .args .text .now) (c .before .before .before .before .loop .k) 0) (sym (c .before .is-fit .ensures) ∙ not-false _ (c .if2 .left)))
+add-value c =
+    let c4 = c .before .before .before .before in
+    let c8 = c4 .before .before .before .before in
+    omega (arith, fit-bounds (c4 .loop .value) (getD (c8 .args .text .now) (c4 .loop .k) 0) (sym (c .before .is-fit .ensures) ∙ not-false _ (c .if2 .left)))
 
 loop-again : tie.Need-loop-again Inv-loop μ-loop
-loop-again c = digit-more (c .before .before .before .before .loop .inv) refl (c .before .is-fit .ensures) (c .before .before .before .loop-test .taken) (not-false _ (c .if2 .left))
+loop-again c = digit-more (c .before .before .before .before .loop .inv) refl (c .before .is-fit .ensures) (c .before .before .before .loop-test .taken)
+    (not-false _ (c .if2 .left))
 
 returns-3 : tie.Need-returns-3 Inv-loop μ-loop
 returns-3 c = digits-all (c .before .loop .inv) (omega arith)
 
 pub decimal-of-spec : {M : Type 1} → statement M
-decimal-of-spec = tie.close (tie.spec Inv-loop μ-loop (λ c κs. tt) returns loop-holds (λ c. omega arith) (λ c κs. tt) returns-2 mul-value sub-value cast-value add-value (λ c. omega arith) (λ c. omega arith) loop-again returns-3)
+decimal-of-spec = tie.close
+    (tie.spec Inv-loop μ-loop (λ c κs. tt) returns loop-holds (λ c. omega arith) (λ c κs. tt) returns-2 mul-value sub-value cast-value add-value
+    (λ c. omega arith) (λ c. omega arith) loop-again returns-3)

@@ -35,7 +35,13 @@ word-at-requires-5 c κs = search needs
 
 returns : tie.Need-returns
 unfolding requestIn
-returns c = rw ((c .before .before .before .before .word-at .ensures), (c .before .before .before .word-at2 .ensures), (c .before .before .word-at3 .ensures), (c .before .word-at4 .ensures), (c .word-at5 .ensures))
+returns c = rw (
+  (c .before .before .before .before .word-at .ensures),
+  (c .before .before .before .word-at2 .ensures),
+  (c .before .before .word-at3 .ensures),
+  (c .before .word-at4 .ensures),
+  (c .word-at5 .ensures),
+)
 
 pub request-in-spec : {M : Type 1} → statement M
 request-in-spec =

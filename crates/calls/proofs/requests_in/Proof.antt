@@ -27,7 +27,21 @@ request-in-requires-8 : tie.Need-request-in-requires-8
 request-in-requires-8 c κs = search needs
 
 returns : tie.Need-returns
-returns c = rw ((c .before .before .before .before .before .before .before .request-in .ensures), (c .before .before .before .before .before .before .request-in2 .ensures), (c .before .before .before .before .before .request-in3 .ensures), (c .before .before .before .before .request-in4 .ensures), (c .before .before .before .request-in5 .ensures), (c .before .before .request-in6 .ensures), (c .before .request-in7 .ensures), (c .request-in8 .ensures))
+returns c =
+    let c4 = c .before .before .before .before in
+    let c5 = c4 .before in
+    let c6 = c5 .before in
+    let c7 = c6 .before in
+    rw (
+      (c7 .request-in .ensures),
+      (c6 .request-in2 .ensures),
+      (c5 .request-in3 .ensures),
+      (c4 .request-in4 .ensures),
+      (c .before .before .before .request-in5 .ensures),
+      (c .before .before .request-in6 .ensures),
+      (c .before .request-in7 .ensures),
+      (c .request-in8 .ensures),
+    )
 
 pub requests-in-spec : {M : Type 1} → statement M
 requests-in-spec =

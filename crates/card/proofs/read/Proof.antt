@@ -8,10 +8,17 @@ returns : tie.Need-returns
 returns c = requests.read-refused _ _ _ (c .before .is-below .ensures) (c .if1 .taken)
 
 element-copy-out-cell : tie.Need-element-copy-out-cell
-element-copy-out-cell c = requests.variable-room (c .before .before .before .before .before .args .t1) _ _ (c .before .before .before .before .is-below .ensures) (c .before .before .before .if1 .left)
+element-copy-out-cell c = requests.variable-room (c .before .before .before .before .before .args .t1) _ _
+    (c .before .before .before .before .is-below .ensures) (c .before .before .before .if1 .left)
 
 returns-2 : tie.Need-returns-2
-returns-2 c = let start = c .before .before .before .before .before .before .before .before in requests.read-shown _ _ _ (c .before .before .before .before .before .before .before .is-below .ensures) (c .before .before .before .before .before .before .if1 .left) (arrays.rooms (start .args .t1) _ (start .good .0) .announcements) _ (c .before .before .before .before .holder-of .ensures) _ (c .before .announcement-at .ensures) _ (c .value-of .ensures)
+returns-2 c =
+    let c4 = c .before .before .before .before in
+    let c6 = c4 .before .before in
+    let c7 = c6 .before in
+    let start = c7 .before in
+    requests.read-shown _ _ _ (c7 .is-below .ensures) (c6 .if1 .left) (arrays.fullArrays (start .args .t1) _ (start .good .0) .announcements) _
+    (c4 .holder-of .ensures) _ (c .before .announcement-at .ensures) _ (c .value-of .ensures)
 
 pub read-spec : {M : Type 1} → statement M
 read-spec =

@@ -5,7 +5,8 @@ use Rattle.cells.proofs.same_record.Statement.{statement}
 use Rattle.cells.proofs.same_record.Tie as tie
 
 returns : tie.Need-returns
-returns c = let at = c .before .before .before .before .before in by-seq _ _ (at .before .before .before .if1 .taken) (at .if2 .taken) (c .before .before .if3 .taken)
+returns c = let at = c .before .before .before .before .before in
+    by-seq _ _ (at .before .before .before .if1 .taken) (at .if2 .taken) (c .before .before .if3 .taken)
 
 returns-2 : tie.Need-returns-2
 returns-2 c = let at = c .before .before .before in by-toggle _ _ (at .before .before .before .if1 .taken) (at .if2 .taken) (c .if3 .left)

@@ -9,15 +9,23 @@ use Rattle.changing.proofs.change.Tie as tie
 
 returns : tie.Need-returns
 returns c =
-    let start = c .before .before .before .before .before .before .before .before .before .before .before .before .before .before in
-    laws.change-taken (start .args .card) (start .args .program) (start .args .from) _ _ (c .before .before .before .before .before .before .before .most-weight .ensures) _ (c .before .before .before .before .before .before .read-change .ensures) _ (c .before .before .before .before .before .some-behind .ensures) _ (c .before .before .before .before .judge-change .ensures)
+    let c4 = c .before .before .before .before in
+    let c5 = c4 .before in
+    let c6 = c5 .before in
+    let c7 = c6 .before in
+    let start = c7 .before .before .before .before .before .before .before in
+    laws.change-taken (start .args .card) (start .args .program) (start .args .from) _ _ (c7 .most-weight .ensures) _ (c6 .read-change .ensures) _
+    (c5 .some-behind .ensures) _ (c4 .judge-change .ensures)
     (sym (c .before .before .before .is-refused .ensures) ∙ not-true _ (c .before .before .if1 .taken)) _
-    (laws.changed (start .args .card) (arrays.rooms (start .args .card) _ (start .good .0) .later) (start .args .program) (start .args .from) _ _)
+    (laws.changed (start .args .card) (arrays.fullArrays (start .args .card) _ (start .good .0) .later) (start .args .program) (start .args .from) _ _)
 
 returns-2 : tie.Need-returns-2
 returns-2 c =
-    let start = c .before .before .before .before .before .before .before .before .before .before .before .before in
-    laws.change-refused (start .args .card) (start .args .program) (start .args .from) _ _ (c .before .before .before .before .before .most-weight .ensures) _ (c .before .before .before .before .read-change .ensures) _ (c .before .before .before .some-behind .ensures) _ (c .before .before .judge-change .ensures)
+    let c4 = c .before .before .before .before in
+    let c5 = c4 .before in
+    let start = c5 .before .before .before .before .before .before .before in
+    laws.change-refused (start .args .card) (start .args .program) (start .args .from) _ _ (c5 .most-weight .ensures) _ (c4 .read-change .ensures) _
+    (c .before .before .before .some-behind .ensures) _ (c .before .before .judge-change .ensures)
     (sym (c .before .is-refused .ensures) ∙ not-false _ (c .if1 .left))
 
 pub change-spec : {M : Type 1} → statement M

@@ -13,7 +13,8 @@ use Rattle.construction.specs.Instructions.{isCell}
 use Rattle.construction.specs.Allocation.{among, without, NoRepeats, Action, Performed, actedOn, wordsAfter, chain, inHand, hand, givenBackBy, givenBack}
 use Rattle.construction.specs.Allocation.{Possible, ChainWithoutRepeats, Outside, TouchesOutside, OnlyByCodes, GivesOwn, OnlyFromHands, InHands}
 use Rattle.construction.proofs.Basics.{true-or-false, true-false, eqb-refl, clash}
-use Rattle.construction.proofs.Allocating.Chains.{not-among, among-cons, apart-cons, without-apart, without-none, without-among, cell-inside, Linked, linked-cells, linked-whole, chain-linked, linked-set}
+use Rattle.construction.proofs.Allocating.Chains.{not-among, among-cons, apart-cons, without-apart, without-none, without-among, cell-inside, Linked}
+use Rattle.construction.proofs.Allocating.Chains.{linked-cells, linked-whole, chain-linked, linked-set}
 
 cond-same {ℓ} : {A : Type ℓ} (b : Bool) (x : A) → cond b x x ≡ x
 cond-same true x = refl
@@ -138,7 +139,8 @@ module _ (start words : List ℕ) (hands : ℕ → List ℕ) (back : List ℕ) (
       inside = cell-inside (length words) v t
 
       head : getD (set (set words 0 (getD words v 0)) v 0) 0 0 ≡ getD words v 0
-      head = getD-set-other (set words 0 (getD words v 0)) v 0 0 0 (λ z. inside .0 (sym z)) ∙ getD-set-same words 0 (getD words v 0) 0 (omega (arith, inside .1))
+      head = getD-set-other (set words 0 (getD words v 0)) v 0 0 0 (λ z. inside .0 (sym z)) ∙ getD-set-same words 0 (getD words v 0) 0
+          (omega (arith, inside .1))
 
       shape : y ∷ s ≡ back ++ drop (K .taken) (chain start)
       shape = sym q ∙ K .shape
@@ -198,7 +200,8 @@ module _ (start words : List ℕ) (hands : ℕ → List ℕ) (back : List ℕ) (
         );
         repeats = (K .free v i own, K .repeats);
         one = λ c j k a b. K .one c j k (gave-hands v own c j a .0) (gave-hands v own c k b .0);
-        free = λ c j a. not-among c (v ∷ K .stack) (λ m. ⊎-elim (gave-hands v own c j a .1) (λ k. true-false _ k (K .free c j (gave-hands v own c j a .0))) (among-cons c v (K .stack) m));
+        free = λ c j a. not-among c (v ∷ K .stack)
+            (λ m. ⊎-elim (gave-hands v own c j a .1) (λ k. true-false _ k (K .free c j (gave-hands v own c j a .0))) (among-cons c v (K .stack) m));
         taken = K .taken;
         shape = ap {B = List ℕ} (λ l. v ∷ l) (K .shape);
       }

@@ -11,7 +11,8 @@ use Rattle.construction.specs.Types.{Words, Instruction, Program, Effect
 use Rattle.construction.specs.Instructions.{word, isCell, load, store, free, effectOf, nextInstruction, nextEffect, faulted, withRegister, started}
 use Rattle.construction.specs.Effects.{Store, put, Executed, allocated, execute, onExecuted}
 use Rattle.construction.specs.Sequential.{ending, wordAt, withStores, nextExecuted, runFrom, sequential}
-use Rattle.construction.specs.Allocation.{Action, Performed, actedOn, wordsAfter, actionsOf, performedBy, performedFrom, performedIn, OnlyByCodes, OnlyFromHands}
+use Rattle.construction.specs.Allocation.{Action, Performed, actedOn, wordsAfter, actionsOf, performedBy, performedFrom, performedIn, OnlyByCodes}
+use Rattle.construction.specs.Allocation.{OnlyFromHands}
 use Rattle.construction.proofs.Basics.{on-test}
 use Rattle.construction.proofs.Simulating.Effects.{on-executed}
 use Rattle.construction.proofs.Simulating.Sequential.{stores-length}

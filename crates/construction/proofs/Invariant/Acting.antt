@@ -3,7 +3,7 @@ use Prim.Native.Nat.{ℕ, _+_, _%_, _≤_, _<_}
 use mathlib.Core.Path.{_≡_, refl}
 use mathlib.Core.List.{List}
 use native.Mathlib.Omega.{arith}
-use Rattle.construction.specs.Types.{Gate, Announcement, Record, Dictionary, Simulation, Label, Access, Task, Card}
+use Rattle.construction.specs.Types.{Gate, Announcement, Record, Dictionary, Simulation, Label, Access, Control, Card}
 use Rattle.construction.specs.Dictionary.{noted}
 use Rattle.construction.specs.Parts.{Local, localAt, withCells, withLocal, contentsOf, textsOf, programOf}
 use Rattle.construction.specs.Machine.{perform, after}
@@ -32,7 +32,7 @@ pub record KeepsTexts (c : Card) (w : World) : Type 0 where
   pub many : (length (c .from) ≡ 8) × (length (c .earlier) ≡ 8) × (length (c .later) ≡ 8)
   pub now : (k number : ℕ) → c .gate .seq ≤ number → programOf (textsOf c) k number ≡ w .texts k number
   pub read :
-      (j : ℕ) → j < c .processCount → hasRead (localAt c j .task .place) ≡ true → (k number : ℕ) → localAt c j .gate .seq ≤ number →
+      (j : ℕ) → j < c .processCount → hasRead (localAt c j .control .place) ≡ true → (k number : ℕ) → localAt c j .gate .seq ≤ number →
       programOf (textsOf c) k number ≡ w .texts k number
   pub light : (k number : ℕ) → weight (w .texts k number) ≤ cardWeight (contentsOf c)
   pub held : (k number : ℕ) → weight (programOf (textsOf c) k number) ≤ cardWeight (contentsOf c)
@@ -50,17 +50,17 @@ pub record Before (c : Card) (w : World) (i : ℕ) : Type 0 where
   pub tidy : WellFormed (localAt c i .dictionary)
   pub light : (k number : ℕ) → weight (w .texts k number) ≤ cardWeight (contentsOf c)
 
--- process i goes on with another task: no cell read; the gate read; an announcement read; and its simulation gone on
-abbrev pub atTask : Local → Task → Local
-atTask l x = after l x (l .gate) (l .announcement) (l .simulation) (l .dictionary) (l .mask)
+-- process i goes on with another control: no cell read; the gate read; an announcement read; and its simulation gone on
+abbrev pub atControl : Local → Control → Local
+atControl l x = after l x (l .gate) (l .announcement) (l .simulation) (l .dictionary) (l .mask)
 
-abbrev pub atGate : Local → Gate → Task → Local
+abbrev pub atGate : Local → Gate → Control → Local
 atGate l g x = after l x g (l .announcement) (l .simulation) (l .dictionary) (l .mask)
 
-abbrev pub atAnnouncement : Local → Announcement → Task → Local
+abbrev pub atAnnouncement : Local → Announcement → Control → Local
 atAnnouncement l a x = after l x (l .gate) a (l .simulation) (l .dictionary) (l .mask)
 
-abbrev pub atSimulation : Local → Announcement → Task → Simulation → Dictionary → ℕ → Local
+abbrev pub atSimulation : Local → Announcement → Control → Simulation → Dictionary → ℕ → Local
 atSimulation l a x s d m = after l x (l .gate) a s d m
 
 -- the card v comes from c by a move of process i, which then knows what its place asks for
@@ -109,9 +109,9 @@ module _ {c : Card} {w : World} {i : ℕ} (B : Before c w i) where
       Loc (frameOf c w) (worldOf c w) i t → Acted c (worldOf c w) i (withLocal (withCells c g l r) i t)
   keeps = acts stay refl
 
-  -- only the task changes
+  -- only the control changes
   pub goes-on :
-      (x : Task) → Loc (frameOf c w) (worldOf c w) i (atTask (localAt c i) x) →
+      (x : Control) → Loc (frameOf c w) (worldOf c w) i (atControl (localAt c i) x) →
       {g : Gate} {l : List Announcement} {r : List Record} → g ≡ c .gate → l ≡ c .announcements → r ≡ c .records →
-      Acted c (worldOf c w) i (withLocal (withCells c g l r) i (atTask (localAt c i) x))
+      Acted c (worldOf c w) i (withLocal (withCells c g l r) i (atControl (localAt c i) x))
   goes-on x q g l r = keeps g l r _ refl (B .tidy) q

@@ -5,7 +5,7 @@ use mathlib.Core.Bool.{true, false, true≢false}
 use mathlib.Core.Logic.{_≢_}
 use mathlib.Core.List.{List}
 use lib.ListN.{getD, set}
-use Rattle.construction.specs.Types.{Gate, Active, Yield, Announcement, AnnouncementAccess, Access, Task, Operation, Card}
+use Rattle.construction.specs.Types.{Gate, Active, Yield, Announcement, AnnouncementAccess, Access, Control, Operation, Card}
 use Rattle.construction.specs.Cells.{openAnnouncement, sameAnnouncement, swapAnnouncement}
 use Rattle.construction.specs.Parts.{announcementAt, localAt}
 use Rattle.construction.specs.Machine.{accessAnnouncement, perform, advance}
@@ -30,7 +30,7 @@ swap-active cell expected new ne =
 
 cell-active :
     (a : AnnouncementAccess) → announces a ≡ false → (m : ℕ) (cell : Announcement) (o : Operation) (g : Gate) (r : Announcement)
-    (outputs : Yield) (t : Task) → accessAnnouncement a m cell o g r outputs t .cell .flag ≡ Active → cell .flag ≡ Active
+    (outputs : Yield) (t : Control) → accessAnnouncement a m cell o g r outputs t .cell .flag ≡ Active → cell .flag ≡ Active
 unfolding accessAnnouncement
 cell-active AnnouncementAccess.Announce e m cell o g r outputs t = absurd (true≢false e)
 cell-active AnnouncementAccess.Withdraw e m cell o g r outputs t = swap-active cell _ _ (λ z. active-not-exit z refl)
@@ -50,7 +50,7 @@ access-active Access.Write c i e = λ h. h
 
 -- a process that has announced its operation does not announce again
 pub active-before :
-    (c : Card) (i : ℕ) → isAnnounced (localAt c i .task .place) ≡ true → announcementAt (advance c i) i .flag ≡ Active →
+    (c : Card) (i : ℕ) → isAnnounced (localAt c i .control .place) ≡ true → announcementAt (advance c i) i .flag ≡ Active →
     announcementAt c i .flag ≡ Active
 unfolding advance
-active-before c i t = access-active _ c i (proceeds (stage (localAt c i .task .place)) t (localAt c i .exit) .0)
+active-before c i t = access-active _ c i (proceeds (stage (localAt c i .control .place)) t (localAt c i .exit) .0)

@@ -8,16 +8,19 @@ use native.Mathlib.Nat.{mod-lt}
 use lib.ListN.{getD, set}
 use lib.Seq.{getD-set-same, set-getD}
 use borrow.Author.Tests.{lt-ltb}
-use Rattle.construction.specs.Types.{Process, Gate, Flag, Done, Active, Exit, Yield, Announcement, Label, Idle, P3, P5, P7, P10, C2, C4, P13, P19, P20, P21, P22, F1, AnnouncementAccess, Access, Operation, Card}
+use Rattle.construction.specs.Types.{Process, Gate, Flag, Done, Active, Exit, Yield, Announcement, Label, Idle, P3, P5, P7, P10, C2, C4, P13, P19, P20}
+use Rattle.construction.specs.Types.{P21, P22, F1, AnnouncementAccess, Access, Operation, Card}
 use Rattle.construction.specs.Cells.{openAnnouncement, sameAnnouncement, swapAnnouncement}
 use Rattle.construction.specs.Parts.{announcementAt, recordAt, withAnnouncement, localAt, Local, withLocal}
 use Rattle.construction.specs.Machine.{goTo, byFlag, holderOf, firstChoice, whose, announced, flagged, withdrawn, finished, accessAnnouncement, perform}
-use Rattle.construction.proofs.Basics.{on-test, true-or-false, announcement-path, sameAnnouncement-true, sameAnnouncement-false, active-not-done, active-not-exit, exit-not-done, else-done}
-use Rattle.construction.proofs.Invariant.World.{endingIn, World, announcementIn, leftIn, callIn, roundIn, wordAt, operationOf, AnnouncementInvariant, ending, Move, Frame, frameOf}
+use Rattle.construction.proofs.Basics.{on-test, true-or-false, announcement-path, sameAnnouncement-true, sameAnnouncement-false, active-not-done}
+use Rattle.construction.proofs.Basics.{active-not-exit, exit-not-done, else-done}
+use Rattle.construction.proofs.Invariant.World.{endingIn, World, announcementIn, leftIn, callIn, roundIn, wordAt, operationOf, AnnouncementInvariant}
+use Rattle.construction.proofs.Invariant.World.{ending, Move, Frame, frameOf}
 use Rattle.construction.proofs.Invariant.World.Move.{announce, leave, end}
 use Rattle.construction.proofs.Invariant.Claims.{viewOf, Change, Mine, Eligible, end-change}
 use Rattle.construction.proofs.Invariant.Assertions.{Helper, Plan, Ready, LocAt, Loc, helper-stays, plan-stays, ready-stays}
-use Rattle.construction.proofs.Invariant.Acting.{worldOf, Step, Before, Acted, acts, keeps, atTask, goes-on, atAnnouncement}
+use Rattle.construction.proofs.Invariant.Acting.{worldOf, Step, Before, Acted, acts, keeps, atControl, goes-on, atAnnouncement}
 
 -- line C1 names a process
 first-inside : (p i : ℕ) (g : Gate) → i < p → whose AnnouncementAccess.ReadFirst p i g < p
@@ -129,7 +132,7 @@ module _ {c : Card} {w : World} {i : ℕ} (B : Before c w i) where
 
   -- process i at a place, and the card after a swap of announcement m
   abbrev at : Label → Local
-  at l = atTask (localAt c i) (goTo (localAt c i .task) l)
+  at l = atControl (localAt c i) (goTo (localAt c i .control) l)
 
   abbrev swapped : ℕ → Announcement → Label → Card
   swapped m a l = withLocal (withAnnouncement c m a) i (at l)

@@ -12,7 +12,8 @@ use Rattle.construction.specs.Parts.{announcementAt, recordAt, localAt, 
 use Rattle.construction.specs.Machine.{holderOf}
 use Rattle.construction.specs.Requests.{isBusy, pending, valueOf, returned, answerOf, isIdle}
 use Rattle.construction.proofs.Basics.{on-test, true-false, true-or-false, active-not-done, exit-not-done}
-use Rattle.construction.proofs.Invariant.World.{Round, World, announcementIn, Result, resultOf, resultIn, roundIn, wordAt, Phase, WorldInvariant, Quiet, frameOf, Frame}
+use Rattle.construction.proofs.Invariant.World.{Round, World, announcementIn, Result, resultOf, resultIn, roundIn, wordAt, Phase, WorldInvariant, Quiet}
+use Rattle.construction.proofs.Invariant.World.{frameOf, Frame}
 use Rattle.construction.proofs.Invariant.Assertions.{LocAt, known}
 use Rattle.construction.proofs.Invariant.Stages.{isAnnounced, Stage, stage}
 use Rattle.construction.proofs.Invariant.Acting.{worldOf}
@@ -70,7 +71,7 @@ module _ {c : Card} {w : World} (I : CardInvariant c w) (i : ℕ) (lt : i < c .p
       q : LocAt Idle (frameOf c w) w i (localAt c i)
       q = at-rest I i lt b
 
-      idle : isIdle (localAt c i .task .place) ≡ true
+      idle : isIdle (localAt c i .control .place) ≡ true
       idle = not-false _ b
 
       result : announcementIn w i .flag ≡ Done → resultOf (localAt c i .announcement) ≡ resultIn w i
@@ -78,7 +79,7 @@ module _ {c : Card} {w : World} (I : CardInvariant c w) (i : ℕ) (lt : i < c .p
 
       go :
           (f : Flag) → announcementIn w i .flag ≡ f →
-          Returned (cond (isIdle (localAt c i .task .place)) (returned (localAt c i .announcement) f (localAt c i .steps)) Answer.Run)
+          Returned (cond (isIdle (localAt c i .control .place)) (returned (localAt c i .announcement) f (localAt c i .steps)) Answer.Run)
       go Done e = inl (e, rw idle (ap (λ (r : Result). Answer.Done (r .number) (r .yields) (localAt c i .steps)) (result e)))
       go Active e = absurd (q .0 .not-active e)
       go Exit e = inr (e, rw idle)
@@ -92,10 +93,10 @@ module _ (F : Frame) (w : World) (i : ℕ) (t : Local) where
 
 module _ {c : Card} {w : World} (I : CardInvariant c w) (i : ℕ) (lt : i < c .processCount) where
   -- an operation that is not announced is not active and does not hold the gate
-  quiet-is : isAnnounced (localAt c i .task .place) ≡ false → Quiet w i
-  quiet-is e = quiet-at (frameOf c w) w i (known (localAt c i)) (stage (localAt c i .task .place)) e (I .locs i lt)
+  quiet-is : isAnnounced (localAt c i .control .place) ≡ false → Quiet w i
+  quiet-is e = quiet-at (frameOf c w) w i (known (localAt c i)) (stage (localAt c i .control .place)) e (I .locs i lt)
 
   -- the holder of the gate is announced
-  pub holder-announced : w .gate .holder ≡ Process i → isAnnounced (localAt c i .task .place) ≡ true
+  pub holder-announced : w .gate .holder ≡ Process i → isAnnounced (localAt c i .control .place) ≡ true
   holder-announced h =
-      ⊎-elim (λ z. z) (λ z. absurd (quiet-is z .free-of h)) (true-or-false (isAnnounced (localAt c i .task .place)))
+      ⊎-elim (λ z. z) (λ z. absurd (quiet-is z .free-of h)) (true-or-false (isAnnounced (localAt c i .control .place)))

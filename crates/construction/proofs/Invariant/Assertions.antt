@@ -7,14 +7,19 @@ use mathlib.Core.List.{List}
 use native.Mathlib.Omega.{arith}
 use lib.ListN.{length, getD}
 use lib.Seq.{getD-set-other}
-use Rattle.construction.specs.Types.{Nobody, Process, Gate, Active, Yield, Announcement, Program, Item, Dictionary, Simulation, Label, Idle, P1, P3, P5, P7, P10, C2, C4, P13, P14, P16, H21, H36, P19, P20, P21, P22, F1, F3, P6, Operation}
+use Rattle.construction.specs.Types.{Nobody, Process, Gate, Active, Yield, Announcement, Program, Item, Dictionary, Simulation, Label, Idle, P1, P3, P5}
+use Rattle.construction.specs.Types.{P7, P10, C2, C4, P13, P14, P16, H21, H36, P19, P20, P21, P22, F1, F3, P6, Operation}
 use Rattle.construction.specs.Dictionary.{noItem, noted, valueUnder, altered}
 use Rattle.construction.specs.Machine.{holderOf}
 use Rattle.construction.proofs.Simulating.Dictionaries.{all-map}
 use Rattle.construction.proofs.Simulating.Simulations.{Core, Finished, Needing}
-use Rattle.construction.proofs.Invariant.World.{endingIn, World, announcementIn, recordIn, leftIn, callIn, resultIn, roundIn, wordAt, WorldInvariant, Quiet, Move, Frame}
+use Rattle.construction.proofs.Invariant.World.{endingIn, World, announcementIn, recordIn, leftIn, callIn, resultIn, roundIn, wordAt, WorldInvariant}
+use Rattle.construction.proofs.Invariant.World.{Quiet, Move, Frame}
 use Rattle.construction.proofs.Invariant.World.Move.{stay, ask, announce, leave, take, write, end, free}
-use Rattle.construction.proofs.Invariant.Claims.{viewOf, Change, Mine, Limit, Past, Gone, Returning, Rested, Last, Seen, Nominated, Working, Halfway, Over, change, call-change, mine-change, silent-change, limit-change, past-change, gone-change, returning-change, rested-change, last-change, seen-stays, nominated-stays, working-stays, halfway-stays, over-stays, below-stays, record-stays, round-stays}
+use Rattle.construction.proofs.Invariant.Claims.{viewOf, Change, Mine, Limit, Past, Gone, Returning, Rested, Last, Seen, Nominated, Working, Halfway}
+use Rattle.construction.proofs.Invariant.Claims.{Over, change, call-change, mine-change, silent-change, limit-change, past-change, gone-change}
+use Rattle.construction.proofs.Invariant.Claims.{returning-change, rested-change, last-change, seen-stays, nominated-stays, working-stays, halfway-stays}
+use Rattle.construction.proofs.Invariant.Claims.{over-stays, below-stays, record-stays, round-stays}
 use Rattle.construction.specs.Parts.{Local}
 
 -- process j, with its operation o, has read the gate g, held
@@ -91,17 +96,17 @@ LocAt C4 F w j t =
     Mine (viewOf w j) (t .operation) × (t .gate .holder ≡ Nobody) × (t .gate .seq ≤ w .gate .seq)
     × Limit (viewOf w j) j (t .gate .seq)
 LocAt P13 F w j t =
-    Mine (viewOf w j) (t .operation) × (t .gate .holder ≡ Nobody) × (t .task .target < F .processCount)
-    × Nominated w j (t .task .target) (t .gate .seq) × Limit (viewOf w j) j (t .gate .seq)
+    Mine (viewOf w j) (t .operation) × (t .gate .holder ≡ Nobody) × (t .control .target < F .processCount)
+    × Nominated w j (t .control .target) (t .gate .seq) × Limit (viewOf w j) j (t .gate .seq)
 LocAt P14 F w j t = Mine (viewOf w j) (t .operation) × Past (viewOf w j)
 LocAt P16 F w j t = Helper F w j (t .operation) (t .gate)
 LocAt H21 F w j t =
     Helper F w j (t .operation) (t .gate) × Plan F w (t .gate) (t .announcement)
-    × NeedingAt F w (t .gate .seq) (t .announcement) (t .task .target) (t .simulation) (t .dictionary)
+    × NeedingAt F w (t .gate .seq) (t .announcement) (t .control .target) (t .simulation) (t .dictionary)
 LocAt H36 F w j t =
     Helper F w j (t .operation) (t .gate) × Plan F w (t .gate) (t .announcement)
     × FinishedAt F w (t .gate .seq) (t .announcement) (t .simulation) (t .dictionary)
-    × Writing F w (t .gate .seq) (noted (t .dictionary)) (t .task .target)
+    × Writing F w (t .gate .seq) (noted (t .dictionary)) (t .control .target)
 LocAt P19 F w j t =
     Helper F w j (t .operation) (t .gate) × Plan F w (t .gate) (t .announcement)
     × Ready F w (t .gate .seq) (t .simulation .yields)
@@ -121,7 +126,7 @@ LocAt P6 F w j t = ⊥
 abbrev pub known : Local → Local
 known t =
     record {
-      task = t .task;
+      control = t .control;
       operation = t .operation;
       exit = false;
       steps = 0;
@@ -133,7 +138,7 @@ known t =
     }
 
 abbrev pub Loc : Frame → World → ℕ → Local → Type 0
-Loc F w j t = LocAt (t .task .place) F w j (known t)
+Loc F w j t = LocAt (t .control .place) F w j (known t)
 
 module _ {F : Frame} {i : ℕ} {w v : World} (G : WorldInvariant F w) (M : Move F i w v) where
   left-stays : {u : World} (j n : ℕ) → Move F i w u → Quiet w j → leftIn w j < n → leftIn u j < n
@@ -247,13 +252,13 @@ module _ {F : Frame} {i : ℕ} {w v : World} (G : WorldInvariant F w) (M : Move 
     loc-at-stays H21 t q = (
       helper-stays C (q .0),
       plan-stays (t .gate) (t .announcement) (q .0 .seen) (q .1),
-      needing-stays (t .gate .seq) (q .1 .number) (q .1 .below) (t .announcement) (t .task .target) (t .simulation) (t .dictionary) (q .2),
+      needing-stays (t .gate .seq) (q .1 .number) (q .1 .below) (t .announcement) (t .control .target) (t .simulation) (t .dictionary) (q .2),
     )
     loc-at-stays H36 t q = (
       helper-stays C (q .0),
       plan-stays (t .gate) (t .announcement) (q .0 .seen) (q .1),
       finished-stays (t .gate .seq) (q .1 .number) (q .1 .below) (t .announcement) (t .simulation) (t .dictionary) (q .2),
-      writing-stays (t .gate .seq) (q .1 .number) (q .1 .below) (noted (t .dictionary)) (t .task .target) (q .3),
+      writing-stays (t .gate .seq) (q .1 .number) (q .1 .below) (noted (t .dictionary)) (t .control .target) (q .3),
     )
     loc-at-stays P19 t q = (
       helper-stays C (q .0),
@@ -274,4 +279,4 @@ module _ {F : Frame} {i : ℕ} {w v : World} (G : WorldInvariant F w) (M : Move 
 
 pub loc-stays :
     {F : Frame} {i : ℕ} {w v : World} → WorldInvariant F w → Move F i w v → (j : ℕ) → j ≢ i → (t : Local) → Loc F w j t → Loc F v j t
-loc-stays G M j ne t q = loc-at-stays G M j ne (t .task .place) (known t) q
+loc-stays G M j ne t q = loc-at-stays G M j ne (t .control .place) (known t) q

@@ -9,11 +9,11 @@ use native.Mathlib.Decide.{ℕ-discrete}
 use lib.ListN.{length, getD, take, replicate, length-map, List·getD-map}
 use lib.Seq.{getD-set-same, getD-take, length-take-le}
 use borrow.Author.Tests.{not-true, not-false}
-use Rattle.construction.specs.Types.{Gate, Done, Words, Announcement, Record, Label, Idle, Task, Operation, Card, Contents, Program}
+use Rattle.construction.specs.Types.{Gate, Done, Words, Announcement, Record, Label, Idle, Control, Operation, Card, Contents, Program}
 use Rattle.construction.specs.Cells.{openAnnouncement, openRecord, current}
 use Rattle.construction.specs.Instructions.{noProgram}
 use Rattle.construction.specs.Dictionary.{empty}
-use Rattle.construction.specs.Parts.{idleTask, noOperation, localAt, withLocal, Local, contentsOf, withCells, withSteps, textsOf, programOf}
+use Rattle.construction.specs.Parts.{idleControl, noOperation, localAt, withLocal, Local, contentsOf, withCells, withSteps, textsOf, programOf}
 use Rattle.construction.specs.Machine.{perform, advance, accessIn}
 use Rattle.construction.specs.Requests.{isBusy, invoked, exiting}
 use Rattle.construction.specs.Opening.{fresh}
@@ -60,7 +60,8 @@ module _ {c : Card} {w : World} (I : CardInvariant c w) where
   numbered-is = rw gate-is at (I .numbered)
 
 -- a card after a move to the world u: other shared cells, process i with the own state t, and k accepted steps
-module _ {c : Card} {w : World} {i : ℕ} (I : CardInvariant c w) (lt : i < c .processCount) {u : World} (M : Move (frameOf c w) i w u) (g : Gate) (l : List Announcement)
+module _ {c : Card} {w : World} {i : ℕ} (I : CardInvariant c w) (lt : i < c .processCount) {u : World} (M : Move (frameOf c w) i w u) (g : Gate)
+    (l : List Announcement)
     (r : List Record) (t : Local) (k : ℕ) where
   abbrev v : Card
   v = withSteps (withLocal (withCells c g l r) i t) k
@@ -73,7 +74,7 @@ module _ {c : Card} {w : World} {i : ℕ} (I : CardInvariant c w) (lt : i < c .p
       go (no ne) = subst (P j) (sym (local-other c i j t ne)) (b j ne)
 
   abbrev Reads : Type 0
-  Reads = hasRead (t .task .place) ≡ true → (t .gate ≡ c .gate) ⊎ ((hasRead (localAt c i .task .place) ≡ true) × (t .gate ≡ localAt c i .gate))
+  Reads = hasRead (t .control .place) ≡ true → (t .gate ≡ c .gate) ⊎ ((hasRead (localAt c i .control .place) ≡ true) × (t .gate ≡ localAt c i .gate))
 
   moved :
       worldOf v u ≡ u → Reads → Loc (frameOf c w) u i t → WellFormed (t .dictionary) → u .gate .seq ≤ suc k → c .steps ≤ k → k ≤ c .limit →
@@ -106,7 +107,7 @@ module _ {c : Card} {w : World} {i : ℕ} (I : CardInvariant c w) (lt : i < c .p
       -- a process with the own state x runs the texts of the world
       Right : Local → Type 0
       Right x =
-          hasRead (x .task .place) ≡ true → (k number : ℕ) → x .gate .seq ≤ number → programOf (textsOf c) k number ≡ u .texts k number
+          hasRead (x .control .place) ≡ true → (k number : ℕ) → x .gate .seq ≤ number → programOf (textsOf c) k number ≡ u .texts k number
 
       here : Right t
       here e k n h =
@@ -157,7 +158,7 @@ inv-step c w i I lt b h = record {
 
     A : Acted c (worldOf c w) i v
     A =
-        at-place (before-step I lt h) (localAt c i .task .place) (localAt c i .exit) (not-true _ b)
+        at-place (before-step I lt h) (localAt c i .control .place) (localAt c i .exit) (not-true _ b)
         (λ e k. I .texts .read i lt e k (localAt c i .gate .seq) (omega arith))
         (subst (λ (x : World). Loc (frameOf c w) x i (localAt c i)) (sym (I .cells)) (I .locs i lt))
 
@@ -174,18 +175,18 @@ inv-step c w i I lt b h = record {
         (local-same (withCells c (v .gate) (v .announcements) (v .records)) i (A .local) (I .sizes) (omega (arith, I .good .fits .few)))
 
     reads :
-        hasRead (A .local .task .place) ≡ true →
-        (A .local .gate ≡ c .gate) ⊎ ((hasRead (localAt c i .task .place) ≡ true) × (A .local .gate ≡ localAt c i .gate))
+        hasRead (A .local .control .place) ≡ true →
+        (A .local .gate ≡ c .gate) ⊎ ((hasRead (localAt c i .control .place) ≡ true) × (A .local .gate ≡ localAt c i .gate))
     reads _ =
         ⊎-elim (λ z. inl (sym own ∙ z)) (λ z. inr (z .0, sym own ∙ z .1))
-        (gate-read c i (omega (arith, I .sizes .gates, I .good .fits .few)) (localAt c i .task .place) (localAt c i .exit) (not-true _ b))
+        (gate-read c i (omega (arith, I .sizes .gatesRead, I .good .fits .few)) (localAt c i .control .place) (localAt c i .exit) (not-true _ b))
 
 -- what is known of a process that has no operation under way
 pub at-rest :
     {c : Card} {w : World} (I : CardInvariant c w) (i : ℕ) →
     i < c .processCount → isBusy c i ≡ false → LocAt Idle (frameOf c w) w i (localAt c i)
 at-rest {c} {w} I i lt b =
-    subst (λ (l : Label). LocAt l (frameOf c w) w i (known (localAt c i))) (is-idle (stage (localAt c i .task .place)) (not-false _ b)) (I .locs i lt)
+    subst (λ (l : Label). LocAt l (frameOf c w) w i (known (localAt c i))) (is-idle (stage (localAt c i .control .place)) (not-false _ b)) (I .locs i lt)
 
 -- a call that is taken
 abbrev pub called : ℕ → Words → Operation
@@ -290,18 +291,18 @@ module _ (x : Contents) (few : x .processCount ≤ 8) (narrow : x .variableCount
       some = heaviest-some (x .programs) (λ k. short k .some);
     };
     sizes = record {
-      tasks = refl;
+      controls = refl;
       operations = refl;
       exits = refl;
       counts = refl;
-      gates = refl;
-      copies = refl;
+      gatesRead = refl;
+      announcementsRead = refl;
       simulations = refl;
       dictionaries = refl;
       masks = refl;
     };
     locs = λ j h. subst (λ (l : Label). LocAt l (frameOf (fresh x) (firstWorld x)) (firstWorld x) j (known (localAt (fresh x) j)))
-        (sym (ap (λ (t : Task). t .place) (getD-replicate-same 8 j idleTask))) (
+        (sym (ap (λ (t : Control). t .place) (getD-replicate-same 8 j idleControl))) (
           record {
             not-active = λ a. active-not-done a (open-flag j);
             free-of = nobody-process refl;

@@ -12,11 +12,12 @@ use lib.ListN.{length, getD, length-set}
 use lib.Seq.{getD-set-same, getD-set-other}
 use lib.Dec.{eqb, leb, ltb}
 use borrow.Author.Tests.{ltb-true, ltb-false, leb-true, eq-eqb, ne-eqb, lt-ltb, le-ltb, le-leb}
-use Rattle.construction.specs.Types.{Holder, Nobody, Process, Gate, Yield, Announcement, Program, Item, Dictionary, Simulation, Label, Idle, P1, P3, P5, P7, P10, C2, C4, P13, P14, P16, H21, H36, P19, P20, P21, P22, F1, F3, P6, Operation, Card, Task}
+use Rattle.construction.specs.Types.{Holder, Nobody, Process, Gate, Yield, Announcement, Program, Item, Dictionary, Simulation, Label, Idle, P1, P3, P5}
+use Rattle.construction.specs.Types.{P7, P10, C2, C4, P13, P14, P16, H21, H36, P19, P20, P21, P22, F1, F3, P6, Operation, Card, Control}
 use Rattle.construction.specs.Sequential.{Ending}
 use Rattle.construction.specs.Weight.{weight, cardWeight}
 use Rattle.construction.specs.Dictionary.{noted}
-use Rattle.construction.specs.Parts.{idleTask, noGate, Local, localAt, contentsOf, textsOf, programOf, withRevision}
+use Rattle.construction.specs.Parts.{idleControl, noGate, Local, localAt, contentsOf, textsOf, programOf, withRevision}
 use Rattle.construction.specs.Instructions.{noProgram}
 use Rattle.construction.specs.Changes.{hasRead, isBehind, someBehind, isUnsettled}
 use Rattle.construction.proofs.Basics.{on-test, and-true}
@@ -29,7 +30,8 @@ use Rattle.construction.proofs.Invariant.Cards.{CardInvariant}
 use Rattle.construction.specs.Requests.{isProcess}
 
 -- other texts, the same up to the gate's number
-module _ {F : Frame} {w : World} (x : ℕ → ℕ → Program) (G : WorldInvariant F w) (same : (k number : ℕ) → number ≤ w .gate .seq → x k number ≡ F .programAt k number) where
+module _ {F : Frame} {w : World} (x : ℕ → ℕ → Program) (G : WorldInvariant F w)
+    (same : (k number : ℕ) → number ≤ w .gate .seq → x k number ≡ F .programAt k number) where
   abbrev K : Frame
   K = record { processCount = F .processCount; variableCount = F .variableCount; programAt = x }
 
@@ -135,13 +137,17 @@ module _ {F : Frame} {w : World} (x : ℕ → ℕ → Program) (G : WorldInvaria
   loc-at-same P13 j t q = (q .0, q .1, q .2, record { below = q .3 .below; fit = q .3 .fit }, q .4)
   loc-at-same P14 j t q = q
   loc-at-same P16 j t q = helper-same q
-  loc-at-same H21 j t q =
-      (helper-same (q .0), plan-same (q .1), needing-same (t .gate .seq) (q .1 .below) (t .announcement) (t .task .target) (t .simulation) (t .dictionary) (q .2))
+  loc-at-same H21 j t q = (
+    helper-same (q .0),
+    plan-same (q .1),
+    needing-same (t .gate .seq) (q .1 .below) (t .announcement) (t .control .target) (t .simulation) (t .dictionary)
+        (q .2),
+  )
   loc-at-same H36 j t q = (
     helper-same (q .0),
     plan-same (q .1),
     finished-same (t .gate .seq) (q .1 .below) (t .announcement) (t .simulation) (t .dictionary) (q .2),
-    writing-same (t .gate .seq) (q .1 .below) (noted (t .dictionary)) (t .task .target) (q .3),
+    writing-same (t .gate .seq) (q .1 .below) (noted (t .dictionary)) (t .control .target) (q .3),
   )
   loc-at-same P19 j t q = (helper-same (q .0), plan-same (q .1), ready-same (t .gate .seq) (q .1 .below) (t .simulation .yields) (q .2))
   loc-at-same P20 j t q =
@@ -153,7 +159,7 @@ module _ {F : Frame} {w : World} (x : ℕ → ℕ → Program) (G : WorldInvaria
   loc-at-same P6 j t q = q
 
   pub loc-change : (j : ℕ) (t : Local) → Loc F w j t → Loc K v j t
-  loc-change j t q = loc-at-same (t .task .place) j (known t) q
+  loc-change j t q = loc-at-same (t .control .place) j (known t) q
 
 -- no process is behind a number, if none of those below n is
 or-none : (a b : Bool) → a || b ≡ false → (a ≡ false) × (b ≡ false)
@@ -161,25 +167,26 @@ or-none true b e = absurd (true≢false e)
 or-none false b e = (refl, e)
 
 none-behind :
-    (tasks : List Task) (gates : List Gate) (p number n : ℕ) → someBehind tasks gates p number n ≡ false → (j : ℕ) → j < n →
-    ltb j p && isBehind (getD tasks j idleTask .place) (getD gates j noGate) number ≡ false
+    (controls : List Control) (gatesRead : List Gate) (p number n : ℕ) → someBehind controls gatesRead p number n ≡ false → (j : ℕ) → j < n →
+    ltb j p && isBehind (getD controls j idleControl .place) (getD gatesRead j noGate) number ≡ false
 unfolding someBehind
-none-behind tasks gates p number zero e j h = absurd (omega arith)
-none-behind tasks gates p number (suc n) e j h =
-    let z = or-none (ltb n p && isBehind (getD tasks n idleTask .place) (getD gates n noGate) number) (someBehind tasks gates p number n) e in
-    ⊎-elim (λ (q : j ≡ n). rw q (z .0)) (λ l. none-behind tasks gates p number n (z .1) j l) (eq-or-lt-of-le (omega arith))
+none-behind controls gatesRead p number zero e j h = absurd (omega arith)
+none-behind controls gatesRead p number (suc n) e j h =
+    let z = or-none (ltb n p && isBehind (getD controls n idleControl .place) (getD gatesRead n noGate) number) (someBehind controls gatesRead p number n) e in
+    ⊎-elim (λ (q : j ≡ n). rw q (z .0)) (λ l. none-behind controls gatesRead p number n (z .1) j l) (eq-or-lt-of-le (omega arith))
 
 -- the last change of a settled program is past: of the gate, and of every process under way
 pub settled-gate : (c : Card) (k : ℕ) → isUnsettled c k ≡ false → getD (c .from) k 0 ≤ c .gate .seq
 settled-gate c k u = ltb-false _ _ (or-none (ltb (c .gate .seq) (getD (c .from) k 0)) _ u .0)
 
 settled-read :
-    (c : Card) (k : ℕ) → isUnsettled c k ≡ false → (j : ℕ) → isProcess c j ≡ true → hasRead (localAt c j .task .place) ≡ true →
+    (c : Card) (k : ℕ) → isUnsettled c k ≡ false → (j : ℕ) → isProcess c j ≡ true → hasRead (localAt c j .control .place) ≡ true →
     getD (c .from) k 0 ≤ localAt c j .gate .seq
 settled-read c k u j p e =
     let from = getD (c .from) k 0 in
     let h = and-true (ltb j (c .processCount)) _ p in
-    ltb-false _ _ (rw (h .0, e) at (none-behind (c .tasks) (c .gates) (c .processCount) from _ (or-none (ltb (c .gate .seq) from) _ u .1) j (ltb-true j 8 (h .1))))
+    ltb-false _ _
+    (rw (h .0, e) at (none-behind (c .controls) (c .gatesRead) (c .processCount) from _ (or-none (ltb (c .gate .seq) from) _ u .1) j (ltb-true j 8 (h .1))))
 
 -- a text is another one from a number on: before it nothing changes
 pub text-before : (texts : ℕ → ℕ → Program) (k from : ℕ) (y : Program) (j number : ℕ) → number < from → withText texts k from y j number ≡ texts j number
@@ -194,12 +201,22 @@ module _ (c : Card) (k from : ℕ) (y : Program) where
       programOf (textsOf (withRevision c k from y)) k number ≡ cond (ltb number from) (getD (c .later) k noProgram) y
   unfolding programOf
   revised-same many few number =
-      rw (getD-set-same (c .from) k from 0 (omega arith), getD-set-same (c .earlier) k (getD (c .later) k noProgram) noProgram (omega arith), getD-set-same (c .later) k y noProgram (omega arith))
+      rw (
+        getD-set-same (c .from) k from 0 (omega arith),
+        getD-set-same (c .earlier) k (getD (c .later) k noProgram) noProgram (omega arith),
+        getD-set-same
+            (c .later) k y noProgram (omega arith),
+      )
 
   revised-other : (j number : ℕ) → j ≢ k → programOf (textsOf (withRevision c k from y)) j number ≡ programOf (textsOf c) j number
   unfolding programOf
   revised-other j number ne =
-      rw (getD-set-other (c .from) k j from 0 ne, getD-set-other (c .earlier) k j (getD (c .later) k noProgram) noProgram ne, getD-set-other (c .later) k j y noProgram ne)
+      rw (
+        getD-set-other (c .from) k j from 0 ne,
+        getD-set-other (c .earlier) k j (getD (c .later) k noProgram) noProgram ne,
+        getD-set-other (c .later) k j y
+            noProgram ne,
+      )
 
 -- from the number of its last change on a card runs the later text
 later-holds : (c : Card) (k number : ℕ) → getD (c .from) k 0 ≤ number → programOf (textsOf c) k number ≡ getD (c .later) k noProgram
@@ -218,7 +235,7 @@ module _ (c : Card) (w : World) (k from : ℕ) (y : Program) (I : CardInvariant 
   past-gate : getD (c .from) k 0 ≤ c .gate .seq
   past-gate = settled-gate c k settled
 
-  past-read : (j : ℕ) → j < c .processCount → hasRead (localAt c j .task .place) ≡ true → getD (c .from) k 0 ≤ localAt c j .gate .seq
+  past-read : (j : ℕ) → j < c .processCount → hasRead (localAt c j .control .place) ≡ true → getD (c .from) k 0 ≤ localAt c j .gate .seq
   past-read j lt = settled-read c k settled j (rw (lt-ltb j (c .processCount) lt) (lt-ltb j 8 (omega (arith, I .good .fits .few))))
 
   -- the later text becomes the earlier one
@@ -240,7 +257,7 @@ module _ (c : Card) (w : World) (k from : ℕ) (y : Program) (I : CardInvariant 
 
   -- the choice of every text stays, for the number that an operation under way past P1 last read, however late it is
   pub chosen-kept :
-      (j : ℕ) → j < c .processCount → hasRead (localAt c j .task .place) ≡ true → localAt c j .gate .seq < from → (m : ℕ) →
+      (j : ℕ) → j < c .processCount → hasRead (localAt c j .control .place) ≡ true → localAt c j .gate .seq < from → (m : ℕ) →
       programOf (textsOf d) m (localAt c j .gate .seq) ≡ programOf (textsOf c) m (localAt c j .gate .seq)
   chosen-kept j lt e below m =
       let number = localAt c j .gate .seq in

@@ -11,7 +11,9 @@ use Rattle.construction.specs.Cells.{openAnnouncement, openRecord, rewri
 use Rattle.construction.specs.Parts.{noOperation}
 use Rattle.construction.specs.Machine.{flagged, finished}
 use Rattle.construction.proofs.Basics.{on-set, active-not-done, active-not-exit, exit-not-done, nobody-process, process-same, else-exit}
-use Rattle.construction.proofs.Invariant.World.{noRound, endingIn, World, announcementIn, recordIn, leftIn, boundIn, callIn, Result, noResult, resultIn, resultOf, roundIn, operationOf, WorldInvariant, asking, announcing, leaving, ending, Silent, Quiet, Move, Frame}
+use Rattle.construction.proofs.Invariant.World.{noRound, endingIn, World, announcementIn, recordIn, leftIn, boundIn, callIn, Result, noResult, resultIn}
+use Rattle.construction.proofs.Invariant.World.{resultOf, roundIn, operationOf, WorldInvariant, asking, announcing, leaving, ending, Silent, Quiet, Move}
+use Rattle.construction.proofs.Invariant.World.{Frame}
 use Rattle.construction.proofs.Invariant.World.Move.{stay, ask, announce, leave, take, write, end, free}
 use Rattle.construction.proofs.Invariant.WorldKept.{announcements-set, seq-move}
 

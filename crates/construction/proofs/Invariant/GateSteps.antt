@@ -5,16 +5,18 @@ use mathlib.Core.Bool.{false}
 use mathlib.Core.Logic.{_≢_, inl, inr, ⊎-elim}
 use native.Mathlib.Omega.{arith}
 use native.Mathlib.Decide.{decLt}
-use Rattle.construction.specs.Types.{Holder, Nobody, Process, Gate, Done, Announcement, Label, Idle, P1, P3, P10, C2, P13, P14, P16, P21, P22, F1, F3, GateAccess, Access, Card}
+use Rattle.construction.specs.Types.{Holder, Nobody, Process, Gate, Done, Announcement, Label, Idle, P1, P3, P10, C2, P13, P14, P16, P21, P22, F1, F3}
+use Rattle.construction.specs.Types.{GateAccess, Access, Card}
 use Rattle.construction.specs.Cells.{sameHolder, sameGate, swapGate, released}
 use Rattle.construction.specs.Parts.{announcementAt, withGate, localAt, Local, withLocal}
 use Rattle.construction.specs.Machine.{goTo, byHolder, holderOf, accessGate, perform}
-use Rattle.construction.proofs.Basics.{on-test, true-false, gate-path, sameGate-true, sameGate-false, sameHolder-true, sameHolder-refl, nobody-process, active-not-done, exit-not-done}
+use Rattle.construction.proofs.Basics.{on-test, true-false, gate-path, sameGate-true, sameGate-false, sameHolder-true, sameHolder-refl, nobody-process}
+use Rattle.construction.proofs.Basics.{active-not-done, exit-not-done}
 use Rattle.construction.proofs.Invariant.World.{World, announcementIn, resultOf, resultIn, leftIn, freeing, Quiet, Frame, frameOf}
 use Rattle.construction.proofs.Invariant.World.Move.{take, free}
 use Rattle.construction.proofs.Invariant.Claims.{viewOf, Mine, Limit, Returning, Rested, Eligible}
 use Rattle.construction.proofs.Invariant.Assertions.{Helper, Loc}
-use Rattle.construction.proofs.Invariant.Acting.{worldOf, Step, Before, Acted, acts, keeps, atTask, atGate, goes-on}
+use Rattle.construction.proofs.Invariant.Acting.{worldOf, Step, Before, Acted, acts, keeps, atControl, atGate, goes-on}
 
 -- what is known of an operation at its return
 rests :
@@ -38,7 +40,7 @@ module _ {c : Card} {w : World} {i : ℕ} (B : Before c w i) where
 
   -- process i with the gate that it has read
   abbrev read : Label → Local
-  read l = atGate (localAt c i) (c .gate) (goTo (localAt c i .task) l)
+  read l = atGate (localAt c i) (c .gate) (goTo (localAt c i .control) l)
 
   -- the gate is read
   reads : (l : Label) → Loc F W i (read l) → Acted c W i (withLocal c i (read l))
@@ -91,7 +93,7 @@ module _ {c : Card} {w : World} {i : ℕ} (B : Before c w i) where
 
   -- process i at a place, and the card after a swap of the gate
   abbrev at : Label → Local
-  at l = atTask (localAt c i) (goTo (localAt c i .task) l)
+  at l = atControl (localAt c i) (goTo (localAt c i .control) l)
 
   abbrev swapped : Gate → Label → Card
   swapped g l = withLocal (withGate c g) i (at l)
@@ -122,7 +124,7 @@ module _ {c : Card} {w : World} {i : ℕ} (B : Before c w i) where
   at-P13 q = swaps _ P14 won late
     where
       m : ℕ
-      m = localAt c i .task .target
+      m = localAt c i .control .target
 
       late : sameGate (c .gate) (localAt c i .gate) ≡ false → Loc F W i (at P14)
       late e = (

@@ -7,7 +7,8 @@ use native.Mathlib.Omega.{arith}
 use lib.ListN.{length, set}
 use lib.Dec.{ltb, leb}
 use borrow.Author.Tests.{ltb-true, ltb-false, leb-true, leb-false, not-true, not-false}
-use Rattle.construction.specs.Types.{Process, Done, Announcement, Dictionary, Simulation, Pause, Ended, Faulted, Lacks, Simulated, P16, H21, Access, Began, Helped, Operation, Card, Program}
+use Rattle.construction.specs.Types.{Process, Done, Announcement, Dictionary, Simulation, Pause, Ended, Faulted, Lacks, Simulated, P16, H21, Access}
+use Rattle.construction.specs.Types.{Began, Helped, Operation, Card, Program}
 use Rattle.construction.specs.Cells.{openAnnouncement, isDone, previous, openRecord}
 use Rattle.construction.specs.Instructions.{started}
 use Rattle.construction.specs.Dictionary.{empty, valueUnder, itemOf, insert}
@@ -81,7 +82,7 @@ module _ {c : Card} {w : World} {i : ℕ} (B : Before c w i) where
   abbrev helping : Began → Card
   helping b =
       withLocal (withAnnouncement c m theirs) i
-      (after (localAt c i) (b .task) (localAt c i .gate) theirs (b .simulation)
+      (after (localAt c i) (b .control) (localAt c i .gate) theirs (b .simulation)
       (cond (b .helps) empty (localAt c i .dictionary)) (cond (b .helps) 0 (localAt c i .mask)))
 
   abbrev begun : Helped
@@ -113,7 +114,7 @@ module _ {c : Card} {w : World} {i : ℕ} (B : Before c w i) where
     }
 
     -- the first simulation touches no dictionary
-    begins : Acted c W i (helping (record { helps = true; task = begun .task; simulation = begun .simulation }))
+    begins : Acted c W i (helping (record { helps = true; control = begun .control; simulation = begun .simulation }))
     begins =
         let r =
         resumes theirs q plan started empty
@@ -121,13 +122,13 @@ module _ {c : Card} {w : World} {i : ℕ} (B : Before c w i) where
         (B .good .recorded .sized s many) (run-is F s (roundIn W s) theirs called)) in
         let z = simulate-empty (c .variableCount) (programFor F s theirs) (theirs .words) in
         keeps B refl (set-getD (c .announcements) m openAnnouncement) refl _ refl (subst WellFormed z (r .0))
-        (subst (λ (d : Dictionary). Loc F W i (atSimulation (localAt c i) theirs (begun .task) (begun .simulation) d 0)) z (r .1))
+        (subst (λ (d : Dictionary). Loc F W i (atSimulation (localAt c i) theirs (begun .control) (begun .simulation) d 0)) z (r .1))
 
   pub at-P16 : Chosen c w i → Step c w i P16 Access.Help
   unfolding perform beginHelp
   at-P16 chosen q =
       subst
-      (λ (p : Program). Acted c W i (helping (beginHelp (c .variableCount) p theirs s (localAt c i .task) (localAt c i .simulation))))
+      (λ (p : Program). Acted c W i (helping (beginHelp (c .variableCount) p theirs s (localAt c i .control) (localAt c i .simulation))))
       (sym (chosen (theirs .program)))
       (on-test (λ (x : Began). Acted c W i (helping x)) (helps theirs s)
       (λ e.
@@ -143,18 +144,18 @@ module _ {c : Card} {w : World} {i : ℕ} (B : Before c w i) where
 
   -- the variable that H21 notes, and what H21 comes to
   abbrev v : ℕ
-  v = localAt c i .task .target
+  v = localAt c i .control .target
 
   abbrev noting-on : Helped → Card
   noting-on x =
       withLocal (withRecord c v (recordAt c v)) i
-      (atSimulation (localAt c i) (localAt c i .announcement) (x .task) (x .simulation) (x .dictionary) (x .mask))
+      (atSimulation (localAt c i) (localAt c i .announcement) (x .control) (x .simulation) (x .dictionary) (x .mask))
 
   pub at-H21 : Chosen c w i → Step c w i H21 Access.Note
   unfolding perform note valueUnder
   at-H21 chosen q =
       subst
-      (λ (p : Program). Acted c W i (noting-on (note (c .variableCount) p (localAt c i .announcement .words) (recordAt c v) s (localAt c i .task)
+      (λ (p : Program). Acted c W i (noting-on (note (c .variableCount) p (localAt c i .announcement .words) (recordAt c v) s (localAt c i .control)
       (localAt c i .simulation) (localAt c i .dictionary) (localAt c i .mask))))
       (sym (chosen (localAt c i .announcement .program)))
       (on-test (λ (x : Helped). Acted c W i (noting-on x)) (ltb s (recordAt c v .seq))

@@ -11,20 +11,20 @@ use Rattle.construction.specs.Parts.{Local, localAt, withLocal}
 
 -- the arrays of local state have 8 places
 pub record Eight (t o e n g a s d m : ℕ) : Type 0 where
-  pub tasks : t ≡ 8
+  pub controls : t ≡ 8
   pub operations : o ≡ 8
   pub exits : e ≡ 8
   pub counts : n ≡ 8
-  pub gates : g ≡ 8
-  pub copies : a ≡ 8
+  pub gatesRead : g ≡ 8
+  pub announcementsRead : a ≡ 8
   pub simulations : s ≡ 8
   pub dictionaries : d ≡ 8
   pub masks : m ≡ 8
 
 abbrev pub Sizes : Card → Type 0
 Sizes c =
-    Eight (length (c .tasks)) (length (c .operations)) (length (c .exits)) (length (c .counts)) (length (c .gates))
-    (length (c .copies)) (length (c .simulations)) (length (c .dictionaries)) (length (c .masks))
+    Eight (length (c .controls)) (length (c .operations)) (length (c .exits)) (length (c .counts)) (length (c .gatesRead))
+    (length (c .announcementsRead)) (length (c .simulations)) (length (c .dictionaries)) (length (c .masks))
 
 pub sizes-put : (c : Card) (i : ℕ) (l : Local) → Sizes c → Sizes (withLocal c i l)
 sizes-put c i l Z = simp length-set Z
@@ -34,7 +34,8 @@ set-eight l i a d e lt = getD-set-same l i a d (omega arith)
 
 pub local-same : (c : Card) (i : ℕ) (l : Local) → Sizes c → i < 8 → localAt (withLocal c i l) i ≡ l
 local-same c i l Z lt =
-    let record { tasks = t; operations = o; exits = e; counts = n; gates = g; copies = a; simulations = s; dictionaries = d; masks = m } = Z in
+    let record { controls = t; operations = o; exits = e; counts = n; gatesRead = g; announcementsRead = a; simulations = s; dictionaries = d; masks = m } =
+    Z in
     simp set-eight
 
 pub local-other : (c : Card) (i j : ℕ) (l : Local) → j ≢ i → localAt (withLocal c i l) j ≡ localAt c j

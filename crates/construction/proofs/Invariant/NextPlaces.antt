@@ -4,11 +4,14 @@ use mathlib.Core.Path.{_≡_, refl, sym, subst}
 use lib.ListN.{length, getD, set}
 use lib.Seq.{getD-set-same}
 use lib.Dec.{ltb}
-use Rattle.construction.specs.Types.{Holder, Nobody, Process, Gate, Flag, Done, Active, Exit, Words, Yield, Announcement, Record, Program, Dictionary, Simulation, Pause, Ended, Faulted, Lacks, Simulated, Label, Idle, P1, P3, P5, P7, C4, P13, P14, H21, H36, P19, P21, F3, GateAccess, AnnouncementAccess, Access, Task, Began, Helped, Operation, Card}
+use Rattle.construction.specs.Types.{Holder, Nobody, Process, Gate, Flag, Done, Active, Exit, Words, Yield, Announcement, Record, Program, Dictionary}
+use Rattle.construction.specs.Types.{Simulation, Pause, Ended, Faulted, Lacks, Simulated, Label, Idle, P1, P3, P5, P7, C4, P13, P14, H21, H36, P19, P21}
+use Rattle.construction.specs.Types.{F3, GateAccess, AnnouncementAccess, Access, Control, Began, Helped, Operation, Card}
 use Rattle.construction.specs.Cells.{openAnnouncement, sameHolder}
 use Rattle.construction.specs.Dictionary.{noted, nextWrite, insert, itemOf, empty}
-use Rattle.construction.specs.Parts.{idleTask, announcementAt, localAt}
-use Rattle.construction.specs.Machine.{byHolder, byFlag, writeFrom, afterPause, announced, accessOf, accessGate, accessAnnouncement, perform, advance, beginHelp, note, writing, helps, helped}
+use Rattle.construction.specs.Parts.{idleControl, announcementAt, localAt}
+use Rattle.construction.specs.Machine.{byHolder, byFlag, writeFrom, afterPause, announced, accessOf, accessGate, accessAnnouncement, perform, advance}
+use Rattle.construction.specs.Machine.{beginHelp, note, writing, helps, helped}
 use Rattle.construction.proofs.Basics.{on-test}
 use Rattle.construction.specs.Marks.{withBit}
 use Rattle.construction.specs.Helping.{simulate}
@@ -48,14 +51,14 @@ module _ (Q : Label → Type 0) where
 
   by-write : (seq : ℕ) (d : Dictionary) (k : ℕ) → Q H36 → Q P19 → Q (writeFrom seq d k .place)
   by-write seq d k a b =
-      on-test (λ (x : Task). Q (x .place)) (ltb (nextWrite seq d k) (length (noted d))) (λ _. a) (λ _. b)
+      on-test (λ (x : Control). Q (x .place)) (ltb (nextWrite seq d k) (length (noted d))) (λ _. a) (λ _. b)
 
   by-pause : (seq : ℕ) (d : Dictionary) (p : Pause) → Q H21 → Q H36 → Q P19 → Q (afterPause seq d p .place)
   by-pause seq d Ended a b c = by-write seq d 0 b c
   by-pause seq d Faulted a b c = c
   by-pause seq d (Lacks v) a b c = a
 
-  gate-leads : (a : GateAccess) → GateLeads a → (i : ℕ) (cell g : Gate) (t : Task) → Q (accessGate a i cell g t .task .place)
+  gate-leads : (a : GateAccess) → GateLeads a → (i : ℕ) (cell g : Gate) (t : Control) → Q (accessGate a i cell g t .control .place)
   unfolding accessGate
   gate-leads (GateAccess.Read held free) q i cell g t = by-holder (cell .holder) held free (q .0) (q .1)
   gate-leads GateAccess.ReadLast q i cell g t = on-test Q (sameHolder (cell .holder) (Process i)) (λ _. q .0) (λ _. q .1)
@@ -64,7 +67,7 @@ module _ (Q : Label → Type 0) where
 
   announcement-leads :
       (a : AnnouncementAccess) → AnnouncementLeads a → (m : ℕ) (cell : Announcement) (o : Operation) (g : Gate) (r : Announcement)
-      (outputs : Yield) (t : Task) → Q (accessAnnouncement a m cell o g r outputs t .task .place)
+      (outputs : Yield) (t : Control) → Q (accessAnnouncement a m cell o g r outputs t .control .place)
   unfolding accessAnnouncement
   announcement-leads AnnouncementAccess.Announce q m cell o g r outputs t = q
   announcement-leads AnnouncementAccess.Withdraw q m cell o g r outputs t = q
@@ -74,35 +77,35 @@ module _ (Q : Label → Type 0) where
       by-flag (cell .flag) C4 P13 C4 (q .0) (q .1) (q .0)
   announcement-leads (AnnouncementAccess.Finish flag next) q m cell o g r outputs t = q
 
-  helped-leads : (number : ℕ) (x : Simulated) (mask : ℕ) → Q H21 → Q H36 → Q P19 → Q (helped number x mask .task .place)
+  helped-leads : (number : ℕ) (x : Simulated) (mask : ℕ) → Q H21 → Q H36 → Q P19 → Q (helped number x mask .control .place)
   helped-leads number x mask a b e = by-pause number (x .dictionary) (x .pause) a b e
 
   help-leads :
-      Q P21 × Q H21 × Q H36 × Q P19 → (n : ℕ) (program : Program) (cell : Announcement) (number : ℕ) (t : Task) (s : Simulation) →
-      Q (beginHelp n program cell number t s .task .place)
+      Q P21 × Q H21 × Q H36 × Q P19 → (n : ℕ) (program : Program) (cell : Announcement) (number : ℕ) (t : Control) (s : Simulation) →
+      Q (beginHelp n program cell number t s .control .place)
   unfolding beginHelp
   help-leads q n program cell number t s =
-      on-test (λ (x : Began). Q (x .task .place)) (helps cell number)
+      on-test (λ (x : Began). Q (x .control .place)) (helps cell number)
       (λ _. helped-leads number (simulate n program (cell .words) started empty) 0 (q .1) (q .2) (q .3)) (λ _. q .0)
 
   note-leads :
-      Q P19 × Q H21 × Q H36 → (n : ℕ) (program : Program) (inputs : Words) (cell : Record) (number : ℕ) (t : Task) (s : Simulation)
-      (d : Dictionary) (mask : ℕ) → Q (note n program inputs cell number t s d mask .task .place)
+      Q P19 × Q H21 × Q H36 → (n : ℕ) (program : Program) (inputs : Words) (cell : Record) (number : ℕ) (t : Control) (s : Simulation)
+      (d : Dictionary) (mask : ℕ) → Q (note n program inputs cell number t s d mask .control .place)
   unfolding note
   note-leads q n program inputs cell number t s d mask =
-      on-test (λ (x : Helped). Q (x .task .place)) (ltb number (cell .seq)) (λ _. q .0)
+      on-test (λ (x : Helped). Q (x .control .place)) (ltb number (cell .seq)) (λ _. q .0)
       (λ _. helped-leads number (simulate n program inputs s (insert d (itemOf number (t .target) cell))) (withBit mask (t .target)) (q .1) (q .2) (q .0))
 
-  write-leads : Q H36 × Q P19 → (number : ℕ) (t : Task) (d : Dictionary) → Q (writing number t d .task .place)
+  write-leads : Q H36 × Q P19 → (number : ℕ) (t : Control) (d : Dictionary) → Q (writing number t d .control .place)
   unfolding writing
   write-leads q number t d = by-write number d (suc (t .target)) (q .0) (q .1)
 
-  module _ (c : Card) (i : ℕ) (lt : i < length (c .tasks)) where
-    -- the task that was put back
-    placed : (x : Task) → Q (x .place) → Q (getD (set (c .tasks) i x) i idleTask .place)
-    placed x q = subst (λ (y : Task). Q (y .place)) (sym (getD-set-same (c .tasks) i x idleTask lt)) q
+  module _ (c : Card) (i : ℕ) (lt : i < length (c .controls)) where
+    -- the control that was put back
+    placed : (x : Control) → Q (x .place) → Q (getD (set (c .controls) i x) i idleControl .place)
+    placed x q = subst (λ (y : Control). Q (y .place)) (sym (getD-set-same (c .controls) i x idleControl lt)) q
 
-    pub leads : (a : Access) → Leads a → Q (localAt (perform a c i .card) i .task .place)
+    pub leads : (a : Access) → Leads a → Q (localAt (perform a c i .card) i .control .place)
     unfolding perform
     leads Access.None q = absurd q
     leads (Access.Gate a) q = placed _ (gate-leads a q _ _ _ _)
@@ -111,17 +114,18 @@ module _ (Q : Label → Type 0) where
     leads Access.Note q = placed _ (note-leads q _ _ _ _ _ _ _ _ _)
     leads Access.Write q = placed _ (write-leads q _ _ _)
 
-module _ (c : Card) (i : ℕ) (lt : i < length (c .tasks)) where
+module _ (c : Card) (i : ℕ) (lt : i < length (c .controls)) where
   -- P1 leads to P3
-  pub P1-next : localAt c i .task .place ≡ P1 → localAt (advance c i) i .task .place ≡ P3
+  pub P1-next : localAt c i .control .place ≡ P1 → localAt (advance c i) i .control .place ≡ P3
   unfolding advance accessOf
   P1-next e = rw e (leads (λ l. l ≡ P3) c i lt _ (refl, refl))
 
   -- P3 leads to P5, with the operation announced
-  pub P3-next : localAt c i .task .place ≡ P3 → localAt (advance c i) i .task .place ≡ P5
+  pub P3-next : localAt c i .control .place ≡ P3 → localAt (advance c i) i .control .place ≡ P5
   unfolding advance accessOf
   P3-next e = rw e (leads (λ l. l ≡ P5) c i lt _ refl)
 
-  pub P3-active : i < length (c .announcements) → localAt c i .task .place ≡ P3 → announcementAt (advance c i) i ≡ announced (localAt c i .operation) (localAt c i .gate)
+  pub P3-active : i < length (c .announcements) → localAt c i .control .place ≡ P3 →
+      announcementAt (advance c i) i ≡ announced (localAt c i .operation) (localAt c i .gate)
   unfolding advance perform accessOf accessAnnouncement
   P3-active h e = rw e (getD-set-same (c .announcements) i (announced (localAt c i .operation) (localAt c i .gate)) openAnnouncement h)

@@ -8,7 +8,7 @@ use native.Mathlib.Decide.{decLt}
 use lib.ListN.{length, getD}
 use lib.Dec.{ltb, eqb}
 use borrow.Author.Tests.{ltb-true, ltb-false, eqb-true, not-false}
-use Rattle.construction.specs.Types.{Announcement, Item, Dictionary, Simulation, Pause, Ended, Faulted, Lacks, Task}
+use Rattle.construction.specs.Types.{Announcement, Item, Dictionary, Simulation, Pause, Ended, Faulted, Lacks, Control}
 use Rattle.construction.specs.Cells.{current}
 use Rattle.construction.specs.Dictionary.{noItem, noted, position, valueUnder, altered, nextWrite}
 use Rattle.construction.specs.Sequential.{Ending}
@@ -65,7 +65,7 @@ module _ (F : Frame) (w : World) (i : ℕ) (t : Local) (a : Announcement) (helpe
       ((q : ℕ) → q < k → NoWriteDue w s (getD (noted d) q noItem)) →
       Loc F w i (atSimulation t a (writeFrom s d k) l d 0)
   write-loc l d fin k fine =
-      on-test (λ (x : Task). Loc F w i (atSimulation t a x l d 0)) (ltb (nextWrite s d k) (length (noted d)))
+      on-test (λ (x : Control). Loc F w i (atSimulation t a x l d 0)) (ltb (nextWrite s d k) (length (noted d)))
       (λ e. (
         helper,
         plan,

@@ -3,7 +3,8 @@ use Prim.Native.Nat.{ℕ, _<_}
 use mathlib.Core.Path.{_≡_, refl, ap}
 use mathlib.Core.Bool.{Bool, true, false, not, false≢true}
 use mathlib.Core.Logic.{_⊎_, inl, inr}
-use Rattle.construction.specs.Types.{Gate, Announcement, Label, Idle, P1, P3, P5, P7, P10, C2, C4, P13, P14, P16, H21, H36, P19, P20, P21, P22, F1, F3, P6, AnnouncementAccess, Access, Card}
+use Rattle.construction.specs.Types.{Gate, Announcement, Label, Idle, P1, P3, P5, P7, P10, C2, C4, P13, P14, P16, H21, H36, P19, P20, P21, P22, F1, F3}
+use Rattle.construction.specs.Types.{P6, AnnouncementAccess, Access, Card}
 use lib.ListN.{length, getD, set}
 use Rattle.construction.specs.Parts.{localAt, noGate}
 use Rattle.construction.specs.Machine.{accessOf, advance, perform, accessGate}
@@ -98,9 +99,9 @@ proceeds Stage.numbered t exit = absurd (false≢true t)
 proceeds (Stage.announced l a b f) t exit = f exit
 
 pub announced-next :
-    (c : Card) (i : ℕ) → i < length (c .tasks) → isAnnounced (localAt c i .task .place) ≡ true → Onward (localAt (advance c i) i .task .place)
+    (c : Card) (i : ℕ) → i < length (c .controls) → isAnnounced (localAt c i .control .place) ≡ true → Onward (localAt (advance c i) i .control .place)
 unfolding advance
-announced-next c i lt e = leads Onward c i lt _ (proceeds (stage (localAt c i .task .place)) e (localAt c i .exit) .1)
+announced-next c i lt e = leads Onward c i lt _ (proceeds (stage (localAt c i .control .place)) e (localAt c i .exit) .1)
 
 pub is-idle : {l : Label} → Stage l → isIdle l ≡ true → l ≡ Idle
 is-idle Stage.idle e = refl
@@ -122,14 +123,14 @@ busy-stage (Stage.announced l a b f) t = inr (inr a)
 
 -- a step reads the gate, or its process is past P1 and keeps the gate that it last read
 pub gate-read :
-    (c : Card) (i : ℕ) → i < length (c .gates) → (l : Label) (exit : Bool) → isIdle l ≡ false →
+    (c : Card) (i : ℕ) → i < length (c .gatesRead) → (l : Label) (exit : Bool) → isIdle l ≡ false →
     (localAt (perform (accessOf l exit) c i .card) i .gate ≡ c .gate)
     ⊎ ((hasRead l ≡ true) × (localAt (perform (accessOf l exit) c i .card) i .gate ≡ localAt c i .gate))
 unfolding accessOf perform accessGate
 gate-read c i lt = go
   where
-    put : (x : Gate) → getD (set (c .gates) i x) i noGate ≡ x
-    put x = getD-set-same (c .gates) i x noGate lt
+    put : (x : Gate) → getD (set (c .gatesRead) i x) i noGate ≡ x
+    put x = getD-set-same (c .gatesRead) i x noGate lt
 
     go : (l : Label) (exit : Bool) → isIdle l ≡ false →
         (localAt (perform (accessOf l exit) c i .card) i .gate ≡ c .gate)

@@ -15,7 +15,9 @@ use Rattle.construction.specs.Sequential.{Ending, sequential}
 use Rattle.construction.specs.Parts.{noOperation}
 use Rattle.construction.proofs.Basics.{on-set, active-not-done, active-not-exit, exit-not-done, nobody-process, process-same, done-or-not}
 use Rattle.construction.proofs.Simulating.Sequential.{sequential-length, sequential-fault}
-use Rattle.construction.proofs.Invariant.World.{Round, noRound, endingOf, endingIn, World, announcementIn, recordIn, leftIn, callIn, roundIn, wordAt, operationOf, Held, Phase, Recorded, AnnouncementInvariant, WorldInvariant, asking, announcing, leaving, taking, storing, ending, freeing, Quiet, Move, Frame}
+use Rattle.construction.proofs.Invariant.World.{Round, noRound, endingOf, endingIn, World, announcementIn, recordIn, leftIn, callIn, roundIn, wordAt}
+use Rattle.construction.proofs.Invariant.World.{operationOf, Held, Phase, Recorded, AnnouncementInvariant, WorldInvariant, asking, announcing, leaving}
+use Rattle.construction.proofs.Invariant.World.{taking, storing, ending, freeing, Quiet, Move, Frame}
 use Rattle.construction.proofs.Invariant.World.Move.{stay, ask, announce, leave, take, write, end, free}
 
 ending-length : (F : Frame) (s : ℕ) (r : Round) → length (endingOf F s r .words) ≡ length (r .words)

@@ -24,7 +24,7 @@ use Rattle.construction.proofs.Invariant.WorldKept.{phase-at, count-man
 use Rattle.construction.proofs.Invariant.Assertions.{ItemNoted, NoWriteDue, LocAt, helper-stays, plan-stays, fine-stays, finished-stays}
 use Rattle.construction.proofs.Invariant.Claims.Change.{kept}
 use Rattle.construction.proofs.Invariant.NextWrites.{write-loc}
-use Rattle.construction.proofs.Invariant.Acting.{worldOf, Before, Acted, acts, atTask, goes-on}
+use Rattle.construction.proofs.Invariant.Acting.{worldOf, Before, Acted, acts, atControl, goes-on}
 
 -- the item that is due
 module _ {c : Card} {w : World} {i : ℕ} (B : Before c w i) (q : LocAt H36 (frameOf c w) (worldOf c w) i (localAt c i)) where
@@ -44,7 +44,7 @@ module _ {c : Card} {w : World} {i : ℕ} (B : Before c w i) (q : LocAt H36 (fra
   d = localAt c i .dictionary
 
   abbrev k : ℕ
-  k = localAt c i .task .target
+  k = localAt c i .control .target
 
   abbrev item : Item
   item = getD (d .items) k noItem
@@ -86,7 +86,7 @@ module _ {c : Card} {w : World} {i : ℕ} (B : Before c w i) (q : LocAt H36 (fra
 
   -- the card after the swap of the record
   abbrev wrote : Record → Card
-  wrote r = withLocal (withRecord c v r) i (atTask (localAt c i) (writeFrom s d (suc k)))
+  wrote r = withLocal (withRecord c v r) i (atControl (localAt c i) (writeFrom s d (suc k)))
 
   lost : sameRecord (recordAt c v) (item .cell) ≡ false → Acted c W i (wrote (recordAt c v))
   lost e =

@@ -8,12 +8,14 @@ use native.Mathlib.Omega.{arith}
 use lib.ListN.{length, getD}
 use lib.Seq.{getD-set-same, getD-set-other, set-getD}
 use borrow.Author.Tests.{lt-ltb, not-true, ltb-true}
-use Rattle.construction.specs.Types.{Gate, Flag, Done, Active, Exit, Words, Announcement, Label, P1, P3, P5, Task, Card, Refusal, Answer, Answered, Contents, Program, Verdict}
+use Rattle.construction.specs.Types.{Gate, Flag, Done, Active, Exit, Words, Announcement, Label, P1, P3, P5, Control, Card, Refusal, Answer, Answered}
+use Rattle.construction.specs.Types.{Contents, Program, Verdict}
 use Rattle.construction.specs.Cells.{isDone, openAnnouncement}
-use Rattle.construction.specs.Parts.{idleTask, contentsOf, localAt, withLocal, Local, withRevision}
+use Rattle.construction.specs.Parts.{idleControl, contentsOf, localAt, withLocal, Local, withRevision}
 use Rattle.construction.specs.Machine.{advance}
 use Rattle.construction.specs.Requests.{isVariable, isIdle, isBusy, refused, answerOf, read, invoked, exiting, isProgram}
-use Rattle.construction.specs.History.{Entry, act, Steps, Invocation, History, turned, finishing, withFinish, withFinishes, Return, Event, eventOf, withResponse, withEntry, Observation, observe, Replacement, textAt}
+use Rattle.construction.specs.History.{Entry, act, Steps, Invocation, History, turned, finishing, withFinish, withFinishes, Return, Event, eventOf}
+use Rattle.construction.specs.History.{withResponse, withEntry, Observation, observe, Replacement, textAt}
 use Rattle.construction.proofs.Basics.{true-or-false, true-false, cond-false, and-true}
 use Rattle.construction.proofs.Observing.Histories.{turned-same, finished-changes, returned-changes}
 use Rattle.construction.proofs.Statements.OneAccess.{one-access}
@@ -24,7 +26,8 @@ use Rattle.construction.proofs.Invariant.Cards.{CardInvariant, Stepped,
 use Rattle.construction.proofs.Invariant.Answers.{read-is, answer-is, holder-announced}
 use Rattle.construction.proofs.Invariant.NextPlaces.{P1-next, P3-next, P3-active}
 use Rattle.construction.proofs.Invariant.ActiveFlags.{active-before}
-use Rattle.construction.proofs.Observing.Tracking.{requestOf, Own, Tracks, under-way, NothingFinishes, OneFinishes, kind-of, turned-ends, tracks-calm, tracks-finished, own-next, tracks-place, tracks-called, tracks-returned, tracks-changed}
+use Rattle.construction.proofs.Observing.Tracking.{requestOf, Own, Tracks, under-way, NothingFinishes, OneFinishes, kind-of, turned-ends, tracks-calm}
+use Rattle.construction.proofs.Observing.Tracking.{tracks-finished, own-next, tracks-place, tracks-called, tracks-returned, tracks-changed}
 use Rattle.construction.specs.Linearizability.{FinishesOne, FinishesAtMostOne}
 use lib.Dec.{ltb}
 use Rattle.construction.specs.Changes.{changeRead, isUnsettled, unchanged, changed}
@@ -34,7 +37,7 @@ use Rattle.construction.proofs.Invariant.Changing.{inv-change}
 
 -- the processes of a card that have announced their operation
 abbrev announcedIn : Card → ℕ → Bool
-announcedIn c j = isAnnounced (localAt c j .task .place)
+announcedIn c j = isAnnounced (localAt c j .control .place)
 
 abbrev Follows : Card → Card → World → History → Type 0
 Follows o c w s = Tracks (o .processCount) (isBusy c) (announcedIn c) w s
@@ -78,8 +81,8 @@ module _ (o : Card) (m : Observation) (O : Consistent o m) where
   good : WorldInvariant (frameOf c w) w
   good = O .inv .good
 
-  has-task : {i : ℕ} → i < c .processCount → i < length (c .tasks)
-  has-task lt = omega (arith, O .inv .sizes .tasks, good .fits .few)
+  has-control : {i : ℕ} → i < c .processCount → i < length (c .controls)
+  has-control lt = omega (arith, O .inv .sizes .controls, good .fits .few)
 
   processes-is : c .processCount ≡ o .processCount
   processes-is = ap (λ (x : Contents). x .processCount) (O .text)
@@ -100,7 +103,8 @@ module _ (o : Card) (m : Observation) (O : Consistent o m) where
   read-kept : (v x : ℕ) → Consistent o (after o m (Entry.Read v) (record { card = c; answer = Answer.Value x }))
   read-kept v x = unturned c (Entry.Read v) (Answer.Value x) refl O
 
-  exit-kept : (i : ℕ) → i < c .processCount → Consistent o (after o m (Entry.Exit i) (record { card = withLocal c i (exiting (localAt c i)); answer = Answer.Taken }))
+  exit-kept : (i : ℕ) → i < c .processCount → Consistent o
+      (after o m (Entry.Exit i) (record { card = withLocal c i (exiting (localAt c i)); answer = Answer.Taken }))
   exit-kept i lt =
       unturned (withLocal c i (exiting (localAt c i))) (Entry.Exit i) Answer.Taken refl
       (record { world = w; inv = inv-exit c w i (O .inv) lt; tracks = simp set-getD (O .tracks); text = O .text; changes = O .changes })
@@ -113,14 +117,14 @@ module _ (o : Card) (m : Observation) (O : Consistent o m) where
       let x : Invocation = record { process = i; program = k; inputs = inputs } in
       let d = withLocal c i (invoked (localAt c i) k inputs) in
       let others : (j : ℕ) → j ≢ i → (isBusy d j ≡ isBusy c j) × (announcedIn d j ≡ announcedIn c j) =
-      λ j ne. rw (getD-set-other (c .tasks) i j (record { place = P1; target = 0 }) idleTask ne) (refl, refl) in
-      let here : localAt d i .task ≡ record { place = P1; target = 0 } =
-      getD-set-same (c .tasks) i _ idleTask (has-task lt) in
+      λ j ne. rw (getD-set-other (c .controls) i j (record { place = P1; target = 0 }) idleControl ne) (refl, refl) in
+      let here : localAt d i .control ≡ record { place = P1; target = 0 } =
+      getD-set-same (c .controls) i _ idleControl (has-control lt) in
       unturned d (Entry.Call i k inputs) Answer.Taken refl
       (record {
         world = asking w i (requestOf x);
         inv = inv-call c w i k inputs (O .inv) lt f;
-        tracks = tracks-called i others (O .tracks) x good lt refl (ap (λ (t : Task). isAnnounced (t .place)) here);
+        tracks = tracks-called i others (O .tracks) x good lt refl (ap (λ (t : Control). isAnnounced (t .place)) here);
         text = O .text;
         changes = O .changes;
       })
@@ -183,7 +187,7 @@ module _ (o : Card) (m : Observation) (O : Consistent o m) where
       ends-own =
           subst (λ (a : Bool). Own a w s (E .process)) ends-announced
           (O .tracks .own (E .process) (rw processes-is at (E .inside))
-          (announced-busy (stage (localAt c (E .process) .task .place)) ends-announced))
+          (announced-busy (stage (localAt c (E .process) .control .place)) ends-announced))
 
       ends-one : finishing c d ≡ E .process ∷ []
       ends-one = finishing-is ∙ turned-ends good E
@@ -209,14 +213,14 @@ module _ (o : Card) (m : Observation) (O : Consistent o m) where
 
     others : (j : ℕ) → j ≢ i → (isBusy d j ≡ isBusy c j) × (announcedIn d j ≡ announcedIn c j)
     others j ne =
-        let h : localAt d j .task .place ≡ localAt c j .task .place = ap (λ (t : Local). t .task .place) (S .elsewhere j ne) in
+        let h : localAt d j .control .place ≡ localAt c j .control .place = ap (λ (t : Local). t .control .place) (S .elsewhere j ne) in
         rw h (refl, refl)
 
     abbrev own-place : Label
-    own-place = localAt c i .task .place
+    own-place = localAt c i .control .place
 
     abbrev next-place : Label
-    next-place = localAt d i .task .place
+    next-place = localAt d i .control .place
 
     -- the operation of i itself
     own-moved : Own (announcedIn c i) (S .after) noticed i
@@ -230,10 +234,10 @@ module _ (o : Card) (m : Observation) (O : Consistent o m) where
         omega (arith, good .lengths .announcements, ap length (announcements-is (O .inv)), good .fits .few)
 
     at-P1 : own-place ≡ P1 → next-place ≡ P3
-    at-P1 h = P1-next c i (has-task lt) h
+    at-P1 h = P1-next c i (has-control lt) h
 
     at-P3 : own-place ≡ P3 → next-place ≡ P5
-    at-P3 h = P3-next c i (has-task lt) h
+    at-P3 h = P3-next c i (has-control lt) h
 
     -- it was unannounced if it is so still
     unannounced : isBusy d i ≡ true → isAnnounced next-place ≡ false → isAnnounced own-place ≡ false
@@ -241,7 +245,7 @@ module _ (o : Card) (m : Observation) (O : Consistent o m) where
         ⊎-elim (λ z. ap isAnnounced z)
         (⊎-elim (λ z. ap isAnnounced z)
         (λ t. ⊎-elim (λ z. absurd (true-false _ z h)) (λ z. absurd (true-false _ busy (ap (λ (l : Label). not (isIdle l)) z)))
-        (announced-next c i (has-task lt) t))) own-stage
+        (announced-next c i (has-control lt) t))) own-stage
 
     -- it was announced before, or is active now
     newly : isAnnounced next-place ≡ true → (isAnnounced own-place ≡ true) ⊎ (announcementIn (S .after) i .flag ≡ Active)
@@ -250,7 +254,7 @@ module _ (o : Card) (m : Observation) (O : Consistent o m) where
         (⊎-elim
         (λ z. inr
         (ap (λ (x : List Announcement). getD x i openAnnouncement .flag) (sym (announcements-is (S .inv)))
-        ∙ ap (λ (a : Announcement). a .flag) (P3-active c i (has-task lt) has-announcement z)))
+        ∙ ap (λ (a : Announcement). a .flag) (P3-active c i (has-control lt) has-announcement z)))
         inl) own-stage
 
     -- one that returns was announced
@@ -274,9 +278,11 @@ module _ (o : Card) (m : Observation) (O : Consistent o m) where
     abbrev Ended : Event → Type 0
     Ended v = Follows o d (S .after) (withResponse noticed i v)
 
-    ended-done : isBusy d i ≡ false → announcementIn (S .after) i .flag ≡ Done → Ended (Event.returned (Return.done (resultIn (S .after) i .number) (resultIn (S .after) i .yields)))
+    ended-done : isBusy d i ≡ false → announcementIn (S .after) i .flag ≡ Done →
+        Ended (Event.returned (Return.done (resultIn (S .after) i .number) (resultIn (S .after) i .yields)))
     ended-done idle h =
-        tracks-returned i others moved (Return.done (resultIn (S .after) i .number) (resultIn (S .after) i .yields)) own-moved (own-moved .over (rw (returning idle) (ap isDone h))) idle
+        tracks-returned i others moved (Return.done (resultIn (S .after) i .number) (resultIn (S .after) i .yields)) own-moved
+        (own-moved .over (rw (returning idle) (ap isDone h))) idle
 
     ended-exited : isBusy d i ≡ false → announcementIn (S .after) i .flag ≡ Exit → Ended (Event.returned Return.exited)
     ended-exited idle h = tracks-returned i others moved Return.exited own-moved (own-moved .pending (rw (returning idle) (ap isDone h))) idle
@@ -292,8 +298,10 @@ module _ (o : Card) (m : Observation) (O : Consistent o m) where
         by-answer z f = subst (λ (x : Answer). Ended (eventOf x)) (sym z) f
 
     step-kept : {e : Entry} → Steps e i → Consistent o (after o m e (record { card = d; answer = answerOf (localAt d i) }))
-    step-kept Steps.by-step = record { world = S .after; inv = S .inv; tracks = answered; text = text-moved; changes = changes-moved (eventOf (answerOf (localAt d i))) }
-    step-kept Steps.by-trace = record { world = S .after; inv = S .inv; tracks = answered; text = text-moved; changes = changes-moved (eventOf (answerOf (localAt d i))) }
+    step-kept Steps.by-step = record
+        { world = S .after; inv = S .inv; tracks = answered; text = text-moved; changes = changes-moved (eventOf (answerOf (localAt d i))) }
+    step-kept Steps.by-trace = record
+        { world = S .after; inv = S .inv; tracks = answered; text = text-moved; changes = changes-moved (eventOf (answerOf (localAt d i))) }
 
   -- every entry
   outcome-kept : {e : Entry} {r : Answered} → Outcome c e r → Consistent o (after o m e r)

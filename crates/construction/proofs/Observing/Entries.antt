@@ -4,9 +4,11 @@ use mathlib.Core.Path.{_≡_, refl}
 use mathlib.Core.Bool.{Bool, true, false, cond, not}
 use lib.Dec.{ltb}
 use borrow.Author.Tests.{ltb-true, ltb-false, not-true, not-false}
-use Rattle.construction.specs.Types.{Words, Card, Refusal, NoProcess, NoProgram, Busy, NotBusy, NoPlace, LimitReached, Answer, Answered, NotAhead, Unsettled, Verdict}
+use Rattle.construction.specs.Types.{Words, Card, Refusal, NoProcess, NoProgram, Busy, NotBusy, NoPlace, LimitReached, Answer, Answered, NotAhead}
+use Rattle.construction.specs.Types.{Unsettled, Verdict}
 use Rattle.construction.specs.Machine.{advance}
-use Rattle.construction.specs.Requests.{isProcess, isProgram, isVariable, isBusy, refused, call, requestExit, answerOf, step, valueOf, read, invoked, exiting}
+use Rattle.construction.specs.Requests.{isProcess, isProgram, isVariable, isBusy, refused, call, requestExit, answerOf, step, valueOf, read, invoked}
+use Rattle.construction.specs.Requests.{exiting}
 use Rattle.construction.proofs.Basics.{on-test, and-true}
 use Rattle.construction.specs.Parts.{withLocal, localAt, contentsOf}
 use mathlib.Core.List.{List}
@@ -26,7 +28,9 @@ pub on-change-why {κ} :
     (isProgram c k ≡ false → P (unchanged c NoProgram 0)) →
     (isProgram c k ≡ true → (why : Refusal) (line : ℕ) → changeRead (contentsOf c) t .verdict ≡ Verdict.Refused why line → P (unchanged c why line)) →
     (isProgram c k ≡ true → changeRead (contentsOf c) t .verdict ≡ Verdict.Accepted → from ≤ c .gate .seq → P (unchanged c NotAhead 0)) →
-    (isProgram c k ≡ true → changeRead (contentsOf c) t .verdict ≡ Verdict.Accepted → c .gate .seq < from → isUnsettled c k ≡ true → P (unchanged c Unsettled 0)) →
+    (isProgram c k ≡ true → changeRead (contentsOf c) t .verdict ≡ Verdict.Accepted → c .gate .seq < from → isUnsettled c k ≡ true →
+    P (unchanged c Unsettled 0))
+    →
     (isProgram c k ≡ true → changeRead (contentsOf c) t .verdict ≡ Verdict.Accepted → c .gate .seq < from → isUnsettled c k ≡ false →
     P (changed c k from (changeRead (contentsOf c) t .program))) →
     P (change c k from t)

@@ -3,7 +3,8 @@ use Prim.Native.Nat.{ℕ}
 use mathlib.Core.Path.{_≡_, refl, sym, subst}
 use mathlib.Core.List.{List, [], _∷_, _++_}
 use Rattle.construction.specs.Types.{Card}
-use Rattle.construction.specs.History.{Entry, act, Response, Event, eventOf, History, finishing, withFinish, withFinishes, withResponse, withEntry, Observation, observe, observeAll}
+use Rattle.construction.specs.History.{Entry, act, Response, Event, eventOf, History, finishing, withFinish, withFinishes, withResponse, withEntry}
+use Rattle.construction.specs.History.{Observation, observe, observeAll}
 use Rattle.construction.proofs.Observing.Histories.{Extends, extends-trans}
 
 finished-order : (o : Card) (gate : ℕ) (is : List ℕ) (s : History) → Extends (s .order) (withFinishes o gate is s .order)

@@ -11,7 +11,8 @@ use lib.Dec.{eqb}
 use borrow.Author.Tests.{eqb-true, eqb-false, eq-eqb, ne-eqb}
 use Rattle.construction.specs.Types.{Flag, Done, Active, Exit, Announcement, Card}
 use Rattle.construction.specs.Cells.{isDone, openAnnouncement}
-use Rattle.construction.specs.History.{Invocation, Finish, Return, Response, hasCalled, latest, turned, Event, History, withFinish, withFinishes, withResponse}
+use Rattle.construction.specs.History.{Invocation, Finish, Return, Response, hasCalled, latest, turned, Event, History, withFinish, withFinishes}
+use Rattle.construction.specs.History.{withResponse}
 use Rattle.construction.specs.Numbers.{callerOf, latestFinish}
 use Rattle.construction.proofs.Basics.{on-test}
 use Rattle.construction.specs.Linearizability.{times, rank, finishOf, hasReturned, Numbered, Agrees, isFault, returnedFault, AllAgree}
@@ -87,7 +88,8 @@ latest-asked x xs (f ∷ fs) i h =
   where
     here : length xs ≢ f .operation
     here e =
-        let z : suc (times (f .operation) fs) ≡ 0 = sym (chosen (f .operation) (f .operation) _ (times (f .operation) fs) refl) ∙ h (f .operation) (omega arith) in
+        let z : suc (times (f .operation) fs) ≡ 0 = sym (chosen (f .operation) (f .operation) _ (times (f .operation) fs) refl) ∙ h (f .operation)
+        (omega arith) in
         omega arith
 
     before : (k : ℕ) → length xs ≤ k → times k fs ≡ 0

@@ -11,7 +11,8 @@ use Rattle.construction.specs.Sequential.{sequential}
 use Rattle.construction.specs.Parts.{contentsOf}
 use Rattle.construction.specs.Opening.{opened}
 use Rattle.construction.specs.Changes.{changeRead}
-use Rattle.construction.specs.History.{Entry, act, Invocation, Finish, Event, History, Replacement, hasCalled, latest, latestCall, finishing, operationAt, textAt, benchRun, eventOf, withFinish, withFinishes, withEntry, Observation, observe, run}
+use Rattle.construction.specs.History.{Entry, act, Invocation, Finish, Event, History, Replacement, hasCalled, latest, latestCall, finishing, operationAt}
+use Rattle.construction.specs.History.{textAt, benchRun, eventOf, withFinish, withFinishes, withEntry, Observation, observe, run}
 use Rattle.construction.specs.Linearizability.{FinishesAtMostOne}
 use Rattle.construction.specs.Texts.{benchWords}
 use Rattle.construction.proofs.Basics.{clash}
@@ -62,8 +63,11 @@ module _ (o : Card) (ys : List Replacement) (x : Invocation) (xs : List Invocati
   runs-more : (fs : List Finish) → Listed xs fs → RunAs o ys xs fs → RunAs o ys (x ∷ xs) fs
   unfolding operationAt
   runs-more [] q r = tt
-  runs-more (f ∷ fs) q r =
-      (rw (words-more fs (q .1), passed (length xs) (f .operation) x (operationAt xs (f .operation)) (λ e. omega (arith, q .0))) (r .0), runs-more fs (q .1) (r .1))
+  runs-more (f ∷ fs) q r = (
+    rw (words-more fs (q .1), passed (length xs) (f .operation) x (operationAt xs (f .operation)) (λ e. omega (arith, q .0))) (r .0),
+    runs-more fs (q .1)
+        (r .1),
+  )
 
 -- and so does a change from a later number on
 module _ (o : Card) (y : Replacement) (ys : List Replacement) (xs : List Invocation) where
@@ -71,13 +75,22 @@ module _ (o : Card) (y : Replacement) (ys : List Replacement) (xs : List Invocat
   unfolding benchWords textAt sequential
   words-later [] h = refl
   words-later (f ∷ fs) h =
-      rw (words-later fs (omega arith), text-before (textAt (contentsOf o) ys) (y .program) (y .from) (y .text) (operationAt xs (f .operation) .program) (suc (length fs)) (omega arith))
+      rw (
+        words-later fs (omega arith),
+        text-before (textAt (contentsOf o) ys) (y .program) (y .from) (y .text) (operationAt xs (f .operation) .program)
+            (suc (length fs)) (omega arith),
+      )
 
   runs-later : (fs : List Finish) → length fs < y .from → RunAs o ys xs fs → RunAs o (y ∷ ys) xs fs
   unfolding textAt
   runs-later [] h r = tt
   runs-later (f ∷ fs) h r = (
-    rw (words-later fs (omega arith), text-before (textAt (contentsOf o) ys) (y .program) (y .from) (y .text) (operationAt xs (f .operation) .program) (suc (length fs)) (omega arith)) (r .0),
+    rw (
+      words-later fs (omega arith),
+      text-before (textAt (contentsOf o) ys) (y .program) (y .from) (y .text) (operationAt xs (f .operation) .program)
+          (suc (length fs)) (omega arith),
+    )
+        (r .0),
     runs-later fs (omega arith) (r .1),
   )
 

@@ -5,11 +5,11 @@ use mathlib.Core.Bool.{not}
 use mathlib.Core.List.{List, [], _∷_}
 use native.Mathlib.Omega.{arith}
 use lib.ListN.{getD}
-use Rattle.construction.specs.Types.{Task, Card, Contents}
+use Rattle.construction.specs.Types.{Control, Card, Contents}
 use Rattle.construction.specs.Cells.{openAnnouncement}
 use Rattle.construction.specs.Numbers.{latestFinish}
 use Rattle.construction.specs.Instructions.{noProgram}
-use Rattle.construction.specs.Parts.{idleTask}
+use Rattle.construction.specs.Parts.{idleControl}
 use Rattle.construction.specs.Requests.{isIdle}
 use Rattle.construction.specs.Opening.{fresh, readCard, opened}
 use Rattle.construction.specs.History.{Entry, Observation, opening, observe, observeAll, run, textAt}
@@ -47,7 +47,7 @@ fresh-consistent x B =
             unborn = λ k h. refl;
             single = tt;
             last = λ j l d. ap resultOf (getD-replicate-same 8 j openAnnouncement);
-            own = λ j l b. absurd (true-false _ b (ap (λ (t : Task). not (isIdle (t .place))) (getD-replicate-same 8 j idleTask)));
+            own = λ j l b. absurd (true-false _ b (ap (λ (t : Control). not (isIdle (t .place))) (getD-replicate-same 8 j idleControl)));
           };
       text = refl;
       changes = λ k number. refl;

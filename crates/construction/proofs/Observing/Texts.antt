@@ -14,7 +14,8 @@ use Rattle.construction.specs.Parts.{Texts, textsOf, contentsOf, withRev
 use Rattle.construction.specs.Changes.{changeRead, isUnsettled, changed, change}
 use Rattle.construction.specs.Requests.{isProgram}
 use Rattle.construction.specs.Opening.{fresh, opened}
-use Rattle.construction.specs.History.{Entry, Steps, Event, eventOf, History, Replacement, finishing, textAt, withFinishes, withEntry, Observation, observe, observeAll, run}
+use Rattle.construction.specs.History.{Entry, Steps, Event, eventOf, History, Replacement, finishing, textAt, withFinishes, withEntry, Observation}
+use Rattle.construction.specs.History.{observe, observeAll, run}
 use Rattle.construction.specs.Texts.{lastChange, brings, NoneBrings}
 use Rattle.construction.proofs.Basics.{and-true, clash, cond-false, getD-replicate-same}
 use Rattle.construction.proofs.Statements.OneAccess.{one-access}
@@ -124,7 +125,8 @@ pub record Since (o : Card) (k from : ℕ) (old : ℕ → Program) (m : Observat
   pub same : (number : ℕ) → number < from → textAt (contentsOf o) (m .history .changes) k number ≡ old number
 
 since-after :
-    {o : Card} {k from : ℕ} {old : ℕ → Program} {m n : Observation} {e : Entry} → Consistent o m → TextsAfter o m e n → Since o k from old m → Since o k from old n
+    {o : Card} {k from : ℕ} {old : ℕ → Program} {m n : Observation} {e : Entry} → Consistent o m → TextsAfter o m e n → Since o k from old m →
+    Since o k from old n
 unfolding textAt
 since-after {o} {k} {from} O (TextsAfter.kept z w) S =
     record {
@@ -152,7 +154,8 @@ since-after {o} {k} {from} {old} {m} {n} O (TextsAfter.revised j later t T) S =
 
 -- so it is once the change was taken
 pub since-taken :
-    {o : Card} {m n : Observation} (k from : ℕ) (t : List ℕ) → Consistent o m → Taken o m n k from t → Since o k from (textAt (contentsOf o) (m .history .changes) k) n
+    {o : Card} {m n : Observation} (k from : ℕ) (t : List ℕ) → Consistent o m → Taken o m n k from t →
+    Since o k from (textAt (contentsOf o) (m .history .changes) k) n
 unfolding textAt
 since-taken {o} {m} {n} k from t O T =
     record {
@@ -165,7 +168,8 @@ since-taken {o} {m} {n} k from t O T =
     }
 
 pub since-all :
-    {o : Card} {k from : ℕ} {old : ℕ → Program} (m : Observation) (es : List Entry) → Consistent o m → Since o k from old m → Since o k from old (observeAll o m es)
+    {o : Card} {k from : ℕ} {old : ℕ → Program} (m : Observation) (es : List Entry) → Consistent o m → Since o k from old m →
+    Since o k from old (observeAll o m es)
 unfolding observeAll
 since-all m [] O S = S
 since-all {o} m (e ∷ es) O S = since-all (observe o m e) es (entry-kept o m O e) (since-after O (texts-after o m e) S)

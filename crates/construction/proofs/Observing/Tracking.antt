@@ -13,10 +13,13 @@ use Rattle.construction.specs.Types.{Process, Flag, Done, Active, Exit, 
 use Rattle.construction.specs.Cells.{isDone, openAnnouncement}
 use Rattle.construction.specs.Sequential.{Ending, sequential}
 use Rattle.construction.specs.Parts.{noOperation, contentsOf}
-use Rattle.construction.specs.History.{Invocation, Finish, History, hasCalled, latest, latestCall, turned, benchRun, withFinish, Return, Event, withResponse, textAt, Replacement}
+use Rattle.construction.specs.History.{Invocation, Finish, History, hasCalled, latest, latestCall, turned, benchRun, withFinish, Return, Event}
+use Rattle.construction.specs.History.{withResponse, textAt, Replacement}
 use Rattle.construction.proofs.Basics.{on-set, true-false, ne-isDone}
-use Rattle.construction.proofs.Observing.Histories.{on-equal, chosen, passed, latest-below, latest-apart, agree-longer, caller-latest, latest-asked, turns, turned-same, turned-not, turned-one}
-use Rattle.construction.proofs.Invariant.World.{World, announcementIn, callIn, Result, noResult, resultIn, resultOf, endingIn, WorldInvariant, asking, ending, Move, Frame, changing}
+use Rattle.construction.proofs.Observing.Histories.{on-equal, chosen, passed, latest-below, latest-apart, agree-longer, caller-latest, latest-asked}
+use Rattle.construction.proofs.Observing.Histories.{turns, turned-same, turned-not, turned-one}
+use Rattle.construction.proofs.Invariant.World.{World, announcementIn, callIn, Result, noResult, resultIn, resultOf, endingIn, WorldInvariant, asking}
+use Rattle.construction.proofs.Invariant.World.{ending, Move, Frame, changing}
 use Rattle.construction.proofs.Invariant.World.Move.{stay, ask, announce, leave, take, write, end, free}
 use Rattle.construction.proofs.Invariant.WorldKept.{announcements-set, ends-now}
 use Rattle.construction.specs.Linearizability.{times, finishOf, hasReturned, Numbered, Agrees, AllAgree, ReturnedOnce, UnderWay}
@@ -92,7 +95,8 @@ turns-undone Exit g h = h
 
 module _ {F : Frame} {w : World} (announced : ℕ → Bool) (G : WorldInvariant F w) where
   -- a move that changes none of what the observer sees
-  calm-same : {v : World} → v .announcements ≡ w .announcements → v .words ≡ w .words → v .count ≡ w .count → v .results ≡ w .results → NothingFinishes announced w v
+  calm-same : {v : World} → v .announcements ≡ w .announcements → v .words ≡ w .words → v .count ≡ w .count → v .results ≡ w .results →
+      NothingFinishes announced w v
   calm-same a b c d =
       record {
         none = ap (turned 0 (w .announcements)) a ∙ turned-same 0 (w .announcements);
@@ -240,7 +244,8 @@ module _
         own = λ j l b. one j (ℕ-discrete j m) (T .own j l b);
         single = T .single;
         last = λ j l.
-            announcements-set G (λ x. isDone (x .flag) ≡ true → resultOf x ≡ resultFrom (latestFinish (s .operations) (withFinish o (w .gate .seq) m s .order) j))
+            announcements-set G
+            (λ x. isDone (x .flag) ≡ true → resultOf x ≡ resultFrom (latestFinish (s .operations) (withFinish o (w .gate .seq) m s .order) j))
             m j _ lt
             (λ e _. rw e
             (ap (λ (x : Ending). record { number = w .gate .seq; yields = x .yields }) (sym same-run)

@@ -18,7 +18,8 @@ use Rattle.construction.proofs.Basics.{on-test, and-true, true-or-false
 -- by cases on an execute, what it is in hand
 pub on-executed {ℓ κ} :
     {A : Type ℓ} (P : A → Type κ) (o : Executed) {ends faults : A} {goes : Simulation → List Store → A} →
-    (o ≡ Executed.Ends → P ends) → (o ≡ Executed.Faults → P faults) → ((t : Simulation) (l : List Store) → o ≡ Executed.Goes t l → P (goes t l)) → P (onExecuted o ends faults goes)
+    (o ≡ Executed.Ends → P ends) → (o ≡ Executed.Faults → P faults) → ((t : Simulation) (l : List Store) → o ≡ Executed.Goes t l → P (goes t l)) →
+    P (onExecuted o ends faults goes)
 on-executed P Executed.Ends p f q = p refl
 on-executed P Executed.Faults p f q = f refl
 on-executed P (Executed.Goes t l) p f q = q t l refl

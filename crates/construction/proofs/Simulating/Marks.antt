@@ -113,7 +113,8 @@ module _ (word : ℕ) (d : Dictionary) (M : Marks word d) where
         absent = λ u h.
             let z : hasIn (noted (insert d e)) u ≡ false = sym (has-position _ u) ∙ h in
             by-place u (λ (q : u ≡ v). absurd (true-false _ (rw q (here)) z))
-            (λ ne. mark-other v u word ne ∙ not-in-set u (⊎-elim (λ (t : hasIn (noted d) u ≡ true). absurd (true-false _ (later u t) z)) (λ f. f) (true-or-false (hasIn (noted d) u))));
+            (λ ne. mark-other v u word ne ∙ not-in-set u
+            (⊎-elim (λ (t : hasIn (noted d) u ≡ true). absurd (true-false _ (later u t) z)) (λ f. f) (true-or-false (hasIn (noted d) u))));
         count = mark-count v word (not-in-set v new) ∙ (ap suc (M .count) ∙ sym (insert-length d e spare));
       })
     where

@@ -177,7 +177,11 @@ module _ (n : ℕ) (program : Program) (inputs : Words) (short : Short n program
         let goes : execute n (noteOf (insert d e)) s effect ≡ Executed.Goes t l =
         sym (same-executed n (noteOf d) (noteOf (insert d e)) s effect same) ∙ z in
         none-lacking (insert d e) (touched n (noteOf (insert d e)) effect) _ _ still
-        ∙ (ap (λ (o : Executed). onExecuted o (ended s (insert d e)) (faults s (insert d e)) (λ t l. simulateFrom n program inputs fuel t (withNotes (insert d e) l))) goes
+        ∙
+        (ap
+        (λ (o : Executed). onExecuted o (ended s (insert d e)) (faults s (insert d e))
+        (λ t l. simulateFrom n program inputs fuel t (withNotes (insert d e) l)))
+        goes
         ∙ ap (λ (y : Dictionary). simulateFrom n program inputs fuel t y)
         (notes-more e d q l (subst (Storing (Noted (noted d))) z (execute-stores (Noted (noted d)) n (noteOf d) s effect all))))
 

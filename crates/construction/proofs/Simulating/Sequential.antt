@@ -118,4 +118,8 @@ pub sequential-fault :
 unfolding sequential
 sequential-fault n program inputs words h =
     let y = run-fault n program inputs 32 started words refl h in
-    λ i. record { words = cond-true (runFrom n program inputs 32 started words .yields .fault) words (runFrom n program inputs 32 started words .words) h i; yields = y i }
+    λ i. record {
+      words = cond-true (runFrom n program inputs 32 started words .yields .fault) words (runFrom n program inputs 32 started words .words) h i;
+      yields =
+          y i;
+    }

@@ -15,10 +15,12 @@ use Rattle.construction.specs.Dictionary.{noItem, empty, noted, find, ha
 use Rattle.construction.specs.Helping.{noteOf, withNotes, onLacking, simulateFrom, simulate}
 use Rattle.construction.proofs.Basics.{on-test, on-set, true-or-false, cond-false, eqb-refl}
 use Rattle.construction.proofs.Simulating.Sequential.{Short, fetch-end, past-end, advances, run-step}
-use Rattle.construction.proofs.Simulating.Effects.{on-executed, MarkKept, execute-mark, Each, each-map, each-both, EachStore, Storing, execute-stores, Same, same-executed, Touching, touches}
+use Rattle.construction.proofs.Simulating.Effects.{on-executed, MarkKept, execute-mark, Each, each-map, each-both, EachStore, Storing, execute-stores}
+use Rattle.construction.proofs.Simulating.Effects.{Same, same-executed, Touching, touches}
 use Rattle.construction.proofs.Simulating.Dictionaries.{hasIn, valueIn, putIn, AllIn, all-put, all-snoc, Keyed, keyed-put, keyed-snoc}
 use Rattle.construction.proofs.Simulating.Dictionaries.{value-none, value-put-same, value-put-other, value-snoc-same, value-snoc-other}
-use Rattle.construction.proofs.Simulating.Dictionaries.{has-put, has-position, has-snoc, has-more, found, noted-assign, noted-insert, insert-length, insert-items, assign-items}
+use Rattle.construction.proofs.Simulating.Dictionaries.{has-put, has-position, has-snoc, has-more, found, noted-assign, noted-insert, insert-length}
+use Rattle.construction.proofs.Simulating.Dictionaries.{insert-items, assign-items}
 use Rattle.construction.specs.Weight.{weightOf, weightBefore, weight}
 use Rattle.construction.proofs.Simulating.Weights.{weight-shortened, weight-later, weight-suc}
 use borrow.Author.Tests.{ltb-true, ltb-false}

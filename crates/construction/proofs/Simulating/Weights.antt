@@ -78,7 +78,9 @@ pub heaviest-some :
 unfolding heaviest
 heaviest-some [] f h = absurd (omega arith)
 heaviest-some (x ∷ l) f h =
-    ⊎-elim (λ (e : weight x ≡ 0). heaviest-some l (λ k. f (suc k)) (omega (arith, max-le {a = weight x} {b = heaviest l} {k = heaviest l} (omega arith) (omega arith))))
+    ⊎-elim
+    (λ (e : weight x ≡ 0). heaviest-some l (λ k. f (suc k))
+    (omega (arith, max-le {a = weight x} {b = heaviest l} {k = heaviest l} (omega arith) (omega arith))))
     (λ z. f 0 z) (zero-or-more (weight x))
   where
     zero-or-more : (n : ℕ) → (n ≡ 0) ⊎ (0 < n)

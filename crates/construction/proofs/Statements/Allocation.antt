@@ -19,7 +19,8 @@ module _ (t : List ℕ) (es : List Entry) (D : Disciplined (opened t .card) es) 
   possible later earlier e =
       possible-earlier start later earlier
       (subst (AllPossible start) e
-      (all-possible (opened t .card) (run (opened t .card) es .history .changes) (run (opened t .card) es .history .operations) (run (opened t .card) es .history .order) (sym (bench-words t []))))
+      (all-possible (opened t .card) (run (opened t .card) es .history .changes) (run (opened t .card) es .history .operations)
+      (run (opened t .card) es .history .order) (sym (bench-words t []))))
 
   in-hands : (later earlier : List Performed) → performed (opened t .card) es ≡ later ++ earlier → InHands start earlier
   in-hands later earlier e =

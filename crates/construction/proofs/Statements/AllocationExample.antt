@@ -9,9 +9,10 @@ use lib.ListN.{getD}
 use Rattle.construction.specs.Types.{Card}
 use Rattle.construction.specs.Opening.{opened}
 use Rattle.construction.specs.Answers.{bytes}
-use Rattle.construction.specs.Examples.{one, steps}
+use Rattle.construction.specs.Examples.Terms.{one, steps}
 use Rattle.construction.specs.History.{Entry, operationAt, startWords}
-use Rattle.construction.specs.Allocation.{among, without, Action, Performed, wordsAfter, chainFrom, chain, hand, givenBack, performedFrom, performedAll, performed, ChainWithoutRepeats, OnlyByCodes, OnlyFromHands, Disciplined, Allocating}
+use Rattle.construction.specs.Allocation.{among, without, Action, Performed, wordsAfter, chainFrom, chain, hand, givenBack, performedFrom, performedAll}
+use Rattle.construction.specs.Allocation.{performed, ChainWithoutRepeats, OnlyByCodes, OnlyFromHands, Disciplined, Allocating}
 use Rattle.construction.proofs.Statements.Allocation.{allocation}
 use Rattle.construction.proofs.Statements.Computing.{reading, observing}
 
@@ -137,7 +138,8 @@ chain-alone = (refl, (refl, tt))
 
 pub disciplined : Disciplined card entries
 unfolding counting
-disciplined = record { chain = chain-alone; touches = rw acted (tt, (tt, (tt, (tt, (tt, (tt, tt)))))); gives = rw acted (tt, (tt, (refl, (refl, (tt, (tt, tt)))))) }
+disciplined = record
+    { chain = chain-alone; touches = rw acted (tt, (tt, (tt, (tt, (tt, (tt, tt)))))); gives = rw acted (tt, (tt, (refl, (refl, (tt, (tt, tt)))))) }
 
 pub allocating : Allocating card entries
 allocating = allocation text entries disciplined
@@ -162,7 +164,8 @@ pub loop-breaks : InBoth looped takeBoth
 unfolding counting
 loop-breaks = record { first = rw acted-looped; second = rw acted-looped }
 
-pub loop-keeps : OnlyByCodes (startWords (opened looped .card)) (performed (opened looped .card) takeBoth) × OnlyFromHands (performed (opened looped .card) takeBoth)
+pub loop-keeps : OnlyByCodes (startWords (opened looped .card)) (performed (opened looped .card) takeBoth) × OnlyFromHands
+    (performed (opened looped .card) takeBoth)
 loop-keeps = (rw acted-looped (tt, (tt, tt)), rw acted-looped (tt, (tt, tt)))
 
 pub store-breaks : InBoth text takeStored

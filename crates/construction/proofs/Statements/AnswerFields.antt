@@ -7,8 +7,11 @@ use mathlib.Core.Bool.{Bool, true, false, cond}
 use mathlib.Core.List.{[], _∷_, _++_}
 use lib.ListN.{getD, length}
 use Rattle.grammar.specs.Reading.{hasWord}
-use Rattle.construction.specs.Types.{Yield, Instruction, Decoded, Refusal, TooLong, Malformed, OutOfRange, UnknownCode, NoProcess, NoProgram, Busy, NotBusy, NoPlace, LimitReached, ShortBuffer, OperandOutOfRange, UnusedOperand, TooHeavy, Answer, RowSwap, CardLine, VarLine, SheetLine, InsLine, Verdict, Written, NotAhead, Unsettled, TooLarge, BadTerms, NoAllowance}
-use Rattle.construction.specs.Answers.{bytes, Fields, fields, numberOf, outputNumbers, doneWord, answerFields, verdictFields, writtenFields, rowFields, decodedFields, cardLineFields, varLineFields, sheetLineFields, insLineFields}
+use Rattle.construction.specs.Types.{Yield, Instruction, Decoded, Refusal, TooLong, Malformed, OutOfRange, UnknownCode, NoProcess, NoProgram, Busy}
+use Rattle.construction.specs.Types.{NotBusy, NoPlace, LimitReached, ShortBuffer, OperandOutOfRange, UnusedOperand, TooHeavy, Answer, RowSwap, CardLine}
+use Rattle.construction.specs.Types.{VarLine, SheetLine, InsLine, Verdict, Written, NotAhead, Unsettled, TooLarge, BadTerms, NoAllowance}
+use Rattle.construction.specs.Answers.{bytes, Fields, fields, numberOf, outputNumbers, doneWord, answerFields, verdictFields, writtenFields, rowFields}
+use Rattle.construction.specs.Answers.{decodedFields, cardLineFields, varLineFields, sheetLineFields, insLineFields}
 use Rattle.construction.specs.KnownAnswers.{cardLineEnd, varLineEnd, sheetLineEnd, insLineEnd, KnownBy, KnownByFields}
 use Rattle.construction.specs.Instructions.{instructionOf, encode, encoded}
 use lib.Dec.{eqb}
@@ -20,7 +23,10 @@ known tell from back a b e = sym (back a) ∙ (ap from e ∙ back b)
 -- a refusal from its number
 abbrev refusalFrom : ℕ → Refusal
 refusalFrom n =
-    getD (TooLong ∷ TooLong ∷ Malformed ∷ OutOfRange ∷ UnknownCode ∷ NoProcess ∷ NoProgram ∷ Busy ∷ NotBusy ∷ NoPlace ∷ LimitReached ∷ ShortBuffer ∷ OperandOutOfRange ∷ UnusedOperand ∷ TooHeavy ∷ NotAhead ∷ Unsettled ∷ TooLarge ∷ BadTerms ∷ NoAllowance ∷ []) n TooLong
+    getD
+    (TooLong ∷ TooLong ∷ Malformed ∷ OutOfRange ∷ UnknownCode ∷ NoProcess ∷ NoProgram ∷ Busy ∷ NotBusy ∷ NoPlace ∷ LimitReached ∷ ShortBuffer ∷
+    OperandOutOfRange ∷ UnusedOperand ∷ TooHeavy ∷ NotAhead ∷ Unsettled ∷ TooLarge ∷ BadTerms ∷ NoAllowance ∷ [])
+    n TooLong
 
 refusal-back : (r : Refusal) → refusalFrom (numberOf r) ≡ r
 refusal-back TooLong = refl

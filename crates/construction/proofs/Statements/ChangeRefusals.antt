@@ -9,10 +9,10 @@ use native.Mathlib.Nat.{eq-or-lt-of-le}
 use lib.ListN.{length, getD}
 use lib.Dec.{ltb}
 use borrow.Author.Tests.{ltb-true, lt-ltb, le-ltb}
-use Rattle.construction.specs.Types.{Gate, Task, Card, Refusal, TooLong, TooHeavy, NoProgram, NotAhead, Unsettled, Answer, Answered, Contents, Verdict}
+use Rattle.construction.specs.Types.{Gate, Control, Card, Refusal, TooLong, TooHeavy, NoProgram, NotAhead, Unsettled, Answer, Answered, Contents, Verdict}
 use Rattle.construction.specs.Answers.{Fields, numberOf, isRefused, answerFields, verdictFields, RefusesAt}
 use Rattle.construction.specs.Weight.{cardWeight}
-use Rattle.construction.specs.Parts.{localAt, contentsOf, idleTask, noGate}
+use Rattle.construction.specs.Parts.{localAt, contentsOf, idleControl, noGate}
 use Rattle.construction.specs.Requests.{isProgram}
 use Rattle.construction.specs.Changes.{changeRead, hasRead, isBehind, someBehind, isUnsettled, unchanged, changed, change}
 use Rattle.construction.specs.TextJudging.{refusedIn, ChangeJudged}
@@ -46,21 +46,21 @@ or-second : (a : Bool) {b : Bool} → b ≡ true → a || b ≡ true
 or-second true e = refl
 or-second false e = e
 
-module _ (tasks : List Task) (gates : List Gate) (p number : ℕ) where
+module _ (controls : List Control) (gatesRead : List Gate) (p number : ℕ) where
   abbrev counts : ℕ → Bool
-  counts i = ltb i p && isBehind (getD tasks i idleTask .place) (getD gates i noGate) number
+  counts i = ltb i p && isBehind (getD controls i idleControl .place) (getD gatesRead i noGate) number
 
-  behind-some : (n i : ℕ) → i < n → counts i ≡ true → someBehind tasks gates p number n ≡ true
+  behind-some : (n i : ℕ) → i < n → counts i ≡ true → someBehind controls gatesRead p number n ≡ true
   unfolding someBehind
   behind-some zero i l e = absurd (omega arith)
   behind-some (suc n) i l e =
       ⊎-elim (λ (z : i ≡ n). rw (← z, e)) (λ z. or-second (counts n) (behind-some n i z e)) (eq-or-lt-of-le (omega arith))
 
-  some-behind : (P : Type 0) (n : ℕ) → someBehind tasks gates p number n ≡ true → ((i : ℕ) → i < n → counts i ≡ true → P) → P
+  some-behind : (P : Type 0) (n : ℕ) → someBehind controls gatesRead p number n ≡ true → ((i : ℕ) → i < n → counts i ≡ true → P) → P
   unfolding someBehind
   some-behind P zero e f = absurd (false≢true e)
   some-behind P (suc n) e f =
-      ⊎-elim (f n (omega arith)) (λ z. some-behind P n z (λ i l. f i (omega arith))) (or-either (counts n) (someBehind tasks gates p number n) e)
+      ⊎-elim (f n (omega arith)) (λ z. some-behind P n z (λ i l. f i (omega arith))) (or-either (counts n) (someBehind controls gatesRead p number n) e)
 
 module _ (c : Card) (k : ℕ) where
   abbrev from-of : ℕ
@@ -71,14 +71,14 @@ module _ (c : Card) (k : ℕ) where
   unsettled-given (UnsettledBy.behind i p e h) =
       let z = and-true (ltb i (c .processCount)) _ p in
       or-second (ltb (c .gate .seq) from-of)
-      (behind-some (c .tasks) (c .gates) (c .processCount) from-of 8 i (ltb-true i 8 (z .1)) (rw (z .0, e, lt-ltb _ _ h)))
+      (behind-some (c .controls) (c .gatesRead) (c .processCount) from-of 8 i (ltb-true i 8 (z .1)) (rw (z .0, e, lt-ltb _ _ h)))
 
   unsettled-why : isUnsettled c k ≡ true → UnsettledBy c k
   unsettled-why e =
       ⊎-elim (λ h. UnsettledBy.pending (ltb-true _ _ h))
-      (λ h. some-behind (c .tasks) (c .gates) (c .processCount) from-of (UnsettledBy c k) 8 h (λ i l z.
+      (λ h. some-behind (c .controls) (c .gatesRead) (c .processCount) from-of (UnsettledBy c k) 8 h (λ i l z.
       let y = and-true (ltb i (c .processCount)) _ z in
-      let w = and-true (hasRead (localAt c i .task .place)) _ (y .1) in
+      let w = and-true (hasRead (localAt c i .control .place)) _ (y .1) in
       UnsettledBy.behind i (rw (y .0) (lt-ltb i 8 l)) (w .0) (ltb-true _ _ (w .1))))
       (or-either (ltb (c .gate .seq) from-of) _ e)
 
@@ -131,8 +131,10 @@ module _ (c : Card) (k from : ℕ) (t : List ℕ) where
 
   pub change-too-heavy-only : (line : ℕ) → RefusesAt c r 14 line → (isProgram c k ≡ true) × (length t ≤ 16384) × Overweight x t line
   change-too-heavy-only line h =
-      on-change-why (λ (q : Answered). q .answer ≡ Answer.RefusedAt TooHeavy line → (isProgram c k ≡ true) × (length t ≤ 16384) × Overweight x t line) c k from t
-      (λ p e. clash (cc)) (λ p why at v e. let z = text-says x t TooHeavy line v e in (p, z .0, z .1)) (λ _ _ _ e. clash (cc)) (λ _ _ _ _ e. clash (cc)) (λ _ _ _ _ e. clash (cc))
+      on-change-why (λ (q : Answered). q .answer ≡ Answer.RefusedAt TooHeavy line → (isProgram c k ≡ true) × (length t ≤ 16384) × Overweight x t line) c k from
+      t
+      (λ p e. clash (cc)) (λ p why at v e. let z = text-says x t TooHeavy line v e in (p, z .0, z .1)) (λ _ _ _ e. clash (cc)) (λ _ _ _ _ e. clash (cc))
+      (λ _ _ _ _ e. clash (cc))
       (refused-at TooHeavy line h)
 
   -- 15: 'G is not above the gate's number'
@@ -145,8 +147,11 @@ module _ (c : Card) (k from : ℕ) (t : List ℕ) where
       (isProgram c k ≡ true) × (changeRead x t .verdict ≡ Verdict.Accepted) × (from ≤ c .gate .seq) × (line ≡ 0)
   change-not-ahead-only line h =
       on-change-why
-      (λ (q : Answered). q .answer ≡ Answer.RefusedAt NotAhead line → (isProgram c k ≡ true) × (changeRead x t .verdict ≡ Verdict.Accepted) × (from ≤ c .gate .seq) × (line ≡ 0)) c k from t
-      (λ p e. clash (cc)) (λ p why at v e. absurd (text-says x t NotAhead line v e)) (λ p v l e. (p, v, l, cc)) (λ _ _ _ _ e. clash (cc)) (λ _ _ _ _ e. clash (cc))
+      (λ (q : Answered). q .answer ≡ Answer.RefusedAt NotAhead line →
+      (isProgram c k ≡ true) × (changeRead x t .verdict ≡ Verdict.Accepted) × (from ≤ c .gate .seq) × (line ≡ 0))
+      c k from t
+      (λ p e. clash (cc)) (λ p why at v e. absurd (text-says x t NotAhead line v e)) (λ p v l e. (p, v, l, cc)) (λ _ _ _ _ e. clash (cc))
+      (λ _ _ _ _ e. clash (cc))
       (refused-at NotAhead line h)
 
   -- 16

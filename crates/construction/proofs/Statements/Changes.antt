@@ -65,7 +65,10 @@ pub switches :
 unfolding observeAll
 switches t es₁ es₂ k from text taken =
     record {
-      later = λ number h q. rw whole (unbrought o k number n es₂ q ∙ (ap (λ (ys : List Replacement). textAt (contentsOf o) ys k number) (T .noted) ∙ told-later (contentsOf o) (told o k from text) (m .history .changes) number h));
+      later = λ number h q. rw whole
+          (unbrought o k number n es₂ q ∙
+          (ap (λ (ys : List Replacement). textAt (contentsOf o) ys k number) (T .noted) ∙ told-later (contentsOf o) (told o k from text)
+          (m .history .changes) number h));
       earlier = below;
       helping = λ i l e h. runs-its-text t (es₁ ++ (Entry.Change k from text ∷ es₂)) .helping i l e k ∙ below _ h;
     }
@@ -86,6 +89,9 @@ switches t es₁ es₂ k from text taken =
     whole = observe-append o (opening o) es₁ (Entry.Change k from text ∷ es₂)
 
     below : (number : ℕ) → number < from →
-        textAt (contentsOf o) (run o (es₁ ++ (Entry.Change k from text ∷ es₂)) .history .changes) k number ≡ textAt (contentsOf o) (m .history .changes) k number
+        textAt (contentsOf o) (run o (es₁ ++ (Entry.Change k from text ∷ es₂)) .history .changes) k number ≡ textAt (contentsOf o) (m .history .changes) k
+        number
     below number h =
-        rw whole (since-all n es₂ (entry-kept o m (opened-consistent t es₁) (Entry.Change k from text)) (since-taken k from text (opened-consistent t es₁) T) .same number h)
+        rw whole
+        (since-all n es₂ (entry-kept o m (opened-consistent t es₁) (Entry.Change k from text)) (since-taken k from text (opened-consistent t es₁) T) .same
+        number h)

@@ -8,8 +8,10 @@ use native.Mathlib.Omega.{arith}
 use lib.Dec.{eqb, ltb}
 use lib.ListN.{getD, set}
 use borrow.Author.Tests.{ltb-true}
-use Rattle.construction.specs.Types.{Words, Announcement, Record, Instruction, Program, Effect, Dictionary, Simulation, Access, Task, Began, Helped, Card, Answered}
-use Rattle.construction.specs.Instructions.{word, load, store, free, isCell, effectOf, fetch, shortened, nextEffect, forward, withRegister, withOutput, skipped, faulted, started}
+use Rattle.construction.specs.Types.{Words, Announcement, Record, Instruction, Program, Effect, Dictionary, Simulation, Access, Control, Began, Helped}
+use Rattle.construction.specs.Types.{Card, Answered}
+use Rattle.construction.specs.Instructions.{word, load, store, free, isCell, effectOf, fetch, shortened, nextEffect, forward, withRegister, withOutput}
+use Rattle.construction.specs.Instructions.{skipped, faulted, started}
 use Rattle.construction.specs.Effects.{Executed, allocated, execute}
 use Rattle.construction.specs.Dictionary.{empty, insert, itemOf}
 use Rattle.construction.specs.Helping.{noteOf, simulate}
@@ -148,7 +150,7 @@ stands-within n program inputs =
 
 -- what helping begins with and goes on with
 begin-within :
-    (n : ℕ) (program : Program) (cell : Announcement) (number : ℕ) (t : Task) (s : Simulation) → s .counter ≤ 32 →
+    (n : ℕ) (program : Program) (cell : Announcement) (number : ℕ) (t : Control) (s : Simulation) → s .counter ≤ 32 →
     beginHelp n program cell number t s .simulation .counter ≤ 32
 unfolding beginHelp
 begin-within n program cell number t s h =
@@ -156,7 +158,7 @@ begin-within n program cell number t s h =
     (λ _. simulate-within n program (cell .words) started empty (omega arith)) (λ _. h)
 
 note-within :
-    (n : ℕ) (program : Program) (inputs : Words) (cell : Record) (number : ℕ) (t : Task) (s : Simulation) (d : Dictionary) (mask : ℕ) →
+    (n : ℕ) (program : Program) (inputs : Words) (cell : Record) (number : ℕ) (t : Control) (s : Simulation) (d : Dictionary) (mask : ℕ) →
     s .counter ≤ 32 → note n program inputs cell number t s d mask .simulation .counter ≤ 32
 unfolding note
 note-within n program inputs cell number t s d mask h =

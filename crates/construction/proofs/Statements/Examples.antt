@@ -11,7 +11,12 @@ use Rattle.construction.specs.Instructions.{encode}
 use Rattle.construction.specs.Tracing.{trace}
 use Rattle.construction.specs.Answers.{verdictFields, writtenFields, cardLineFields, varLineFields, sheetLineFields, decodedFields, insLineFields}
 use Rattle.construction.specs.Writing.{written, textOf, varsText, programsText, linesText}
-use Rattle.construction.specs.Examples.{Row, cardAfter, answersTo, AllHold, rows, AllTold, tracedRows, AllTextsRefused, refusedTexts, FullOpens, AllYielded, yieldedLines, AllEntriesRefused, refusedEntries, BufferRefused, changedRows}
+use Rattle.construction.specs.Examples.Terms.{Row, cardAfter, answersTo, AllHold}
+use Rattle.construction.specs.Examples.Pieces.{rows}
+use Rattle.construction.specs.Examples.Traces.{AllTold, tracedRows}
+use Rattle.construction.specs.Examples.Refusals.{AllTextsRefused, refusedTexts, FullOpens}
+use Rattle.construction.specs.Examples.Refusals.{AllYielded, yieldedLines, AllEntriesRefused, refusedEntries, BufferRefused}
+use Rattle.construction.specs.Examples.Changes.{changedRows}
 use Rattle.construction.proofs.Statements.Refusals.{call-no-program, call-busy, step-no-process, step-not-busy, step-limit, read-no-place}
 use Rattle.construction.proofs.Statements.Computing.{reading, answering}
 
@@ -64,8 +69,34 @@ lines-yield = (refl, (refl, (refl, (refl, (refl, (refl, (refl, (refl, (refl, (re
 -- by the laws of refusals, whose premises are computed: to compare the two cards instead would take half the time of checking this crate
 pub entries-refused : AllEntriesRefused refusedEntries
 unfolding trace
-entries-refused =
-    (step-no-process _ _ (unfold answering in refl), (call-no-program _ _ _ _ (unfold answering in refl) (unfold answering in refl), (call-busy _ _ _ _ (unfold answering in refl) (unfold answering in refl) (unfold answering in refl), (step-not-busy _ _ (unfold answering in refl) (unfold answering in refl), (read-no-place _ _ (unfold answering in refl), (step-limit _ _ (unfold answering in refl) (unfold answering in refl) (unfold answering in (omega arith)), (step-no-process _ _ (unfold answering in refl), (step-not-busy _ _ (unfold answering in refl) (unfold answering in refl), (step-limit _ _ (unfold answering in refl) (unfold answering in refl) (unfold answering in (omega arith)), tt)))))))))
+entries-refused = (
+  step-no-process _ _ (unfold answering in refl),
+  (
+    call-no-program _ _ _ _ (unfold answering in refl) (unfold answering in refl),
+    (
+      call-busy _ _ _ _ (unfold answering in refl) (unfold answering in refl) (unfold answering in refl),
+      (
+        step-not-busy _ _ (unfold answering in refl) (unfold answering in refl),
+        (
+          read-no-place _ _ (unfold answering in refl),
+          (
+            step-limit _ _ (unfold answering in refl) (unfold answering in refl) (unfold answering in (omega arith)),
+            (
+              step-no-process _ _ (unfold answering in refl),
+              (
+                step-not-busy _ _ (unfold answering in refl) (unfold answering in refl),
+                (
+                  step-limit _ _ (unfold answering in refl) (unfold answering in refl) (unfold answering in (omega arith)),
+                  tt,
+                ),
+              ),
+            ),
+          ),
+        ),
+      ),
+    ),
+  ),
+)
 
 pub buffer-refused : BufferRefused
 unfolding reading written textOf varsText programsText linesText cardText varText sheetText insText encode writtenFields

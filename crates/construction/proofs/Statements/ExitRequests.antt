@@ -6,11 +6,11 @@ use mathlib.Core.List.{List}
 use mathlib.Core.Logic.{⊎-elim}
 use lib.ListN.{getD, set}
 use lib.Seq.{set-getD, set-set}
-use Rattle.construction.specs.Types.{Words, P1, Access, Task, Card, Answer, Answered}
+use Rattle.construction.specs.Types.{Words, P1, Access, Control, Card, Answer, Answered}
 use Rattle.construction.specs.Cells.{openAnnouncement}
 use Rattle.construction.specs.Instructions.{started}
 use Rattle.construction.specs.Dictionary.{empty}
-use Rattle.construction.specs.Parts.{idleTask, noOperation, noGate, localAt, withOwn, withLocal}
+use Rattle.construction.specs.Parts.{idleControl, noOperation, noGate, localAt, withOwn, withLocal}
 use Rattle.construction.specs.Machine.{accessIn, perform, advance}
 use Rattle.construction.specs.Requests.{isProcess, isProgram, isBusy, isIdle, invoked, withRequest, exiting, call, requestExit}
 use Rattle.construction.specs.History.{Entry, act}
@@ -27,8 +27,9 @@ asked-again : (c : Card) (i : ℕ) → asked (asked c i) i ≡ asked c i
 asked-again c i =
     let d = asked c i in
     λ k.
-    withOwn c (set-getD (d .tasks) i idleTask k) (set-getD (d .operations) i noOperation k) (set-set (c .exits) i true true k) (set-getD (d .counts) i 0 k)
-    (set-getD (d .gates) i noGate k) (set-getD (d .copies) i openAnnouncement k) (set-getD (d .simulations) i started k)
+    withOwn c (set-getD (d .controls) i idleControl k) (set-getD (d .operations) i noOperation k) (set-set (c .exits) i true true k)
+    (set-getD (d .counts) i 0 k)
+    (set-getD (d .gatesRead) i noGate k) (set-getD (d .announcementsRead) i openAnnouncement k) (set-getD (d .simulations) i started k)
     (set-getD (d .dictionaries) i empty k) (set-getD (d .masks) i 0 k)
 
 -- a second exit request has the answer of the first and alters nothing
@@ -50,7 +51,7 @@ exit-twice c i =
 
     busy-still : isBusy c i ≡ true → isBusy (asked c i) i ≡ true
     busy-still b =
-        subst (λ (l : List Task). not (isIdle (getD l i idleTask .place)) ≡ true) (sym (set-getD (c .tasks) i idleTask)) b
+        subst (λ (l : List Control). not (isIdle (getD l i idleControl .place)) ≡ true) (sym (set-getD (c .controls) i idleControl)) b
 
     taken : isProcess c i ≡ true → isBusy c i ≡ true → requestExit (requestExit c i .card) i ≡ requestExit c i
     taken p b =
@@ -98,7 +99,7 @@ pub exit-over :
     call (withExit c i b) i k inputs ≡ call c i k inputs
 exit-over c i k inputs b p q f =
     call-taken (withExit c i b) i k inputs p q
-    (subst (λ (l : List Task). not (isIdle (getD l i idleTask .place)) ≡ false) (sym (set-getD (c .tasks) i idleTask)) f)
+    (subst (λ (l : List Control). not (isIdle (getD l i idleControl .place)) ≡ false) (sym (set-getD (c .controls) i idleControl)) f)
     ∙ (ap (λ (x : Card). record { card = x; answer = Answer.Taken }) same ∙ sym (call-taken c i k inputs p q f))
   where
     d : Card
@@ -107,7 +108,7 @@ exit-over c i k inputs b p q f =
     same : withLocal d i (invoked (localAt d i) k inputs) ≡ withLocal c i (invoked (localAt c i) k inputs)
     same =
         λ n.
-        withOwn c (set-set (c .tasks) i (localAt c i .task) (record { place = P1; target = 0 }) n)
+        withOwn c (set-set (c .controls) i (localAt c i .control) (record { place = P1; target = 0 }) n)
         (set-set (c .operations) i (localAt c i .operation) (record { program = k; inputs = inputs }) n) (set-set (c .exits) i b false n)
-        (set-set (c .counts) i (localAt c i .steps) 0 n) (set-getD (d .gates) i noGate n) (set-getD (d .copies) i openAnnouncement n)
+        (set-set (c .counts) i (localAt c i .steps) 0 n) (set-getD (d .gatesRead) i noGate n) (set-getD (d .announcementsRead) i openAnnouncement n)
         (set-getD (d .simulations) i started n) (set-getD (d .dictionaries) i empty n) (set-getD (d .masks) i 0 n)

@@ -72,12 +72,12 @@ module _ (o : Card) (m : Observation) (O : Consistent o m) (j : ℕ) (d : announ
   Stays e r = (announcementAt (r .card) j ≡ announcementAt c j) ⊎ Announces c e j
 
   -- a process whose announcement is done, and active after its step, is at P3
-  announces : isBusy c j ≡ true → announcementAt (advance c j) j .flag ≡ Active → localAt c j .task .place ≡ P3
+  announces : isBusy c j ≡ true → announcementAt (advance c j) j .flag ≡ Active → localAt c j .control .place ≡ P3
   unfolding accessOf advance
   announces b a =
       let never : announcementAt c j .flag ≡ Active → ⊥ = λ z. active-not-done z d in
       ⊎-elim (λ z. absurd (never (access-active _ c j (rw z) a)))
-      (⊎-elim (λ z. z) (λ z. absurd (never (active-before c j z a)))) (busy-stage (stage (localAt c j .task .place)) b)
+      (⊎-elim (λ z. z) (λ z. absurd (never (active-before c j z a)))) (busy-stage (stage (localAt c j .control .place)) b)
 
   step-stays :
       {e : Entry} (i : ℕ) → Steps e i → i < c .processCount → isBusy c i ≡ true → c .steps < c .limit →

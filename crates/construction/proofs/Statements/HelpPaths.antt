@@ -9,7 +9,8 @@ use lib.Dec.{ltb}
 use lib.ListN.{length, getD, drop, length-take, length-drop, length-replicate}
 use lib.Seq.{getD-take, getD-drop, drop-drop}
 use borrow.Author.Tests.{ltb-true, ltb-false}
-use Rattle.construction.specs.Types.{Announcement, Record, Program, Item, Dictionary, Simulation, Pause, Ended, Faulted, Lacks, Simulated, Label, Idle, P1, P3, P5, P7, P10, C2, C4, P13, P14, P16, H21, H36, P19, P20, P21, P22, F1, F3, P6, Cell, Task, Began, Helped}
+use Rattle.construction.specs.Types.{Announcement, Record, Program, Item, Dictionary, Simulation, Pause, Ended, Faulted, Lacks, Simulated, Label, Idle}
+use Rattle.construction.specs.Types.{P1, P3, P5, P7, P10, C2, C4, P13, P14, P16, H21, H36, P19, P20, P21, P22, F1, F3, P6, Cell, Control, Began, Helped}
 use Rattle.construction.specs.Instructions.{started}
 use Rattle.construction.specs.Dictionary.{noItem, empty, noted, insert, itemOf, altered, unaltered, nextWrite}
 use Rattle.construction.specs.Helping.{simulate}
@@ -127,15 +128,15 @@ module _ (n : ℕ) {x y : Program} (v number : ℕ) (a : Announcement) (s : Simu
   help-same P6 e q = q
 
 module _ (n : ℕ) (program : Program) (number : ℕ) (a : Announcement) where
-  abbrev OnTask : Task → Simulation → Dictionary → Help → Due → Type 0
-  OnTask x s d h due = HelpAt n program (x .place) (x .target) number a s d h due
+  abbrev OnControl : Control → Simulation → Dictionary → Help → Due → Type 0
+  OnControl x s d h due = HelpAt n program (x .place) (x .target) number a s d h due
 
   -- lines H31 and H32: from place k on
   pub write-due :
       (k : ℕ) (s : Simulation) (d : Dictionary) (h : Help) (due : Due) → due ≡ Due.write (alteredIn number (drop k (noted d))) →
-      OnTask (writeFrom number d k) s d h due
+      OnControl (writeFrom number d k) s d h due
   write-due k s d h due e =
-      on-test (λ (x : Task). OnTask x s d h due) (ltb (nextWrite number d k) (length (noted d)))
+      on-test (λ (x : Control). OnControl x s d h due) (ltb (nextWrite number d k) (length (noted d)))
       (λ z. e ∙ ap Due.write (next-due number d k (ltb-true _ _ z)))
       (λ z. e ∙ ap Due.write (none-due number d k (ltb-false _ _ z)))
 
@@ -143,44 +144,44 @@ module _ (n : ℕ) (program : Program) (number : ℕ) (a : Announcement) where
   pause-due :
       (p : Pause) (s : Simulation) (d reads : Dictionary) (h : Help) (due : Due) → h ≡ helpWith n program a reads → length (reads .items) ≡ 32 →
       simulated n program a started reads ≡ record { pause = p; simulation = s; dictionary = d } → due ≡ dueBy number p d →
-      OnTask (afterPause number d p) s d h due
+      OnControl (afterPause number d p) s d h due
   pause-due Ended s d reads h due q array e z = write-due 0 s d h due z
   pause-due Faulted s d reads h due q array e z = z
   pause-due (Lacks v) s d reads h due q array e z = record { reads = reads; helps = q; array = array; stands = e; lacks = z }
 
   stand-due :
       (x : Simulated) (reads : Dictionary) (h : Help) → h ≡ helpWith n program a reads → length (reads .items) ≡ 32 →
-      simulated n program a started reads ≡ x → OnTask (afterPause number (x .dictionary) (x .pause)) (x .simulation) (x .dictionary) h (dueOf number h)
+      simulated n program a started reads ≡ x → OnControl (afterPause number (x .dictionary) (x .pause)) (x .simulation) (x .dictionary) h (dueOf number h)
   stand-due x reads h q array e =
       pause-due (x .pause) (x .simulation) (x .dictionary) reads h (dueOf number h) q array e
       (ap (dueOf number) q ∙ ap (λ (y : Simulated). dueBy number (y .pause) (y .dictionary)) e)
 
   -- lines P17, P18 and H1
   pub begin-due :
-      (task : Task) (s : Simulation) (d : Dictionary) (h : Help) → h ≡ helpWith n program a empty →
-      let x = beginHelp n program a number task s in
-      OnTask (x .task) (x .simulation) (cond (x .helps) empty d) h (dueOf number h)
+      (control : Control) (s : Simulation) (d : Dictionary) (h : Help) → h ≡ helpWith n program a empty →
+      let x = beginHelp n program a number control s in
+      OnControl (x .control) (x .simulation) (cond (x .helps) empty d) h (dueOf number h)
   unfolding beginHelp
-  begin-due task s d h q =
-      on-test (λ (x : Began). OnTask (x .task) (x .simulation) (cond (x .helps) empty d) h (dueOf number h)) (helps a number)
+  begin-due control s d h q =
+      on-test (λ (x : Began). OnControl (x .control) (x .simulation) (cond (x .helps) empty d) h (dueOf number h)) (helps a number)
       (λ _. let x = simulated n program a started empty in
-      subst (λ (y : Dictionary). OnTask (afterPause number (x .dictionary) (x .pause)) (x .simulation) y h (dueOf number h))
+      subst (λ (y : Dictionary). OnControl (afterPause number (x .dictionary) (x .pause)) (x .simulation) y h (dueOf number h))
       (simulate-empty n program (a .words))
       (stand-due x empty h q (length-replicate 32 noItem) refl))
       (λ _. tt)
 
   -- lines H21 to H25
   pub note-due :
-      (task : Task) (s : Simulation) (d : Dictionary) (mask : ℕ) (h : Help) (due : Due) (r : Record) →
-      Short n program → d .length < 32 → Reading n program (task .target) number a s d h due →
-      let x = note n program (a .words) r number task s d mask in
-      let g = withRead number (Cell.Record (task .target)) r h in
-      OnTask (x .task) (x .simulation) (x .dictionary) g (cond (ltb number (r .seq)) (Due.write []) (dueOf number g))
+      (control : Control) (s : Simulation) (d : Dictionary) (mask : ℕ) (h : Help) (due : Due) (r : Record) →
+      Short n program → d .length < 32 → Reading n program (control .target) number a s d h due →
+      let x = note n program (a .words) r number control s d mask in
+      let g = withRead number (Cell.Record (control .target)) r h in
+      OnControl (x .control) (x .simulation) (x .dictionary) g (cond (ltb number (r .seq)) (Due.write []) (dueOf number g))
   unfolding note
-  note-due task s d mask h due r short spare q = by-test (ltb number (r .seq))
+  note-due control s d mask h due r short spare q = by-test (ltb number (r .seq))
     where
       e : Item
-      e = itemOf number (task .target) r
+      e = itemOf number (control .target) r
 
       went : Simulated
       went = simulated n program a s (insert d e)
@@ -203,13 +204,13 @@ module _ (n : ℕ) (program : Program) (number : ℕ) (a : Announcement) where
 
       goes-on : simulated n program a started (insert (q .reads) e) ≡ went
       goes-on =
-          resumes n program (a .words) short e (task .target) started (q .reads) room (q .array)
+          resumes n program (a .words) short e (control .target) started (q .reads) room (q .array)
           (ap (λ (x : Simulated). x .pause) (q .stands))
           ∙ ap (λ (x : Simulated). simulated n program a (x .simulation) (insert (x .dictionary) e)) (q .stands)
 
       by-test : (b : Bool) →
-          let x : Helped = cond b (record { task = goTo task P19; simulation = s; dictionary = d; mask = mask })
-          (helped number went (withBit mask (task .target))) in
-          OnTask (x .task) (x .simulation) (x .dictionary) (cond b h more) (cond b (Due.write []) (dueOf number (cond b h more)))
+          let x : Helped = cond b (record { control = goTo control P19; simulation = s; dictionary = d; mask = mask })
+          (helped number went (withBit mask (control .target))) in
+          OnControl (x .control) (x .simulation) (x .dictionary) (cond b h more) (cond b (Due.write []) (dueOf number (cond b h more)))
       by-test true = refl
       by-test false = stand-due went (insert (q .reads) e) more more-is (insert-items (q .reads) e ∙ q .array) goes-on

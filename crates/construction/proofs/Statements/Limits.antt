@@ -49,8 +49,10 @@ limits t es =
       items = λ i. I .tidy i .short;
       distinct = λ i. distinct (noted (localAt c i .dictionary)) (I .tidy i .keyed);
       texts = I .texts .held;
-      noting = λ i l e. subst (λ (p : Program). localAt c i .dictionary .length < weight p) (sym (I .texts .read i l (ap (λ (p : Label). hasRead p) e) _ _ (omega arith)))
+      noting = λ i l e. subst (λ (p : Program). localAt c i .dictionary .length < weight p)
+          (sym (I .texts .read i l (ap (λ (p : Label). hasRead p) e) _ _ (omega arith)))
           ((subst (λ (p : Label). LocAt p (frameOf c (O .world)) (O .world) i (known (localAt c i))) e (I .locs i l)) .2 .fewer);
-      writing = λ i l e. subst (λ (p : Program). localAt c i .dictionary .length ≤ weight p) (sym (I .texts .read i l (ap (λ (p : Label). hasRead p) e) _ _ (omega arith)))
+      writing = λ i l e. subst (λ (p : Program). localAt c i .dictionary .length ≤ weight p)
+          (sym (I .texts .read i l (ap (λ (p : Label). hasRead p) e) _ _ (omega arith)))
           ((subst (λ (p : Label). LocAt p (frameOf c (O .world)) (O .world) i (known (localAt c i))) e (I .locs i l)) .2 .room .few);
     }

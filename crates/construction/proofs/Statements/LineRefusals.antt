@@ -13,11 +13,13 @@ use Rattle.grammar.specs.Reading.{most, hasWord}
 use Rattle.construction.specs.Types.{OperandKind, Unknown, Known, Decoded, Encoded, CardLine, VarLine, SheetLine, InsLine}
 use Rattle.construction.specs.Answers.{fields, refusedWith, cardLineFields, varLineFields, sheetLineFields, encodedFields, decodedFields, insLineFields}
 use Rattle.construction.specs.Instructions.{inRange, codes, rowOf, instructionOf, ranged, unusedZero, eachOperand, decode, encoded}
-use Rattle.construction.specs.Lines.{cardWord, varWord, sheetWord, insWord, cardFits, cardLine, judgeCard, varLine, judgeVar, sheetLine, judgeSheet, insOf, insLine, judgeIns, cardText, varText, sheetText, encodedText}
+use Rattle.construction.specs.Lines.{cardWord, varWord, sheetWord, insWord, cardFits, cardLine, judgeCard, varLine, judgeVar, sheetLine, judgeSheet}
+use Rattle.construction.specs.Lines.{insOf, insLine, judgeIns, cardText, varText, sheetText, encodedText}
 use Rattle.construction.proofs.Basics.{on-test, clash}
 use Rattle.construction.proofs.Text.Lines.{range-true, card-fits}
 use Rattle.construction.proofs.Text.Decoding.{rows-at, decoded-encodes}
-use Rattle.construction.proofs.Text.Forms.{field-found, field-none, four-found, four-none, range-kept, fits-kept, ranged-kept, unused-kept, code-past, code-kept}
+use Rattle.construction.proofs.Text.Forms.{field-found, field-none, four-found, four-none, range-kept, fits-kept, ranged-kept, unused-kept, code-past}
+use Rattle.construction.proofs.Text.Forms.{code-kept}
 
 module _ (t : List ℕ) (at : ℕ) where
   -- `card,p,n,s,limit`
@@ -154,8 +156,46 @@ known-format e = clash (cc)
 
 pub code-known : (k : ℕ) → 0 < k → k ≤ 14 → rowOf k .format ≢ Unknown
 code-known =
-    rows-at (λ k r. 0 < k → k ≤ 14 → r .format ≢ Unknown) codes
-    (λ l _. absurd (omega arith), (λ _ _. known-format, (λ _ _. known-format, (λ _ _. known-format, (λ _ _. known-format, (λ _ _. known-format, (λ _ _. known-format, (λ _ _. known-format, (λ _ _. known-format, (λ _ _. known-format, (λ _ _. known-format, (λ _ _. known-format, (λ _ _. known-format, (λ _ _. known-format, (λ _ _. known-format, λ k _ h. absurd (omega arith))))))))))))))))
+    rows-at (λ k r. 0 < k → k ≤ 14 → r .format ≢ Unknown) codes (
+      λ l _. absurd (omega arith),
+      (
+        λ _ _. known-format,
+        (
+          λ _ _. known-format,
+          (
+            λ _ _. known-format,
+            (
+              λ _ _. known-format,
+              (
+                λ _ _. known-format,
+                (
+                  λ _ _. known-format,
+                  (
+                    λ _ _. known-format,
+                    (
+                      λ _ _. known-format,
+                      (
+                        λ _ _. known-format,
+                        (
+                          λ _ _. known-format,
+                          (
+                            λ _ _. known-format,
+                            (
+                              λ _ _. known-format,
+                              (λ _ _. known-format, (λ _ _. known-format, λ k _ h. absurd (omega arith))),
+                            ),
+                          ),
+                        ),
+                      ),
+                    ),
+                  ),
+                ),
+              ),
+            ),
+          ),
+        ),
+      ),
+    )
 
 -- a missing line has the wrong form
 pub line-missing :

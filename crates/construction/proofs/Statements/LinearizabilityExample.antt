@@ -10,7 +10,8 @@ use Rattle.construction.specs.Opening.{opened}
 use Rattle.construction.specs.Cells.{faultYield}
 use Rattle.construction.specs.History.{Entry, Finish, Return, run}
 use Rattle.construction.specs.Log.{logOf, insertByNumber, sorted}
-use Rattle.construction.specs.Examples.{one, plain, called, steps, cardK, twoProcesses, unwritten}
+use Rattle.construction.specs.Examples.Terms.{one, plain, called, steps}
+use Rattle.construction.specs.Examples.Pieces.{cardK, twoProcesses, unwritten}
 use Rattle.construction.proofs.Statements.Linearizability.{linearizability}
 use Rattle.construction.proofs.Statements.Computing.{observing}
 use Rattle.construction.specs.Linearizability.{Linearizable, hasReturned, rank}

@@ -150,7 +150,8 @@ module _ (r : Response) (rs : List Response) (fresh : hasReturned (r .operation)
       there q rest =
           rw (passed (r .operation) (f .operation) true (hasReturned (f .operation) rs) (λ e. q (sym e)))
           (on-test
-          (λ (l : List Finish). insertByNumber (finishOf (r .operation) fs) l ≡ cond (hasReturned (f .operation) rs) (f ∷ returnedOf (r ∷ rs) fs) (returnedOf (r ∷ rs) fs))
+          (λ (l : List Finish). insertByNumber (finishOf (r .operation) fs) l ≡ cond (hasReturned (f .operation) rs) (f ∷ returnedOf (r ∷ rs) fs)
+          (returnedOf (r ∷ rs) fs))
           (hasReturned (f .operation) rs)
           (λ b. rw b
           (behind (finishOf (r .operation) fs) f (returnedOf rs fs)

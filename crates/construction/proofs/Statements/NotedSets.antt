@@ -10,7 +10,8 @@ use lib.Dec.{ltb}
 use lib.ListN.{length, getD, set}
 use lib.Seq.{getD-set-same, getD-set-other}
 use borrow.Author.Tests.{le-ltb}
-use Rattle.construction.specs.Types.{Gate, Words, Announcement, Record, Program, Dictionary, Simulation, Label, P5, H21, Access, Task, Helped, Card, Answered}
+use Rattle.construction.specs.Types.{Gate, Words, Announcement, Record, Program, Dictionary, Simulation, Label, P5, H21, Access, Control, Helped, Card}
+use Rattle.construction.specs.Types.{Answered}
 use Rattle.construction.specs.Dictionary.{empty, noted, find, has, itemOf}
 use Rattle.construction.specs.Marks.{Marks}
 use Rattle.construction.specs.Parts.{Local, localAt, announcementAt, textsOf, programOf}
@@ -57,7 +58,7 @@ pub record Fits (v : ℕ) (d : Dictionary) : Type 0 where
 
 -- lines H21 to H25: the variable is noted in both, or in neither
 note-marked :
-    (n : ℕ) (program : Program) (inputs : Words) (cell : Record) (number : ℕ) (t : Task) (s : Simulation) (d : Dictionary) (mask : ℕ) →
+    (n : ℕ) (program : Program) (inputs : Words) (cell : Record) (number : ℕ) (t : Control) (s : Simulation) (d : Dictionary) (mask : ℕ) →
     Fits (t .target) d → Marks mask d →
     Marks (note n program inputs cell number t s d mask .mask) (note n program inputs cell number t s d mask .dictionary)
 unfolding note
@@ -77,7 +78,7 @@ exit-notes-none false = elim [ ]
 module _ {c : Card} {w : World} (I : CardInvariant c w) (j : ℕ) where
   noting-at :
       (l : Label) (exit : Bool) → LocAt l (frameOf c w) w j (known (localAt c j)) → Notes (accessOf l exit) →
-      Fits (localAt c j .task .target) (localAt c j .dictionary)
+      Fits (localAt c j .control .target) (localAt c j .dictionary)
   unfolding accessOf
   noting-at P5 exit q n = absurd (exit-notes-none exit n)
   noting-at H21 exit q Notes.notes =
@@ -100,7 +101,7 @@ module _ (c : Card) (Z : Sizes c) (j : ℕ) (lt : j < 8) (H : AllMarked c) where
           (rw (getD-set-same (c .masks) j word 0 (omega (arith, Z .masks)), getD-set-same (c .dictionaries) j d empty (omega (arith, Z .dictionaries))) h)
       go (no ne) = rw (getD-set-other (c .masks) j i word 0 ne, getD-set-other (c .dictionaries) j i d empty ne) (H i)
 
-  access-marked : (a : Access) → (Notes a → Fits (localAt c j .task .target) (localAt c j .dictionary)) → AllMarked (perform a c j .card)
+  access-marked : (a : Access) → (Notes a → Fits (localAt c j .control .target) (localAt c j .dictionary)) → AllMarked (perform a c j .card)
   unfolding perform
   access-marked Access.None q i = put-marked i _ _ (H j)
   access-marked (Access.Gate a) q i = put-marked i _ _ (H j)
@@ -109,7 +110,7 @@ module _ (c : Card) (Z : Sizes c) (j : ℕ) (lt : j < 8) (H : AllMarked c) where
       let l = localAt c j in
       let cell = announcementAt c (holderOf (l .gate .holder)) in
       let program = programOf (textsOf c) (cell .program) (l .gate .seq) in
-      put-marked i _ _ (begun (beginHelp (c .variableCount) program cell (l .gate .seq) (l .task) (l .simulation) .helps))
+      put-marked i _ _ (begun (beginHelp (c .variableCount) program cell (l .gate .seq) (l .control) (l .simulation) .helps))
     where
       begun : (b : Bool) → Marks (cond b 0 (localAt c j .mask)) (cond b empty (localAt c j .dictionary))
       begun true = marks-empty
@@ -122,7 +123,7 @@ step-marked : {c : Card} {w : World} → CardInvariant c w → (j : ℕ) → j <
 unfolding advance
 step-marked {c} {w} I j lt H =
     access-marked c (I .sizes) j (omega (arith, I .good .fits .few)) H (accessIn (localAt c j))
-    (noting-at I j (localAt c j .task .place) (localAt c j .exit) (I .locs j lt))
+    (noting-at I j (localAt c j .control .place) (localAt c j .exit) (I .locs j lt))
 
 entry-marked :
     {c : Card} {w : World} → CardInvariant c w → {e : Entry} {r : Answered} → Outcome c e r → AllMarked c → AllMarked (r .card)
@@ -178,7 +179,7 @@ unfolding reportOf
 tells-noted t es i lt =
     let c = run (opened t .card) es .card in
     let l = localAt c i in
-    let label = labelOf (l .task .place) (l .exit) in
+    let label = labelOf (l .control .place) (l .exit) in
     let after = localAt (advance c i) i in
     let M : Marked after = step-marked (opened-consistent t es .inv) i lt (noted-sets t es) i in
     record {

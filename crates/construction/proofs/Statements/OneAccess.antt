@@ -8,8 +8,10 @@ use native.Mathlib.Decide.{decLt}
 use lib.ListN.{length, getD, set, length-set}
 use lib.Seq.{set-out, getD-set-same, getD-set-other}
 use Rattle.construction.specs.Types.{Gate, Announcement, Record, Access, Cell, Card}
-use Rattle.construction.specs.Parts.{Local, localAt, contentsOf, announcementAt, recordAt, withGate, withAnnouncement, withRecord, withLocal, withSteps, textsOf}
-use Rattle.construction.specs.Machine.{whose, holderOf, writtenVariable, accessIn, cellOf, stepGate, stepAnnouncement, stepHelp, stepNote, stepWrite, AccessedCard, Accessed, after, perform, advance, swapOf}
+use Rattle.construction.specs.Parts.{Local, localAt, contentsOf, announcementAt, recordAt, withGate, withAnnouncement, withRecord, withLocal, withSteps}
+use Rattle.construction.specs.Parts.{textsOf}
+use Rattle.construction.specs.Machine.{whose, holderOf, writtenVariable, accessIn, cellOf, stepGate, stepAnnouncement, stepHelp, stepNote, stepWrite}
+use Rattle.construction.specs.Machine.{AccessedCard, Accessed, after, perform, advance, swapOf}
 use Rattle.construction.specs.Requests.{answerOf}
 use Rattle.construction.specs.OneAccess.{touchedCell, Same, SameIn, SameLocal, SameText, OneAccess}
 
@@ -49,7 +51,7 @@ module _ (c d : Card) (i : ℕ) (T : SameText c d) (S : SameLocal i c d) where
 
   local-is : localAt c i ≡ localAt d i
   local-is = λ k. record {
-    task = S .0 .elements k;
+    control = S .0 .elements k;
     operation = S .1 .elements k;
     exit = S .2 .elements k;
     steps = S .3 .elements k;
@@ -63,7 +65,7 @@ module _ (c d : Card) (i : ℕ) (T : SameText c d) (S : SameLocal i c d) where
   -- the same own state put back
   put : {l m : Local} → l ≡ m → SameLocal i (withLocal c i l) (withLocal d i m)
   put e = (
-    stored (ap (λ (x : Local). x .task) e) (S .0),
+    stored (ap (λ (x : Local). x .control) e) (S .0),
     stored (ap (λ (x : Local). x .operation) e) (S .1),
     stored (ap (λ (x : Local). x .exit) e) (S .2),
     stored (ap (λ (x : Local). x .steps) e) (S .3),
@@ -79,7 +81,7 @@ module _ (c d : Card) (i : ℕ) (T : SameText c d) (S : SameLocal i c d) where
       Alike (cellOf a (contentsOf c) i (localAt c i)) (perform a c i) (perform a d i)
   unfolding perform
   access-alike Access.None n = (
-    put (ap (λ (l : Local). after l (l .task) (l .gate) (l .announcement) (l .simulation) (l .dictionary) (l .mask)) local-is),
+    put (ap (λ (l : Local). after l (l .control) (l .gate) (l .announcement) (l .simulation) (l .dictionary) (l .mask)) local-is),
     n,
     refl,
   )
@@ -92,9 +94,14 @@ module _ (c d : Card) (i : ℕ) (T : SameText c d) (S : SameLocal i c d) where
       let e = n .elements ∙ ap (announcementAt d) m in
       let x :
       stepAnnouncement a (whose a (c .processCount) i (localAt c i .gate)) (announcementAt c (whose a (c .processCount) i (localAt c i .gate))) (localAt c i)
-      ≡ stepAnnouncement a (whose a (d .processCount) i (localAt d i .gate)) (announcementAt d (whose a (d .processCount) i (localAt d i .gate))) (localAt d i) =
-      λ k. stepAnnouncement a (m k) (e k) (local-is k) in
-      (put (ap (λ (y : Accessed Announcement). y .local) x), stored-at m (ap (λ (y : Accessed Announcement). y .cell) x) n, ap (λ (y : Accessed Announcement). y .swap) x)
+      ≡ stepAnnouncement a (whose a (d .processCount) i (localAt d i .gate)) (announcementAt d (whose a (d .processCount) i (localAt d i .gate))) (localAt d i)
+      =
+      λ k. stepAnnouncement a (m k) (e k) (local-is k) in (
+        put (ap (λ (y : Accessed Announcement). y .local) x),
+        stored-at m (ap (λ (y : Accessed Announcement). y .cell) x) n,
+        ap
+            (λ (y : Accessed Announcement). y .swap) x,
+      )
   access-alike Access.Help n =
       let m : holderOf (localAt c i .gate .holder) ≡ holderOf (localAt d i .gate .holder) = ap (λ (l : Local). holderOf (l .gate .holder)) local-is in
       let e = n .elements ∙ ap (announcementAt d) m in
@@ -104,11 +111,11 @@ module _ (c d : Card) (i : ℕ) (T : SameText c d) (S : SameLocal i c d) where
       λ k. stepHelp (T .0 k .variableCount) (T .1 k) (e k) (local-is k) in
       (put (ap (λ (y : Accessed Announcement). y .local) x), stored-at m (ap (λ (y : Accessed Announcement). y .cell) x) n, refl)
   access-alike Access.Note n =
-      let m : localAt c i .task .target ≡ localAt d i .task .target = ap (λ (l : Local). l .task .target) local-is in
+      let m : localAt c i .control .target ≡ localAt d i .control .target = ap (λ (l : Local). l .control .target) local-is in
       let e = n .elements ∙ ap (recordAt d) m in
       let x :
-      stepNote (c .variableCount) (textsOf c) (recordAt c (localAt c i .task .target)) (localAt c i)
-      ≡ stepNote (d .variableCount) (textsOf d) (recordAt d (localAt d i .task .target)) (localAt d i) =
+      stepNote (c .variableCount) (textsOf c) (recordAt c (localAt c i .control .target)) (localAt c i)
+      ≡ stepNote (d .variableCount) (textsOf d) (recordAt d (localAt d i .control .target)) (localAt d i) =
       λ k. stepNote (T .0 k .variableCount) (T .1 k) (e k) (local-is k) in
       (put (ap (λ (y : Accessed Record). y .local) x), stored-at m (ap (λ (y : Accessed Record). y .cell) x) n, refl)
   access-alike Access.Write n =

@@ -8,21 +8,31 @@ use native.Mathlib.Omega.{arith}
 use lib.Dec.{eqb, ltb}
 use lib.ListN.{length}
 use borrow.Author.Tests.{le-ltb, ltb-true, ltb-false, leb-true, leb-false, not-true, not-false, eqb-true, eqb-false}
-use Rattle.construction.specs.Types.{Holder, Nobody, Process, Gate, Flag, Done, Active, Exit, Words, Announcement, Record, Program, Dictionary, Simulation, Pause, Ended, Faulted, Lacks, Label, Idle, P1, P3, P5, P7, P10, C2, C4, P13, P14, P16, H21, H36, P19, P20, P21, P22, F1, F3, P6, GateAccess, Access, Cell, Swap, Task, Began, Helped, Card, Refusal, Answer, Answered, Contents}
+use Rattle.construction.specs.Types.{Holder, Nobody, Process, Gate, Flag, Done, Active, Exit, Words, Announcement, Record, Program, Dictionary}
+use Rattle.construction.specs.Types.{Simulation, Pause, Ended, Faulted, Lacks, Label, Idle, P1, P3, P5, P7, P10, C2, C4, P13, P14, P16, H21, H36, P19}
+use Rattle.construction.specs.Types.{P20, P21, P22, F1, F3, P6, GateAccess, Access, Cell, Swap, Control, Began, Helped, Card, Refusal, Answer, Answered}
+use Rattle.construction.specs.Types.{Contents}
 use Rattle.construction.specs.Cells.{isDone, sameHolder, swapGate, swapAnnouncement, swapRecord, released}
 use Rattle.construction.specs.Instructions.{started}
 use Rattle.construction.specs.Dictionary.{empty, noted, insert, itemOf, nextWrite}
 use Rattle.construction.specs.Helping.{simulate}
-use Rattle.construction.specs.Parts.{idleTask, Local, localAt, contentsOf, announcementAt, recordAt, programOf, withLocal, Texts, textsOf, withRevision}
-use Rattle.construction.specs.Machine.{accessOf, accessGate, accessAnnouncement, byHolder, byFlag, holderOf, firstChoice, outcome, helps, afterPause, writeFrom, beginHelp, note, writing, writtenVariable, whose, cellOf, after, stepGate, stepAnnouncement, stepHelp, stepNote, stepWrite, perform, advance, swapOf}
+use Rattle.construction.specs.Parts.{idleControl, Local, localAt, contentsOf, announcementAt, recordAt, programOf, withLocal, Texts, textsOf}
+use Rattle.construction.specs.Parts.{withRevision}
+use Rattle.construction.specs.Machine.{accessOf, accessGate, accessAnnouncement, byHolder, byFlag, holderOf, firstChoice, outcome, helps, afterPause}
+use Rattle.construction.specs.Machine.{writeFrom, beginHelp, note, writing, writtenVariable, whose, cellOf, after, stepGate, stepAnnouncement, stepHelp}
+use Rattle.construction.specs.Machine.{stepNote, stepWrite, perform, advance, swapOf}
 use Rattle.construction.specs.Requests.{isIdle, isBusy, isProgram, invoked, exiting, returned, answerOf}
 use Rattle.construction.specs.OneAccess.{SameText}
 use Rattle.construction.specs.Changes.{hasRead, isUnsettled}
 use Rattle.construction.specs.Tracing.{labelOf, reportOf}
 use Rattle.construction.specs.Opening.{fresh, opened}
 use Rattle.construction.specs.History.{Event, eventOf, Entry, act, Steps, Observation, observe, observeAll, opening, run}
-use Rattle.construction.specs.Paths.{Found, foundIn, Help, helpOf, Made, made, Edge, End, Leads, Path, Whole, numberIn, unlessSwap, lastNumber, helpAfter, helpIn, Due, afterWrite, dueOf, dueAfter, dueIn, Comes, FromH21ToP19, Follows, Noticed, unnoticed, ifTaken, noticed, noticedFrom, accesses}
-use Rattle.construction.proofs.Basics.{on-test, cond-true, cond-false, true-or-false, and-true, and-false, clash, nobody-process, active-not-done, exit-not-done, active-not-exit, isDone-true, isDone-false, sameHolder-true, sameHolder-refl, true-false, getD-replicate-same}
+use Rattle.construction.specs.Paths.{Found, foundIn, Help, helpOf, Made, made, Edge, End, Leads, Path, Whole, numberIn, unlessSwap, lastNumber, helpAfter}
+use Rattle.construction.specs.Paths.{helpIn, Due, afterWrite, dueOf, dueAfter, dueIn, Comes, FromH21ToP19, Follows, Noticed, unnoticed, ifTaken, noticed}
+use Rattle.construction.specs.Paths.{noticedFrom, accesses}
+use Rattle.construction.proofs.Basics.{on-test, cond-true, cond-false, true-or-false, and-true, and-false, clash, nobody-process, active-not-done}
+use Rattle.construction.proofs.Basics.{exit-not-done, active-not-exit, isDone-true, isDone-false, sameHolder-true, sameHolder-refl, true-false}
+use Rattle.construction.proofs.Basics.{getD-replicate-same}
 use Rattle.construction.proofs.Simulating.Simulations.{simulate-empty}
 use Rattle.construction.proofs.Invariant.World.{World, Frame, frameOf}
 use Rattle.construction.proofs.Invariant.Locals.{Sizes, local-same, local-other}
@@ -77,7 +87,7 @@ module _ (Q : Label → Type 0) where
   on-flag Exit done active exit a b c = c refl
 
   on-write : (seq : ℕ) (d : Dictionary) (k : ℕ) → Q H36 → Q P19 → Q (writeFrom seq d k .place)
-  on-write seq d k a b = on-test (λ (x : Task). Q (x .place)) (ltb (nextWrite seq d k) (length (noted d))) (λ _. a) (λ _. b)
+  on-write seq d k a b = on-test (λ (x : Control). Q (x .place)) (ltb (nextWrite seq d k) (length (noted d))) (λ _. a) (λ _. b)
 
   on-pause : (seq : ℕ) (d : Dictionary) (p : Pause) → Q H21 → Q H36 → Q P19 → Q (afterPause seq d p .place)
   on-pause seq d Ended a b c = on-write seq d 0 b c
@@ -91,13 +101,13 @@ module _ (Q : Label → Type 0) where
   on-beginning seq d e (Lacks v) a b = a
 
   on-help :
-      (n : ℕ) (program : Program) (a : Announcement) (number : ℕ) (t : Task) (s : Simulation) →
+      (n : ℕ) (program : Program) (a : Announcement) (number : ℕ) (t : Control) (s : Simulation) →
       (a .flag ≢ Done → a .seq ≤ number → Q H21 × Q P19) → ((a .flag ≡ Done) ⊎ (number < a .seq) → Q P21) →
-      Q (beginHelp n program a number t s .task .place)
+      Q (beginHelp n program a number t s .control .place)
   unfolding beginHelp
   on-help n program a number t s f g =
       let x = simulate n program (a .words) started empty in
-      on-test (λ (b : Began). Q (b .task .place)) (helps a number)
+      on-test (λ (b : Began). Q (b .control .place)) (helps a number)
       (λ e.
       let h = helps-true a number e in
       let y = f (h .0) (h .1) in
@@ -105,12 +115,12 @@ module _ (Q : Label → Type 0) where
       (λ e. g (helps-false a number e))
 
   on-note :
-      (n : ℕ) (program : Program) (inputs : Words) (r : Record) (number : ℕ) (t : Task) (s : Simulation) (d : Dictionary) (mask : ℕ) →
-      (number < r .seq → Q P19) → (r .seq ≤ number → Q H21 × Q H36 × Q P19) → Q (note n program inputs r number t s d mask .task .place)
+      (n : ℕ) (program : Program) (inputs : Words) (r : Record) (number : ℕ) (t : Control) (s : Simulation) (d : Dictionary) (mask : ℕ) →
+      (number < r .seq → Q P19) → (r .seq ≤ number → Q H21 × Q H36 × Q P19) → Q (note n program inputs r number t s d mask .control .place)
   unfolding note
   on-note n program inputs r number t s d mask f g =
       let x = simulate n program inputs s (insert d (itemOf number (t .target) r)) in
-      on-test (λ (h : Helped). Q (h .task .place)) (ltb number (r .seq)) (λ e. f (ltb-true _ _ e))
+      on-test (λ (h : Helped). Q (h .control .place)) (ltb number (r .seq)) (λ e. f (ltb-true _ _ e))
       (λ e. let y = g (ltb-false _ _ e) in on-pause number (x .dictionary) (x .pause) (y .0) (y .1) (y .2))
 
 swapped : (won : Bool) → outcome won ≢ Swap.None
@@ -154,11 +164,11 @@ top-not-due false = elim [ ]
 
 -- what it knows of its helping and of what is due there; nothing, where it has no operation
 abbrev HelpOf : ℕ → Texts → Local → Help → Due → Type 0
-HelpOf n x l h due = HelpAt n (runs x l) (l .task .place) (l .task .target) (l .gate .seq) (l .announcement) (l .simulation) (l .dictionary) h due
+HelpOf n x l h due = HelpAt n (runs x l) (l .control .place) (l .control .target) (l .gate .seq) (l .announcement) (l .simulation) (l .dictionary) h due
 
-nothing-due : (n : ℕ) (y : Texts) (l : Local) (h : Help) (due : Due) → l .task ≡ idleTask → HelpOf n y l h due
+nothing-due : (n : ℕ) (y : Texts) (l : Local) (h : Help) (due : Due) → l .control ≡ idleControl → HelpOf n y l h due
 nothing-due n y l h due e =
-    subst (λ (x : Task). HelpAt n (runs y l) (x .place) (x .target) (l .gate .seq) (l .announcement) (l .simulation) (l .dictionary) h due) (sym e) tt
+    subst (λ (x : Control). HelpAt n (runs y l) (x .place) (x .target) (l .gate .seq) (l .announcement) (l .simulation) (l .dictionary) h due) (sym e) tt
 
 -- the access of process i at a place
 module _ (c : Card) (i : ℕ) (Z : Sizes c) (lt : i < 8) where
@@ -170,17 +180,17 @@ module _ (c : Card) (i : ℕ) (Z : Sizes c) (lt : i < 8) where
 
   abbrev Lands : Label → Bool → Local → Type 0
   Lands p exit l =
-      Onto i (l .gate .seq) (labelOf p exit) (perform (accessOf p exit) c i .swap) (found p exit) (l .announcement) (l .task .place)
+      Onto i (l .gate .seq) (labelOf p exit) (perform (accessOf p exit) c i .swap) (found p exit) (l .announcement) (l .control .place)
 
   -- the own state that an access leaves
   abbrev leaves : Access → Local
-  leaves Access.None = after own (own .task) (own .gate) (own .announcement) (own .simulation) (own .dictionary) (own .mask)
+  leaves Access.None = after own (own .control) (own .gate) (own .announcement) (own .simulation) (own .dictionary) (own .mask)
   leaves (Access.Gate a) = stepGate a i (c .gate) own .local
   leaves (Access.Announcement a) =
       let m = whose a (c .processCount) i (own .gate) in
       stepAnnouncement a m (announcementAt c m) own .local
   leaves Access.Help = stepHelp (c .variableCount) (textsOf c) (announcementAt c (holderOf (own .gate .holder))) own .local
-  leaves Access.Note = stepNote (c .variableCount) (textsOf c) (recordAt c (own .task .target)) own .local
+  leaves Access.Note = stepNote (c .variableCount) (textsOf c) (recordAt c (own .control .target)) own .local
   leaves Access.Write = stepWrite (recordAt c (writtenVariable own)) own .local
 
   left-is : (a : Access) → localAt (perform a c i .card) i ≡ leaves a
@@ -246,11 +256,11 @@ module _ (c : Card) (i : ℕ) (Z : Sizes c) (lt : i < 8) where
       (on-help (AnnouncementRead Label.P16 m) _ _ (announcementAt c m) (own .gate .seq) _ _
       (λ e le. (λ _. Edge.P16-H21 e le, λ _. Edge.P16-P19 e le)) (λ e _. Edge.P16-P21 e))
   lands H21 exit n q =
-      let r = recordAt c (own .task .target) in
+      let r = recordAt c (own .control .target) in
       (on-note (Onto i (own .gate .seq) Label.H21 Swap.None (Found.cell r) (own .announcement)) _ _ _ r (own .gate .seq) _ _ _ _
       (λ e _. Edge.H21-P19-late e) (λ le. (λ _. Edge.H21-H21 le, λ _. Edge.H21-H36 le, λ _. Edge.H21-P19 le)))
   lands H36 exit n q =
-      (on-write (Onto i (own .gate .seq) Label.H36 _ (found H36 exit) (own .announcement)) (own .gate .seq) (own .dictionary) (suc (own .task .target))
+      (on-write (Onto i (own .gate .seq) Label.H36 _ (found H36 exit) (own .announcement)) (own .gate .seq) (own .dictionary) (suc (own .control .target))
       (λ _. Edge.H36-H36 (record-swapped _ _ _)) (λ _. Edge.H36-P19 (record-swapped _ _ _)))
   lands P19 exit n q = λ _. Edge.P19-P20 (announcement-swapped _ _ _)
   lands P20 exit n q = λ _. Edge.P20-P21 (announcement-swapped _ _ _)
@@ -304,26 +314,28 @@ module _ (c : Card) (i : ℕ) (Z : Sizes c) (lt : i < 8) where
   abbrev HelpNext : Label → Bool → Help → Due → Label → Type 0
   HelpNext p exit h due next =
       let l = leaves (accessOf p exit) in
-      HelpAt (c .variableCount) (runs (textsOf c) l) next (l .task .target) (l .gate .seq) (l .announcement) (l .simulation) (l .dictionary)
+      HelpAt (c .variableCount) (runs (textsOf c) l) next (l .control .target) (l .gate .seq) (l .announcement) (l .simulation) (l .dictionary)
       (help-after p exit h (l .gate .seq)) (due-after p exit h due (l .gate .seq))
 
   module _ (h : Help) (due : Due) where
     -- the access that is made was due
     was-due :
         (p : Label) (exit : Bool) →
-        HelpAt (c .variableCount) (runs (textsOf c) own) p (own .task .target) (own .gate .seq) (own .announcement) (own .simulation) (own .dictionary) h due →
+        HelpAt (c .variableCount) (runs (textsOf c) own) p (own .control .target) (own .gate .seq) (own .announcement) (own .simulation) (own .dictionary) h due
+        →
         FromH21ToP19 (labelOf p exit) → Comes due (labelOf p exit) (cellOf (accessOf p exit) (contentsOf c) i own)
     unfolding accessOf writing
     was-due P5 exit q z = absurd (top-not-due exit z)
-    was-due H21 exit q z = subst (λ (x : Due). Comes x Label.H21 (Cell.Record (own .task .target))) (sym (q .lacks)) Comes.read
+    was-due H21 exit q z = subst (λ (x : Due). Comes x Label.H21 (Cell.Record (own .control .target))) (sym (q .lacks)) Comes.read
     was-due H36 exit q z = subst (λ (x : Due). Comes x Label.H36 (Cell.Record (writtenVariable own))) (sym q) Comes.write
     was-due P19 exit q z = subst (λ (x : Due). Comes x Label.P19 (Cell.Announcement (holderOf (own .gate .holder)))) (sym q) Comes.end
 
     -- what is due next is what the place it leads to does
     stays-due :
         (p : Label) (exit : Bool) → isIdle p ≡ false → Roomy (c .variableCount) (textsOf c) p own →
-        HelpAt (c .variableCount) (runs (textsOf c) own) p (own .task .target) (own .gate .seq) (own .announcement) (own .simulation) (own .dictionary) h due →
-        HelpNext p exit h due (leaves (accessOf p exit) .task .place)
+        HelpAt (c .variableCount) (runs (textsOf c) own) p (own .control .target) (own .gate .seq) (own .announcement) (own .simulation) (own .dictionary) h due
+        →
+        HelpNext p exit h due (leaves (accessOf p exit) .control .place)
     unfolding accessOf perform accessGate accessAnnouncement writing
     stays-due Idle exit n room q = absurd (true≢false n)
     stays-due P1 exit n room q = on-holder (HelpNext P1 exit h due) (c .gate .holder) P3 P3 (λ _. tt) (λ _. tt)
@@ -339,12 +351,15 @@ module _ (c : Card) (i : ℕ) (Z : Sizes c) (lt : i < 8) where
     stays-due P14 exit n room q = on-holder (HelpNext P14 exit h due) (c .gate .holder) P16 P22 (λ _. tt) (λ _. tt)
     stays-due P16 exit n room q =
         let a = announcementAt c (holderOf (own .gate .holder)) in
-        begin-due (c .variableCount) (programOf (textsOf c) (a .program) (own .gate .seq)) (own .gate .seq) a (own .task) (own .simulation) (own .dictionary) _ refl
+        begin-due (c .variableCount) (programOf (textsOf c) (a .program) (own .gate .seq)) (own .gate .seq) a (own .control) (own .simulation) (own .dictionary)
+        _ refl
     stays-due H21 exit n room q =
-        note-due (c .variableCount) (runs (textsOf c) own) (own .gate .seq) (own .announcement) (own .task) (own .simulation) (own .dictionary) (own .mask) h due
-        (recordAt c (own .task .target)) (room refl .1) (room refl .0) q
+        note-due (c .variableCount) (runs (textsOf c) own) (own .gate .seq) (own .announcement) (own .control) (own .simulation) (own .dictionary) (own .mask) h
+        due
+        (recordAt c (own .control .target)) (room refl .1) (room refl .0) q
     stays-due H36 exit n room q =
-        write-due (c .variableCount) (runs (textsOf c) own) (own .gate .seq) (own .announcement) (suc (own .task .target)) (own .simulation) (own .dictionary) _ _
+        write-due (c .variableCount) (runs (textsOf c) own) (own .gate .seq) (own .announcement) (suc (own .control .target)) (own .simulation)
+        (own .dictionary) _ _
         (unread (swapRecord (recordAt c (writtenVariable own)) _ _ .won) _ _ ∙ ap afterWrite q)
     stays-due P19 exit n room q = tt
     stays-due P20 exit n room q = tt
@@ -370,11 +385,11 @@ event-settled a Exit steps = refl
 
 -- where the operation of process i stands, given the accesses that it made: it has none, is called, or is led on by its newest access
 data Ready (i : ℕ) (l : Local) : List Made → Type 0 where
-  idle : {ms : List Made} → isIdle (l .task .place) ≡ true → Ready i l ms
-  called : l .task .place ≡ P1 → Ready i l []
+  idle : {ms : List Made} → isIdle (l .control .place) ≡ true → Ready i l ms
+  called : l .control .place ≡ P1 → Ready i l []
   going :
       {m : Made} {ms : List Made} → m .answer ≡ Answer.Run →
-      Onto i (m .report .number) (m .report .label) (m .report .swap) (m .found) (l .announcement) (l .task .place) →
+      Onto i (m .report .number) (m .report .label) (m .report .swap) (m .found) (l .announcement) (l .control .place) →
       lastNumber (m ∷ ms) ≡ l .gate .seq → Ready i l (m ∷ ms)
 
 -- what was noticed of the operation of process i follows the lines, it stands there, its helping is the one noticed, and the wish taken is the one
@@ -386,10 +401,11 @@ record Stands (t : Contents) (x : Texts) (i : ℕ) (l : Local) (n : Noticed) : T
   wished : n .wish ≡ l .exit
 
 -- one access more, at which a wish had been taken or not
-module _ (c : Card) (i : ℕ) (Z : Sizes c) (lt : i < 8) (busy : isIdle (localAt c i .task .place) ≡ false) (known : Returning (localAt c i .task .place) (localAt c i .announcement .flag))
-    (room : Roomy (c .variableCount) (textsOf c) (localAt c i .task .place) (localAt c i)) (taken : Bool) (ms : List Made) where
+module _ (c : Card) (i : ℕ) (Z : Sizes c) (lt : i < 8) (busy : isIdle (localAt c i .control .place) ≡ false)
+    (known : Returning (localAt c i .control .place) (localAt c i .announcement .flag))
+    (room : Roomy (c .variableCount) (textsOf c) (localAt c i .control .place) (localAt c i)) (taken : Bool) (ms : List Made) where
   abbrev place : Label
-  place = localAt c i .task .place
+  place = localAt c i .control .place
 
   abbrev wish : Bool
   wish = localAt c i .exit
@@ -416,23 +432,25 @@ module _ (c : Card) (i : ℕ) (Z : Sizes c) (lt : i < 8) (busy : isIdle (localAt
   unfolding made reportOf swapOf
   whole =
       ⊎-elim
-      (λ (e : isIdle (next .task .place) ≡ true).
-      inr (subst (End i (labelOf place wish) (swapOf c i) (found c i Z lt place wish)) (sym (event e)) (at-end i (next .gate .seq) _ _ _ (next .announcement) (next .task .place) e landed)))
-      (λ e. inl (cond-false (isIdle (next .task .place)) _ _ e))
-      (true-or-false (isIdle (next .task .place)))
+      (λ (e : isIdle (next .control .place) ≡ true).
+      inr
+      (subst (End i (labelOf place wish) (swapOf c i) (found c i Z lt place wish)) (sym (event e))
+      (at-end i (next .gate .seq) _ _ _ (next .announcement) (next .control .place) e landed)))
+      (λ e. inl (cond-false (isIdle (next .control .place)) _ _ e))
+      (true-or-false (isIdle (next .control .place)))
     where
-      event : isIdle (next .task .place) ≡ true → eventOf (answerOf next) ≡ settled (next .announcement)
+      event : isIdle (next .control .place) ≡ true → eventOf (answerOf next) ≡ settled (next .announcement)
       event e =
-          ap eventOf (cond-true (isIdle (next .task .place)) _ _ e)
+          ap eventOf (cond-true (isIdle (next .control .place)) _ _ e)
           ∙ event-settled (next .announcement) (next .announcement .flag) (next .steps)
 
   ready : (place ≡ P1) ⊎ (lastNumber ms ≡ localAt c i .gate .seq) → Ready i next (made c i taken ∷ ms)
   unfolding made reportOf swapOf
   ready h =
-      ⊎-elim (λ (e : isIdle (next .task .place) ≡ true). Ready.idle e)
-      (λ (e : isIdle (next .task .place) ≡ false).
-      Ready.going (cond-false (isIdle (next .task .place)) _ _ e) landed (sym (numbered h)))
-      (true-or-false (isIdle (next .task .place)))
+      ⊎-elim (λ (e : isIdle (next .control .place) ≡ true). Ready.idle e)
+      (λ (e : isIdle (next .control .place) ≡ false).
+      Ready.going (cond-false (isIdle (next .control .place)) _ _ e) landed (sym (numbered h)))
+      (true-or-false (isIdle (next .control .place)))
 
   -- its helping, and what is due there
   due : HelpOf (c .variableCount) (textsOf c) (localAt c i) (helpIn ms) (dueIn ms) →
@@ -444,7 +462,9 @@ module _ (c : Card) (i : ℕ) (Z : Sizes c) (lt : i < 8) (busy : isIdle (localAt
       HelpOf (c .variableCount) (textsOf c) next (helpIn (made c i taken ∷ ms)) (dueIn (made c i taken ∷ ms))
   unfolding made reportOf swapOf helpIn dueIn
   helping q =
-      subst (λ (l : Local). HelpOf (c .variableCount) (textsOf c) l (help-after c i Z lt place wish (helpIn ms) (l .gate .seq)) (due-after c i Z lt place wish (helpIn ms) (dueIn ms) (l .gate .seq)))
+      subst
+      (λ (l : Local). HelpOf (c .variableCount) (textsOf c) l (help-after c i Z lt place wish (helpIn ms) (l .gate .seq))
+      (due-after c i Z lt place wish (helpIn ms) (dueIn ms) (l .gate .seq)))
       (sym next-is) (stays-due c i Z lt (helpIn ms) (dueIn ms) place wish busy room q)
 
   wish-stays : next .exit ≡ wish
@@ -454,8 +474,9 @@ first-label : {p : Label} (exit : Bool) → p ≡ P1 → labelOf p exit ≡ Labe
 first-label exit e = ap (λ (p : Label). labelOf p exit) e
 
 -- the path with it
-module _ (c : Card) (i : ℕ) (Z : Sizes c) (lt : i < 8) (busy : isIdle (localAt c i .task .place) ≡ false) (known : Returning (localAt c i .task .place) (localAt c i .announcement .flag))
-    (room : Roomy (c .variableCount) (textsOf c) (localAt c i .task .place) (localAt c i)) where
+module _ (c : Card) (i : ℕ) (Z : Sizes c) (lt : i < 8) (busy : isIdle (localAt c i .control .place) ≡ false)
+    (known : Returning (localAt c i .control .place) (localAt c i .announcement .flag))
+    (room : Roomy (c .variableCount) (textsOf c) (localAt c i .control .place) (localAt c i)) where
   follows-on :
       {ms : List Made} (taken : Bool) → taken ≡ localAt c i .exit → HelpOf (c .variableCount) (textsOf c) (localAt c i) (helpIn ms) (dueIn ms) →
       Follows i ms → Ready i (localAt c i) ms → Follows i (made c i taken ∷ ms) × Ready i (localAt (advance c i) i) (made c i taken ∷ ms)
@@ -473,8 +494,8 @@ module _ (c : Card) (i : ℕ) (Z : Sizes c) (lt : i < 8) (busy : isIdle (localAt
   follows-on {ms} taken w q F (Ready.going {m} r o n) = (
     record {
       path = Path.next r
-          (subst (λ (b : Bool). Leads i m b (labelOf (localAt c i .task .place) (localAt c i .exit))) (sym w)
-          (toward i _ _ _ _ (localAt c i .announcement) (localAt c i .task .place) busy o (localAt c i .exit)))
+          (subst (λ (b : Bool). Leads i m b (labelOf (localAt c i .control .place) (localAt c i .exit))) (sym w)
+          (toward i _ _ _ _ (localAt c i .announcement) (localAt c i .control .place) busy o (localAt c i .exit)))
           (F .path);
       whole = whole c i Z lt busy known room taken ms;
       numbers = (numbered c i Z lt busy known room taken ms (inr n), F .numbers);
@@ -505,15 +526,16 @@ returning p F w i l q =
     at x e = subst (λ (y : Label). LocAt y F w i l) e q
 
 -- what a helper knows that reads one record more, ..
-module _ {c : Card} {w : World} (I : CardInvariant c w) (i : ℕ) (lt : i < c .processCount) (e : localAt c i .task .place ≡ H21) where
+module _ {c : Card} {w : World} (I : CardInvariant c w) (i : ℕ) (lt : i < c .processCount) (e : localAt c i .control .place ≡ H21) where
   reading : LocAt H21 (frameOf c w) w i (known (localAt c i))
   reading = subst (λ (x : Label). LocAt x (frameOf c w) w i (known (localAt c i))) e (I .locs i lt)
 
-  has-read : hasRead (localAt c i .task .place) ≡ true
+  has-read : hasRead (localAt c i .control .place) ≡ true
   has-read = ap hasRead e
 
 -- .. of its dictionary and of its program
-roomy : {c : Card} {w : World} (I : CardInvariant c w) (i : ℕ) → i < c .processCount → Roomy (c .variableCount) (textsOf c) (localAt c i .task .place) (localAt c i)
+roomy : {c : Card} {w : World} (I : CardInvariant c w) (i : ℕ) → i < c .processCount →
+    Roomy (c .variableCount) (textsOf c) (localAt c i .control .place) (localAt c i)
 roomy {c} {w} I i lt e = (
   reading I i lt e .2 .spare,
   subst (Short (c .variableCount)) (sym (I .texts .read i lt (has-read I i lt e) _ _ (omega arith))) (I .good .fits .short _ _),
@@ -562,7 +584,8 @@ module _ {c : Card} {w : World} (I : CardInvariant c w) (i : ℕ) (n : Noticed) 
       }
 
   exit-stands : (j : ℕ) → j < c .processCount →
-      Stands (contentsOf c) (textsOf c) i (localAt (withLocal c j (exiting (localAt c j))) i) (ifTaken i j Answer.Taken (record { wish = true; accesses = n .accesses }) n)
+      Stands (contentsOf c) (textsOf c) i (localAt (withLocal c j (exiting (localAt c j))) i)
+      (ifTaken i j Answer.Taken (record { wish = true; accesses = n .accesses }) n)
   exit-stands j p =
       both j i true _ n (Stands (contentsOf c) (textsOf c) i (localAt (withLocal c j (exiting (localAt c j))) i))
       (λ e _. subst (λ (l : Local). Stands (contentsOf c) (textsOf c) i l (record { wish = true; accesses = n .accesses })) (sym (here j exiting p e)) asked)
@@ -593,7 +616,7 @@ module _ {c : Card} {w : World} (I : CardInvariant c w) (i : ℕ) (n : Noticed) 
           let q : i < c .processCount = subst (λ (n : ℕ). n < c .processCount) e p in
           let d : isBusy c i ≡ true = subst (λ (n : ℕ). isBusy c n ≡ true) e b in
           stands-on c i (I .sizes) (small i q) (not-true _ d)
-          (returning (localAt c i .task .place) (frameOf c w) w i (known (localAt c i)) (I .locs i q)) (roomy I i q) q n S
+          (returning (localAt c i .control .place) (frameOf c w) w i (known (localAt c i)) (I .locs i q)) (roomy I i q) q n S
 
       other : j ≢ i → Stands (contentsOf c) (textsOf c) i (localAt (advance c j) i) n
       other ne = subst (λ (x : Local). Stands (contentsOf c) (textsOf c) i x n) (sym (inv-step c w j I p b l .elsewhere i (λ e. ne (sym e)))) S
@@ -618,14 +641,15 @@ module _ {c : Card} {w : World} (I : CardInvariant c w) (i : ℕ) (n : Noticed) 
   change-stands k from y p l u = record {
     follows = S .follows;
     ready = S .ready;
-    helps = λ lt. help-same (c .variableCount) _ _ _ _ _ _ _ (localAt c i .task .place)
+    helps = λ lt. help-same (c .variableCount) _ _ _ _ _ _ _ (localAt c i .control .place)
         (λ e. sym (chosen-kept c w k from y I (ltb-true k 8 (and-true (ltb k (c .programCount)) _ p .1)) l u i lt (has-read I i lt e)
         (omega (arith, reading I i lt e .1 .below, ap (λ (g : Gate). g .seq) (gate-is I))) _))
         (S .helps lt);
     wished = S .wished;
   }
 
-  entry-stands : {e : Entry} {r : Answered} → Outcome c e r → Stands (contentsOf (r .card)) (textsOf (r .card)) i (localAt (r .card) i) (noticed c i n e (r .answer))
+  entry-stands : {e : Entry} {r : Answered} → Outcome c e r →
+      Stands (contentsOf (r .card)) (textsOf (r .card)) i (localAt (r .card) i) (noticed c i n e (r .answer))
   unfolding noticed
   entry-stands (Outcome.turned-back e why) = refused-kept e why
   entry-stands (Outcome.called j k inputs p b) = call-stands j k inputs p
@@ -637,7 +661,8 @@ module _ {c : Card} {w : World} (I : CardInvariant c w) (i : ℕ) (n : Noticed) 
   entry-stands (Outcome.altered k from t p a l u) = change-stands k from _ p l u
 
 all-stand :
-    (o : Card) (m : Observation) (i : ℕ) (n : Noticed) (es : List Entry) → Consistent o m → Stands (contentsOf (m .card)) (textsOf (m .card)) i (localAt (m .card) i) n →
+    (o : Card) (m : Observation) (i : ℕ) (n : Noticed) (es : List Entry) → Consistent o m →
+    Stands (contentsOf (m .card)) (textsOf (m .card)) i (localAt (m .card) i) n →
     let d = observeAll o m es .card in
     Stands (contentsOf d) (textsOf d) i (localAt d i) (noticedFrom (m .card) i n es)
 unfolding noticedFrom observe observeAll
@@ -655,8 +680,8 @@ opened-stands t es i =
     all-stand (opened t .card) (opening (opened t .card)) i unnoticed es (opened-consistent t [])
     (record {
       follows = record { path = Path.none; whole = tt; numbers = tt; helping = tt };
-      ready = Ready.idle (ap (λ (x : Task). isIdle (x .place)) (getD-replicate-same 8 i idleTask));
-      helps = λ _. nothing-due _ _ (localAt (opened t .card) i) _ _ (getD-replicate-same 8 i idleTask);
+      ready = Ready.idle (ap (λ (x : Control). isIdle (x .place)) (getD-replicate-same 8 i idleControl));
+      helps = λ _. nothing-due _ _ (localAt (opened t .card) i) _ _ (getD-replicate-same 8 i idleControl);
       wished = sym (getD-replicate-same {A = Bool} 8 i false);
     })
 

@@ -7,11 +7,13 @@ use mathlib.Core.List.{List, [], _∷_}
 use lib.ListN.{length}
 use borrow.Author.Tests.{lt-ltb, le-ltb, le-leb, lt-leb}
 use Rattle.grammar.specs.Reading.{hasWord}
-use Rattle.construction.specs.Types.{Flag, Done, Active, Exit, Words, Announcement, Card, Refusal, NoProcess, NoProgram, Busy, NotBusy, NoPlace, LimitReached, Answer, Answered}
+use Rattle.construction.specs.Types.{Flag, Done, Active, Exit, Words, Announcement, Card, Refusal, NoProcess, NoProgram, Busy, NotBusy, NoPlace}
+use Rattle.construction.specs.Types.{LimitReached, Answer, Answered}
 use Rattle.construction.specs.Answers.{numberOf, fields, doneWord, refusedWith, answerFields, verdictFields, writtenFields, Refuses}
 use Rattle.construction.specs.Machine.{advance}
 use Rattle.construction.specs.Parts.{localAt, withLocal, Local}
-use Rattle.construction.specs.Requests.{isProcess, isProgram, isVariable, isBusy, refused, call, requestExit, returned, answerOf, step, valueOf, read, invoked, exiting, isIdle}
+use Rattle.construction.specs.Requests.{isProcess, isProgram, isVariable, isBusy, refused, call, requestExit, returned, answerOf, step, valueOf, read}
+use Rattle.construction.specs.Requests.{invoked, exiting, isIdle}
 use Rattle.construction.specs.Opening.{readCard, opened}
 use Rattle.construction.specs.Writing.{textOf, written, writtenInto}
 use Rattle.construction.proofs.Basics.{on-test, true-false}
@@ -140,7 +142,7 @@ unfolding answerFields hasWord
 running = refl
 
 accepted : (l : Local) → Accepts (answerOf l)
-accepted l = on-test Accepts (isIdle (l .task .place)) (λ _. returns (l .announcement) (l .announcement .flag) (l .steps)) (λ _. running)
+accepted l = on-test Accepts (isIdle (l .control .place)) (λ _. returns (l .announcement) (l .announcement .flag) (l .steps)) (λ _. running)
 
 pub call-kept : (c : Card) (i k : ℕ) (inputs : Words) → Kept c (call c i k inputs)
 call-kept c i k inputs = on-call (Kept c) c (same c) i k inputs (λ _ _ _. other c _ Answer.Taken taken)

@@ -6,7 +6,8 @@ use mathlib.Core.Logic.{_≢_}
 use mathlib.Core.List.{List}
 use lib.ListN.{getD, set}
 use lib.Seq.{set-getD}
-use Rattle.construction.specs.Types.{Gate, Announcement, Record, Label, Idle, P1, P3, P5, P7, P10, C2, C4, P13, P14, P16, H21, H36, P19, P20, P21, P22, F1, F3, P6, Card}
+use Rattle.construction.specs.Types.{Gate, Announcement, Record, Label, Idle, P1, P3, P5, P7, P10, C2, C4, P13, P14, P16, H21, H36, P19, P20, P21, P22}
+use Rattle.construction.specs.Types.{F1, F3, P6, Card}
 use Rattle.construction.specs.Cells.{sameGate, sameAnnouncement, sameRecord, swapGate, swapAnnouncement, swapRecord, openAnnouncement, openRecord}
 use Rattle.construction.specs.Parts.{localAt, withSteps}
 use Rattle.construction.specs.Machine.{accessOf, accessGate, accessAnnouncement, outcome, writing, perform, advance, swapOf}
@@ -84,4 +85,4 @@ module _ (c : Card) (i : ℕ) where
 
 pub tells-swap : (c : Card) (i : ℕ) → TellsSwap c i
 unfolding reportOf advance swapOf
-tells-swap c i = told-at c i (localAt c i .task .place) (localAt c i .exit) _
+tells-swap c i = told-at c i (localAt c i .control .place) (localAt c i .exit) _

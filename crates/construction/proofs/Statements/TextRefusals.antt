@@ -10,9 +10,12 @@ use borrow.Author.Tests.{lt-ltb, le-ltb, ltb-true, ltb-false, eq-eqb, ne-eqb}
 use Rattle.grammar.specs.Reading.{hasWord}
 use Rattle.construction.specs.Types.{Instruction, Refusal, Malformed, CardLine, VarLine, SheetLine, InsLine, Verdict, ProgramReading, Reading}
 use Rattle.construction.specs.Weight.{weight}
-use Rattle.construction.specs.Answers.{numberOf, Fields, refusedWith, verdictFields, cardLineFields, varLineFields, sheetLineFields, decodedFields, insLineFields}
+use Rattle.construction.specs.Answers.{numberOf, Fields, refusedWith, verdictFields, cardLineFields, varLineFields, sheetLineFields, decodedFields}
+use Rattle.construction.specs.Answers.{insLineFields}
 use Rattle.construction.specs.Lines.{cardLine, varLine, sheetLine, insLine}
-use Rattle.construction.specs.Opening.{refusedAt, programRefusedAt, insFrom, nextIns, withLine, judgeWeight, weighed, programAfter, readProgram, nextProgram, withProgram, programsFrom, nextVar, withStart, varsFrom, ifAccepted, atEnd, thenEnd, thenPrograms, afterCard, readCard, opened}
+use Rattle.construction.specs.Opening.{refusedAt, programRefusedAt, insFrom, nextIns, withLine, judgeWeight, weighed, programAfter, readProgram}
+use Rattle.construction.specs.Opening.{nextProgram, withProgram, programsFrom, nextVar, withStart, varsFrom, ifAccepted, atEnd, thenEnd, thenPrograms}
+use Rattle.construction.specs.Opening.{afterCard, readCard, opened}
 use Rattle.construction.specs.Changes.{ifProgramAccepted, programThenEnd, programText}
 use Rattle.construction.specs.TextJudging.{NextLine, GoodUntil, refusedIn, Judged, GoodLines, ChangeJudged}
 use Rattle.construction.proofs.Basics.{on-test, true-false}
@@ -81,7 +84,8 @@ unlike : {f : Fields} {number : ℕ} → isRefusal f ≡ false → f ≡ refused
 unfolding hasWord
 unlike h e = true-false _ (ap isRefusal e) h
 
-told : (why : Refusal) (line : ℕ) {number : ℕ} → refusedWith (numberOf why) ≡ refusedWith number → verdictFields (Verdict.Refused why line) ≡ refusedIn line number
+told : (why : Refusal) (line : ℕ) {number : ℕ} → refusedWith (numberOf why) ≡ refusedWith number →
+    verdictFields (Verdict.Refused why line) ≡ refusedIn line number
 unfolding verdictFields
 told why line e = ap (λ (f : Fields). refusedIn line (getD (f .numbers) 0 0)) e
 
@@ -147,29 +151,32 @@ module _ (t : List ℕ) where
   -- the verdict from a line on before which all are good: for the lines of a program, ..
   module _
       (s k : ℕ) (r : Reading)
-      (next : (x : ProgramReading) → GoodUntil t (NextLine.sheet s (suc k) (withProgram r k x)) → Judged t (verdictOf (fromLine t (NextLine.sheet s (suc k) (withProgram r k x))))) where
-    by-ins :
-        (m j : ℕ) (x : ProgramReading) → GoodUntil t (NextLine.ins s k r m j x) → x .verdict ≡ Verdict.Accepted →
-        Judged t (verdictOf (fromLine t (NextLine.ins s k r m j x)))
-    unfolding insFrom insLineFields decodedFields verdictFields
-    by-ins zero j x d a =
-        subst (λ (v : Verdict). Judged t (verdictOf (fromProgram t s k r (judgeWeight 32 v (r .line + x .program .length) x)))) (sym a)
-        (on-test (λ (y : ProgramReading). Judged t (verdictOf (fromProgram t s k r y))) (ltb 32 (weight (x .program)))
-        (λ w. Judged.tooHeavy d (ltb-true 32 (weight (x .program)) w))
-        (λ w. subst (λ (v : Verdict). Judged t (verdictOf (thenEnd t (nextProgram v x r k (λ z. programsFrom t s (suc k) z))))) (sym a)
-        (next x (GoodUntil.nextSheet d (ltb-false 32 (weight (x .program)) w)))))
-    by-ins (suc m) j x d a = line (λ y i e. by-ins m (suc j) (withLine x j y i) (GoodUntil.nextIns d e) refl) (insLine (r .contents .variableCount) t (x .at)) refl
-      where
-        line :
-            ((y : Instruction) (i : ℕ) → insLine (r .contents .variableCount) t (x .at) ≡ InsLine.Ins y i →
-            Judged t (verdictOf (fromLine t (NextLine.ins s k r m (suc j) (withLine x j y i))))) →
-            (z : InsLine) → insLine (r .contents .variableCount) t (x .at) ≡ z →
-            Judged t
-            (verdictOf
-            (fromProgram t s k r
-            (weighed 32 (r .line + x .program .length) (nextIns z x j (λ y. insFrom (r .contents .variableCount) t m (suc j) y)))))
-        line f (InsLine.Ins y i) e = f y i e
-        line f (InsLine.Refused why) e = Judged.ins d (ap insLineFields e)
+      (next : (x : ProgramReading) → GoodUntil t (NextLine.sheet s (suc k) (withProgram r k x)) →
+      Judged t (verdictOf (fromLine t (NextLine.sheet s (suc k) (withProgram r k x)))))
+    where
+      by-ins :
+          (m j : ℕ) (x : ProgramReading) → GoodUntil t (NextLine.ins s k r m j x) → x .verdict ≡ Verdict.Accepted →
+          Judged t (verdictOf (fromLine t (NextLine.ins s k r m j x)))
+      unfolding insFrom insLineFields decodedFields verdictFields
+      by-ins zero j x d a =
+          subst (λ (v : Verdict). Judged t (verdictOf (fromProgram t s k r (judgeWeight 32 v (r .line + x .program .length) x)))) (sym a)
+          (on-test (λ (y : ProgramReading). Judged t (verdictOf (fromProgram t s k r y))) (ltb 32 (weight (x .program)))
+          (λ w. Judged.tooHeavy d (ltb-true 32 (weight (x .program)) w))
+          (λ w. subst (λ (v : Verdict). Judged t (verdictOf (thenEnd t (nextProgram v x r k (λ z. programsFrom t s (suc k) z))))) (sym a)
+          (next x (GoodUntil.nextSheet d (ltb-false 32 (weight (x .program)) w)))))
+      by-ins (suc m) j x d a = line (λ y i e. by-ins m (suc j) (withLine x j y i) (GoodUntil.nextIns d e) refl) (insLine (r .contents .variableCount) t (x .at))
+          refl
+        where
+          line :
+              ((y : Instruction) (i : ℕ) → insLine (r .contents .variableCount) t (x .at) ≡ InsLine.Ins y i →
+              Judged t (verdictOf (fromLine t (NextLine.ins s k r m (suc j) (withLine x j y i))))) →
+              (z : InsLine) → insLine (r .contents .variableCount) t (x .at) ≡ z →
+              Judged t
+              (verdictOf
+              (fromProgram t s k r
+              (weighed 32 (r .line + x .program .length) (nextIns z x j (λ y. insFrom (r .contents .variableCount) t m (suc j) y)))))
+          line f (InsLine.Ins y i) e = f y i e
+          line f (InsLine.Refused why) e = Judged.ins d (ap insLineFields e)
 
   -- .. programs, ..
   by-sheets :

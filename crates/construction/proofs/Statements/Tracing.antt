@@ -21,7 +21,7 @@ returned-answers a Exit steps = refl
 
 pub answers : (l : Local) → isRefused (answerOf l) ≡ false
 answers l =
-    on-test (λ (a : Answer). isRefused a ≡ false) (isIdle (l .task .place))
+    on-test (λ (a : Answer). isRefused a ≡ false) (isIdle (l .control .place))
     (λ _. returned-answers (l .announcement) (l .announcement .flag) (l .steps)) (λ _. refl)
 
 pub trace-as-step : (c : Card) (i : ℕ) → untold (trace c i) ≡ step c i
@@ -45,4 +45,5 @@ trace-accepted c i p b l =
 -- the eighteen labels are printed as the paper writes them
 pub labels-spelt : AllSpelt labels
 unfolding decimal decimals
-labels-spelt = (refl, (refl, (refl, (refl, (refl, (refl, (refl, (refl, (refl, (refl, (refl, (refl, (refl, (refl, (refl, (refl, (refl, (refl, tt))))))))))))))))))
+labels-spelt =
+    (refl, (refl, (refl, (refl, (refl, (refl, (refl, (refl, (refl, (refl, (refl, (refl, (refl, (refl, (refl, (refl, (refl, (refl, tt))))))))))))))))))

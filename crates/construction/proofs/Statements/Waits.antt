@@ -59,7 +59,8 @@ module _ (o : Card) (m : Observation) (O : Consistent o m) (W : AllWait (content
   under-way : isBusy c i ≡ true → localAt c i .steps < allowed (contentsOf o) (localAt c i)
   under-way b =
       subst (λ (x : Contents). localAt c i .steps < allowed x (localAt c i)) (O .text)
-      (left (frameOf c (O .world)) (cardWeight (contentsOf c)) (O .inv .texts .light) (O .world) i (c .gate) (announcementAt c i) (X .tally) (localAt c i) (localAt c i .task .place) (not-true _ b)
+      (left (frameOf c (O .world)) (cardWeight (contentsOf c)) (O .inv .texts .light) (O .world) i (c .gate) (announcementAt c i) (X .tally) (localAt c i)
+      (localAt c i .control .place) (not-true _ b)
       (O .inv .locs i lt) (X .course))
     where
       X : Waits (contentsOf c) c i
@@ -78,7 +79,8 @@ module _ (o : Card) (m : Observation) (O : Consistent o m) (W : AllWait (content
   asks = ap (λ (l : List Bool). getD l i false) (step-exits (accessIn (localAt c i)) c i)
 
   -- an operation that returns
-  returns-by : Within (localAt (advance c i) i .steps) → (a : Announcement) (f : Flag) → TellsAtMost (allowed (contentsOf o) (localAt c i)) (returned a f (localAt (advance c i) i .steps))
+  returns-by : Within (localAt (advance c i) i .steps) → (a : Announcement) (f : Flag) →
+      TellsAtMost (allowed (contentsOf o) (localAt c i)) (returned a f (localAt (advance c i) i .steps))
   returns-by h a Done = h
   returns-by h a Active = h
   returns-by h a Exit = h
@@ -86,11 +88,11 @@ module _ (o : Card) (m : Observation) (O : Consistent o m) (W : AllWait (content
   returns-within : TellsAtMost (allowed (contentsOf o) (localAt c i)) (step c i .answer)
   returns-within =
       on-step (λ r. TellsAtMost (allowed (contentsOf o) (localAt c i)) (r .answer)) c (λ _. tt) i
-      (λ l b h. on-test (TellsAtMost (allowed (contentsOf o) (localAt c i))) (isIdle (localAt (advance c i) i .task .place))
+      (λ l b h. on-test (TellsAtMost (allowed (contentsOf o) (localAt c i))) (isIdle (localAt (advance c i) i .control .place))
       (λ e. returns-by (idle l b h e) (localAt (advance c i) i .announcement) (localAt (advance c i) i .announcement .flag)) (λ _. tt))
     where
       idle :
-          i < c .processCount → isBusy c i ≡ true → c .steps < c .limit → isIdle (localAt (advance c i) i .task .place) ≡ true →
+          i < c .processCount → isBusy c i ≡ true → c .steps < c .limit → isIdle (localAt (advance c i) i .control .place) ≡ true →
           Within (localAt (advance c i) i .steps)
       idle l b h e =
           let X : Waits (contentsOf c) (advance c i) i = wait-step (O .inv) (here o m O W) l b h i l in
@@ -98,7 +100,7 @@ module _ (o : Card) (m : Observation) (O : Consistent o m) (W : AllWait (content
           subst
           (λ (p : Label).
           CourseAt p (c .processCount) (cardWeight (contentsOf c)) (advance c i .gate) (announcementAt (advance c i) i) (X .tally) (localAt (advance c i) i))
-          (is-idle (stage (localAt (advance c i) i .task .place)) e) (X .course) in
+          (is-idle (stage (localAt (advance c i) i .control .place)) e) (X .course) in
           subst (λ (x : Contents). localAt (advance c i) i .steps ≤ allowed x (localAt c i)) (O .text)
           (subst (λ (x : Bool). localAt (advance c i) i .steps ≤ waitOf (contentsOf c) + extra x) asks q)
 

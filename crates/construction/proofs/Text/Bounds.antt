@@ -9,7 +9,8 @@ use Rattle.construction.specs.Types.{Program, Refusal, TooLong, Malforme
 use Rattle.construction.specs.Instructions.{noProgram}
 use Rattle.construction.specs.Weight.{weight, cardWeight}
 use Rattle.construction.specs.Lines.{cardLine, varLine, sheetLine, insLine}
-use Rattle.construction.specs.Opening.{noContents, refusedAt, withLine, insFrom, readProgram, withProgram, programsFrom, withStart, varsFrom, atEnd, thenPrograms, afterCard, readCard, programRefusedAt}
+use Rattle.construction.specs.Opening.{noContents, refusedAt, withLine, insFrom, readProgram, withProgram, programsFrom, withStart, varsFrom, atEnd}
+use Rattle.construction.specs.Opening.{thenPrograms, afterCard, readCard, programRefusedAt}
 use Rattle.construction.proofs.Basics.{on-test, clash, set-keeps, getD-replicate-same}
 use Rattle.construction.proofs.Simulating.Weights.{weight-none}
 use Rattle.construction.proofs.Text.Lines.{card-read}
@@ -134,7 +135,8 @@ programs-bounded t (suc m) k r e h =
     let x = readProgram (r .contents .variableCount) 32 t (r .at) (r .line) in
     on-program Within (x .verdict) x r k (λ y. programsFrom t m (suc k) y)
     (λ a. programs-bounded t m (suc k) (withProgram r k x) refl
-    (with-program r k x (program-lines (r .contents .variableCount) 32 t (r .at) (r .line)) (program-light (r .contents .variableCount) 32 t (r .at) (r .line) a) e h))
+    (with-program r k x (program-lines (r .contents .variableCount) 32 t (r .at) (r .line))
+    (program-light (r .contents .variableCount) 32 t (r .at) (r .line) a) e h))
     empty-within
 
 end-bounded : (t : List ℕ) (r : Reading) → Within r → Within (atEnd t r)

@@ -13,7 +13,9 @@ use borrow.Author.Tests.{ltb-true, ltb-false, lt-ltb, le-ltb}
 use Rattle.grammar.specs.declared.Number.{Number}
 use Rattle.grammar.specs.declared.Numbers.{Numbers}
 use Rattle.grammar.specs.Reading.{field, four, hasWord}
-use Rattle.construction.specs.Types.{Instruction, Encoded, Format, Unknown, Known, Decoded, Refusal, TooLong, Malformed, OutOfRange, UnknownCode, NoProcess, NoProgram, Busy, NotBusy, NoPlace, LimitReached, ShortBuffer, OperandOutOfRange, UnusedOperand, TooHeavy, NotAhead, Unsettled, SheetLine, InsLine, Contents, Verdict, ProgramReading, TooLarge, BadTerms, NoAllowance}
+use Rattle.construction.specs.Types.{Instruction, Encoded, Format, Unknown, Known, Decoded, Refusal, TooLong, Malformed, OutOfRange, UnknownCode}
+use Rattle.construction.specs.Types.{NoProcess, NoProgram, Busy, NotBusy, NoPlace, LimitReached, ShortBuffer, OperandOutOfRange, UnusedOperand, TooHeavy}
+use Rattle.construction.specs.Types.{NotAhead, Unsettled, SheetLine, InsLine, Contents, Verdict, ProgramReading, TooLarge, BadTerms, NoAllowance}
 use Rattle.construction.specs.Instructions.{inRange, rowOf, ranged, unusedZero, eachOperand, decodeAs, decode, encoded}
 use Rattle.construction.specs.Weight.{weight, cardWeight}
 use Rattle.construction.specs.Lines.{sheetWord, insWord, judgeSheet, sheetLine, insOf, judgeIns, insLine}

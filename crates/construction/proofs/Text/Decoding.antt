@@ -8,8 +8,10 @@ use lib.ListN.{length, getD, List·getD-eq-default}
 use native.Mathlib.Omega.{arith}
 use borrow.Author.Tests.{eqb-true, ltb-true, eq-eqb, ne-eqb, not-false}
 use Rattle.grammar.proofs.RoundTrip.{Small}
-use Rattle.construction.specs.Types.{Instruction, OperandKind, Unused, Register, Word, Variable, Skip, Format, Unknown, Known, Decoded, Encoded, UnknownCode, OperandOutOfRange, UnusedOperand}
-use Rattle.construction.specs.Instructions.{CodeRow, noRow, codes, rowOf, instructionOf, ranged, unusedZero, eachOperand, decode, decodeAs, encoded, encode}
+use Rattle.construction.specs.Types.{Instruction, OperandKind, Unused, Register, Word, Variable, Skip, Format, Unknown, Known, Decoded, Encoded}
+use Rattle.construction.specs.Types.{UnknownCode, OperandOutOfRange, UnusedOperand}
+use Rattle.construction.specs.Instructions.{CodeRow, noRow, codes, rowOf, instructionOf, ranged, unusedZero, eachOperand, decode, decodeAs, encoded}
+use Rattle.construction.specs.Instructions.{encode}
 use Rattle.construction.proofs.Basics.{on-test, and-true, clash}
 use Rattle.construction.proofs.Text.Lines.{range-true}
 
@@ -66,8 +68,46 @@ Sound k (Known ka kb kc) = (a b c : ℕ) → Keeps (encoded k a b c) (keptOf ka 
 codes-sound : (k : ℕ) → Sound k (rowOf k .format)
 unfolding encode
 codes-sound =
-    rows-at (λ k r. Sound k (r .format)) codes
-    (tt, (λ a b c. (refl, refl, refl), (λ a b c. (refl, refl, refl), (λ a b c. (refl, refl, refl), (λ a b c. (refl, refl, refl), (λ a b c. (refl, refl, refl), (λ a b c. (refl, refl, refl), (λ a b c. (refl, refl, refl), (λ a b c. (refl, refl, refl), (λ a b c. (refl, refl, refl), (λ a b c. (refl, refl, refl), (λ a b c. (refl, refl, refl), (λ a b c. (refl, refl, refl), (λ a b c. (refl, refl, refl), (λ a b c. (refl, refl, refl), λ k. tt)))))))))))))))
+    rows-at (λ k r. Sound k (r .format)) codes (
+      tt,
+      (
+        λ a b c. (refl, refl, refl),
+        (
+          λ a b c. (refl, refl, refl),
+          (
+            λ a b c. (refl, refl, refl),
+            (
+              λ a b c. (refl, refl, refl),
+              (
+                λ a b c. (refl, refl, refl),
+                (
+                  λ a b c. (refl, refl, refl),
+                  (
+                    λ a b c. (refl, refl, refl),
+                    (
+                      λ a b c. (refl, refl, refl),
+                      (
+                        λ a b c. (refl, refl, refl),
+                        (
+                          λ a b c. (refl, refl, refl),
+                          (
+                            λ a b c. (refl, refl, refl),
+                            (
+                              λ a b c. (refl, refl, refl),
+                              (λ a b c. (refl, refl, refl), (λ a b c. (refl, refl, refl), λ k. tt)),
+                            ),
+                          ),
+                        ),
+                      ),
+                    ),
+                  ),
+                ),
+              ),
+            ),
+          ),
+        ),
+      ),
+    )
 
 -- what decodes encodes to the same numbers, which no reading has kept down
 pub record Decodes (x : Encoded) (y : Instruction) : Type 0 where

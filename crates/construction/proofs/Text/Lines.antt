@@ -11,7 +11,8 @@ use Rattle.grammar.specs.Reading.{field, four, hasWord}
 use Rattle.construction.proofs.Basics.{on-test, and-true, clash}
 use Rattle.construction.specs.Types.{Instruction, Decoded, Encoded, Malformed, OutOfRange, CardLine, VarLine, SheetLine, InsLine}
 use Rattle.construction.specs.Instructions.{inRange, decode, encoded}
-use Rattle.construction.specs.Lines.{cardWord, varWord, sheetWord, insWord, cardFits, cardLine, judgeCard, varLine, judgeVar, sheetLine, judgeSheet, insOf, insLine, judgeIns}
+use Rattle.construction.specs.Lines.{cardWord, varWord, sheetWord, insWord, cardFits, cardLine, judgeCard, varLine, judgeVar, sheetLine, judgeSheet}
+use Rattle.construction.specs.Lines.{insOf, insLine, judgeIns}
 
 pub range-true : (low high x : ℕ) → inRange low high x ≡ true → (low ≤ x) × (x ≤ high)
 range-true low high x e = let h = and-true (leb low x) (leb x high) e in (leb-true low x (h .0), leb-true x high (h .1))
@@ -63,7 +64,8 @@ pub record CardRead (t : List ℕ) (at p n s l i : ℕ) : Type 0 where
 pub card-read : (t : List ℕ) (at p n s l i : ℕ) → cardLine t at ≡ CardLine.Fields p n s l i → CardRead t at p n s l i
 unfolding cardLine judgeCard
 card-read t at p n s l i =
-    on-test (λ (z : CardLine). z ≡ CardLine.Fields p n s l i → CardRead t at p n s l i) (hasWord t at cardWord) (λ h. go h (four t (at + 5)) refl) (λ h e. clash (cc))
+    on-test (λ (z : CardLine). z ≡ CardLine.Fields p n s l i → CardRead t at p n s l i) (hasWord t at cardWord) (λ h. go h (four t (at + 5)) refl)
+    (λ h e. clash (cc))
   where
     go : hasWord t at cardWord ≡ true → (f : Numbers) → four t (at + 5) ≡ f → judgeCard f ≡ CardLine.Fields p n s l i → CardRead t at p n s l i
     go h (Numbers.Values a b c d j) q =
@@ -135,7 +137,8 @@ pub record SheetRead (t : List ℕ) (at m i : ℕ) : Type 0 where
 pub sheet-read : (t : List ℕ) (at m i : ℕ) → sheetLine t at ≡ SheetLine.Length m i → SheetRead t at m i
 unfolding sheetLine judgeSheet
 sheet-read t at m i =
-    on-test (λ (z : SheetLine). z ≡ SheetLine.Length m i → SheetRead t at m i) (hasWord t at sheetWord) (λ h. go h (field t 10 (at + 6)) refl) (λ h e. clash (cc))
+    on-test (λ (z : SheetLine). z ≡ SheetLine.Length m i → SheetRead t at m i) (hasWord t at sheetWord) (λ h. go h (field t 10 (at + 6)) refl)
+    (λ h e. clash (cc))
   where
     go : hasWord t at sheetWord ≡ true → (f : Number) → field t 10 (at + 6) ≡ f → judgeSheet f ≡ SheetLine.Length m i → SheetRead t at m i
     go h (Number.Value w j) q =
@@ -154,7 +157,8 @@ module _ (n : ℕ) (t : List ℕ) (at : ℕ) {w : Bool} (e : w ≡ hasWord t at 
     unfolding insLine judgeIns
     ins-malformed q = rw (← e, p, ← q)
 
-    pub ins-decoded : {k a b c i : ℕ} {d : Decoded} {r : InsLine} → Numbers.Values k a b c i ≡ four t (at + 4) → d ≡ decode n (encoded k a b c) → r ≡ insOf d i → r ≡ insLine n t at
+    pub ins-decoded : {k a b c i : ℕ} {d : Decoded} {r : InsLine} → Numbers.Values k a b c i ≡ four t (at + 4) → d ≡ decode n (encoded k a b c) →
+        r ≡ insOf d i → r ≡ insLine n t at
     unfolding insLine judgeIns
     ins-decoded q f z = z ∙ rw (← e, p, ← q, ← f)
 

@@ -8,7 +8,9 @@ use borrow.Author.Tests.{ltb-false}
 use Rattle.construction.specs.Types.{Instruction, Refusal, TooHeavy, CardLine, VarLine, SheetLine, InsLine, Verdict, ProgramReading, Reading}
 use Rattle.construction.specs.Instructions.{noLine}
 use Rattle.construction.specs.Weight.{weight}
-use Rattle.construction.specs.Opening.{refusedAt, programRefusedAt, withLine, nextIns, insFrom, judgeWeight, weighed, programAfter, withProgram, nextProgram, withStart, nextVar, varsFrom, begun, programSoFar, soFar, ifAccepted, thenEnd, thenPrograms, afterCard}
+use Rattle.construction.specs.Opening.{refusedAt, programRefusedAt, withLine, nextIns, insFrom, judgeWeight, weighed, programAfter, withProgram}
+use Rattle.construction.specs.Opening.{nextProgram, withStart, nextVar, varsFrom, begun, programSoFar, soFar, ifAccepted, thenEnd, thenPrograms}
+use Rattle.construction.specs.Opening.{afterCard}
 use Rattle.construction.proofs.Basics.{on-test, clash}
 
 -- ---- what is read after the `card` line and after a `sheet` line
@@ -28,7 +30,8 @@ on-ins P (InsLine.Refused why) r k go f g = g why
 
 pub on-sheet :
     (P : ProgramReading → Type 0) (n most : ℕ) (t : List ℕ) (x : SheetLine) (line : ℕ) →
-    ((m i : ℕ) → x ≡ SheetLine.Length m i → P (weighed most (line + m) (insFrom n t m 0 (afterLength m i (suc line))))) → ((why : Refusal) → P (programRefusedAt why line)) →
+    ((m i : ℕ) → x ≡ SheetLine.Length m i → P (weighed most (line + m) (insFrom n t m 0 (afterLength m i (suc line))))) →
+    ((why : Refusal) → P (programRefusedAt why line)) →
     P (programAfter n most t x line)
 on-sheet P n most t (SheetLine.Length m i) line f g = f m i refl
 on-sheet P n most t (SheetLine.Refused why) line f g = g why

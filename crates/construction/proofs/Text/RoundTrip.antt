@@ -14,8 +14,10 @@ use Rattle.grammar.proofs.Bytes.{word-text}
 use Rattle.grammar.proofs.RoundTrip.{Small, field-text, four-text}
 use Rattle.construction.specs.Types.{Instruction, Encoded, Line, CardLine, VarLine, SheetLine, InsLine, Contents, Verdict, ProgramReading, Reading}
 use Rattle.construction.specs.Instructions.{noLine, noProgram}
-use Rattle.construction.specs.Lines.{cardWord, varWord, sheetWord, insWord, cardLine, varLine, sheetLine, insLine, cardText, varText, sheetText, encodedText, insText}
-use Rattle.construction.specs.Opening.{noContents, fresh, withLine, insFrom, readProgram, withProgram, programsFrom, withStart, varsFrom, atEnd, thenEnd, thenPrograms, readCard, opened}
+use Rattle.construction.specs.Lines.{cardWord, varWord, sheetWord, insWord, cardLine, varLine, sheetLine, insLine, cardText, varText, sheetText}
+use Rattle.construction.specs.Lines.{encodedText, insText}
+use Rattle.construction.specs.Opening.{noContents, fresh, withLine, insFrom, readProgram, withProgram, programsFrom, withStart, varsFrom, atEnd, thenEnd}
+use Rattle.construction.specs.Opening.{thenPrograms, readCard, opened}
 use Rattle.construction.specs.Writing.{varsText, linesText, programText, programsText, textOf}
 use Rattle.construction.proofs.Text.Lines.{card-read, var-read, sheet-read, ins-read}
 use Rattle.construction.proofs.Text.Decoding.{decoded-encodes}
@@ -122,7 +124,8 @@ lines-read n s t (suc m) k r h =
     let y : ProgramReading = withLine r k v i in
     let b : Line = record { instruction = v } in
     let q = lines-read n s t m (suc k) y (omega (arith, length-set (r .program .lines) k b)) e in
-    let g : getD (insFrom n t m (suc k) y .program .lines) k noLine ≡ b = q .below k (omega arith) ∙ getD-set-same (r .program .lines) k b noLine (omega arith) in
+    let g : getD (insFrom n t m (suc k) y .program .lines) k noLine ≡ b =
+    q .below k (omega arith) ∙ getD-set-same (r .program .lines) k b noLine (omega arith) in
     record {
       text = rw (g, append-assoc (insText v)) (ins-text n s t (r .at) v i f ∙ ap (λ (l : List ℕ). insText v ++ l) (q .text));
       length-kept = q .length-kept;

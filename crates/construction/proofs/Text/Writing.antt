@@ -35,7 +35,8 @@ module _ {whole : ℕ → ℕ → List ℕ} {piece : ℕ → List ℕ} (s : Seri
   series-begin b at m h = rw (let z : m - 0 ≡ m = omega arith in z) (rest-all b at (whole m 0) h)
 
   module _ {b₀ : List ℕ} {at : ℕ} {text b : List ℕ} {i : ℕ} (m k : ℕ) where
-    pub series-turn : {x : List ℕ} {j : ℕ} {z : List ℕ} → k < m → Rest b₀ at text b i (whole (m - k) k) → x ≡ piece k → Put b i x j z → Rest b₀ at text z j (whole (m - (k + 1)) (k + 1))
+    pub series-turn : {x : List ℕ} {j : ℕ} {z : List ℕ} → k < m → Rest b₀ at text b i (whole (m - k) k) → x ≡ piece k → Put b i x j z →
+        Rest b₀ at text z j (whole (m - (k + 1)) (k + 1))
     series-turn {x} {j} {z} h r e p =
         let n : m - k ≡ suc (m - (k + 1)) = omega arith in
         let w : whole (m - k) k ≡ x ++ whole (m - (k + 1)) (k + 1) =
@@ -73,7 +74,8 @@ put-nothing c b h = rw (eq-eqb (c .processCount) 0 h) (record { place = refl; by
 
 module _ {b : List ℕ} {i j k l : ℕ} {z₁ z₂ z₃ z₄ : List ℕ} where
   pub put-card :
-      (c : Card) → (c .processCount ≡ 0 → ⊥) → Room b 0 → Put b 0 cardWord i z₁ → Put z₁ i (fourText (c .processCount) (c .variableCount) (c .programCount) (c .limit)) j z₂ →
+      (c : Card) → (c .processCount ≡ 0 → ⊥) → Room b 0 → Put b 0 cardWord i z₁ →
+      Put z₁ i (fourText (c .processCount) (c .variableCount) (c .programCount) (c .limit)) j z₂ →
       Put z₂ j (varsText (c .variableCount) 0 (c .starts)) k z₃ → Put z₃ k (programsText (c .programCount) 0 (c .programs)) l z₄ → Put b 0 (textOf c) l z₄
   unfolding textOf cardText
   put-card c h room p q r s =

@@ -7,17 +7,18 @@ use mathlib.Core.List.{List}
 use native.Mathlib.Omega.{arith}
 use lib.ListN.{getD, set}
 use lib.Seq.{getD-set-same, set-getD}
-use Rattle.construction.specs.Types.{Flag, Done, Active, Exit, Announcement, Label, Idle, P3, P5, P7, P10, C2, C4, P13, P19, P20, P21, P22, F1, AnnouncementAccess, Access, Card}
+use Rattle.construction.specs.Types.{Flag, Done, Active, Exit, Announcement, Label, Idle, P3, P5, P7, P10, C2, C4, P13, P19, P20, P21, P22, F1}
+use Rattle.construction.specs.Types.{AnnouncementAccess, Access, Card}
 use Rattle.construction.specs.Cells.{openAnnouncement, sameAnnouncement, swapAnnouncement}
 use Rattle.construction.specs.Parts.{Local, localAt, contentsOf, announcementAt, withAnnouncement, withLocal}
 use Rattle.construction.specs.Machine.{goTo, byFlag, whose, announced, withdrawn, accessAnnouncement, perform}
 use Rattle.construction.specs.Weight.{cardWeight}
 use Rattle.construction.proofs.Basics.{on-test, sameAnnouncement-false, active-not-exit}
 use Rattle.construction.proofs.Invariant.World.{World}
-use Rattle.construction.proofs.Invariant.Acting.{Before, atTask, atAnnouncement, place-fits}
+use Rattle.construction.proofs.Invariant.Acting.{Before, atControl, atAnnouncement, place-fits}
 use Rattle.construction.proofs.Waiting.Turns.{Turn, turn-after}
 use Rattle.construction.proofs.Waiting.Courses.{Tally, CourseAt, last-lap}
-use Rattle.construction.proofs.Waiting.Going.{CourseIn, Now, Went, one-more, put-course}
+use Rattle.construction.proofs.Waiting.CourseSteps.{CourseIn, Now, CourseStep, one-more, put-course}
 
 -- an operation that is still active at P22 has completed one more iteration
 abbrev lapsBy : Flag → ℕ → ℕ
@@ -44,14 +45,14 @@ module _ {c : Card} {w : World} {i : ℕ} (B : Before c w i) (small : localAt c 
   set-own a =
       getD-set-same (c .announcements) i a openAnnouncement (omega (arith, place-fits B, B .good .lengths .announcements))
 
-  pub at-P3 : Now c i x P3 → Went c i x (Access.Announcement AnnouncementAccess.Announce)
+  pub at-P3 : Now c i x P3 → CourseStep c i x (Access.Announcement AnnouncementAccess.Announce)
   unfolding perform accessAnnouncement
   at-P3 q =
       let T : Turn p (c .gate .seq) i = turn-after p (c .gate .seq) i (B .inside) in
       let y : Tally = record { turn = T .number; laps = 0; spent = 0 } in
       let a : Announcement = announced (localAt c i .operation) (localAt c i .gate) in
-      Went.announced y (T .after) (T .own) refl
-      (put-course B (c .gate) (set (c .announcements) i a) (c .records) (atAnnouncement (localAt c i) a (goTo (localAt c i .task) P5)) y (
+      CourseStep.announced y (T .after) (T .own) refl
+      (put-course B (c .gate) (set (c .announcements) i a) (c .records) (atAnnouncement (localAt c i) a (goTo (localAt c i .control) P5)) y (
         record { few = omega arith; low = omega (arith, T .near); wished = omega arith; cost = omega (arith, q) },
         refl,
         λ _. set-own a,
@@ -72,28 +73,28 @@ module _ {c : Card} {w : World} {i : ℕ} (B : Before c w i) (small : localAt c 
   -- lines P7 and C4: by the flag that is read
   at-own :
       (next : Label) → At F1 (announcementAt c i) x (read i F1) → At next (announcementAt c i) x (read i next) →
-      Went c i x (Access.Announcement (AnnouncementAccess.ReadOwn F1 next next))
+      CourseStep c i x (Access.Announcement (AnnouncementAccess.ReadOwn F1 next next))
   unfolding perform accessAnnouncement
-  at-own next d a = Went.went x refl refl refl (reads i _ x (go (announcementAt c i .flag)))
+  at-own next d a = CourseStep.continued x refl refl refl (reads i _ x (go (announcementAt c i .flag)))
     where
       go : (f : Flag) → At (byFlag f F1 next next) (announcementAt c i) x (read i (byFlag f F1 next next))
       go Done = d
       go Active = a
       go Exit = a
 
-  pub at-P7 : Now c i x P7 → Went c i x (Access.Announcement (AnnouncementAccess.ReadOwn F1 P10 P10))
+  pub at-P7 : Now c i x P7 → CourseStep c i x (Access.Announcement (AnnouncementAccess.ReadOwn F1 P10 P10))
   at-P7 q = at-own P10 (omega (arith, last-lap q (omega arith))) (one-more small q _ 1 (omega arith) (omega arith) _ _ _ _ _ _)
 
-  pub at-C4 : Now c i x C4 → Went c i x (Access.Announcement (AnnouncementAccess.ReadOwn F1 P13 P13))
+  pub at-C4 : Now c i x C4 → CourseStep c i x (Access.Announcement (AnnouncementAccess.ReadOwn F1 P13 P13))
   at-C4 q = at-own P13 (omega (arith, last-lap q (omega arith))) (one-more small q _ 4 (omega arith) (omega arith) _ _ _ _ _ _)
 
   -- line P22: an operation that is still active begins one more iteration, before its turn is over
   pub at-P22 :
       (announcementAt c i .flag ≡ Active → (x .spent ≡ 0) × (c .gate .seq ≤ x .turn)) → Now c i x P22 →
-      Went c i x (Access.Announcement (AnnouncementAccess.ReadOwn F1 P5 Idle))
+      CourseStep c i x (Access.Announcement (AnnouncementAccess.ReadOwn F1 P5 Idle))
   unfolding perform accessAnnouncement
   at-P22 due q =
-      Went.went (again (announcementAt c i .flag) x) refl refl refl
+      CourseStep.continued (again (announcementAt c i .flag) x) refl refl refl
       (reads i _ (again (announcementAt c i .flag) x) (go (announcementAt c i .flag) refl))
     where
       go :
@@ -113,9 +114,9 @@ module _ {c : Card} {w : World} {i : ℕ} (B : Before c w i) (small : localAt c 
           )
       go Exit e = omega (arith, last-lap (q .0) (omega arith))
 
-  pub at-C2 : Now c i x C2 → Went c i x (Access.Announcement AnnouncementAccess.ReadFirst)
+  pub at-C2 : Now c i x C2 → CourseStep c i x (Access.Announcement AnnouncementAccess.ReadFirst)
   unfolding perform accessAnnouncement
-  at-C2 q = Went.went x refl refl refl (reads m _ x (go (announcementAt c m .flag)))
+  at-C2 q = CourseStep.continued x refl refl refl (reads m _ x (go (announcementAt c m .flag)))
     where
       m : ℕ
       m = whose AnnouncementAccess.ReadFirst p i (localAt c i .gate)
@@ -127,12 +128,12 @@ module _ {c : Card} {w : World} {i : ℕ} (B : Before c w i) (small : localAt c 
 
   -- process i at a place, and its course after a swap of the announcement of m
   abbrev at : Label → Local
-  at l = atTask (localAt c i) (goTo (localAt c i .task) l)
+  at l = atControl (localAt c i) (goTo (localAt c i .control) l)
 
   abbrev swapped : ℕ → Announcement → Label → Card
   swapped m a l = withLocal (withAnnouncement c m a) i (at l)
 
-  pub at-P6 : localAt c i .exit ≡ true → Now c i x P5 → Went c i x (Access.Announcement AnnouncementAccess.Withdraw)
+  pub at-P6 : localAt c i .exit ≡ true → Now c i x P5 → CourseStep c i x (Access.Announcement AnnouncementAccess.Withdraw)
   unfolding perform accessAnnouncement swapAnnouncement
   at-P6 wish q =
       let both =
@@ -141,7 +142,7 @@ module _ {c : Card} {w : World} {i : ℕ} (B : Before c w i) (small : localAt c 
       (sameAnnouncement (announcementAt c i) (localAt c i .announcement))
       (λ _. withdraws (withdrawn (localAt c i .announcement) (localAt c i .operation)) (λ e. active-not-exit e refl))
       (λ e. withdraws (announcementAt c i) (λ f. sameAnnouncement-false _ _ e (q .2 f))) in
-      Went.withdrew y (both .0) (both .1)
+      CourseStep.withdrew y (both .0) (both .1)
     where
       y : Tally
       y = record { turn = x .turn; laps = x .laps; spent = 2 }
@@ -162,14 +163,14 @@ module _ {c : Card} {w : World} {i : ℕ} (B : Before c w i) (small : localAt c 
 
   -- lines P19 and P20
   at-finish :
-      (f : Flag) (l : Label) → ((a : Announcement) → At l a x (at l)) → Went c i x (Access.Announcement (AnnouncementAccess.Finish f l))
+      (f : Flag) (l : Label) → ((a : Announcement) → At l a x (at l)) → CourseStep c i x (Access.Announcement (AnnouncementAccess.Finish f l))
   unfolding perform accessAnnouncement
   at-finish f l q =
       let s : List Announcement = perform (Access.Announcement (AnnouncementAccess.Finish f l)) c i .card .announcements in
-      Went.went x refl refl refl (put-course B (c .gate) s (c .records) (at l) x (q (getD s i openAnnouncement)))
+      CourseStep.continued x refl refl refl (put-course B (c .gate) s (c .records) (at l) x (q (getD s i openAnnouncement)))
 
-  pub at-P19 : Now c i x P19 → Went c i x (Access.Announcement (AnnouncementAccess.Finish Active P20))
+  pub at-P19 : Now c i x P19 → CourseStep c i x (Access.Announcement (AnnouncementAccess.Finish Active P20))
   at-P19 q = at-finish Active P20 (λ _. one-more small q _ _ (omega arith) (omega arith) _ _ _ _ _ _)
 
-  pub at-P20 : Now c i x P20 → Went c i x (Access.Announcement (AnnouncementAccess.Finish Exit P21))
+  pub at-P20 : Now c i x P20 → CourseStep c i x (Access.Announcement (AnnouncementAccess.Finish Exit P21))
   at-P20 q = at-finish Exit P21 (λ _. one-more small q _ _ (omega arith) (omega arith) _ _ _ _ _ _)

@@ -8,9 +8,9 @@ use native.Mathlib.Omega.{arith}
 use native.Mathlib.Decide.{ℕ-discrete}
 use lib.ListN.{getD}
 use borrow.Author.Tests.{not-true}
-use Rattle.construction.specs.Types.{Gate, Active, Words, Announcement, Label, Task, Card, Contents, Program}
+use Rattle.construction.specs.Types.{Gate, Active, Words, Announcement, Label, Control, Card, Contents, Program}
 use Rattle.construction.specs.Cells.{openAnnouncement}
-use Rattle.construction.specs.Parts.{idleTask, Local, localAt, contentsOf, announcementAt, withLocal, withRevision}
+use Rattle.construction.specs.Parts.{idleControl, Local, localAt, contentsOf, announcementAt, withLocal, withRevision}
 use Rattle.construction.specs.Machine.{accessIn, advance}
 use Rattle.construction.specs.Requests.{isBusy, invoked, exiting}
 use Rattle.construction.specs.Opening.{fresh}
@@ -24,7 +24,7 @@ use Rattle.construction.proofs.Invariant.Cards.{CardInvariant, Stepped,
 use Rattle.construction.proofs.Invariant.ActiveFlags.{access-active}
 use Rattle.construction.proofs.Waiting.Courses.{Tally, CourseAt, Onward, course-stays, course-exits}
 use Rattle.construction.proofs.Waiting.Choices.{ChoosesIn, Due}
-use Rattle.construction.proofs.Waiting.Going.{Went}
+use Rattle.construction.proofs.Waiting.CourseSteps.{CourseStep}
 use Rattle.construction.proofs.Waiting.DueSteps.{due-step}
 use Rattle.construction.proofs.Waiting.Steps.{at-place}
 use Rattle.construction.proofs.Basics.{nobody-process, active-not-done, getD-replicate-same}
@@ -34,7 +34,7 @@ pub record Waits (F : Contents) (c : Card) (j : ℕ) : Type 0 where
   pub tally : Tally
   pub frugal : announcementAt c j .flag ≡ Active → tally .spent ≡ 0
   pub due : announcementAt c j .flag ≡ Active → Due (F .processCount) (c .gate) (localAt c) j (tally .turn)
-  pub course : CourseAt (localAt c j .task .place) (F .processCount) (cardWeight F) (c .gate) (announcementAt c j) tally (localAt c j)
+  pub course : CourseAt (localAt c j .control .place) (F .processCount) (cardWeight F) (c .gate) (announcementAt c j) tally (localAt c j)
 
 abbrev pub AllWait : Contents → Card → Type 0
 AllWait F c = (j : ℕ) → j < F .processCount → Waits F c j
@@ -65,14 +65,14 @@ module _ {c : Card} {w : World} {i : ℕ} (I : CardInvariant c w) (W : AllWait (
   acting : Waits F (advance c i) i
   unfolding advance
   acting = go (at-place (before-step I lt h) (omega (arith, I .counts i, I .capped)) (X .tally) (λ e. (X .frugal e, X .due e .high))
-      (localAt c i .task .place) (localAt c i .exit) refl (not-true _ busy)
+      (localAt c i .control .place) (localAt c i .exit) refl (not-true _ busy)
       (subst (λ (v : World). Loc (frameOf c w) v i (localAt c i)) (sym (I .cells)) (I .locs i lt)) (X .course))
     where
       X : Waits F c i
       X = W i lt
 
-      go : Went c i (X .tally) (accessIn (localAt c i)) → Waits F (advance c i) i
-      go (Went.announced y l own z q) = record {
+      go : CourseStep c i (X .tally) (accessIn (localAt c i)) → Waits F (advance c i) i
+      go (CourseStep.announced y l own z q) = record {
         tally = y;
         frugal = λ _. z;
         due = λ _. record {
@@ -83,8 +83,8 @@ module _ {c : Card} {w : World} {i : ℕ} (I : CardInvariant c w) (W : AllWait (
         };
         course = q;
       }
-      go (Went.withdrew y n q) = record { tally = y; frugal = λ e. absurd (n e); due = λ e. absurd (n e); course = q }
-      go (Went.went y n zt zs q) = record {
+      go (CourseStep.withdrew y n q) = record { tally = y; frugal = λ e. absurd (n e); due = λ e. absurd (n e); course = q }
+      go (CourseStep.continued y n zt zs q) = record {
         tally = y;
         frugal = λ e. zs ∙ X .frugal (access-active _ c i n e);
         due = λ e. subst (λ (k : ℕ). Due (c .processCount) (advance c i .gate) (localAt (advance c i)) i k) (sym zt)
@@ -124,9 +124,9 @@ module _ {c : Card} {w : World} {i : ℕ} (I : CardInvariant c w) (W : AllWait (
       course =
           subst
           (λ (t : Local).
-          CourseAt (t .task .place) (F .processCount) (cardWeight F) (advance c i .gate) (announcementAt (advance c i) j) (X .tally) t)
+          CourseAt (t .control .place) (F .processCount) (cardWeight F) (advance c i .gate) (announcementAt (advance c i) j) (X .tally) t)
           (sym (S .elsewhere j ne))
-          (course-stays (localAt c j .task .place) (F .processCount) (cardWeight F) (X .tally) (localAt c j) onward own-stays (X .course));
+          (course-stays (localAt c j .control .place) (F .processCount) (cardWeight F) (X .tally) (localAt c j) onward own-stays (X .course));
     }
 
   pub wait-step : AllWait F (advance c i)
@@ -161,11 +161,11 @@ module _ {c : Card} {w : World} {i : ℕ} (I : CardInvariant c w) (W : AllWait (
 
   wait-put :
       (y : Tally) → (announcementAt c i .flag ≡ Active → (y .spent ≡ 0) × Due (c .processCount) (c .gate) (localAt c) i (y .turn)) →
-      CourseAt (t .task .place) (c .processCount) (cardWeight (contentsOf c)) (c .gate) (announcementAt c i) y t → AllWait (contentsOf c) v
+      CourseAt (t .control .place) (c .processCount) (cardWeight (contentsOf c)) (c .gate) (announcementAt c i) y t → AllWait (contentsOf c) v
   wait-put y d q j lj = go (ℕ-discrete j i)
     where
       At : Local → Type 0
-      At s = CourseAt (s .task .place) (c .processCount) (cardWeight (contentsOf c)) (c .gate) (announcementAt c i) y s
+      At s = CourseAt (s .control .place) (c .processCount) (cardWeight (contentsOf c)) (c .gate) (announcementAt c i) y s
 
       own : Waits (contentsOf c) v i
       own = record {
@@ -186,7 +186,7 @@ module _ {c : Card} {w : World} {i : ℕ} (I : CardInvariant c w) (W : AllWait (
             course =
                 subst
                 (λ (s : Local).
-                CourseAt (s .task .place) (c .processCount) (cardWeight (contentsOf c)) (c .gate) (announcementAt c j) (X .tally) s)
+                CourseAt (s .control .place) (c .processCount) (cardWeight (contentsOf c)) (c .gate) (announcementAt c j) (X .tally) s)
                 (sym (local-other c i j t ne)) (X .course);
           }
 
@@ -206,7 +206,7 @@ pub wait-exit :
 wait-exit {c} {w} {i} I W lt =
     let X = W i lt in
     wait-put I W lt (exiting (localAt c i)) (λ _ q. q) (X .tally) (λ e. (X .frugal e, X .due e))
-    (course-exits (localAt c i .task .place) (c .processCount) (cardWeight (contentsOf c)) (c .gate) (announcementAt c i) (X .tally) (localAt c i)
+    (course-exits (localAt c i .control .place) (c .processCount) (cardWeight (contentsOf c)) (c .gate) (announcementAt c i) (X .tally) (localAt c i)
     (X .course))
 
 -- a card as opened
@@ -220,7 +220,7 @@ wait-fresh x j lj = record {
       subst
       (λ (l : Label).
       CourseAt l (x .processCount) (cardWeight x) (fresh x .gate) (announcementAt (fresh x) j) (record { turn = 0; laps = 0; spent = 0 }) (localAt (fresh x) j))
-      (sym (ap (λ (t : Task). t .place) (getD-replicate-same 8 j idleTask)))
+      (sym (ap (λ (t : Control). t .place) (getD-replicate-same 8 j idleControl)))
       (rw (getD-replicate-same {A = ℕ} 8 j 0) (omega arith));
 }
 

@@ -4,7 +4,8 @@ use mathlib.Core.Path.{_≡_, refl, sym, subst, ap, _∙_}
 use mathlib.Core.Bool.{Bool, true, false, true≢false}
 use mathlib.Core.Logic.{_≢_, _⊎_}
 use native.Mathlib.Omega.{arith}
-use Rattle.construction.specs.Types.{Nobody, Process, Gate, Flag, Done, Active, Exit, Label, Idle, P1, P3, P5, P7, P10, C2, C4, P13, P14, P16, H21, H36, P19, P20, P21, P22, F1, F3, P6, AnnouncementAccess, Access, Card}
+use Rattle.construction.specs.Types.{Nobody, Process, Gate, Flag, Done, Active, Exit, Label, Idle, P1, P3, P5, P7, P10, C2, C4, P13, P14, P16, H21, H36}
+use Rattle.construction.specs.Types.{P19, P20, P21, P22, F1, F3, P6, AnnouncementAccess, Access, Card}
 use Rattle.construction.specs.Parts.{Local, localAt, announcementAt, withAnnouncement, withLocal}
 use Rattle.construction.specs.Machine.{byFlag, firstChoice, whose, accessOf, accessAnnouncement, perform}
 use Rattle.construction.specs.Requests.{isIdle}
@@ -29,7 +30,7 @@ abbrev pub Chooses : Label → ℕ → Gate → Gate → ℕ → Type 0
 Chooses l j g h m = (c : Chooser l) → Picks c j g h m
 
 abbrev pub ChoosesIn : ℕ → Gate → Local → Type 0
-ChoosesIn j g t = Chooses (t .task .place) j g (t .gate) (t .task .target)
+ChoosesIn j g t = Chooses (t .control .place) j g (t .gate) (t .control .target)
 
 -- the active operation of process j has its turn at a number: the gate is not past it, and at it the gate is free or held by j, and every
 -- chooser chooses j. T gives the own state of each of the p processes.
@@ -42,7 +43,7 @@ pub record Due (p : ℕ) (g : Gate) (T : ℕ → Local) (j turn : ℕ) : Type 0 
 -- a chooser read a free gate, with a number not above that of now
 module _ (F : Frame) (w : World) (q j : ℕ) (g : Gate) (t : Local)
     (other : t .gate .holder ≡ Nobody → t .gate .seq ≤ w .gate .seq → t .gate ≢ g) where
-  pub apart : (l : Label) → LocAt l F w q (known t) → Chooses l j g (t .gate) (t .task .target)
+  pub apart : (l : Label) → LocAt l F w q (known t) → Chooses l j g (t .gate) (t .control .target)
   apart C4 k Chooser.unsure = other (k .1) (k .2)
   apart P13 k Chooser.nominating = λ e. absurd (other (k .1) (k .3 .below) e)
 
@@ -58,7 +59,7 @@ module _ (c : Card) (i j turn : ℕ) (sizes : Sizes c) (few : i < 8) (lt : i < c
   Aside l = Chooser l → ⊥
 
   aside : (a : Access) → Leads Aside a → Choosing (perform a c i .card)
-  aside a q _ s = absurd (leads Aside c i (omega (arith, sizes .tasks)) a q s)
+  aside a q _ s = absurd (leads Aside c i (omega (arith, sizes .controls)) a q s)
 
   -- process i with the announcement of m read, and at a place
   abbrev read : ℕ → Label → Local
@@ -91,19 +92,19 @@ module _ (c : Card) (i j turn : ℕ) (sizes : Sizes c) (few : i < 8) (lt : i < c
       go Exit f Chooser.unsure = λ z. active-not-exit (is-active z) f
 
   -- line C4: whoever stands there has read another gate
-  choose-C4 : localAt c i .task .place ≡ C4 → Choosing (perform (Access.Announcement (AnnouncementAccess.ReadOwn F1 P13 P13)) c i .card)
+  choose-C4 : localAt c i .control .place ≡ C4 → Choosing (perform (Access.Announcement (AnnouncementAccess.ReadOwn F1 P13 P13)) c i .card)
   unfolding perform accessAnnouncement
   choose-C4 at e = reads i _ (go (announcementAt c i .flag))
     where
       late : localAt c i .gate ≢ c .gate
-      late = subst (λ (l : Label). Chooses l j (c .gate) (localAt c i .gate) (localAt c i .task .target)) at (D .chosen e i lt) Chooser.unsure
+      late = subst (λ (l : Label). Chooses l j (c .gate) (localAt c i .gate) (localAt c i .control .target)) at (D .chosen e i lt) Chooser.unsure
 
       go : (f : Flag) → Chooses (byFlag f F1 P13 P13) j (c .gate) (localAt c i .gate) i
       go Active Chooser.nominating = λ z. absurd (late z)
       go Exit Chooser.nominating = λ z. absurd (late z)
 
   -- every place
-  pub chooses : (l : Label) (exit : Bool) → localAt c i .task .place ≡ l → isIdle l ≡ false → Choosing (perform (accessOf l exit) c i .card)
+  pub chooses : (l : Label) (exit : Bool) → localAt c i .control .place ≡ l → isIdle l ≡ false → Choosing (perform (accessOf l exit) c i .card)
   unfolding accessOf
   chooses Idle exit at n = absurd (true≢false n)
   chooses P1 exit at n = aside _ (elim [ ], elim [ ])

@@ -5,7 +5,8 @@ use mathlib.Core.Bool.{Bool, true, false}
 use mathlib.Core.Logic.{_⊎_, inl, ⊎-elim}
 use native.Mathlib.Omega.{arith}
 use native.Mathlib.Nat.{mul-le-mul-right}
-use Rattle.construction.specs.Types.{Nobody, Gate, Active, Announcement, Label, Idle, P1, P3, P5, P7, P10, C2, C4, P13, P14, P16, H21, H36, P19, P20, P21, P22, F1, F3, P6}
+use Rattle.construction.specs.Types.{Nobody, Gate, Active, Announcement, Label, Idle, P1, P3, P5, P7, P10, C2, C4, P13, P14, P16, H21, H36, P19, P20, P21}
+use Rattle.construction.specs.Types.{P22, F1, F3, P6}
 use Rattle.construction.specs.Parts.{Local}
 use Rattle.construction.specs.Requests.{exiting, withRequest}
 use Rattle.construction.specs.Waits.{longestWait, extra}
@@ -46,7 +47,7 @@ CourseAt P13 p w g a x t = Loop p w (t .gate .seq) 4 x t
 CourseAt P14 p w g a x t = Loop p w (g .seq) 5 x t × (g .holder ≡ Nobody → Ahead p g x)
 CourseAt P16 p w g a x t = Loop p w (t .gate .seq) 6 x t
 CourseAt H21 p w g a x t = Loop p w (t .gate .seq) (7 + t .dictionary .length) x t
-CourseAt H36 p w g a x t = Loop p w (t .gate .seq) (7 + t .dictionary .length + t .task .target) x t
+CourseAt H36 p w g a x t = Loop p w (t .gate .seq) (7 + t .dictionary .length + t .control .target) x t
 CourseAt P19 p w g a x t = Loop p w (t .gate .seq) (7 + 2 * w) x t
 CourseAt P20 p w g a x t = Loop p w (t .gate .seq) (8 + 2 * w) x t
 CourseAt P21 p w g a x t = Loop p w (t .gate .seq) (9 + 2 * w) x t

@@ -33,7 +33,7 @@ module _ {c : Card} {w : World} {i : ℕ} (I : CardInvariant c w) (lt : i < c .p
   acts : next .gate .seq ≡ turn → ChoosesIn j (next .gate) (localAt next i)
   unfolding advance
   acts =
-      chooses c i j turn (I .sizes) few lt D active (localAt c i .task .place) (localAt c i .exit) refl (not-true _ busy)
+      chooses c i j turn (I .sizes) few lt D active (localAt c i .control .place) (localAt c i .exit) refl (not-true _ busy)
 
   -- and the others, if they go on as they chose
   choose :
@@ -60,9 +60,9 @@ module _ {c : Card} {w : World} {i : ℕ} (I : CardInvariant c w) (lt : i < c .p
 
   given :
       (m : ℕ) (hn : w .gate .holder ≡ Nobody) → next .gate .holder ≡ Process m →
-      Nominee c i m (same-holder ∙ hn) (localAt c i .task .place)
+      Nominee c i m (same-holder ∙ hn) (localAt c i .control .place)
   unfolding advance
-  given m hn = nominee c i m (same-holder ∙ hn) (localAt c i .task .place) (localAt c i .exit)
+  given m hn = nominee c i m (same-holder ∙ hn) (localAt c i .control .place) (localAt c i .exit)
 
   -- the gate is given to m, and so to j if it is the turn of j
   due-taken :
@@ -73,7 +73,7 @@ module _ {c : Card} {w : World} {i : ℕ} (I : CardInvariant c w) (lt : i < c .p
     high = omega (arith, zs, same-seq, D .high);
     held = λ e. inr (zh ∙ ap Process (mine (same-seq ∙ (sym zs ∙ e))));
     chosen = choose (λ e q lq. apart (frameOf c w) w q j (next .gate) (localAt c q)
-        (λ h _ y. nobody-process h (ap (λ (g : Gate). g .holder) y ∙ zh)) (localAt c q .task .place) (I .locs q lq));
+        (λ h _ y. nobody-process h (ap (λ (g : Gate). g .holder) y ∙ zh)) (localAt c q .control .place) (I .locs q lq));
   }
     where
       zs : next .gate .seq ≡ w .gate .seq
@@ -82,13 +82,14 @@ module _ {c : Card} {w : World} {i : ℕ} (I : CardInvariant c w) (lt : i < c .p
       zh : next .gate .holder ≡ Process m
       zh = ap (λ (g : Gate). g .holder) z
 
-      N : Nominee c i m (same-holder ∙ hn) (localAt c i .task .place)
+      N : Nominee c i m (same-holder ∙ hn) (localAt c i .control .place)
       N = given m hn zh
 
       mine : c .gate .seq ≡ turn → m ≡ j
       mine e =
           sym (N .target)
-          ∙ subst (λ (l : Label). Chooses l j (c .gate) (localAt c i .gate) (localAt c i .task .target)) (N .place) (D .chosen e i lt) Chooser.nominating (N .gate)
+          ∙ subst (λ (l : Label). Chooses l j (c .gate) (localAt c i .gate) (localAt c i .control .target)) (N .place) (D .chosen e i lt) Chooser.nominating
+          (N .gate)
 
   -- the gate is given back for m, which is done, and so not at the turn of j
   due-freed :
@@ -101,7 +102,7 @@ module _ {c : Card} {w : World} {i : ℕ} (I : CardInvariant c w) (lt : i < c .p
     held = λ _. inl (ap (λ (g : Gate). g .holder) z);
     chosen = choose (λ e q lq. apart (frameOf c w) w q j (next .gate) (localAt c q)
         (λ _ le y. let s : localAt c q .gate .seq ≡ next .gate .seq = ap (λ (g : Gate). g .seq) y in omega (arith, zs))
-        (localAt c q .task .place) (I .locs q lq));
+        (localAt c q .control .place) (I .locs q lq));
   }
     where
       zs : next .gate .seq ≡ w .gate .seq + 1

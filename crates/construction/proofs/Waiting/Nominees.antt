@@ -27,10 +27,10 @@ module _ (c : Card) (i m : ℕ) (hn : c .gate .holder ≡ Nobody) where
   pub record Nominee (l : Label) : Type 0 where
     pub place : l ≡ P13
     pub gate : localAt c i .gate ≡ c .gate
-    pub target : localAt c i .task .target ≡ m
+    pub target : localAt c i .control .target ≡ m
 
   abbrev Won : Access → Type 0
-  Won a = Gives a × (localAt c i .gate ≡ c .gate) × (localAt c i .task .target ≡ m)
+  Won a = Gives a × (localAt c i .gate ≡ c .gate) × (localAt c i .control .target ≡ m)
 
   abbrev Giving : Access → Gate → Type 0
   Giving a g = g .holder ≡ Process m → Won a

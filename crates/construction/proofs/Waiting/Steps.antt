@@ -5,7 +5,8 @@ use mathlib.Core.Bool.{Bool, true, false, true≢false}
 use native.Mathlib.Omega.{arith}
 use native.Mathlib.Nat.{le-trans}
 use lib.ListN.{length-take}
-use Rattle.construction.specs.Types.{Gate, Active, Announcement, Label, Idle, P1, P3, P5, P7, P10, C2, C4, P13, P14, P16, H21, H36, P19, P20, P21, P22, F1, F3, P6, Card}
+use Rattle.construction.specs.Types.{Gate, Active, Announcement, Label, Idle, P1, P3, P5, P7, P10, C2, C4, P13, P14, P16, H21, H36, P19, P20, P21, P22}
+use Rattle.construction.specs.Types.{F1, F3, P6, Card}
 use Rattle.construction.specs.Parts.{Local, localAt, announcementAt}
 use Rattle.construction.specs.Machine.{accessOf}
 use Rattle.construction.specs.Requests.{isIdle}
@@ -15,7 +16,7 @@ use Rattle.construction.proofs.Invariant.World.{World, Frame, frameOf}
 use Rattle.construction.proofs.Invariant.Assertions.{LocAt, known}
 use Rattle.construction.proofs.Invariant.Acting.{worldOf, Before}
 use Rattle.construction.proofs.Waiting.Courses.{Tally, Loop, CourseAt, last-lap}
-use Rattle.construction.proofs.Waiting.Going.{Now, Went}
+use Rattle.construction.proofs.Waiting.CourseSteps.{Now, CourseStep}
 use Rattle.construction.proofs.Waiting.GateSteps.{at-P1, at-P10, at-P13, at-P14, at-P21, at-F1, at-F3}
 use Rattle.construction.proofs.Waiting.AnnouncementSteps.{at-P3, at-P6, at-P7, at-C2, at-C4, at-P19, at-P20, at-P22}
 use Rattle.construction.proofs.Waiting.HelpSteps.{at-P16, at-H21, at-H36}
@@ -24,7 +25,7 @@ module _ {c : Card} {w : World} {i : ℕ} (B : Before c w i) (small : localAt c 
     (due : announcementAt c i .flag ≡ Active → (x .spent ≡ 0) × (c .gate .seq ≤ x .turn)) where
   pub at-place :
       (l : Label) (exit : Bool) → localAt c i .exit ≡ exit → isIdle l ≡ false → LocAt l (frameOf c w) (worldOf c w) i (known (localAt c i)) →
-      Now c i x l → Went c i x (accessOf l exit)
+      Now c i x l → CourseStep c i x (accessOf l exit)
   unfolding accessOf
   at-place Idle exit e n k q = absurd (true≢false n)
   at-place P1 exit e n k q = at-P1 B small x q
@@ -49,7 +50,8 @@ module _ {c : Card} {w : World} {i : ℕ} (B : Before c w i) (small : localAt c 
   at-place P6 exit e n k q = absurd k
 
 -- an operation under way has made fewer steps than it may take
-module _ (F : Frame) (heavy : ℕ) (light : (k number : ℕ) → weight (F .programAt k number) ≤ heavy) (w : World) (j : ℕ) (g : Gate) (a : Announcement) (x : Tally) (t : Local) where
+module _ (F : Frame) (heavy : ℕ) (light : (k number : ℕ) → weight (F .programAt k number) ≤ heavy) (w : World) (j : ℕ) (g : Gate) (a : Announcement) (x : Tally)
+    (t : Local) where
   abbrev Left : Type 0
   Left = t .steps < longestWait (F .processCount) heavy + extra (t .exit)
 
@@ -73,7 +75,7 @@ module _ (F : Frame) (heavy : ℕ) (light : (k number : ℕ) → weight (F .prog
       in-loop q (omega arith)
   left H36 n k q =
       let few : t .dictionary .length ≤ heavy = le-trans (k .2 .room .few) (light (t .announcement .program) (t .gate .seq)) in
-      let inside : t .task .target < t .dictionary .length = omega (arith, k .3 .inside, length-take (t .dictionary .length) (t .dictionary .items)) in
+      let inside : t .control .target < t .dictionary .length = omega (arith, k .3 .inside, length-take (t .dictionary .length) (t .dictionary .items)) in
       in-loop q (omega arith)
   left P19 n k q = in-loop q (omega arith)
   left P20 n k q = in-loop q (omega arith)

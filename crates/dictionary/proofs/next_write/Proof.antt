@@ -22,10 +22,18 @@ end-is : (c : tie.After-noted Inv-loop μ-loop) → c .noted .result ≡ length 
 end-is c = c .noted .ensures ∙ rooms.count (c .before .args .t2) _ (c .before .good .1 .0)
 
 returns : tie.Need-returns Inv-loop μ-loop
-returns c = laws.write-here _ (c .before .before .before .before .before .before .args .t2) _ _ (c .before .before .before .before .loop .inv) (omega (arith, end-is (c .before .before .before .before .before))) (sym (c .before .altered .ensures) ∙ (c .if1 .taken))
+returns c =
+    let c4 = c .before .before .before .before in
+    let c5 = c4 .before in
+    let c6 = c5 .before in
+    laws.write-here _ (c6 .args .t2) _ _ (c4 .loop .inv) (omega (arith, end-is c5)) (sym (c .before .altered .ensures) ∙ (c .if1 .taken))
 
 loop-again : tie.Need-loop-again Inv-loop μ-loop
-loop-again c = laws.write-more _ (c .before .before .before .before .before .before .args .t2) _ _ (c .before .before .before .before .loop .inv) (omega (arith, end-is (c .before .before .before .before .before))) (sym (c .before .altered .ensures) ∙ (c .if1 .left))
+loop-again c =
+    let c4 = c .before .before .before .before in
+    let c5 = c4 .before in
+    let c6 = c5 .before in
+    laws.write-more _ (c6 .args .t2) _ _ (c4 .loop .inv) (omega (arith, end-is c5)) (sym (c .before .altered .ensures) ∙ (c .if1 .left))
 
 returns-2 : tie.Need-returns-2 Inv-loop μ-loop
 returns-2 c = laws.write-end _ (c .before .before .before .args .t2) _ _ (c .before .loop .inv) (omega (arith, end-is (c .before .before)))

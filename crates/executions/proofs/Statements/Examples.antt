@@ -3,13 +3,14 @@ use mathlib.Core.Path.{_≡_, refl}
 use mathlib.Core.List.{List, [], _∷_, _++_}
 use Prim.Native.Nat.{ℕ}
 use Rattle.executions.specs.declared.Request.{Request}
-use Rattle.construction.specs.declared.{Written.Written}
-use Rattle.construction.specs.declared.Refusal.the-variants.{NoProgram, TooLarge, ShortBuffer}
+use Rattle.construction.specs.declared.{texts.Written.Written}
+use Rattle.construction.specs.declared.answers.Refusal.the-variants.{NoProgram, TooLarge, ShortBuffer}
 use Rattle.construction.specs.Answers.{bytes, answerFields, fieldsText, numbersText}
 use Rattle.construction.specs.Opening.{opened}
 use Rattle.executions.specs.Schedules.{isQuiet, branches, listing, callsFrom, schedules}
 use Rattle.executions.specs.Listings.{numbersTogether, answersText, linesAfter, listingText, areCallable, listed, listedInto}
-use Rattle.construction.specs.Examples.{one, bodyK, cardK, cardK2, bodyFault}
+use Rattle.construction.specs.Examples.Terms.{one}
+use Rattle.construction.specs.Examples.Pieces.{bodyK, cardK, cardK2, bodyFault}
 use Rattle.construction.proofs.Statements.Computing.{observing}
 
 -- calls of program k with input x
@@ -50,7 +51,8 @@ pub record Computed : Type 0 where
   pub none : listed (opened [] .card) [] 1 (bytes "..") ≡ Written.Refused TooLarge
 
 pub computed : Computed
-unfolding observing listed listedInto listingText schedules listing branches isQuiet callsFrom numbersTogether answersText linesAfter areCallable answerFields fieldsText numbersText
+unfolding observing listed listedInto listingText schedules listing branches isQuiet callsFrom numbersTogether answersText linesAfter areCallable answerFields
+    fieldsText numbersText
 computed =
     record {
       alone = refl;

@@ -10,14 +10,15 @@ use lib.ListN.{length, getD, drop}
 use lib.Dec.{leb}
 use borrow.Author.Tests.{le-leb, lt-leb, leb-true, leb-false}
 use Rattle.executions.specs.declared.Request.{Request}
-use Rattle.construction.specs.declared.{Card.Card, Written.Written, Contents.Contents}
-use Rattle.construction.specs.declared.Refusal.the-variants.{NoProgram, ShortBuffer, TooLarge}
+use Rattle.construction.specs.declared.{card.Card.Card, texts.Written.Written, texts.Contents.Contents}
+use Rattle.construction.specs.declared.answers.Refusal.the-variants.{NoProgram, ShortBuffer, TooLarge}
 use Rattle.construction.specs.Answers.{fields, refusedWith, writtenFields}
 use Rattle.construction.specs.Requests.{isProgram}
 use Rattle.construction.specs.Opening.{fresh, opened}
 use Rattle.construction.specs.History.{Entry, run}
 use Rattle.executions.specs.Schedules.{noRequest, callsOf, schedules}
-use Rattle.executions.specs.Listings.{reopened, listingText, textAfter, pieceAfter, together, areCallable, isCallable, isListable, listed, listedInto, Callable, Listable}
+use Rattle.executions.specs.Listings.{reopened, listingText, textAfter, pieceAfter, together, areCallable, isCallable, isListable, listed, listedInto}
+use Rattle.executions.specs.Listings.{Callable, Listable}
 use Rattle.construction.proofs.Basics.{and-true, clash}
 use Rattle.construction.proofs.Statements.AnswerFields.{written-known}
 use Rattle.construction.proofs.Observing.Runs.{opened-consistent}
@@ -52,7 +53,8 @@ unfolding opened fresh
 as-opened t es = ap (λ (x : Contents). fresh x) (opened-consistent t es .text)
 
 -- the two tests
-callable-all : (o : Card) (calls : List Request) (m k : ℕ) → areCallable o calls m k ≡ true → (j : ℕ) → k ≤ j → j < k + m → isProgram o (getD calls j noRequest .program) ≡ true
+callable-all : (o : Card) (calls : List Request) (m k : ℕ) → areCallable o calls m k ≡ true → (j : ℕ) → k ≤ j → j < k + m →
+    isProgram o (getD calls j noRequest .program) ≡ true
 unfolding areCallable
 callable-all o calls zero k e j le lt = absurd (omega arith)
 callable-all o calls (suc m) k e j le lt = go (ℕ-discrete j k) (λ l. callable-all o calls m (suc k) (h .1) j l (omega arith))
@@ -64,7 +66,8 @@ callable-all o calls (suc m) k e j le lt = go (ℕ-discrete j k) (λ l. callable
     go (yes q) below = rw q (h .0)
     go (no n) below = below (omega arith)
 
-all-callable : (o : Card) (calls : List Request) (m k : ℕ) → ((j : ℕ) → k ≤ j → j < k + m → isProgram o (getD calls j noRequest .program) ≡ true) → areCallable o calls m k ≡ true
+all-callable : (o : Card) (calls : List Request) (m k : ℕ) → ((j : ℕ) → k ≤ j → j < k + m → isProgram o (getD calls j noRequest .program) ≡ true) →
+    areCallable o calls m k ≡ true
 unfolding areCallable
 all-callable o calls zero k h = refl
 all-callable o calls (suc m) k h =

@@ -11,15 +11,16 @@ use lib.Dec.{ltb}
 use lib.Seq.{getD-set-other}
 use borrow.Author.Tests.{lt-ltb}
 use Rattle.executions.specs.declared.Request.{Request}
-use Rattle.construction.specs.declared.{Task.Task, Card.Card, Answer.Answer, Answered.Answered, Contents.Contents}
-use Rattle.construction.specs.declared.Label.the-variants.{P1}
-use Rattle.construction.specs.Parts.{idleTask, contentsOf, localAt, withLocal}
+use Rattle.construction.specs.declared.{accesses.Control.Control, card.Card.Card, answers.Answer.Answer, answers.Answered.Answered, texts.Contents.Contents}
+use Rattle.construction.specs.declared.accesses.Label.the-variants.{P1}
+use Rattle.construction.specs.Parts.{idleControl, contentsOf, localAt, withLocal}
 use Rattle.construction.specs.Requests.{isProcess, isProgram, isIdle, isBusy, call, invoked}
 use Rattle.construction.specs.Opening.{fresh, opened}
 use Rattle.construction.specs.History.{Entry, run}
 use Rattle.construction.specs.Linearizability.{UnderWay, Linearizable}
 use Rattle.executions.specs.Listings.{reopened, Callable}
-use Rattle.executions.specs.Schedules.{noRequest, Execution, executionAt, listing, schedules, Lists, IsSchedule, scheduled, callsFrom, callsOf, stepsOf, AllTaken}
+use Rattle.executions.specs.Schedules.{noRequest, Execution, executionAt, listing, schedules, Lists, IsSchedule, scheduled, callsFrom, callsOf, stepsOf}
+use Rattle.executions.specs.Schedules.{AllTaken}
 use Rattle.construction.proofs.Basics.{true-or-false, true-false, getD-replicate-same}
 use Rattle.executions.proofs.UnderWay.{under-way-busy, busy-under-way}
 use Rattle.executions.proofs.Statements.Listings.{as-opened}
@@ -112,19 +113,20 @@ calls-from x calls few (suc m) k c t e P I =
     inside = rw (lt-ltb k (c .processCount) (omega (arith, count)), lt-ltb k 8 (omega arith))
 
     there : isProgram c (y .program) ≡ true
-    there = subst (λ (n : ℕ). ltb (y .program) n && ltb (y .program) 8 ≡ true) (sym (ap (λ (z : Contents). z .programCount) t)) (P k (omega arith) (omega arith))
+    there = subst (λ (n : ℕ). ltb (y .program) n && ltb (y .program) 8 ≡ true) (sym (ap (λ (z : Contents). z .programCount) t))
+        (P k (omega arith) (omega arith))
 
     idle : (j : ℕ) → suc k ≤ j → isBusy d j ≡ false
     idle j le =
         let ne : j ≢ k = λ z. omega arith in
-        ap (λ (t : Task). not (isIdle (t .place))) (getD-set-other (c .tasks) k j (record { place = P1; target = 0 }) idleTask ne) ∙ I j (omega arith)
+        ap (λ (t : Control). not (isIdle (t .place))) (getD-set-other (c .controls) k j (record { place = P1; target = 0 }) idleControl ne) ∙ I j (omega arith)
 
 pub calls-taken :
     (x : Contents) (calls : List Request) → x .processCount ≤ 8 → Callable (fresh x) calls → AllTaken (fresh x) (callsOf (fresh x) calls)
 unfolding fresh
 calls-taken x calls few h =
     calls-from x calls few (x .processCount) 0 (fresh x) refl (omega arith) (λ j le lt. h j (omega arith))
-    (λ j le. ap (λ (t : Task). not (isIdle (t .place))) (getD-replicate-same 8 j idleTask))
+    (λ j le. ap (λ (t : Control). not (isIdle (t .place))) (getD-replicate-same 8 j idleControl))
 
 -- one call per process, each with its program and inputs
 call-from :

@@ -36,8 +36,9 @@ loop-holds c =
 
 loop-again : tie.Need-loop-again Inv-loop μ-loop
 loop-again c =
+    let c9 = c .before .before .before .before .before .before .before .before .before in
     let loop = c .before .before .loop in
-    let read = numbered (c .before .before .before .before .before .before .before .before .before) in
+    let read = numbered c9 in
     (laws.more-values _ _ _ _ (loop .inv .0) (omega (arith, laws.inside read)) (omega arith), loop .inv .1, omega arith)
 
 returns-2 : tie.Need-returns-2 Inv-loop μ-loop

@@ -1,5 +1,5 @@
 use Rattle.construction.proofs.Mapping as mapping
-use Rattle.construction.specs.declared.Item.{Item}
+use Rattle.construction.specs.declared.simulations.Item.{Item}
 use Rattle.construction.specs.Dictionary.{noItem}
 use lib.ListN.{length, take, length-set}
 use mathlib.Core.List.{map}

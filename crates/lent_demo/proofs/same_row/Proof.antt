@@ -5,9 +5,12 @@ use Rattle.lent_demo.proofs.same_row.Tie as tie
 
 returns : tie.Need-returns
 returns c =
-    laws.joins (c .both3 .ensures) (c .before .before .before .before .before .before .before .before .before .before .before .before .same-record .ensures)
-    (laws.joins (c .before .both2 .ensures) (c .before .before .before .before .before .before .before .before .before .same-record2 .ensures)
-    (laws.joins (c .before .before .both .ensures) (c .before .before .before .before .before .before .same-record3 .ensures) (c .before .before .before .same-record4 .ensures)))
+    let c6 = c .before .before .before .before .before .before in
+    let c9 = c6 .before .before .before in
+    let c12 = c9 .before .before .before in
+    laws.joins (c .both3 .ensures) (c12 .same-record .ensures)
+    (laws.joins (c .before .both2 .ensures) (c9 .same-record2 .ensures)
+    (laws.joins (c .before .before .both .ensures) (c6 .same-record3 .ensures) (c .before .before .before .same-record4 .ensures)))
 
 pub same-row-spec : {M : Type 1} → statement M
 same-row-spec =

@@ -5,7 +5,10 @@ use Rattle.lent_session.proofs.run_session.Statement.{statement}
 use Rattle.lent_session.proofs.run_session.Tie as tie
 
 slice-aggregate-write-all : tie.Need-slice-aggregate-write-all
-slice-aggregate-write-all c = printed.put-count ((c .before .before .before .put-start .ensures) .text) (omega (arith, (c .before .before .before .put-start .ensures) .short, (c .before .before .before .before .before .before .buffer .ensures)))
+slice-aggregate-write-all c =
+    let c3 = c .before .before .before in
+    let c6 = c3 .before .before .before in
+    printed.put-count ((c3 .put-start .ensures) .text) (omega (arith, (c3 .put-start .ensures) .short, (c6 .buffer .ensures)))
 
 pub run-session-spec : {M : Type 1} → statement M
 run-session-spec =

@@ -17,7 +17,11 @@ loop-holds : tie.Need-loop-holds Inv-loop μ-loop
 loop-holds c = (clearing.clear-start (c .before .args .b .now), refl, omega arith)
 
 loop-again : tie.Need-loop-again Inv-loop μ-loop
-loop-again c = (clearing.clear-turn (c .before .before .before .args .b .now) _ _ (c .before .loop .inv .0) (omega arith), simp length-set (c .before .loop .inv .1), omega arith)
+loop-again c = (
+  clearing.clear-turn (c .before .before .before .args .b .now) _ _ (c .before .loop .inv .0) (omega arith),
+  simp length-set (c .before .loop .inv .1),
+  omega arith,
+)
 
 same-length : tie.Need-same-length Inv-loop μ-loop
 same-length c = (c .before .loop .inv .1)

@@ -5,7 +5,12 @@ use Rattle.lent_text.proofs.contents_of.Statement.{statement}
 use Rattle.lent_text.proofs.contents_of.Tie as tie
 
 returns : tie.Need-returns
-returns c = contents.contents-taken (c .before .before .before .before .before .before .before .args .b .now) [] _ _ _ _ _ _ (c .before .before .before .process-count .ensures) (c .before .before .variable-count .ensures) (c .before .program-count .ensures) (c .limit .ensures) (c .before .before .before .before .before .starts-of .ensures) (c .before .before .before .before .programs-of .ensures)
+returns c =
+    let c4 = c .before .before .before .before in
+    let c5 = c4 .before in
+    let c7 = c5 .before .before in
+    contents.contents-taken (c7 .args .b .now) [] _ _ _ _ _ _ (c .before .before .before .process-count .ensures) (c .before .before .variable-count .ensures)
+    (c .before .program-count .ensures) (c .limit .ensures) (c5 .starts-of .ensures) (c4 .programs-of .ensures)
 
 pub contents-of-spec : {M : Type 1} → statement M
 contents-of-spec =

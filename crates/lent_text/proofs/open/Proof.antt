@@ -4,7 +4,11 @@ use Rattle.lent_text.proofs.open.Statement.{statement}
 use Rattle.lent_text.proofs.open.Tie as tie
 
 returns : tie.Need-returns
-returns c = loops.opens (c .before .before .before .before .before .before .before .before .before .before .args .text .now) (c .before .before .before .before .before .before .before .before .before .before .args .b .now) _ _ _ (c .before .before .before .before .before .before .before .read-card .ensures) (c .before .before .before .before .judge .ensures) (c .before .before .put-contents .ensures)
+returns c =
+    let c4 = c .before .before .before .before in
+    let c7 = c4 .before .before .before in
+    let c10 = c7 .before .before .before in
+    loops.opens (c10 .args .text .now) (c10 .args .b .now) _ _ _ (c7 .read-card .ensures) (c4 .judge .ensures) (c .before .before .put-contents .ensures)
 
 pub open-spec : {M : Type 1} → statement M
 open-spec =

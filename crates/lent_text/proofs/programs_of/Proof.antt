@@ -19,10 +19,16 @@ loop-holds : tie.Need-loop-holds Inv-loop μ-loop
 loop-holds c = (contents.table-start (λ (v : ℕ). openingText (c .before .before .args .b .now) v), omega arith, refl)
 
 loop-again : tie.Need-loop-again Inv-loop μ-loop
-loop-again c = (contents.table-turn (λ (v : ℕ). openingText (c .before .before .before .before .before .args .b .now) v) _ _ _ (c .before .before .loop .inv .0) (omega arith) (c .program .ensures), omega arith, simp length-set (c .before .before .loop .inv .2))
+loop-again c = (
+  contents.table-turn (λ (v : ℕ). openingText (c .before .before .before .before .before .args .b .now) v) _ _ _ (c .before .before .loop .inv .0)
+      (omega arith) (c .program .ensures),
+  omega arith,
+  simp length-set (c .before .before .loop .inv .2),
+)
 
 returns : tie.Need-returns Inv-loop μ-loop
-returns c = contents.table-done (λ (v : ℕ). openingText (c .before .before .before .before .args .b .now) v) _ _ 8 (c .before .loop .inv .0) (c .before .loop .inv .2) (omega arith)
+returns c = contents.table-done (λ (v : ℕ). openingText (c .before .before .before .before .args .b .now) v) _ _ 8 (c .before .loop .inv .0)
+    (c .before .loop .inv .2) (omega arith)
 
 pub programs-of-spec : {M : Type 1} → statement M
 programs-of-spec =

@@ -5,7 +5,11 @@ use Rattle.lent_text.proofs.put_contents.Tie as tie
 
 returns : tie.Need-returns
 unfolding contentsBlock
-returns c = rw ((c .before .before .put-programs .ensures), (c .before .before .before .before .before .before .put-values .ensures), (c .before .before .before .before .before .before .before .before .before .before .put-head .ensures), (c .before .before .before .before .before .before .before .before .before .before .before .before .before .before .clear .ensures))
+returns c =
+    let c6 = c .before .before .before .before .before .before in
+    let c10 = c6 .before .before .before .before in
+    let c14 = c10 .before .before .before .before in
+    rw ((c .before .before .put-programs .ensures), (c6 .put-values .ensures), (c10 .put-head .ensures), (c14 .clear .ensures))
 
 pub put-contents-spec : {M : Type 1} → statement M
 put-contents-spec =

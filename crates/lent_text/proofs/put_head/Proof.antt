@@ -5,7 +5,23 @@ use Rattle.lent_text.proofs.put_head.Tie as tie
 
 returns : tie.Need-returns
 unfolding putHead
-returns c = rw ((c .before .before .put-gate .ensures), (c .before .before .before .open-gate .ensures), (c .before .before .before .before .before .before .before .put-limit .ensures), (c .before .before .before .before .before .before .before .before .before .before .before .put-program-count .ensures), (c .before .before .before .before .before .before .before .before .before .before .before .before .before .before .before .put-variable-count .ensures), (c .before .before .before .before .before .before .before .before .before .before .before .before .before .before .before .before .before .before .before .put-process-count .ensures), (c .before .before .before .before .before .before .before .before .before .before .before .before .before .before .before .before .before .before .before .before .before .before .before .put-room .ensures), (c .before .before .before .before .before .before .before .before .before .before .before .before .before .before .before .before .before .before .before .before .before .before .before .before .heaviest .ensures))
+returns c =
+    let c7 = c .before .before .before .before .before .before .before in
+    let c11 = c7 .before .before .before .before in
+    let c15 = c11 .before .before .before .before in
+    let c19 = c15 .before .before .before .before in
+    let c23 = c19 .before .before .before .before in
+    let c24 = c23 .before in
+    rw (
+      (c .before .before .put-gate .ensures),
+      (c .before .before .before .open-gate .ensures),
+      (c7 .put-limit .ensures),
+      (c11 .put-program-count .ensures),
+      (c15 .put-variable-count .ensures),
+      (c19 .put-process-count .ensures),
+      (c23 .put-room .ensures),
+      (c24 .heaviest .ensures),
+    )
 
 pub put-head-spec : {M : Type 1} → statement M
 put-head-spec =

@@ -18,7 +18,13 @@ loop-holds : tie.Need-loop-holds Inv-loop μ-loop
 loop-holds c = (loops.programs-start (c .before .args .b .now) (c .before .args .t2), refl, omega arith)
 
 loop-again : tie.Need-loop-again Inv-loop μ-loop
-loop-again c = (loops.programs-turn (c .before .before .before .before .before .before .before .before .args .b .now) (c .before .before .before .before .before .before .before .before .args .t2) _ _ _ _ (c .before .before .before .before .before .before .loop .inv .0) (c .before .before .put-texts .ensures) (search needs), search needs, omega arith)
+loop-again c =
+    let c6 = c .before .before .before .before .before .before in
+    let c8 = c6 .before .before in (
+      loops.programs-turn (c8 .args .b .now) (c8 .args .t2) _ _ _ _ (c6 .loop .inv .0) (c .before .before .put-texts .ensures) (search needs),
+      search needs,
+      omega arith,
+    )
 
 same-length : tie.Need-same-length Inv-loop μ-loop
 same-length c = (c .before .loop .inv .1)

@@ -3,7 +3,10 @@ use Rattle.lent_text.proofs.put_texts.Statement.{statement}
 use Rattle.lent_text.proofs.put_texts.Tie as tie
 
 returns : tie.Need-returns
-returns c = rw ((c .before .before .put-program3 .ensures), (c .before .before .before .before .before .before .put-program2 .ensures), (c .before .before .before .before .before .before .before .before .before .before .put-program .ensures))
+returns c =
+    let c6 = c .before .before .before .before .before .before in
+    let c10 = c6 .before .before .before .before in
+    rw ((c .before .before .put-program3 .ensures), (c6 .put-program2 .ensures), (c10 .put-program .ensures))
 
 pub put-texts-spec : {M : Type 1} → statement M
 put-texts-spec =

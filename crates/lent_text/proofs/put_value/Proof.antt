@@ -3,7 +3,9 @@ use Rattle.lent_text.proofs.put_value.Statement.{statement}
 use Rattle.lent_text.proofs.put_value.Tie as tie
 
 returns : tie.Need-returns
-returns c = rw ((c .before .before .put-record .ensures), (c .before .before .before .open-record .ensures), (c .before .before .before .before .before .before .before .put-start .ensures))
+returns c =
+    let c7 = c .before .before .before .before .before .before .before in
+    rw ((c .before .before .put-record .ensures), (c .before .before .before .open-record .ensures), (c7 .put-start .ensures))
 
 pub put-value-spec : {M : Type 1} → statement M
 put-value-spec =

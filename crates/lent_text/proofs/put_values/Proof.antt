@@ -18,7 +18,10 @@ loop-holds : tie.Need-loop-holds Inv-loop μ-loop
 loop-holds c = (loops.values-start (c .before .args .b .now) (c .before .args .t2), refl, omega arith)
 
 loop-again : tie.Need-loop-again Inv-loop μ-loop
-loop-again c = (loops.values-turn (c .before .before .before .before .before .before .before .args .b .now) (c .before .before .before .before .before .before .before .args .t2) _ _ _ _ (c .before .before .before .before .before .loop .inv .0) (c .before .before .put-value .ensures) refl, search needs, omega arith)
+loop-again c =
+    let c5 = c .before .before .before .before .before in
+    let c7 = c5 .before .before in
+    (loops.values-turn (c7 .args .b .now) (c7 .args .t2) _ _ _ _ (c5 .loop .inv .0) (c .before .before .put-value .ensures) refl, search needs, omega arith)
 
 same-length : tie.Need-same-length Inv-loop μ-loop
 same-length c = (c .before .loop .inv .1)

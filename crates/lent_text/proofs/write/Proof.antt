@@ -6,7 +6,10 @@ use Rattle.lent_text.proofs.write.Statement.{statement}
 use Rattle.lent_text.proofs.write.Tie as tie
 
 returns : tie.Need-returns
-returns c = contents.writes-card (cardOf (c .before .before .before .before .before .before .before .args .b .now) []) _ _ _ _ (c .before .before .before .before .contents-of .ensures) (c .before .before .write-contents .ensures)
+returns c =
+    let c4 = c .before .before .before .before in
+    let c7 = c4 .before .before .before in
+    contents.writes-card (cardOf (c7 .args .b .now) []) _ _ _ _ (c4 .contents-of .ensures) (c .before .before .write-contents .ensures)
 
 pub write-spec : {M : Type 1} → statement M
 write-spec = tie.close (tie.spec (λ c κs. search needs) (λ c κs. search needs) (λ c. search needs) returns)

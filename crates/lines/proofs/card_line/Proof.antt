@@ -8,10 +8,15 @@ use Rattle.lines.proofs.card_line.Statement.{statement}
 use Rattle.lines.proofs.card_line.Tie as tie
 
 add-four-at : tie.Need-add-four-at
-add-four-at c = omega (arith, bytes.word-within (c .before .before .before .before .args .text .now) lines.cardWord (c .before .before .before .before .args .at) (omega arith) (sym (c .before .has-word .ensures) ∙ (c .if1 .taken)))
+add-four-at c = omega (
+  arith,
+  bytes.word-within (c .before .before .before .before .args .text .now) lines.cardWord (c .before .before .before .before .args .at) (omega arith)
+      (sym (c .before .has-word .ensures) ∙ (c .if1 .taken)),
+)
 
 returns : tie.Need-returns
-returns c = laws.card-malformed _ _ (c .before .before .before .before .has-word .ensures) (c .before .before .before .if1 .taken) (sym (c .enum-told .given .1) ∙ (c .before .before .four-at .ensures))
+returns c = laws.card-malformed _ _ (c .before .before .before .before .has-word .ensures) (c .before .before .before .if1 .taken)
+    (sym (c .enum-told .given .1) ∙ (c .before .before .four-at .ensures))
 
 -- the four numbers are within their ranges, where that was tested
 ranges : (c : tie.Then2) → let a = c .before .before .before .a .given .0 in laws.CardFits (a .0) (a .1 .0) (a .1 .1 .0) (a .1 .1 .1 .0)
@@ -20,12 +25,14 @@ ranges c = laws.card-fits _ _ _ _ (sym (c .before .card-fits .ensures) ∙ c .if
 returns-2 : tie.Need-returns-2
 returns-2 c =
     let read = c .before .before .before in
-    laws.card-fields _ _ (read .before .before .before .before .has-word .ensures) (read .before .before .before .if1 .taken) (sym (read .a .given .1) ∙ (read .before .before .four-at .ensures)) (c .before .card-fits .ensures) (c .if2 .taken)
+    laws.card-fields _ _ (read .before .before .before .before .has-word .ensures) (read .before .before .before .if1 .taken)
+    (sym (read .a .given .1) ∙ (read .before .before .four-at .ensures)) (c .before .card-fits .ensures) (c .if2 .taken)
 
 returns-3 : tie.Need-returns-3
 returns-3 c =
     let read = c .before .before .before in
-    laws.card-out _ _ (read .before .before .before .before .has-word .ensures) (read .before .before .before .if1 .taken) (sym (read .a .given .1) ∙ (read .before .before .four-at .ensures)) (c .before .card-fits .ensures) (c .if2 .left)
+    laws.card-out _ _ (read .before .before .before .before .has-word .ensures) (read .before .before .before .if1 .taken)
+    (sym (read .a .given .1) ∙ (read .before .before .four-at .ensures)) (c .before .card-fits .ensures) (c .if2 .left)
 
 pub card-line-spec : {M : Type 1} → statement M
 card-line-spec =

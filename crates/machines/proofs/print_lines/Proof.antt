@@ -17,19 +17,35 @@ loop-holds : tie.Need-loop-holds Inv-loop μ-loop
 loop-holds c = (refl, refl, refl)
 
 slice-aggregate-write-all : tie.Need-slice-aggregate-write-all Inv-loop μ-loop
-slice-aggregate-write-all c = laws.prints-count (c .before .before .before .before .before .before .put-lines .ensures)
+slice-aggregate-write-all c =
+    let c6 = c .before .before .before .before .before .before in
+    laws.prints-count (c6 .put-lines .ensures)
 
 same-length : tie.Need-same-length Inv-loop μ-loop
-same-length c = (c .before .before .before .before .before .before .before .blocks2 .given) ∙ (c .before .before .before .before .before .before .before .before .before .before .before .before .before .before .loop .inv .1)
+same-length c =
+    let c7 = c .before .before .before .before .before .before .before in
+    let c14 = c7 .before .before .before .before .before .before .before in
+    (c7 .blocks2 .given) ∙ (c14 .loop .inv .1)
 
 same-length-2 : tie.Need-same-length-2 Inv-loop μ-loop
-same-length-2 c = (c .before .before .before .before .before .loans .given) ∙ (c .before .before .before .before .before .before .before .before .before .before .before .before .before .before .loop .inv .2)
+same-length-2 c =
+    let c5 = c .before .before .before .before .before in
+    let c14 = c5 .before .before .before .before .before .before .before .before .before in
+    (c5 .loans .given) ∙ (c14 .loop .inv .2)
 
 loop-less : tie.Need-loop-less Inv-loop μ-loop
-loop-less c = let h = (c .before .before .before .before .before .before .before .before .before .put-lines .ensures .onward) (omega arith) (omega (arith, (c .before .before .before .before .before .before .before .before .before .before .before .before .before .before .before .loop .inv .0))) in omega (arith, (c .before .before .before .before .before .before .before .before .before .before .before .before .before .before .before .loop .inv .0))
+loop-less c =
+    let c9 = c .before .before .before .before .before .before .before .before .before in
+    let c15 = c9 .before .before .before .before .before .before in
+    let h = (c9 .put-lines .ensures .onward) (omega arith) (omega (arith, (c15 .loop .inv .0))) in
+    omega (arith, (c15 .loop .inv .0))
 
 loop-again : tie.Need-loop-again Inv-loop μ-loop
-loop-again c = (refl, (c .before .before .before .before .before .before .before .before .blocks2 .given) ∙ (c .before .before .before .before .before .before .before .before .before .before .before .before .before .before .before .loop .inv .1), (c .before .before .before .before .before .before .loans .given) ∙ (c .before .before .before .before .before .before .before .before .before .before .before .before .before .before .before .loop .inv .2))
+loop-again c =
+    let c6 = c .before .before .before .before .before .before in
+    let c8 = c6 .before .before in
+    let c15 = c8 .before .before .before .before .before .before .before in
+    (refl, (c8 .blocks2 .given) ∙ (c15 .loop .inv .1), (c6 .loans .given) ∙ (c15 .loop .inv .2))
 
 same-length-3 : tie.Need-same-length-3 Inv-loop μ-loop
 same-length-3 c = (c .before .loop .inv .1)

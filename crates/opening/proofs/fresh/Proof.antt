@@ -5,7 +5,13 @@ use Rattle.opening.proofs.fresh.Tie as tie
 
 returns : tie.Need-returns
 unfolding fresh
-returns c = rw (c .before .before .before .before .open-announcement .ensures, c .before .before .before .open-records .ensures, c .before .before .zeros .ensures, c .before .started .ensures, c .empty .ensures)
+returns c = rw (
+  c .before .before .before .before .open-announcement .ensures,
+  c .before .before .before .open-records .ensures,
+  c .before .before .zeros .ensures,
+  c .before .started .ensures,
+  c .empty .ensures,
+)
 
 pub fresh-spec : {M : Type 1} → statement M
 fresh-spec =

@@ -16,10 +16,17 @@ abbrev μ-loop : tie.MeasureT-loop
 μ-loop starts records₀ k₀ records k = 64 - k
 
 loop-again : tie.Need-loop-again Inv-loop μ-loop
-loop-again c = (mapping.map-turn openRecord (c .before .before .before .before .args .t1) (c .before .before .loop .records) (c .before .before .loop .k) 0 (c .open-record2 .result) (search needs) (omega arith) (c .open-record2 .ensures) (c .before .before .loop .inv .0), omega arith, simp length-set ((c .before .before .loop .inv .2)))
+loop-again c = (
+  mapping.map-turn openRecord (c .before .before .before .before .args .t1) (c .before .before .loop .records) (c .before .before .loop .k) 0
+      (c .open-record2 .result) (search needs) (omega arith) (c .open-record2 .ensures) (c .before .before .loop .inv .0),
+  omega arith,
+  simp length-set
+      ((c .before .before .loop .inv .2)),
+)
 
 returns : tie.Need-returns Inv-loop μ-loop
-returns c = mapping.map-done openRecord (c .before .before .before .args .t1) (c .before .loop .records) (c .before .loop .k) (search needs) (omega arith) (c .before .loop .inv .0)
+returns c = mapping.map-done openRecord (c .before .before .before .args .t1) (c .before .loop .records) (c .before .loop .k) (search needs) (omega arith)
+    (c .before .loop .inv .0)
 
 pub open-records-spec : {M : Type 1} → statement M
 open-records-spec =

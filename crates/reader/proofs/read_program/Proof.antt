@@ -9,14 +9,30 @@ use Rattle.reader.proofs.read_program.Tie as tie
 
 returns : tie.Need-returns
 unfolding readProgram
-returns c = rw (c .program-refused-at .ensures, c .before .sheet-refusal .ensures, ← c .before .before .before .before .sheet-line .ensures, c .before .before .enum-told .given .1)
+returns c = rw (
+  c .program-refused-at .ensures,
+  c .before .sheet-refusal .ensures,
+  ← c .before .before .before .before .sheet-line .ensures,
+  c .before .before .enum-told .given .1,
+)
 
 read-lines-requires : tie.Need-read-lines-requires
-read-lines-requires c κs = omega (arith, sheet-read (c .before .before .before .before .before .args .text .now) (c .before .before .before .before .before .args .at) (c .before .line .given .0 .0) (c .before .line .given .0 .1 .0) (sym (c .before .before .before .sheet-line .ensures) ∙ (c .before .line .given .1)) .fits)
+read-lines-requires c κs = omega (
+  arith,
+  sheet-read (c .before .before .before .before .before .args .text .now) (c .before .before .before .before .before .args .at)
+      (c .before .line .given .0 .0) (c .before .line .given .0 .1 .0)
+      (sym (c .before .before .before .sheet-line .ensures) ∙ (c .before .line .given .1)) .fits,
+)
 
 returns-2 : tie.Need-returns-2
 unfolding readProgram
-returns-2 c = rw (c .weigh .ensures, c .before .read-lines .ensures, ← c .before .before .before .before .before .sheet-line .ensures, c .before .before .before .line .given .1, add-one)
+returns-2 c = rw (
+  c .weigh .ensures,
+  c .before .read-lines .ensures,
+  ← c .before .before .before .before .before .sheet-line .ensures,
+  c .before .before .before .line .given .1,
+  add-one,
+)
 
 pub read-program-spec : {M : Type 1} → statement M
 read-program-spec =

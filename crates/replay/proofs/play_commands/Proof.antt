@@ -15,9 +15,14 @@ abbrev μ-loop : tie.MeasureT-loop
 
 loop-less : tie.Need-loop-less Inv-loop μ-loop
 loop-less c =
-    let parsed = c .before .before .before .before .before .before .before .before .before .before .before .before .command-at .ensures in
-    let h = rw (← parsed) at (command-past (c .before .before .before .before .before .before .before .before .before .before .before .before .before .before .before .before .args .calls .now) (c .before .before .before .before .before .before .before .before .before .before .before .before .before .before .loop .at) (c .before .before .before .before .before .before .before .before .before .before .before .before .before .loop-test .taken)) in
-    omega (arith, c .before .before .before .before .before .before .before .before .before .before .before .before .before .loop-test .taken)
+    let c6 = c .before .before .before .before .before .before in
+    let c12 = c6 .before .before .before .before .before .before in
+    let c13 = c12 .before in
+    let c14 = c13 .before in
+    let c16 = c14 .before .before in
+    let parsed = c12 .command-at .ensures in
+    let h = rw (← parsed) at (command-past (c16 .args .calls .now) (c14 .loop .at) (c13 .loop-test .taken)) in
+    omega (arith, c13 .loop-test .taken)
 
 pub play-commands-spec : {M : Type 1} → statement M
 play-commands-spec =

@@ -21,7 +21,15 @@ same-length : tie.Need-same-length
 same-length c = search needs
 
 returns : tie.Need-returns
-returns c = (laws.refusal-put (numberOf (c .before .before .before .before .before .before .before .before .before .before .before .before .before .before .args .refusal)) (omega arith) (c .before .before .before .before .before .before .before .before .before .before .put-word .ensures) (c .before .before .before .before .before .before .put-refusal .ensures .0) (c .before .before .put-byte .ensures), omega (arith, c .before .before .put-byte .ensures .place, c .before .before .before .before .before .before .put-refusal .ensures .1, c .before .before .before .before .before .before .before .before .before .before .put-word .ensures .place))
+returns c =
+    let c6 = c .before .before .before .before .before .before in
+    let c10 = c6 .before .before .before .before in
+    let c14 = c10 .before .before .before .before in (
+      laws.refusal-put (numberOf (c14 .args .refusal)) (omega arith) (c10 .put-word .ensures) (c6 .put-refusal .ensures .0)
+          (c .before .before .put-byte .ensures),
+      omega
+          (arith, c .before .before .put-byte .ensures .place, c6 .put-refusal .ensures .1, c10 .put-word .ensures .place),
+    )
 
 pub put-refusal-line-spec : {M : Type 1} → statement M
 put-refusal-line-spec =

@@ -14,16 +14,46 @@ abbrev μ-loop : tie.MeasureT-loop
 μ-loop card first left buffer₀ pieces started told₀ j₀ buffer told j = pieces - j
 
 slice-reshare-prefix-write-all : tie.Need-slice-reshare-prefix-write-all Inv-loop μ-loop
-slice-reshare-prefix-write-all c = omega (arith, c .before .before .before .before .before .before .before .before .before .pre .0, c .before .before .before .before .before .before .before .before .before .pre .1, c .before .before .before .before .before .loop .inv, c .before .before .put-piece .ensures .1, laws.piece-fits (c .before .before .before .before .before .before .before .before .before .args .left) (c .before .before .before .before .before .before .before .before .before .pre .0), c .before .before .put-piece .kept .1 .1 .1 .1 .0)
+slice-reshare-prefix-write-all c =
+    let c5 = c .before .before .before .before .before in
+    let c9 = c5 .before .before .before .before in
+    omega (
+      arith,
+      c9 .pre .0,
+      c9 .pre .1,
+      c5 .loop .inv,
+      c .before .before .put-piece .ensures .1,
+      laws.piece-fits (c9 .args .left) (c9 .pre .0),
+      c .before .before .put-piece .kept .1 .1 .1 .1 .0,
+    )
 
 slice-aggregate-write-all : tie.Need-slice-aggregate-write-all Inv-loop μ-loop
-slice-aggregate-write-all c = simp length-take (omega (arith, c .before .before .before .before .before .before .before .before .before .before .pre .0, c .before .before .before .before .before .before .before .before .before .before .pre .1, c .before .before .before .before .before .before .loop .inv, c .before .before .before .put-piece .ensures .1, laws.piece-fits (c .before .before .before .before .before .before .before .before .before .before .args .left) (c .before .before .before .before .before .before .before .before .before .before .pre .0), c .before .before .before .put-piece .kept .1 .1 .1 .1 .0))
+slice-aggregate-write-all c =
+    let c3 = c .before .before .before in
+    let c6 = c3 .before .before .before in
+    let c10 = c6 .before .before .before .before in
+    simp length-take
+    (omega (
+      arith,
+      c10 .pre .0,
+      c10 .pre .1,
+      c6 .loop .inv,
+      c3 .put-piece .ensures .1,
+      laws.piece-fits (c10 .args .left) (c10 .pre .0),
+      c3 .put-piece .kept .1 .1 .1 .1 .0,
+    ))
 
 same-length : tie.Need-same-length Inv-loop μ-loop
-same-length c = c .before .before .before .before .before .put-piece .kept .1 .1 .1 .1 .0 ∙ c .before .before .before .before .before .before .before .before .loop .inv
+same-length c =
+    let c5 = c .before .before .before .before .before in
+    let c8 = c5 .before .before .before in
+    c5 .put-piece .kept .1 .1 .1 .1 .0 ∙ c8 .loop .inv
 
 loop-again : tie.Need-loop-again Inv-loop μ-loop
-loop-again c = c .before .before .before .before .before .before .put-piece .kept .1 .1 .1 .1 .0 ∙ c .before .before .before .before .before .before .before .before .before .loop .inv
+loop-again c =
+    let c6 = c .before .before .before .before .before .before in
+    let c9 = c6 .before .before .before in
+    c6 .put-piece .kept .1 .1 .1 .1 .0 ∙ c9 .loop .inv
 
 same-length-2 : tie.Need-same-length-2 Inv-loop μ-loop
 same-length-2 c = c .before .loop .inv

@@ -16,7 +16,11 @@ positive (pos n) e = tt
 positive (negsuc n) e = subst T (sym e) tt
 
 cast-result : tie.Need-cast-result
-cast-result c = (positive (toZ w64 (ofZ w64 (c .before .time .result))) (c .if1 .taken), fits-natAbs {w = w64} {w′ = w64} tt (sfits-toZ (fits-ofZ {w = w64} {z = c .before .time .result} (record { sfits = c .before .time .ok }))))
+cast-result c = (
+  positive (toZ w64 (ofZ w64 (c .before .time .result))) (c .if1 .taken),
+  fits-natAbs {w = w64} {w′ = w64} tt
+      (sfits-toZ (fits-ofZ {w = w64} {z = c .before .time .result} (record { sfits = c .before .time .ok }))),
+)
 
 pub seconds-spec : {M : Type 1} → statement M
 seconds-spec = tie.close (tie.spec (λ c κs. search needs) cast-result (λ c. search needs) (λ c. search needs))

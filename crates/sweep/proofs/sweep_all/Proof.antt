@@ -17,7 +17,13 @@ seconds-requires : tie.Need-seconds-requires Inv-loop μ-loop
 seconds-requires c κs = search needs
 
 loop-holds : tie.Need-loop-holds Inv-loop μ-loop
-loop-holds c = (pieces-none (c .before .before .before .before .args .calls .now) (stage (c .before .before .before .before .args .b .now) (c .before .before .before .before .args .l .now) (c .before .before .before .before .args .first)), refl, refl)
+loop-holds c = (
+  pieces-none (c .before .before .before .before .args .calls .now)
+      (stage (c .before .before .before .before .args .b .now) (c .before .before .before .before .args .l .now)
+      (c .before .before .before .before .args .first)),
+  refl,
+  refl,
+)
 
 advance-requires : tie.Need-advance-requires Inv-loop μ-loop
 advance-requires c κs = search needs
@@ -29,7 +35,10 @@ loop-less : tie.Need-loop-less Inv-loop μ-loop
 loop-less c = piece-less (c .before .before .before .before .before .advance .ensures) (omega arith)
 
 loop-again : tie.Need-loop-again Inv-loop μ-loop
-loop-again c = (pieces-on (c .before .before .before .before .before .before .before .before .before .before .loop .inv .0) (omega arith) (c .before .before .before .before .before .advance .ensures), search needs, search needs)
+loop-again c =
+    let c5 = c .before .before .before .before .before in
+    let c10 = c5 .before .before .before .before .before in
+    (pieces-on (c10 .loop .inv .0) (omega arith) (c5 .advance .ensures), search needs, search needs)
 
 same-length : tie.Need-same-length Inv-loop μ-loop
 same-length c = (c .before .before .loop .inv .1)

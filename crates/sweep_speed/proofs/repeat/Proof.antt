@@ -8,7 +8,8 @@ use Rattle.sweep_speed.proofs.repeat.Statement.{statement}
 use Rattle.sweep_speed.proofs.repeat.Tie as tie
 
 abbrev Inv-loop : tie.InvT-loop
-Inv-loop b₀ l₀ calls schedule count counts₀ k₀ b l counts k = RoundsTo calls schedule count b₀ l₀ k (record { block = b; loan = l; counts = counts }) × (length b ≡ length b₀) × (length l ≡ length l₀)
+Inv-loop b₀ l₀ calls schedule count counts₀ k₀ b l counts k =
+    RoundsTo calls schedule count b₀ l₀ k (record { block = b; loan = l; counts = counts }) × (length b ≡ length b₀) × (length l ≡ length l₀)
 
 abbrev μ-loop : tie.MeasureT-loop
 μ-loop b₀ l₀ calls schedule count counts₀ k₀ b l counts k = count - k
@@ -32,7 +33,10 @@ loop-less : tie.Need-loop-less Inv-loop μ-loop
 loop-less c = omega arith
 
 loop-again : tie.Need-loop-again Inv-loop μ-loop
-loop-again c = (rounds-on (c .before .before .before .before .before .before .before .before .before .loop .inv .0) (omega arith) (c .before .before .before .before .before .run .ensures) (c .added .ensures), search needs, search needs)
+loop-again c =
+    let c5 = c .before .before .before .before .before in
+    let c9 = c5 .before .before .before .before in
+    (rounds-on (c9 .loop .inv .0) (omega arith) (c5 .run .ensures) (c .added .ensures), search needs, search needs)
 
 same-length : tie.Need-same-length Inv-loop μ-loop
 same-length c = (c .before .loop .inv .1)

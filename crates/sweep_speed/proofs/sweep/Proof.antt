@@ -14,7 +14,12 @@ abbrev μ-loop : tie.MeasureT-loop
 μ-loop b₀ l₀ calls q₀ b l q = q .left
 
 loop-holds : tie.Need-loop-holds Inv-loop μ-loop
-loop-holds c = (pieces-none (c .before .before .before .args .calls .now) (stage (c .before .before .before .args .b .now) (c .before .before .before .args .l .now) (c .before .before .before .args .first)), refl, refl)
+loop-holds c = (
+  pieces-none (c .before .before .before .args .calls .now)
+      (stage (c .before .before .before .args .b .now) (c .before .before .before .args .l .now) (c .before .before .before .args .first)),
+  refl,
+  refl,
+)
 
 advance-requires : tie.Need-advance-requires Inv-loop μ-loop
 advance-requires c κs = search needs
@@ -23,7 +28,10 @@ loop-less : tie.Need-loop-less Inv-loop μ-loop
 loop-less c = piece-less (c .before .before .before .before .advance .ensures) (omega arith)
 
 loop-again : tie.Need-loop-again Inv-loop μ-loop
-loop-again c = (pieces-on (c .before .before .before .before .before .before .before .before .before .loop .inv .0) (omega arith) (c .before .before .before .before .advance .ensures), search needs, search needs)
+loop-again c =
+    let c4 = c .before .before .before .before in
+    let c9 = c4 .before .before .before .before .before in
+    (pieces-on (c9 .loop .inv .0) (omega arith) (c4 .advance .ensures), search needs, search needs)
 
 same-length : tie.Need-same-length Inv-loop μ-loop
 same-length c = (c .before .before .loop .inv .1)

@@ -43,13 +43,20 @@ loop-less : tie.Need-loop-less Inv-loop μ-loop
 loop-less c = omega arith
 
 loop-again : tie.Need-loop-again Inv-loop μ-loop
-loop-again c = (lines.copy-turn ((c .before .before .before .args .b .now)) _ ((c .before .before .before .args .start)) ((c .before .before .before .args .to)) _ ((c .before .before .loop .inv .0)) ((c .before .before .before .pre .1)) (omega arith), simp length-set ((c .before .before .loop .inv .1)), omega arith)
+loop-again c = (
+  lines.copy-turn ((c .before .before .before .args .b .now)) _ ((c .before .before .before .args .start)) ((c .before .before .before .args .to)) _
+      ((c .before .before .loop .inv .0)) ((c .before .before .before .pre .1)) (omega arith),
+  simp length-set ((c .before .before .loop .inv .1)),
+  omega
+      arith,
+)
 
 same-length : tie.Need-same-length Inv-loop μ-loop
 same-length c = (c .before .loop .inv .1)
 
 returns : tie.Need-returns Inv-loop μ-loop
-returns c = lines.copy-done ((c .before .before .args .b .now)) _ ((c .before .before .args .start)) ((c .before .before .args .to)) _ ((c .before .loop .inv .0)) (omega arith)
+returns c = lines.copy-done ((c .before .before .args .b .now)) _ ((c .before .before .args .start)) ((c .before .before .args .to)) _
+    ((c .before .loop .inv .0)) (omega arith)
 
 pub copy-spec : {M : Type 1} → statement M
 copy-spec =

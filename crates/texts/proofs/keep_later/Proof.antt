@@ -25,13 +25,23 @@ add-copy-2 : tie.Need-add-copy-2
 add-copy-2 c = search needs
 
 copy-requires : tie.Need-copy-requires
-copy-requires c κs = (omega (arith, rooms.inside _ _ _ ((c .before .before .is-room .ensures)) ((c .before .if1 .taken)) .1), omega arith, omega (arith, rooms.inside _ _ _ ((c .before .before .is-room .ensures)) ((c .before .if1 .taken)) .0, rooms.inside _ _ _ ((c .before .before .is-room .ensures)) ((c .before .if1 .taken)) .1))
+copy-requires c κs = (
+  omega (arith, rooms.inside _ _ _ ((c .before .before .is-room .ensures)) ((c .before .if1 .taken)) .1),
+  omega arith,
+  omega (
+    arith,
+    rooms.inside _ _ _ ((c .before .before .is-room .ensures)) ((c .before .if1 .taken)) .0,
+    rooms.inside _ _ _
+        ((c .before .before .is-room .ensures)) ((c .before .if1 .taken)) .1,
+  ),
+)
 
 same-length : tie.Need-same-length
 same-length c = search needs
 
 returns : tie.Need-returns
-returns c = rooms.put-in _ _ _ ((c .before .before .before .before .before .is-room .ensures)) _ _ _ _ ((c .before .before .before .before .if1 .taken)) ((c .before .before .copy .ensures))
+returns c = rooms.put-in _ _ _ ((c .before .before .before .before .before .is-room .ensures)) _ _ _ _ ((c .before .before .before .before .if1 .taken))
+    ((c .before .before .copy .ensures))
 
 same-length-2 : tie.Need-same-length-2
 same-length-2 c = search needs

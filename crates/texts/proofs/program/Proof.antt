@@ -23,13 +23,40 @@ mul-program-at : tie.Need-mul-program-at
 mul-program-at c = search needs
 
 add-program-at : tie.Need-add-program-at
-add-program-at c = omega (arith, (c .base-of .ensures), lines.base-small ((c .before .before .before .before .args .text)), rooms.inside _ _ _ ((c .before .before .is-room .ensures)) ((c .before .if1 .taken)) .1)
+add-program-at c = omega (
+  arith,
+  (c .base-of .ensures),
+  lines.base-small ((c .before .before .before .before .args .text)),
+  rooms.inside _ _ _
+      ((c .before .before .is-room .ensures)) ((c .before .if1 .taken)) .1,
+)
 
 program-at-requires : tie.Need-program-at-requires
-program-at-requires c κs = (omega (arith, (c .base-of .ensures), lines.base-small ((c .before .before .before .before .args .text)), rooms.inside _ _ _ ((c .before .before .is-room .ensures)) ((c .before .if1 .taken)) .1), omega (arith, (c .base-of .ensures), lines.base-small ((c .before .before .before .before .args .text)), rooms.inside _ _ _ ((c .before .before .is-room .ensures)) ((c .before .if1 .taken)) .0, rooms.inside _ _ _ ((c .before .before .is-room .ensures)) ((c .before .if1 .taken)) .1))
+program-at-requires c κs = (
+  omega (
+    arith,
+    (c .base-of .ensures),
+    lines.base-small ((c .before .before .before .before .args .text)),
+    rooms.inside _ _ _
+        ((c .before .before .is-room .ensures)) ((c .before .if1 .taken)) .1,
+  ),
+  omega (
+    arith,
+    (c .base-of .ensures),
+    lines.base-small ((c .before .before .before .before .args .text)),
+    rooms.inside _ _ _
+        ((c .before .before .is-room .ensures)) ((c .before .if1 .taken)) .0,
+    rooms.inside _ _ _ ((c .before .before .is-room .ensures))
+        ((c .before .if1 .taken)) .1,
+  ),
+)
 
 returns : tie.Need-returns
-returns c = rooms.row-in _ _ _ ((c .before .before .before .is-room .ensures)) (textBase ((c .before .before .before .before .before .args .text))) 33 _ _ _ ((c .before .before .if1 .taken)) (lines.text-at ((c .before .before .before .before .before .args .b .now)) ((c .before .before .before .before .before .args .k)) (textBase ((c .before .before .before .before .before .args .text))) ((c .before .base-of .result)) _ ((c .before .base-of .ensures)) ((c .program-at .ensures)))
+returns c = rooms.row-in _ _ _ ((c .before .before .before .is-room .ensures)) (textBase ((c .before .before .before .before .before .args .text))) 33 _ _ _
+    ((c .before .before .if1 .taken))
+    (lines.text-at ((c .before .before .before .before .before .args .b .now)) ((c .before .before .before .before .before .args .k))
+    (textBase ((c .before .before .before .before .before .args .text))) ((c .before .base-of .result)) _ ((c .before .base-of .ensures))
+    ((c .program-at .ensures)))
 
 no-program-requires : tie.Need-no-program-requires
 no-program-requires c κs = search needs

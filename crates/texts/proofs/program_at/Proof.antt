@@ -55,7 +55,14 @@ loop-less : tie.Need-loop-less Inv-loop μ-loop
 loop-less c = omega arith
 
 loop-again : tie.Need-loop-again Inv-loop μ-loop
-loop-again c = (lines.lines-turn _ ((c .before .before .before .before .before .before .args .b .now)) ((c .before .before .before .before .before .before .args .at)) _ _ ((c .before .before .before .loop .inv .0)) (omega arith) ((c .instruction-from .ensures)), omega arith, simp length-set ((c .before .before .before .loop .inv .2)))
+loop-again c =
+    let c3 = c .before .before .before in
+    let c6 = c3 .before .before .before in (
+      lines.lines-turn _ ((c6 .args .b .now)) ((c6 .args .at)) _ _ ((c3 .loop .inv .0)) (omega arith) ((c .instruction-from .ensures)),
+      omega arith,
+      simp
+          length-set ((c3 .loop .inv .2)),
+    )
 
 mul-byte : tie.Need-mul-byte Inv-loop μ-loop
 mul-byte c = omega arith
@@ -67,7 +74,10 @@ byte-requires : tie.Need-byte-requires Inv-loop μ-loop
 byte-requires c κs = search needs
 
 returns : tie.Need-returns Inv-loop μ-loop
-returns c = lines.lines-done _ ((c .before .before .before .before .before .before .args .b .now)) ((c .before .before .before .before .before .before .args .at)) _ _ ((c .before .before .before .loop .inv .0)) ((c .before .before .before .loop .inv .2)) (omega arith) ((c .byte .ensures))
+returns c =
+    let c3 = c .before .before .before in
+    let c6 = c3 .before .before .before in
+    lines.lines-done _ ((c6 .args .b .now)) ((c6 .args .at)) _ _ ((c3 .loop .inv .0)) ((c3 .loop .inv .2)) (omega arith) ((c .byte .ensures))
 
 pub program-at-spec : {M : Type 1} → statement M
 program-at-spec =

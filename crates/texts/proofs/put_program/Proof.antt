@@ -22,16 +22,44 @@ mul-put-program-at : tie.Need-mul-put-program-at
 mul-put-program-at c = search needs
 
 add-put-program-at : tie.Need-add-put-program-at
-add-put-program-at c = omega (arith, (c .base-of .ensures), lines.base-small ((c .before .before .before .before .before .before .args .text)), rooms.inside _ _ _ ((c .before .before .before .is-room .ensures)) ((c .before .before .if1 .taken)) .1)
+add-put-program-at c =
+    let c6 = c .before .before .before .before .before .before in
+    omega (
+      arith,
+      (c .base-of .ensures),
+      lines.base-small ((c6 .args .text)),
+      rooms.inside _ _ _ ((c .before .before .before .is-room .ensures))
+          ((c .before .before .if1 .taken)) .1,
+    )
 
 put-program-at-requires : tie.Need-put-program-at-requires
-put-program-at-requires c κs = (omega (arith, (c .base-of .ensures), lines.base-small ((c .before .before .before .before .before .before .args .text)), rooms.inside _ _ _ ((c .before .before .before .is-room .ensures)) ((c .before .before .if1 .taken)) .1), omega (arith, (c .base-of .ensures), lines.base-small ((c .before .before .before .before .before .before .args .text)), rooms.inside _ _ _ ((c .before .before .before .is-room .ensures)) ((c .before .before .if1 .taken)) .0, rooms.inside _ _ _ ((c .before .before .before .is-room .ensures)) ((c .before .before .if1 .taken)) .1))
+put-program-at-requires c κs =
+    let c3 = c .before .before .before in
+    let c6 = c3 .before .before .before in (
+      omega
+          (arith, (c .base-of .ensures), lines.base-small ((c6 .args .text)), rooms.inside _ _ _ ((c3 .is-room .ensures)) ((c .before .before .if1 .taken)) .1),
+      omega (
+        arith,
+        (c .base-of .ensures),
+        lines.base-small ((c6 .args .text)),
+        rooms.inside _ _ _ ((c3 .is-room .ensures))
+            ((c .before .before .if1 .taken)) .0,
+        rooms.inside _ _ _ ((c3 .is-room .ensures)) ((c .before .before .if1 .taken)) .1,
+      ),
+    )
 
 same-length : tie.Need-same-length
 same-length c = search needs
 
 returns : tie.Need-returns
-returns c = rooms.put-in _ _ _ ((c .before .before .before .before .before .before .is-room .ensures)) (textBase ((c .before .before .before .before .before .before .before .before .before .args .text))) 33 _ _ ((c .before .before .before .before .before .if1 .taken)) (lines.put-at ((c .before .before .before .before .before .before .before .before .before .args .b .now)) _ ((c .before .before .before .before .before .before .before .before .before .args .k)) (textBase ((c .before .before .before .before .before .before .before .before .before .args .text))) ((c .before .before .before .base-of .result)) ((c .before .before .before .before .before .before .before .before .before .args .value)) ((c .before .before .before .base-of .ensures)) ((c .before .before .put-program-at .ensures)))
+returns c =
+    let c3 = c .before .before .before in
+    let c5 = c3 .before .before in
+    let c6 = c5 .before in
+    let c9 = c6 .before .before .before in
+    rooms.put-in _ _ _ ((c6 .is-room .ensures)) (textBase ((c9 .args .text))) 33 _ _ ((c5 .if1 .taken))
+    (lines.put-at ((c9 .args .b .now)) _ ((c9 .args .k)) (textBase ((c9 .args .text))) ((c3 .base-of .result)) ((c9 .args .value))
+    ((c3 .base-of .ensures)) ((c .before .before .put-program-at .ensures)))
 
 same-length-2 : tie.Need-same-length-2
 same-length-2 c = search needs

@@ -27,7 +27,12 @@ slice-write-b : tie.Need-slice-write-b Inv-loop μ-loop
 slice-write-b c = search needs
 
 loop-holds : tie.Need-loop-holds Inv-loop μ-loop
-loop-holds c = (lines.put-start (set ((c .before .args .b .now)) ((c .before .args .at)) ((c .before .args .t3 .length))) ((c .before .args .at)) ((c .before .args .t3)), refl, omega arith)
+loop-holds c = (
+  lines.put-start (set ((c .before .args .b .now)) ((c .before .args .at)) ((c .before .args .t3 .length))) ((c .before .args .at))
+      ((c .before .args .t3)),
+  refl,
+  omega arith,
+)
 
 mul-line : tie.Need-mul-line Inv-loop μ-loop
 mul-line c = search needs
@@ -48,7 +53,11 @@ mul-b-2 : tie.Need-mul-b-2 Inv-loop μ-loop
 mul-b-2 c = omega arith
 
 slice-write-b-2 : tie.Need-slice-write-b-2 Inv-loop μ-loop
-slice-write-b-2 c = omega (arith, length-set ((c .before .before .before .before .before .args .b .now)) ((c .before .before .before .before .before .args .at)) ((c .before .before .before .before .before .args .t3 .length)))
+slice-write-b-2 c = omega (
+  arith,
+  length-set ((c .before .before .before .before .before .args .b .now)) ((c .before .before .before .before .before .args .at))
+      ((c .before .before .before .before .before .args .t3 .length)),
+)
 
 add-k : tie.Need-add-k Inv-loop μ-loop
 add-k c = omega arith
@@ -57,13 +66,25 @@ loop-less : tie.Need-loop-less Inv-loop μ-loop
 loop-less c = omega arith
 
 loop-again : tie.Need-loop-again Inv-loop μ-loop
-loop-again c = (lines.put-turn (set ((c .before .before .before .before .before .args .b .now)) ((c .before .before .before .before .before .args .at)) ((c .before .before .before .before .before .args .t3 .length))) _ ((c .before .before .before .before .before .args .at)) _ _ ((c .before .before .before .before .before .args .t3)) ((c .before .before .before .loop .inv .0)) ((c .line-word .ensures)), simp length-set ((c .before .before .before .loop .inv .1) ∙ length-set ((c .before .before .before .before .before .args .b .now)) ((c .before .before .before .before .before .args .at)) ((c .before .before .before .before .before .args .t3 .length))), omega arith)
+loop-again c = (
+  lines.put-turn
+      (set ((c .before .before .before .before .before .args .b .now)) ((c .before .before .before .before .before .args .at))
+      ((c .before .before .before .before .before .args .t3 .length)))
+      _ ((c .before .before .before .before .before .args .at)) _ _ ((c .before .before .before .before .before .args .t3))
+      ((c .before .before .before .loop .inv .0)) ((c .line-word .ensures)),
+  simp length-set
+      ((c .before .before .before .loop .inv .1) ∙ length-set ((c .before .before .before .before .before .args .b .now))
+      ((c .before .before .before .before .before .args .at)) ((c .before .before .before .before .before .args .t3 .length))),
+  omega arith,
+)
 
 same-length : tie.Need-same-length Inv-loop μ-loop
-same-length c = (c .before .loop .inv .1) ∙ length-set ((c .before .before .before .args .b .now)) ((c .before .before .before .args .at)) ((c .before .before .before .args .t3 .length))
+same-length c = (c .before .loop .inv .1) ∙ length-set ((c .before .before .before .args .b .now)) ((c .before .before .before .args .at))
+    ((c .before .before .before .args .t3 .length))
 
 returns : tie.Need-returns Inv-loop μ-loop
-returns c = lines.put-done ((c .before .before .before .args .b .now)) _ ((c .before .before .before .args .at)) _ ((c .before .before .before .args .t3)) ((c .before .loop .inv .0)) (omega arith)
+returns c = lines.put-done ((c .before .before .before .args .b .now)) _ ((c .before .before .before .args .at)) _ ((c .before .before .before .args .t3))
+    ((c .before .loop .inv .0)) (omega arith)
 
 pub put-program-at-spec : {M : Type 1} → statement M
 put-program-at-spec =

@@ -16,7 +16,16 @@ abbrev μ-loop : tie.MeasureT-loop
 μ-loop buffer₀ at row i₀ weight₀ buffer i weight = 33 - weight
 
 loop-again : tie.Need-loop-again Inv-loop μ-loop
-loop-again c = (series.series-turn (laws.row-series ((c .before .before .before .before .before .before .before .before .before .args .row) + 1)) _ _ (c .before .before .before .before .before .before .loop-test .taken) (c .before .before .before .before .before .before .before .loop .inv .0) (cc ((c .before .before .before .before .separator .ensures), (c .before .before .before .entry .ensures))) (c .before .before .put-field .ensures), omega arith, omega arith)
+loop-again c =
+    let c4 = c .before .before .before .before in
+    let c6 = c4 .before .before in
+    let c7 = c6 .before in
+    let c9 = c7 .before .before in (
+      series.series-turn (laws.row-series ((c9 .args .row) + 1)) _ _ (c6 .loop-test .taken) (c7 .loop .inv .0)
+          (cc ((c4 .separator .ensures), (c .before .before .before .entry .ensures))) (c .before .before .put-field .ensures),
+      omega arith,
+      omega arith,
+    )
 
 returns : tie.Need-returns Inv-loop μ-loop
 returns c = series.series-end (laws.row-series ((c .before .before .before .args .row) + 1)) _ _ (c .loop-test .left) (c .before .loop .inv .0)

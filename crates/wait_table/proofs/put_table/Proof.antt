@@ -18,7 +18,11 @@ abbrev μ-loop : tie.MeasureT-loop
 μ-loop buffer₀ at i₀ row₀ buffer i row = 8 - row
 
 loop-again : tie.Need-loop-again Inv-loop μ-loop
-loop-again c = (series.series-turn laws.rows-series 8 _ (c .before .before .before .before .loop-test .taken) (c .before .before .before .before .before .loop .inv .0) (ap (λ (p : ℕ). rowText p 33 0) (add-one (c .before .before .before .before .before .loop .row))) (c .before .before .put-row .ensures), omega arith)
+loop-again c = (
+  series.series-turn laws.rows-series 8 _ (c .before .before .before .before .loop-test .taken) (c .before .before .before .before .before .loop .inv .0)
+      (ap (λ (p : ℕ). rowText p 33 0) (add-one (c .before .before .before .before .before .loop .row))) (c .before .before .put-row .ensures),
+  omega arith,
+)
 
 pub put-table-spec : {M : Type 1} → statement M
 put-table-spec =

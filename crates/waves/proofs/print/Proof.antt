@@ -5,4 +5,7 @@ use Rattle.waves.proofs.print.Statement.{statement}
 use Rattle.waves.proofs.print.Tie as tie
 
 pub print-spec : {M : Type 1} → statement M
-print-spec = tie.close (tie.spec (λ c. search needs) (λ c. sym (length-take-le ((c .before .before .before .args) .end) ((c .before .before .before .args) .buffer .now) (c .before .if1 .left))) (λ c κs. search needs) (λ c. search needs))
+print-spec = tie.close
+    (tie.spec (λ c. search needs)
+    (λ c. sym (length-take-le ((c .before .before .before .args) .end) ((c .before .before .before .args) .buffer .now) (c .before .if1 .left)))
+    (λ c κs. search needs) (λ c. search needs))

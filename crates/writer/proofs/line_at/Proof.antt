@@ -7,4 +7,5 @@ use Rattle.writer.proofs.line_at.Statement.{statement}
 use Rattle.writer.proofs.line_at.Tie as tie
 
 pub line-at-spec : {M : Type 1} → statement M
-line-at-spec = tie.close (tie.spec (λ c. search needs) (λ c. search needs) (λ c. search needs) (λ c. sym (List·getD-eq-default (c .before .args .t1) noLine (omega arith))))
+line-at-spec = tie.close
+    (tie.spec (λ c. search needs) (λ c. search needs) (λ c. search needs) (λ c. sym (List·getD-eq-default (c .before .args .t1) noLine (omega arith))))

@@ -5,7 +5,10 @@ use Rattle.writer.proofs.put_instruction.Statement.{statement}
 use Rattle.writer.proofs.put_instruction.Tie as tie
 
 returns : tie.Need-returns
-returns c = laws.put-instruction _ (c .before .before .before .before .encode .ensures) (omega arith) (c .before .before .before .before .before .before .before .put-word .ensures) (c .before .before .put-four .ensures)
+returns c =
+    let c4 = c .before .before .before .before in
+    let c7 = c4 .before .before .before in
+    laws.put-instruction _ (c4 .encode .ensures) (omega arith) (c7 .put-word .ensures) (c .before .before .put-four .ensures)
 
 pub put-instruction-spec : {M : Type 1} → statement M
 put-instruction-spec =

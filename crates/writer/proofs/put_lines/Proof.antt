@@ -1,4 +1,4 @@
-use Rattle.construction.specs.declared.Line.{Line}
+use Rattle.construction.specs.declared.programs.Line.{Line}
 use Rattle.construction.specs.Writing.{linesText}
 use Rattle.construction.specs.Lines.{insText}
 use Rattle.grammar.proofs.Puts as puts
@@ -17,7 +17,15 @@ abbrev μ-loop : tie.MeasureT-loop
 μ-loop buffer₀ at count lines i₀ k₀ buffer i k = count - k
 
 loop-again : tie.Need-loop-again Inv-loop μ-loop
-loop-again c = (laws.series-turn (laws.lines-series (c .before .before .before .before .before .before .before .before .args .lines)) _ _ (c .before .before .before .before .before .loop-test .taken) (c .before .before .before .before .before .before .loop .inv .0) (ap (λ (x : Line). insText (x .instruction)) (c .before .before .before .before .line-at .ensures)) (c .before .before .put-instruction .ensures), omega arith)
+loop-again c =
+    let c4 = c .before .before .before .before in
+    let c5 = c4 .before in
+    let c6 = c5 .before in
+    let c8 = c6 .before .before in (
+      laws.series-turn (laws.lines-series (c8 .args .lines)) _ _ (c5 .loop-test .taken) (c6 .loop .inv .0)
+          (ap (λ (x : Line). insText (x .instruction)) (c4 .line-at .ensures)) (c .before .before .put-instruction .ensures),
+      omega arith,
+    )
 
 pub put-lines-spec : {M : Type 1} → statement M
 put-lines-spec =

@@ -15,7 +15,15 @@ abbrev μ-loop : tie.MeasureT-loop
 μ-loop buffer₀ at count code i₀ k₀ buffer i k = count - k
 
 loop-again : tie.Need-loop-again Inv-loop μ-loop
-loop-again c = (laws.series-turn (laws.programs-series (c .before .before .before .before .before .before .before .before .args .programs)) _ _ (c .before .before .before .before .before .loop-test .taken) (c .before .before .before .before .before .before .loop .inv .0) (ap programText (c .before .before .before .before .program-at .ensures)) (c .before .before .put-program .ensures), omega arith)
+loop-again c =
+    let c4 = c .before .before .before .before in
+    let c5 = c4 .before in
+    let c6 = c5 .before in
+    let c8 = c6 .before .before in (
+      laws.series-turn (laws.programs-series (c8 .args .programs)) _ _ (c5 .loop-test .taken) (c6 .loop .inv .0) (ap programText (c4 .program-at .ensures))
+          (c .before .before .put-program .ensures),
+      omega arith,
+    )
 
 returns : tie.Need-returns Inv-loop μ-loop
 returns c = laws.series-end (laws.programs-series (c .before .before .before .args .programs)) _ _ (c .loop-test .left) (c .before .loop .inv .0)

@@ -7,7 +7,14 @@ use Rattle.writer.proofs.put_text.Tie as tie
 
 returns-2 : tie.Need-returns-2
 unfolding fresh
-returns-2 c = laws.put-card (fresh (c .before .before .before .before .before .before .before .before .before .before .before .before .before .before .before .before .before .before .before .before .before .args .contents)) (c .before .before .before .before .before .before .before .before .before .before .before .before .before .before .before .before .before .before .before .if1 .left) (omega arith) (c .before .before .before .before .before .before .before .before .before .before .before .before .before .before .put-word .ensures) (c .before .before .before .before .before .before .before .before .before .before .put-four .ensures) (c .before .before .before .before .before .before .put-vars .ensures) (c .before .before .put-programs .ensures)
+returns-2 c =
+    let c6 = c .before .before .before .before .before .before in
+    let c10 = c6 .before .before .before .before in
+    let c14 = c10 .before .before .before .before in
+    let c19 = c14 .before .before .before .before .before in
+    let c21 = c19 .before .before in
+    laws.put-card (fresh (c21 .args .contents)) (c19 .if1 .left) (omega arith) (c14 .put-word .ensures) (c10 .put-four .ensures) (c6 .put-vars .ensures)
+    (c .before .before .put-programs .ensures)
 
 pub put-text-spec : {M : Type 1} → statement M
 unfolding fresh

@@ -5,7 +5,9 @@ use Rattle.writer.proofs.put_var.Statement.{statement}
 use Rattle.writer.proofs.put_var.Tie as tie
 
 returns : tie.Need-returns
-returns c = laws.put-var _ (omega arith) (c .before .before .before .before .before .before .put-word .ensures) (c .before .before .put-field .ensures)
+returns c =
+    let c6 = c .before .before .before .before .before .before in
+    laws.put-var _ (omega arith) (c6 .put-word .ensures) (c .before .before .put-field .ensures)
 
 pub put-var-spec : {M : Type 1} → statement M
 put-var-spec =

@@ -16,7 +16,14 @@ abbrev μ-loop : tie.MeasureT-loop
 μ-loop buffer₀ at count starts i₀ k₀ buffer i k = count - k
 
 loop-again : tie.Need-loop-again Inv-loop μ-loop
-loop-again c = (laws.series-turn (laws.vars-series (c .before .before .before .before .before .before .before .before .args .starts)) _ _ (c .before .before .before .before .before .loop-test .taken) (c .before .before .before .before .before .before .loop .inv .0) (ap varText (c .before .before .before .start-at .ensures)) (c .before .before .put-var .ensures), omega arith)
+loop-again c =
+    let c5 = c .before .before .before .before .before in
+    let c6 = c5 .before in
+    let c8 = c6 .before .before in (
+      laws.series-turn (laws.vars-series (c8 .args .starts)) _ _ (c5 .loop-test .taken) (c6 .loop .inv .0)
+          (ap varText (c .before .before .before .start-at .ensures)) (c .before .before .put-var .ensures),
+      omega arith,
+    )
 
 pub put-vars-spec : {M : Type 1} → statement M
 put-vars-spec =

@@ -7,8 +7,10 @@ use Rattle.writer.proofs.write_contents.Tie as tie
 
 returns : tie.Need-returns
 returns c =
-    let told = c .before .before .before .before .before .before .before .put-text in
-    let a = c .before .before .before .before .before .before .before .before .before .before .args in
+    let c7 = c .before .before .before .before .before .before .before in
+    let c10 = c7 .before .before .before in
+    let told = c7 .put-text in
+    let a = c10 .args in
     let same = laws.no-front (told .last .0) (a .buffer .now) (told .kept .0) in
     record {
       answer = laws.written-bytes (fresh (a .contents)) (a .buffer .now) same (told .ensures) (omega arith) (omega arith);
@@ -17,8 +19,9 @@ returns c =
 
 returns-2 : tie.Need-returns-2
 returns-2 c =
+    let c6 = c .before .before .before .before .before .before in
     let told = c .before .before .before .put-text in
-    let a = c .before .before .before .before .before .before .args in
+    let a = c6 .args in
     let same = laws.no-front (told .last .0) (a .buffer .now) (told .kept .0) in
     record {
       answer = laws.written-short (fresh (a .contents)) (a .buffer .now) same (told .ensures) (omega arith) (omega arith);

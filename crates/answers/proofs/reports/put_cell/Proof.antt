@@ -15,11 +15,15 @@ returns-2 c = laws.put-as-within 22 (c .before .before .put-letter2 .ensures) (o
 
 returns-3 : tie.Need-returns-3
 unfolding cellText
-returns-3 c = laws.put-as-within 22 (c .before .before .put-number .ensures) (omega arith) (rw (c .before .before .before .before .before .before .cell .given .1))
+returns-3 c =
+    let c6 = c .before .before .before .before .before .before in
+    laws.put-as-within 22 (c .before .before .put-number .ensures) (omega arith) (rw (c6 .cell .given .1))
 
 returns-4 : tie.Need-returns-4
 unfolding cellText
-returns-4 c = laws.put-as-within 22 (c .before .before .put-number2 .ensures) (omega arith) (rw (c .before .before .before .before .before .before .cell2 .given .1))
+returns-4 c =
+    let c6 = c .before .before .before .before .before .before in
+    laws.put-as-within 22 (c .before .before .put-number2 .ensures) (omega arith) (rw (c6 .cell2 .given .1))
 
 pub put-cell-spec : {M : Type 1} → statement M
 put-cell-spec =

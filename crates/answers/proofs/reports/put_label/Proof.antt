@@ -5,7 +5,11 @@ use Rattle.answers.proofs.reports.put_label.Statement.{statement}
 use Rattle.answers.proofs.reports.put_label.Tie as tie
 
 returns : tie.Need-returns
-returns c = laws.put-label (c .before .before .before .before .before .before .before .before .before .before .before .args .label) _ (c .before .before .before .before .before .before .before .before .before .label-row .ensures) (omega arith) (omega arith) (c .before .before .before .before .before .before .before .put-letter .ensures) (c .before .before .put-decimal .ensures)
+returns c =
+    let c7 = c .before .before .before .before .before .before .before in
+    let c9 = c7 .before .before in
+    let c11 = c9 .before .before in
+    laws.put-label (c11 .args .label) _ (c9 .label-row .ensures) (omega arith) (omega arith) (c7 .put-letter .ensures) (c .before .before .put-decimal .ensures)
 
 pub put-label-spec : {M : Type 1} → statement M
 put-label-spec =

@@ -11,4 +11,11 @@ announcement-at-spec =
     (λ c. search needs) (λ c. search needs) (λ c κs. search needs) (λ c. search needs) (λ c. search needs) (λ c. search needs)
     (λ c. search needs) (λ c. search needs) (λ c. search needs) (λ c. search needs) (λ c. search needs) (λ c. search needs)
     (λ c κs. search needs)
-    (λ c. rw (c .odd .ensures, c .before .before .before .before .flag-from .ensures, c .before .before .before .before .before .before .byte .ensures, halves-in (c .before .before .before .before .before .before .before .before .before .before .args .b .now) (c .before .before .before .before .before .before .before .before .before .before .args .at) 4 (c .before .before .before .before .before .before .before .before .words-at .ensures))))
+    (λ c. rw (
+      c .odd .ensures,
+      c .before .before .before .before .flag-from .ensures,
+      c .before .before .before .before .before .before .byte .ensures,
+      halves-in (c .before .before .before .before .before .before .before .before .before .before .args .b .now)
+          (c .before .before .before .before .before .before .before .before .before .before .args .at) 4
+          (c .before .before .before .before .before .before .before .before .words-at .ensures),
+    )))

@@ -8,4 +8,8 @@ operation-at-spec =
     tie.close
     (tie.spec
     (λ c. search needs) (λ c κs. search needs) (λ c. search needs) (λ c. search needs) (λ c κs. search needs)
-    (λ c. rw (c .byte .ensures, halves-in (c .before .before .before .before .args .b .now) (c .before .before .before .before .args .at) 1 (c .before .before .words-at .ensures))))
+    (λ c. rw (
+      c .byte .ensures,
+      halves-in (c .before .before .before .before .args .b .now) (c .before .before .before .before .args .at) 1
+          (c .before .before .words-at .ensures),
+    )))

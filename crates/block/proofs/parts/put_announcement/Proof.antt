@@ -20,4 +20,7 @@ put-announcement-spec =
     (λ c κs. search needs) (λ c. search needs) (λ c. search needs)
     (λ c. rw (c .before .before .before .put-words .ensures) (simp length-set (omega arith)))
     (λ c. simp length-set (rw (c .before .before .before .put-words .ensures) (simp length-set)))
-    (λ c. announcement-put (c .before .before .before .before .before .before .before .before .before .args .b .now) (c .before .before .before .before .before .before .before .before .before .args .at) (c .before .before .before .before .before .before .before .before .before .args .announcement) (c .before .before .before .before .before .flag-word .ensures) (c .before .before .before .put-words .ensures) (c .bit .ensures)))
+    (λ c. announcement-put (c .before .before .before .before .before .before .before .before .before .args .b .now)
+    (c .before .before .before .before .before .before .before .before .before .args .at)
+    (c .before .before .before .before .before .before .before .before .before .args .announcement)
+    (c .before .before .before .before .before .flag-word .ensures) (c .before .before .before .put-words .ensures) (c .bit .ensures)))

@@ -12,4 +12,6 @@ put-operation-spec =
     (λ c. search needs) (λ c. search needs) (λ c. search needs) (λ c. search needs)
     (λ c κs. (search needs, simp length-set (omega arith)))
     (λ c. rw (c .before .before .put-words .ensures) (simp length-set))
-    (λ c. operation-put (c .before .before .before .before .before .before .before .args .b .now) (c .before .before .before .before .before .before .before .args .at) (c .before .before .before .before .before .before .before .args .operation) (c .before .before .put-words .ensures)))
+    (λ c. operation-put (c .before .before .before .before .before .before .before .args .b .now)
+    (c .before .before .before .before .before .before .before .args .at) (c .before .before .before .before .before .before .before .args .operation)
+    (c .before .before .put-words .ensures)))

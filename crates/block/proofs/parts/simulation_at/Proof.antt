@@ -9,4 +9,12 @@ simulation-at-spec =
     (tie.spec
     (λ c. search needs) (λ c κs. search needs) (λ c. search needs) (λ c κs. search needs) (λ c. search needs) (λ c. search needs)
     (λ c. search needs) (λ c κs. search needs) (λ c. search needs) (λ c. search needs) (λ c κs. search needs)
-    (λ c. rw (c .byte .ensures, c .before .before .odd .ensures, halves-in (c .before .before .before .before .before .before .before .args .b .now) (c .before .before .before .before .before .before .before .args .at) 5 (c .before .before .before .before .words-at2 .ensures), halves-in (c .before .before .before .before .before .before .before .args .b .now) (c .before .before .before .before .before .before .before .args .at) 1 (c .before .before .before .before .before .words-at .ensures))))
+    (λ c. rw (
+      c .byte .ensures,
+      c .before .before .odd .ensures,
+      halves-in (c .before .before .before .before .before .before .before .args .b .now)
+          (c .before .before .before .before .before .before .before .args .at) 5 (c .before .before .before .before .words-at2 .ensures),
+      halves-in
+          (c .before .before .before .before .before .before .before .args .b .now) (c .before .before .before .before .before .before .before .args .at)
+          1 (c .before .before .before .before .before .words-at .ensures),
+    )))

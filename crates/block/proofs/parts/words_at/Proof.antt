@@ -9,4 +9,9 @@ words-at-spec =
     (λ c. search needs) (λ c. search needs) (λ c κs. search needs) (λ c. search needs) (λ c. search needs) (λ c. search needs)
     (λ c κs. search needs) (λ c. search needs) (λ c. search needs) (λ c. search needs) (λ c κs. search needs) (λ c. search needs)
     (λ c. search needs) (λ c. search needs) (λ c κs. search needs)
-    (λ c. rw (c .half4 .ensures, c .before .before .half3 .ensures, c .before .before .before .before .half2 .ensures, c .before .before .before .before .before .before .half .ensures)))
+    (λ c. rw (
+      c .half4 .ensures,
+      c .before .before .half3 .ensures,
+      c .before .before .before .before .half2 .ensures,
+      c .before .before .before .before .before .before .half .ensures,
+    )))

@@ -20,7 +20,14 @@ same-length : tie.Need-same-length
 same-length c = search needs
 
 returns : tie.Need-returns
-returns c = (laws.line-put (c .before .before .before .before .before .before .before .before .before .before .before .before .before .before .args .line) (omega arith) (c .before .before .before .before .before .before .before .before .before .before .put-number .ensures .0) (c .before .before .before .before .before .before .put-refusal .ensures .0) (c .before .before .put-byte .ensures), omega (arith, (c .before .before .before .before .before .before .before .before .before .before .put-number .ensures .1), (c .before .before .before .before .before .before .put-refusal .ensures .1), (c .before .before .put-byte .ensures .place)))
+returns c =
+    let c6 = c .before .before .before .before .before .before in
+    let c10 = c6 .before .before .before .before in
+    let c14 = c10 .before .before .before .before in (
+      laws.line-put (c14 .args .line) (omega arith) (c10 .put-number .ensures .0) (c6 .put-refusal .ensures .0) (c .before .before .put-byte .ensures),
+      omega
+          (arith, (c10 .put-number .ensures .1), (c6 .put-refusal .ensures .1), (c .before .before .put-byte .ensures .place)),
+    )
 
 pub put-line-refusal-spec : {M : Type 1} → statement M
 put-line-refusal-spec =

@@ -33,7 +33,8 @@ add-t13 : tie.Need-add-t13 Inv-loop μ-loop
 add-t13 c = omega arith
 
 returns : tie.Need-returns Inv-loop μ-loop
-returns c = laws.read-wrong (c .before .before .before .before .before .loop .inv) (omega arith) (c .before .before .before .command-at .ensures) (c .before .before .requested .ensures) (c .enum-told .given .1)
+returns c = laws.read-wrong (c .before .before .before .before .before .loop .inv) (omega arith) (c .before .before .before .command-at .ensures)
+    (c .before .before .requested .ensures) (c .enum-told .given .1)
 
 put-request-requires : tie.Need-put-request-requires Inv-loop μ-loop
 put-request-requires c κs = tt
@@ -45,7 +46,12 @@ loop-less : tie.Need-loop-less Inv-loop μ-loop
 loop-less c = omega arith
 
 loop-again : tie.Need-loop-again Inv-loop μ-loop
-loop-again c = laws.read-on (c .before .before .before .before .before .before .before .loop .inv) (omega arith) (c .before .before .before .before .before .command-at .ensures) (c .before .before .before .before .requested .ensures) (c .before .before .request .given .1) (c .put-request .ensures)
+loop-again c =
+    let c4 = c .before .before .before .before in
+    let c5 = c4 .before in
+    let c7 = c5 .before .before in
+    laws.read-on (c7 .loop .inv) (omega arith) (c5 .command-at .ensures) (c4 .requested .ensures) (c .before .before .request .given .1)
+    (c .put-request .ensures)
 
 cast-t16 : tie.Need-cast-t16 Inv-loop μ-loop
 cast-t16 c = search needs

@@ -5,7 +5,10 @@ use Rattle.commands.proofs.printing.put_card_refusal.Statement.{stateme
 use Rattle.commands.proofs.printing.put_card_refusal.Tie as tie
 
 returns : tie.Need-returns
-returns c = laws.put-card-refusal _ (omega arith) (c .before .before .before .before .before .before .before .before .before .before .put-word .ensures) (c .before .before .before .before .before .before .put-verdict .ensures) (c .before .before .put-byte .ensures)
+returns c =
+    let c6 = c .before .before .before .before .before .before in
+    let c10 = c6 .before .before .before .before in
+    laws.put-card-refusal _ (omega arith) (c10 .put-word .ensures) (c6 .put-verdict .ensures) (c .before .before .put-byte .ensures)
 
 pub put-card-refusal-spec : {M : Type 1} → statement M
 put-card-refusal-spec =

@@ -5,7 +5,9 @@ use Rattle.commands.proofs.printing.put_head.Statement.{statement}
 use Rattle.commands.proofs.printing.put_head.Tie as tie
 
 returns : tie.Need-returns
-returns c = laws.put-head _ _ (omega arith) (c .before .before .before .before .before .before .before .before .put-verb .ensures) (rw (← (c .before .before .before .first-of .ensures)) (c .before .before .put-number .ensures))
+returns c =
+    let c8 = c .before .before .before .before .before .before .before .before in
+    laws.put-head _ _ (omega arith) (c8 .put-verb .ensures) (rw (← (c .before .before .before .first-of .ensures)) (c .before .before .put-number .ensures))
 
 pub put-head-spec : {M : Type 1} → statement M
 put-head-spec =

@@ -5,7 +5,11 @@ use Rattle.commands.proofs.printing.put_line.Statement.{statement}
 use Rattle.commands.proofs.printing.put_line.Tie as tie
 
 returns : tie.Need-returns
-returns c = laws.put-line _ _ _ _ (omega arith) (c .before .before .before .before .before .before .before .before .before .before .before .before .before .before .put-head .ensures) (c .before .before .before .before .before .before .before .before .before .before .put-report .ensures) (c .before .before .before .before .before .before .put-answer .ensures) (c .before .before .put-byte .ensures)
+returns c =
+    let c6 = c .before .before .before .before .before .before in
+    let c10 = c6 .before .before .before .before in
+    let c14 = c10 .before .before .before .before in
+    laws.put-line _ _ _ _ (omega arith) (c14 .put-head .ensures) (c10 .put-report .ensures) (c6 .put-answer .ensures) (c .before .before .put-byte .ensures)
 
 pub put-line-spec : {M : Type 1} → statement M
 put-line-spec =

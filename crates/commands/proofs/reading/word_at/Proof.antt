@@ -8,4 +8,6 @@ pub word-at-spec : {M : Type 1} → statement M
 unfolding word
 word-at-spec =
     tie.close
-    (tie.spec (λ c κs. search needs) (λ c. search needs) (λ c. search needs) (λ c. rw (← c .before .before .field-at .ensures, c .enum-told .given .1)) (λ c. search needs) (λ c. rw (← c .before .before .before .before .field-at .ensures, c .before .before .value .given .1, lt-ltb _ _ (c .if1 .taken))) (λ c. rw (← c .before .before .before .before .field-at .ensures, c .before .before .value .given .1, le-ltb _ _ (c .if1 .left))))
+    (tie.spec (λ c κs. search needs) (λ c. search needs) (λ c. search needs) (λ c. rw (← c .before .before .field-at .ensures, c .enum-told .given .1))
+    (λ c. search needs) (λ c. rw (← c .before .before .before .before .field-at .ensures, c .before .before .value .given .1, lt-ltb _ _ (c .if1 .taken)))
+    (λ c. rw (← c .before .before .before .before .field-at .ensures, c .before .before .value .given .1, le-ltb _ _ (c .if1 .left))))

@@ -10,4 +10,8 @@ add-t5 c = let a = c .before .before .before .args in let h = bytes.inside (a .t
 
 pub bits-at-spec : {M : Type 1} → statement M
 bits-at-spec =
-    tie.close (tie.spec (λ c κs. search needs) add-t5 (λ c. laws.at-zero _ _ _ (c .before .byte-at .ensures) (c .if1 .taken)) (λ c κs. search needs) (λ c. laws.at-one _ _ _ (c .before .before .before .byte-at .ensures) (c .before .before .if1 .left) (c .before .if2 .taken) (c .bits-from .ensures)) (λ c. laws.at-other _ _ _ (c .before .before .byte-at .ensures) (c .before .if1 .left) (c .if2 .left)))
+    tie.close
+    (tie.spec (λ c κs. search needs) add-t5 (λ c. laws.at-zero _ _ _ (c .before .byte-at .ensures) (c .if1 .taken)) (λ c κs. search needs)
+    (λ c. laws.at-one _ _ _ (c .before .before .before .byte-at .ensures) (c .before .before .if1 .left) (c .before .if2 .taken)
+    (c .bits-from .ensures))
+    (λ c. laws.at-other _ _ _ (c .before .before .byte-at .ensures) (c .before .if1 .left) (c .if2 .left)))

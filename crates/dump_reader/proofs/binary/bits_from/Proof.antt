@@ -15,10 +15,16 @@ abbrev μ-loop : tie.MeasureT-loop
 μ-loop text at value₀ i₀ value i = length text - i
 
 loop-again : tie.Need-loop-again Inv-loop μ-loop
-loop-again c = ((c .before .before .before .before .before .loop .inv .0) ∙ laws.bits-more _ _ _ (c .before .before .before .before .loop-test .taken) (c .before .before .is-bit .ensures) (c .before .if1 .taken) (c .grown .ensures), omega arith)
+loop-again c = (
+  (c .before .before .before .before .before .loop .inv .0) ∙ laws.bits-more _ _ _ (c .before .before .before .before .loop-test .taken)
+      (c .before .before .is-bit .ensures) (c .before .if1 .taken) (c .grown .ensures),
+  omega arith,
+)
 
 returns : tie.Need-returns Inv-loop μ-loop
-returns c = sym ((c .before .before .before .before .loop .inv .0) ∙ laws.bits-stop _ _ _ (c .before .before .before .loop-test .taken) (c .before .is-bit .ensures) (c .if1 .left))
+returns c = sym
+    ((c .before .before .before .before .loop .inv .0) ∙ laws.bits-stop _ _ _ (c .before .before .before .loop-test .taken) (c .before .is-bit .ensures)
+    (c .if1 .left))
 
 pub bits-from-spec : {M : Type 1} → statement M
 bits-from-spec =

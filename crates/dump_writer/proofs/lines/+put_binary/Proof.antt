@@ -40,4 +40,6 @@ pub +put-binary-spec : {M : Type 1} → statement M
     (λ c. c .before .before .put-byte .kept .0)
     (λ c. laws.put-bit (c .before .before .before .before .if1 .taken) (c .before .before .put-byte .ensures))
     (λ c. (c .before .before .put-byte2 .kept .0) ∙ (c .before .before .before .before .before .before .put-binary .kept .0))
-    (λ c. laws.put-bits (c .before .before .before .before .before .before .before .before .if1 .left) (omega arith) (c .before .before .before .before .before .before .put-binary .ensures) (c .before .before .put-byte2 .ensures))
+    (λ c. let c6 = c .before .before .before .before .before .before in
+    let c8 = c6 .before .before in
+    laws.put-bits (c8 .if1 .left) (omega arith) (c6 .put-binary .ensures) (c .before .before .put-byte2 .ensures))

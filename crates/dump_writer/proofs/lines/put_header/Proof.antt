@@ -5,7 +5,14 @@ use Rattle.dump_writer.proofs.lines.put_header.Statement.{statement}
 use Rattle.dump_writer.proofs.lines.put_header.Tie as tie
 
 returns : tie.Need-returns
-returns c = laws.put-header (omega arith) ((c .before .before .before .before .before .before .before .before .before .before .before .before .before .before .before .before .before .before .before .before .before .before .before .before .before .args) .count) (c .before .before .before .before .before .before .before .before .before .before .before .before .before .before .before .before .before .before .before .before .before .put-word .ensures) (c .before .before .before .before .before .before .before .before .before .before .before .before .before .before .before .before .put-word2 .ensures) (c .before .before .before .before .before .before .before .before .before .before .before .before .put-vars .ensures) (c .before .before .before .before .before .before .before .put-word3 .ensures) (c .before .before .put-word4 .ensures)
+returns c =
+    let c7 = c .before .before .before .before .before .before .before in
+    let c12 = c7 .before .before .before .before .before in
+    let c16 = c12 .before .before .before .before in
+    let c21 = c16 .before .before .before .before .before in
+    let c25 = c21 .before .before .before .before in
+    laws.put-header (omega arith) ((c25 .args) .count) (c21 .put-word .ensures) (c16 .put-word2 .ensures) (c12 .put-vars .ensures) (c7 .put-word3 .ensures)
+    (c .before .before .put-word4 .ensures)
 
 pub put-header-spec : {M : Type 1} → statement M
 put-header-spec =

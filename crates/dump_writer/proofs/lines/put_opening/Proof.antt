@@ -5,7 +5,12 @@ use Rattle.dump_writer.proofs.lines.put_opening.Statement.{statement}
 use Rattle.dump_writer.proofs.lines.put_opening.Tie as tie
 
 returns : tie.Need-returns
-returns c = let a = c .before .before .before .before .before .before .before .before .before .before .before .before .before .args in laws.put-opening (a .count) (a .row) (omega arith) (c .before .before .before .before .before .before .before .before .before .before .put-header .ensures) (c .before .before .before .before .before .before .put-time .ensures) (c .before .before .put-values .ensures)
+returns c =
+    let c6 = c .before .before .before .before .before .before in
+    let c10 = c6 .before .before .before .before in
+    let c13 = c10 .before .before .before in
+    let a = c13 .args in
+    laws.put-opening (a .count) (a .row) (omega arith) (c10 .put-header .ensures) (c6 .put-time .ensures) (c .before .before .put-values .ensures)
 
 pub put-opening-spec : {M : Type 1} → statement M
 put-opening-spec =

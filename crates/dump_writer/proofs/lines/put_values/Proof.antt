@@ -16,7 +16,15 @@ abbrev μ-loop : tie.MeasureT-loop
 μ-loop buffer₀ at count row i₀ v₀ buffer i v = count - v
 
 loop-again : tie.Need-loop-again Inv-loop μ-loop
-loop-again c = let l = c .before .before .before .before .before .before .loop in (series.series-turn (laws.values-series ((c .before .before .before .before .before .before .before .before .args) .row)) _ _ (c .before .before .before .before .before .loop-test .taken) (l .inv .0) (ap (valueText (l .v)) (c .before .before .before .value-at .ensures)) (c .before .before .put-value .ensures), omega arith)
+loop-again c =
+    let c5 = c .before .before .before .before .before in
+    let c6 = c5 .before in
+    let c8 = c6 .before .before in
+    let l = c6 .loop in (
+      series.series-turn (laws.values-series ((c8 .args) .row)) _ _ (c5 .loop-test .taken) (l .inv .0)
+          (ap (valueText (l .v)) (c .before .before .before .value-at .ensures)) (c .before .before .put-value .ensures),
+      omega arith,
+    )
 
 pub put-values-spec : {M : Type 1} → statement M
 put-values-spec =

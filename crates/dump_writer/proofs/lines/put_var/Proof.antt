@@ -5,7 +5,14 @@ use Rattle.dump_writer.proofs.lines.put_var.Statement.{statement}
 use Rattle.dump_writer.proofs.lines.put_var.Tie as tie
 
 returns : tie.Need-returns
-returns c = laws.put-var (omega arith) ((c .before .before .before .before .before .before .before .before .before .before .before .before .before .before .before .before .before .before .before .before .before .before .before .before .args) .variable) (c .before .before .before .before .before .before .before .before .before .before .before .before .before .before .before .before .before .before .before .before .put-word .ensures) (c .before .before .before .before .before .before .before .before .before .before .before .before .before .before .before .before .put-byte .ensures) (c .before .before .before .before .before .before .before .before .before .before .before .put-word2 .ensures) (c .before .before .before .before .before .before .before .put-decimal .ensures) (c .before .before .put-word3 .ensures)
+returns c =
+    let c7 = c .before .before .before .before .before .before .before in
+    let c11 = c7 .before .before .before .before in
+    let c16 = c11 .before .before .before .before .before in
+    let c20 = c16 .before .before .before .before in
+    let c24 = c20 .before .before .before .before in
+    laws.put-var (omega arith) ((c24 .args) .variable) (c20 .put-word .ensures) (c16 .put-byte .ensures) (c11 .put-word2 .ensures) (c7 .put-decimal .ensures)
+    (c .before .before .put-word3 .ensures)
 
 pub put-var-spec : {M : Type 1} → statement M
 put-var-spec =

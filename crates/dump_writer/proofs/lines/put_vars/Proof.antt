@@ -16,7 +16,11 @@ abbrev μ-loop : tie.MeasureT-loop
 μ-loop buffer₀ at count i₀ v₀ buffer i v = count - v
 
 loop-again : tie.Need-loop-again Inv-loop μ-loop
-loop-again c = (series.series-turn laws.vars-series _ _ (c .before .before .before .before .loop-test .taken) (c .before .before .before .before .before .loop .inv .0) refl (c .before .before .put-var .ensures), omega arith)
+loop-again c = (
+  series.series-turn laws.vars-series _ _ (c .before .before .before .before .loop-test .taken) (c .before .before .before .before .before .loop .inv .0)
+      refl (c .before .before .put-var .ensures),
+  omega arith,
+)
 
 pub put-vars-spec : {M : Type 1} → statement M
 put-vars-spec =

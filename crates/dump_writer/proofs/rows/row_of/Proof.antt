@@ -5,7 +5,12 @@ use Rattle.dump_writer.proofs.rows.row_of.Statement.{statement}
 use Rattle.dump_writer.proofs.rows.row_of.Tie as tie
 
 returns : tie.Need-returns
-returns c = let a = c .before .before .before .before .before .before .args in laws.row-is (a .t1) (arrays.rooms (a .t1) _ ((c .before .before .before .before .before .before .good) .0) .announcements) _ (c .before .before .before .before .holder-of .ensures) _ (c .before .announcement-at .ensures) _ (c .values .ensures)
+returns c =
+    let c4 = c .before .before .before .before in
+    let c6 = c4 .before .before in
+    let a = c6 .args in
+    laws.row-is (a .t1) (arrays.fullArrays (a .t1) _ ((c6 .good) .0) .announcements) _ (c4 .holder-of .ensures) _ (c .before .announcement-at .ensures) _
+    (c .values .ensures)
 
 pub row-of-spec : {M : Type 1} → statement M
 row-of-spec =

@@ -5,7 +5,11 @@ use Rattle.dump_writer.proofs.running.open.Statement.{statement}
 use Rattle.dump_writer.proofs.running.open.Tie as tie
 
 returns : tie.Need-returns
-returns c = laws.opens ((c .before .before .before .before .before .before .before .before .args) .state) _ (c .before .before .before .before .before .row-of .ensures) (c .before .before .before .before .few .ensures) (c .before .before .put-opening .ensures)
+returns c =
+    let c4 = c .before .before .before .before in
+    let c5 = c4 .before in
+    let c8 = c5 .before .before .before in
+    laws.opens ((c8 .args) .state) _ (c5 .row-of .ensures) (c4 .few .ensures) (c .before .before .put-opening .ensures)
 
 pub open-spec : {M : Type 1} → statement M
 open-spec =

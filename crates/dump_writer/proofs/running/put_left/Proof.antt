@@ -15,13 +15,20 @@ abbrev μ-loop : tie.MeasureT-loop
 μ-loop calls buffer₀ at course₀ i₀ place₀ buffer course i place = list.length calls - place
 
 loop-less : tie.Need-loop-less Inv-loop μ-loop
-loop-less c = laws.left-less (c .before .before .before .before .before .before .loop .inv) (omega arith) (c .before .before .before .before .before .loop-test .taken) (c .before .before .before .put-command .ensures)
+loop-less c =
+    let c5 = c .before .before .before .before .before in
+    let c6 = c5 .before in
+    laws.left-less (c6 .loop .inv) (omega arith) (c5 .loop-test .taken) (c .before .before .before .put-command .ensures)
 
 loop-again : tie.Need-loop-again Inv-loop μ-loop
-loop-again c = laws.left-turn (c .before .before .before .before .before .before .loop .inv) (omega arith) (c .before .before .before .before .before .loop-test .taken) (c .before .before .before .put-command .ensures)
+loop-again c =
+    let c5 = c .before .before .before .before .before in
+    let c6 = c5 .before in
+    laws.left-turn (c6 .loop .inv) (omega arith) (c5 .loop-test .taken) (c .before .before .before .put-command .ensures)
 
 returns : tie.Need-returns Inv-loop μ-loop
-returns c = laws.left-last (c .before .before .before .before .before .loop .inv) (omega arith) (c .before .before .before .before .loop-test .left) (c .before .before .put-above .ensures)
+returns c = laws.left-last (c .before .before .before .before .before .loop .inv) (omega arith) (c .before .before .before .before .loop-test .left)
+    (c .before .before .put-above .ensures)
 
 pub put-left-spec : {M : Type 1} → statement M
 put-left-spec =

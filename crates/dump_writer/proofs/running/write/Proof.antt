@@ -7,10 +7,28 @@ use Rattle.dump_writer.proofs.running.write.Statement.{statement}
 use Rattle.dump_writer.proofs.running.write.Tie as tie
 
 returns : tie.Need-returns
-returns c = let told = (c .before .before .before .before .before .before .before .put-dump) in let a = (c .before .before .before .before .before .before .before .before .before .before .before .before .args) in let same = no-front (told .last .1 .1 .0) (a .buffer .now) (told .kept .1 .1 .0) in record { answer = laws.written-bytes (dumpText (a .card .now) (a .calls .now)) (a .buffer .now) same (told .ensures) (omega arith) (omega arith); bytes = laws.text-there (dumpText (a .card .now) (a .calls .now)) (a .buffer .now) same (told .ensures) (omega arith) (omega arith) (c .before .before .put-dump2 .ensures) }
+returns c =
+    let c7 = c .before .before .before .before .before .before .before in
+    let c12 = c7 .before .before .before .before .before in
+    let told = (c7 .put-dump) in
+    let a = (c12 .args) in let same = no-front (told .last .1 .1 .0) (a .buffer .now) (told .kept .1 .1 .0) in
+    record {
+      answer = laws.written-bytes (dumpText (a .card .now) (a .calls .now)) (a .buffer .now) same (told .ensures) (omega arith) (omega arith);
+      bytes =
+          laws.text-there (dumpText (a .card .now) (a .calls .now)) (a .buffer .now) same (told .ensures) (omega arith) (omega arith)
+          (c .before .before .put-dump2 .ensures);
+    }
 
 returns-2 : tie.Need-returns-2
-returns-2 c = let told = (c .before .before .before .put-dump) in let a = (c .before .before .before .before .before .before .before .before .args) in let same = no-front (told .last .1 .1 .0) (a .buffer .now) (told .kept .1 .1 .0) in record { answer = laws.written-short (dumpText (a .card .now) (a .calls .now)) (a .buffer .now) same (told .ensures) (omega arith) (omega arith); bytes = laws.bytes-kept (dumpText (a .card .now) (a .calls .now)) (a .buffer .now) same (told .ensures) (omega arith) (omega arith) }
+returns-2 c =
+    let c8 = c .before .before .before .before .before .before .before .before in
+    let told = (c .before .before .before .put-dump) in
+    let a = (c8 .args) in let same = no-front (told .last .1 .1 .0) (a .buffer .now) (told .kept .1 .1 .0) in
+    record {
+      answer = laws.written-short (dumpText (a .card .now) (a .calls .now)) (a .buffer .now) same (told .ensures) (omega arith) (omega arith);
+      bytes =
+          laws.bytes-kept (dumpText (a .card .now) (a .calls .now)) (a .buffer .now) same (told .ensures) (omega arith) (omega arith);
+    }
 
 pub write-spec : {M : Type 1} → statement M
 write-spec =

@@ -4,7 +4,11 @@ use Rattle.embedding.proofs.machines.lace_machines_change.Statement.{st
 use Rattle.embedding.proofs.machines.lace_machines_change.Tie as tie
 
 returns : tie.Need-returns
-returns c = asks-telling _ (c .before .before .before .before .before .before .before .before .allowance-in .ensures) (c .before .before .before .before .before .change .ensures) (c .before .before .tell .ensures)
+returns c =
+    let c5 = c .before .before .before .before .before in
+    let c8 = c5 .before .before .before in
+    asks-telling _ (c8 .allowance-in .ensures) (c5 .change .ensures) (c .before .before .tell .ensures)
 
 pub lace-machines-change-spec : {M : Type 1} → statement M
-lace-machines-change-spec = tie.close (tie.spec (λ c κs. search needs) (λ c κs. search needs) (λ c κs. search needs) (λ c. search needs) (λ c. search needs) returns)
+lace-machines-change-spec = tie.close
+    (tie.spec (λ c κs. search needs) (λ c κs. search needs) (λ c κs. search needs) (λ c. search needs) (λ c. search needs) returns)

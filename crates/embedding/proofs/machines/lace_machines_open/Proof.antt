@@ -13,7 +13,13 @@ returns-2 : tie.Need-returns-2
 returns-2 c = opens-short _ _ _ _ (lt-ltb _ _ (c .if2 .taken))
 
 returns-3 : tie.Need-returns-3
-returns-3 c = opens _ _ _ _ (le-ltb _ _ (c .before .before .before .before .before .before .before .if1 .left)) (le-ltb _ _ (c .before .before .before .before .before .before .if2 .left)) ((c .before .before .before .«open» .ensures) ∙ ap (openedAs _ _) (c .before .before .before .before .terms-in .ensures)) (c .before .before .keep-opened .ensures)
+returns-3 c =
+    let c4 = c .before .before .before .before in
+    let c6 = c4 .before .before in
+    let c7 = c6 .before in
+    opens _ _ _ _ (le-ltb _ _ (c7 .if1 .left)) (le-ltb _ _ (c6 .if2 .left))
+    ((c .before .before .before .«open» .ensures) ∙ ap (openedAs _ _) (c4 .terms-in .ensures)) (c .before .before .keep-opened .ensures)
 
 pub lace-machines-open-spec : {M : Type 1} → statement M
-lace-machines-open-spec = tie.close (tie.spec returns (λ c. search needs) returns-2 (λ c κs. search needs) (λ c κs. search needs) (λ c κs. search needs) (λ c. search needs) returns-3)
+lace-machines-open-spec = tie.close
+    (tie.spec returns (λ c. search needs) returns-2 (λ c κs. search needs) (λ c κs. search needs) (λ c κs. search needs) (λ c. search needs) returns-3)

@@ -3,7 +3,10 @@ use Rattle.embedding.proofs.numbers.put_cell.Statement.{statement}
 use Rattle.embedding.proofs.numbers.put_cell.Tie as tie
 
 returns : tie.Need-returns
-returns c = rw ((c .before .before .put2 .ensures), (c .before .before .before .before .before .before .before .put .ensures), (c .before .before .before .before .before .before .before .before .cell-letter .ensures), (c .before .before .before .cell-number .ensures))
+returns c =
+    let c7 = c .before .before .before .before .before .before .before in
+    let c8 = c7 .before in
+    rw ((c .before .before .put2 .ensures), (c7 .put .ensures), (c8 .cell-letter .ensures), (c .before .before .before .cell-number .ensures))
 
 pub put-cell-spec : {M : Type 1} → statement M
 put-cell-spec =

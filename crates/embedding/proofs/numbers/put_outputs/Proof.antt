@@ -3,7 +3,11 @@ use Rattle.embedding.proofs.numbers.put_outputs.Statement.{statement}
 use Rattle.embedding.proofs.numbers.put_outputs.Tie as tie
 
 returns : tie.Need-returns
-returns c = rw ((c .before .before .put4 .ensures), (c .before .before .before .before .before .before .before .put3 .ensures), (c .before .before .before .before .before .before .before .before .before .before .before .before .put2 .ensures), (c .before .before .before .before .before .before .before .before .before .before .before .before .before .before .before .before .before .put .ensures))
+returns c =
+    let c7 = c .before .before .before .before .before .before .before in
+    let c12 = c7 .before .before .before .before .before in
+    let c17 = c12 .before .before .before .before .before in
+    rw ((c .before .before .put4 .ensures), (c7 .put3 .ensures), (c12 .put2 .ensures), (c17 .put .ensures))
 
 pub put-outputs-spec : {M : Type 1} → statement M
 put-outputs-spec =

@@ -3,7 +3,12 @@ use Rattle.embedding.proofs.numbers.put_rest.Statement.{statement}
 use Rattle.embedding.proofs.numbers.put_rest.Tie as tie
 
 returns : tie.Need-returns
-returns c = rw ((c .before .before .put4 .ensures), (c .before .before .before .before .before .before .before .put3 .ensures), (c .before .before .before .before .before .before .before .before .before .before .before .put2 .ensures), (c .before .before .before .before .before .before .before .before .before .before .before .before .before .before .before .put .ensures), (c .before .before .before .before .before .before .before .before .before .before .before .before .before .before .before .before .swap-byte .ensures))
+returns c =
+    let c7 = c .before .before .before .before .before .before .before in
+    let c11 = c7 .before .before .before .before in
+    let c15 = c11 .before .before .before .before in
+    let c16 = c15 .before in
+    rw ((c .before .before .put4 .ensures), (c7 .put3 .ensures), (c11 .put2 .ensures), (c15 .put .ensures), (c16 .swap-byte .ensures))
 
 pub put-rest-spec : {M : Type 1} → statement M
 put-rest-spec =

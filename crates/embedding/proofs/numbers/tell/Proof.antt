@@ -12,7 +12,10 @@ returns-3 : tie.Need-returns-3
 returns-3 c = by-case statusOf numbersOf _ _ (c .before .before .before .before .before .answer .given .1) refl (c .before .before .put-done .ensures)
 
 returns-4 : tie.Need-returns-4
-returns-4 c = by-case statusOf numbersOf _ _ (c .before .before .before .before .before .before .before .before .before .answer2 .given .1) refl (rw ((c .before .before .put3 .ensures), (c .before .before .before .before .before .before .put2 .ensures)))
+returns-4 c =
+    let c6 = c .before .before .before .before .before .before in
+    let c9 = c6 .before .before .before in
+    by-case statusOf numbersOf _ _ (c9 .answer2 .given .1) refl (rw ((c .before .before .put3 .ensures), (c6 .put2 .ensures)))
 
 returns-5 : tie.Need-returns-5
 returns-5 c = by-case statusOf numbersOf _ _ (c .before .before .before .before .before .answer3 .given .1) refl (c .before .before .put4 .ensures)
@@ -21,7 +24,9 @@ returns-6 : tie.Need-returns-6
 returns-6 c = by-case statusOf numbersOf _ _ (c .before .before .answer4 .given .1) (c .status .ensures) refl
 
 returns-7 : tie.Need-returns-7
-returns-7 c = by-case statusOf numbersOf _ _ (c .before .before .before .before .before .before .answer5 .given .1) (c .status2 .ensures) (c .before .before .before .put5 .ensures)
+returns-7 c =
+    let c6 = c .before .before .before .before .before .before in
+    by-case statusOf numbersOf _ _ (c6 .answer5 .given .1) (c .status2 .ensures) (c .before .before .before .put5 .ensures)
 
 pub tell-spec : {M : Type 1} → statement M
 tell-spec =

@@ -7,7 +7,14 @@ returns : tie.Need-returns
 returns c = told-none (c .before .before .before .before .args .report) _ _ (c .before .before .label-row .ensures) (c .if1 .taken)
 
 returns-2 : tie.Need-returns-2
-returns-2 c = told-access (c .before .before .before .before .before .before .before .before .before .before .before .before .before .before .before .before .args .report) _ _ (c .before .before .before .before .before .before .before .before .before .before .before .before .before .before .label-row .ensures) (c .before .before .before .before .before .before .before .before .before .before .before .before .if1 .left) (c .before .before .before .before .before .before .before .before .before .before .put-name .ensures) (c .before .before .before .before .before .before .put-cell .ensures) (c .before .before .put-rest .ensures)
+returns-2 c =
+    let c6 = c .before .before .before .before .before .before in
+    let c10 = c6 .before .before .before .before in
+    let c12 = c10 .before .before in
+    let c14 = c12 .before .before in
+    let c16 = c14 .before .before in
+    told-access (c16 .args .report) _ _ (c14 .label-row .ensures) (c12 .if1 .left) (c10 .put-name .ensures) (c6 .put-cell .ensures)
+    (c .before .before .put-rest .ensures)
 
 pub tell-report-spec : {M : Type 1} → statement M
 tell-report-spec =

@@ -6,7 +6,8 @@ use Rattle.embedding.proofs.requests.lace_open.Tie as tie
 
 returns : tie.Need-returns
 returns c =
-    let h = tells verdictStatus verdictNumbers _ (c .before .before .before .before .before .«open» .ensures .answer) (c .before .before .tell-verdict .ensures) in
+    let h = tells verdictStatus verdictNumbers _ (c .before .before .before .before .before .«open» .ensures .answer)
+    (c .before .before .tell-verdict .ensures) in
     record { status = h .0; block = c .before .before .before .before .before .«open» .ensures .words; out = h .1 }
 
 pub lace-open-spec : {M : Type 1} → statement M

@@ -6,7 +6,8 @@ use Rattle.embedding.proofs.requests.lace_step.Tie as tie
 
 returns : tie.Need-returns
 returns c =
-    let e = c .before .before .before .before .before .before .before .step .ensures in
+    let c7 = c .before .before .before .before .before .before .before in
+    let e = c7 .step .ensures in
     let h = tells statusOf numbersOf _ (e .0) (c .before .before .tell .ensures) in
     record { status = h .0; block = e .1; loan = e .2; out = h .1 }
 

@@ -5,7 +5,8 @@ use Rattle.embedding.proofs.sizes.lace_wait.Tie as tie
 
 returns : tie.Need-returns
 unfolding waitIn
-returns c = rw ((c .wait-number .ensures), (c .before .wait-for .ensures), (c .before .before .room .ensures), (c .before .before .before .process-count .ensures))
+returns c = rw
+    ((c .wait-number .ensures), (c .before .wait-for .ensures), (c .before .before .room .ensures), (c .before .before .before .process-count .ensures))
 
 pub lace-wait-spec : {M : Type 1} → statement M
 lace-wait-spec =

@@ -18,10 +18,16 @@ grown-requires : tie.Need-grown-requires Inv-loop μ-loop
 grown-requires c κs = ((c .before .before .before .before .loop .inv .1), sym (c .before .is-digit .ensures) ∙ (c .if1 .taken))
 
 loop-again : tie.Need-loop-again Inv-loop μ-loop
-loop-again c = ((c .before .before .before .before .before .loop .inv .0) ∙ laws.digits-more _ _ _ (c .before .before .before .before .loop-test .taken) (c .before .before .is-digit .ensures) (c .before .if1 .taken) (c .grown .ensures), omega arith)
+loop-again c = (
+  (c .before .before .before .before .before .loop .inv .0) ∙ laws.digits-more _ _ _ (c .before .before .before .before .loop-test .taken)
+      (c .before .before .is-digit .ensures) (c .before .if1 .taken) (c .grown .ensures),
+  omega arith,
+)
 
 returns : tie.Need-returns Inv-loop μ-loop
-returns c = sym ((c .before .before .before .before .loop .inv .0) ∙ laws.digits-stop _ _ _ (c .before .before .before .loop-test .taken) (c .before .is-digit .ensures) (c .if1 .left))
+returns c = sym
+    ((c .before .before .before .before .loop .inv .0) ∙ laws.digits-stop _ _ _ (c .before .before .before .loop-test .taken) (c .before .is-digit .ensures)
+    (c .if1 .left))
 
 pub digits-at-spec : {M : Type 1} → statement M
 digits-at-spec =

@@ -15,13 +15,24 @@ abbrev μ-loop : tie.MeasureT-loop
 μ-loop text at word i₀ k₀ i k = length word - k
 
 add-i : tie.Need-add-i Inv-loop μ-loop
-add-i c = let h = bytes.byte-true (c .before .before .before .before .before .before .before .args .text .now) (c .before .before .before .before .loop .i) (getD (c .before .before .before .before .before .before .before .args .word .now) (c .before .before .before .before .loop .k) 0) (sym (c .before .has-byte .ensures) ∙ (c .if1 .taken)) in omega arith
+add-i c =
+    let c4 = c .before .before .before .before in
+    let c7 = c4 .before .before .before in
+    let h = bytes.byte-true (c7 .args .text .now) (c4 .loop .i) (getD (c7 .args .word .now) (c4 .loop .k) 0)
+    (sym (c .before .has-byte .ensures) ∙ (c .if1 .taken)) in
+    omega arith
 
 loop-again : tie.Need-loop-again Inv-loop μ-loop
-loop-again c = ((c .before .before .before .before .loop .inv .0) ∙ bytes.word-more _ _ _ _ (c .before .before .before .loop-test .taken) (c .before .has-byte .ensures) (c .if1 .taken), omega arith)
+loop-again c = (
+  (c .before .before .before .before .loop .inv .0) ∙ bytes.word-more _ _ _ _ (c .before .before .before .loop-test .taken) (c .before .has-byte .ensures)
+      (c .if1 .taken),
+  omega arith,
+)
 
 returns : tie.Need-returns Inv-loop μ-loop
-returns c = sym ((c .before .before .before .before .loop .inv .0) ∙ bytes.word-other _ _ _ _ (c .before .before .before .loop-test .taken) (c .before .has-byte .ensures) (c .if1 .left))
+returns c = sym
+    ((c .before .before .before .before .loop .inv .0) ∙ bytes.word-other _ _ _ _ (c .before .before .before .loop-test .taken) (c .before .has-byte .ensures)
+    (c .if1 .left))
 
 pub has-word-spec : {M : Type 1} → statement M
 has-word-spec =

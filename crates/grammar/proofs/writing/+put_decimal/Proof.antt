@@ -42,4 +42,6 @@ pub +put-decimal-spec : {M : Type 1} → statement M
     (λ c. c .before .before .put-byte .kept .0)
     (λ c. puts.put-digit (c .before .before .before .before .if1 .taken) (c .before .before .put-byte .ensures))
     (λ c. (c .before .before .put-byte2 .kept .0) ∙ (c .before .before .before .before .before .before .put-decimal .kept .0))
-    (λ c. puts.put-digits (c .before .before .before .before .before .before .before .before .if1 .left) (omega arith) (c .before .before .before .before .before .before .put-decimal .ensures) (c .before .before .put-byte2 .ensures))
+    (λ c. let c6 = c .before .before .before .before .before .before in
+    let c8 = c6 .before .before in
+    puts.put-digits (c8 .if1 .left) (omega arith) (c6 .put-decimal .ensures) (c .before .before .put-byte2 .ensures))

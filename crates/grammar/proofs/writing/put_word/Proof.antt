@@ -13,7 +13,10 @@ abbrev μ-loop : tie.MeasureT-loop
 μ-loop buffer₀ at word i₀ k₀ buffer i k = length word - k
 
 loop-again : tie.Need-loop-again Inv-loop μ-loop
-loop-again c = (puts.word-turn _ _ (c .before .before .before .before .before .loop-test .taken) (c .before .before .before .before .before .before .loop .inv .0) (c .before .before .put-byte .ensures), omega arith)
+loop-again c =
+    let c5 = c .before .before .before .before .before in
+    let c6 = c5 .before in
+    (puts.word-turn _ _ (c5 .loop-test .taken) (c6 .loop .inv .0) (c .before .before .put-byte .ensures), omega arith)
 
 pub put-word-spec : {M : Type 1} → statement M
 put-word-spec =

@@ -18,7 +18,8 @@ returns : tie.Need-returns Inv-loop μ-loop
 returns c = λ long. laws.key-here _ _ _ _ _ long (c .before .before .before .loop .inv .0 long) (c .before .before .loop-test .taken) (c .if1 .taken)
 
 loop-again : tie.Need-loop-again Inv-loop μ-loop
-loop-again c = (λ long. laws.key-more _ _ _ _ _ long (c .before .before .before .loop .inv .0 long) (c .before .before .loop-test .taken) (c .if1 .left), omega arith)
+loop-again c =
+    (λ long. laws.key-more _ _ _ _ _ long (c .before .before .before .loop .inv .0 long) (c .before .before .loop-test .taken) (c .if1 .left), omega arith)
 
 pub find-spec : {M : Type 1} → statement M
 find-spec =

@@ -4,7 +4,7 @@ use native.Mathlib.Omega.{arith}
 use borrow.Author.Needs.{needs}
 use borrow.Author.Tests.{not-true, not-false}
 use lib.ListN.{length, take}
-use Rattle.construction.specs.declared.Dictionary.{Dictionary}
+use Rattle.construction.specs.declared.simulations.Dictionary.{Dictionary}
 use Rattle.construction.specs.Instructions.{shortened, nextInstruction}
 use Rattle.construction.specs.Helping.{simulateFrom, simulate}
 use Rattle.programs.proofs.Laws as programs
@@ -29,16 +29,23 @@ fetched :
     ≡ nextInstruction (c .before .before .before .before .before .before .args .t2) (c .before .before .before .before .before .loop .s .counter)
 fetched c =
     let start = c .before .before .before .before .before .before in
-    rw (c .remaining-after .ensures, c .before .instruction-at .ensures, programs.fetched (start .args .t2) _ (rooms.lines (start .args .t2) _ (start .good .1 .0)))
+    rw (
+      c .remaining-after .ensures,
+      c .before .instruction-at .ensures,
+      programs.fetched (start .args .t2) _
+          (rooms.lines (start .args .t2) _ (start .good .1 .0)),
+    )
 
 -- the turn, on all keys that stand in the dictionary
 made :
     (c : tie.After-turn Inv-loop μ-loop) → let read = c .before .before in
     let loop = read .before .before .before .before .before .loop in
     let a = read .before .before .before .before .before .before .args in
-    Turns (a .n) (shortened (read .remaining-after .result) (read .before .instruction-at .result)) (a .inputs) (loop .s) (a .keys .now) (a .end) (loop .values) (c .turn .last .1 .1 .1 .1 .1 .1 .1 .0) (c .turn .result)
+    Turns (a .n) (shortened (read .remaining-after .result) (read .before .instruction-at .result)) (a .inputs) (loop .s) (a .keys .now) (a .end) (loop .values)
+    (c .turn .last .1 .1 .1 .1 .1 .1 .1 .0) (c .turn .result)
 made c =
-    let a = c .before .before .before .before .before .before .before .before .args in
+    let c8 = c .before .before .before .before .before .before .before .before in
+    let a = c8 .args in
     let all : min (a .end) 32 ≡ a .end = omega arith in
     rw all at (c .turn .ensures)
 
@@ -48,7 +55,8 @@ returns c =
     let loop = at .before .before .before .before .before .before .before .loop in
     record {
       long = made at .long ∙ loop .inv .0;
-      left = λ d h. laws.turn-stands h _ _ _ _ (loop .fuel) (loop .fuel - 1) _ _ (loop .inv .0) (loop .inv .1 d h) (omega arith) (fetched (at .before .before)) (made at) (not-true _ (c .if1 .taken));
+      left = λ d h. laws.turn-stands h _ _ _ _ (loop .fuel) (loop .fuel - 1) _ _ (loop .inv .0) (loop .inv .1 d h) (omega arith) (fetched (at .before .before))
+          (made at) (not-true _ (c .if1 .taken));
     }
 
 loop-again : tie.Need-loop-again Inv-loop μ-loop
@@ -56,7 +64,8 @@ loop-again c =
     let at = c .before .before .before in
     let loop = at .before .before .before .before .before .before .before .loop in (
       made at .long ∙ loop .inv .0,
-      λ d h. laws.turn-goes h _ _ _ _ (loop .fuel) (loop .fuel - 1) _ _ (loop .inv .0) (loop .inv .1 d h) (omega arith) (fetched (at .before .before)) (made at) (not-false _ (c .if1 .left)),
+      λ d h. laws.turn-goes h _ _ _ _ (loop .fuel) (loop .fuel - 1) _ _ (loop .inv .0) (loop .inv .1 d h) (omega arith) (fetched (at .before .before)) (made at)
+          (not-false _ (c .if1 .left)),
     )
 
 pub simulate-spec : {M : Type 1} → statement M

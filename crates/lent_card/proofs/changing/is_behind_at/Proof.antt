@@ -4,10 +4,12 @@ use Rattle.lent_card.proofs.changing.is_behind_at.Statement.{statement}
 use Rattle.lent_card.proofs.changing.is_behind_at.Tie as tie
 
 returns : tie.Need-returns
-returns c = judging.behind-there _ _ _ (c .before .before .before .process-count .ensures) (c .before .before .if1 .taken) (c .before .before .before .before .task .ensures) (c .before .last-gate .ensures) (c .is-behind .ensures)
+returns c = judging.behind-there _ _ _ (c .before .before .before .process-count .ensures) (c .before .before .if1 .taken)
+    (c .before .before .before .before .control .ensures) (c .before .last-gate .ensures) (c .is-behind .ensures)
 
 returns-2 : tie.Need-returns-2
-returns-2 c = let a = c .before .before .before .before .args in judging.behind-none (a .b .now) (a .i) (a .number) (c .before .process-count .ensures) (c .if1 .left)
+returns-2 c = let a = c .before .before .before .before .args in
+    judging.behind-none (a .b .now) (a .i) (a .number) (c .before .process-count .ensures) (c .if1 .left)
 
 pub is-behind-at-spec : {M : Type 1} → statement M
 is-behind-at-spec =

@@ -3,7 +3,10 @@ use Rattle.lent_card.proofs.changing.put_change.Statement.{statement}
 use Rattle.lent_card.proofs.changing.put_change.Tie as tie
 
 returns : tie.Need-returns
-returns c = rw ((c .before .before .before .before .before .before .put-from .ensures), (c .before .before .before .before .before .before .before .before .before .before .keep-later .ensures)) at (c .before .before .put-program .ensures)
+returns c =
+    let c6 = c .before .before .before .before .before .before in
+    let c10 = c6 .before .before .before .before in
+    rw ((c6 .put-from .ensures), (c10 .keep-later .ensures)) at (c .before .before .put-program .ensures)
 
 pub put-change-spec : {M : Type 1} → statement M
 put-change-spec =

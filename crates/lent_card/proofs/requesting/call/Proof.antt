@@ -6,10 +6,22 @@ use Rattle.lent_card.proofs.requesting.call.Statement.{statement}
 use Rattle.lent_card.proofs.requesting.call.Tie as tie
 
 returns : tie.Need-returns
-returns c = ((c .before .before .before .before .before .before .before .before .answer-call .ensures), judging.call-taken _ _ _ _ (c .before .before .before .before .before .before .before .before .answer-call .ensures) (sym (c .before .before .before .before .before .before .before .is-refused .ensures) ∙ not-true _ (c .before .before .before .before .before .before .if1 .taken)) (c .before .before .before .before .narrow .ensures) (c .before .before .before .narrow2 .ensures) (c .before .before .put-call .ensures))
+returns c =
+    let c4 = c .before .before .before .before in
+    let c6 = c4 .before .before in
+    let c7 = c6 .before in
+    let c8 = c7 .before in (
+      (c8 .answer-call .ensures),
+      judging.call-taken _ _ _ _ (c8 .answer-call .ensures) (sym (c7 .is-refused .ensures) ∙ not-true _ (c6 .if1 .taken))
+          (c4 .narrow .ensures) (c .before .before .before .narrow2 .ensures) (c .before .before .put-call .ensures),
+    )
 
 returns-2 : tie.Need-returns-2
-returns-2 c = ((c .before .before .answer-call .ensures), judging.call-refused _ _ _ _ (c .before .before .answer-call .ensures) (sym (c .before .is-refused .ensures) ∙ not-false _ (c .if1 .left)))
+returns-2 c = (
+  (c .before .before .answer-call .ensures),
+  judging.call-refused _ _ _ _ (c .before .before .answer-call .ensures)
+      (sym (c .before .is-refused .ensures) ∙ not-false _ (c .if1 .left)),
+)
 
 pub call-spec : {M : Type 1} → statement M
 call-spec =

@@ -7,7 +7,8 @@ returns : tie.Need-returns
 returns c = judging.read-refused _ _ (c .before .before .variable-count .ensures) (c .before .is-below .ensures) (c .if1 .taken)
 
 returns-2 : tie.Need-returns-2
-returns-2 c = judging.read-shown _ _ (c .before .before .before .before .variable-count .ensures) (c .before .before .before .is-below .ensures) (c .before .before .if1 .left) (c .before .narrow .ensures) (c .value .ensures)
+returns-2 c = judging.read-shown _ _ (c .before .before .before .before .variable-count .ensures) (c .before .before .before .is-below .ensures)
+    (c .before .before .if1 .left) (c .before .narrow .ensures) (c .value .ensures)
 
 pub read-spec : {M : Type 1} → statement M
 read-spec =

@@ -4,7 +4,8 @@ use Rattle.lent_card.proofs.requesting.value.Statement.{statement}
 use Rattle.lent_card.proofs.requesting.value.Tie as tie
 
 returns : tie.Need-returns
-returns c = judging.value-shown _ _ (c .before .before .before .before .gate .ensures) (c .before .before .before .holder-of .ensures) (c .before .before .announcement .ensures) (c .before .«record» .ensures) (c .value-of .ensures)
+returns c = judging.value-shown _ _ (c .before .before .before .before .gate .ensures) (c .before .before .before .holder-of .ensures)
+    (c .before .before .announcement .ensures) (c .before .«record» .ensures) (c .value-of .ensures)
 
 pub value-spec : {M : Type 1} → statement M
 value-spec =

@@ -46,14 +46,16 @@ same-length c = search needs
 
 returns-2 : tie.Need-returns-2
 unfolding accessBlock accessLoan accessSwap
-returns-2 c = rw ((c .before .before .before .before .before .access .given .1)) (c .before .before .step-gate .ensures .0, refl, c .before .before .step-gate .ensures .1)
+returns-2 c = rw ((c .before .before .before .before .before .access .given .1))
+    (c .before .before .step-gate .ensures .0, refl, c .before .before .step-gate .ensures .1)
 
 same-length-2 : tie.Need-same-length-2
 same-length-2 c = search needs
 
 returns-3 : tie.Need-returns-3
 unfolding accessBlock accessLoan accessSwap
-returns-3 c = rw ((c .before .before .before .before .before .access2 .given .1)) (c .before .before .step-announcement .ensures .0, refl, c .before .before .step-announcement .ensures .1)
+returns-3 c = rw ((c .before .before .before .before .before .access2 .given .1))
+    (c .before .before .step-announcement .ensures .0, refl, c .before .before .step-announcement .ensures .1)
 
 same-length-3 : tie.Need-same-length-3
 same-length-3 c = search needs
@@ -70,7 +72,10 @@ same-length-5 c = search needs
 
 returns-5 : tie.Need-returns-5
 unfolding accessBlock accessLoan accessSwap
-returns-5 c = rw ((c .before .before .before .before .before .before .before .enum-told3 .given .1)) (c .before .before .before .before .step-note .ensures .0, c .before .before .before .before .step-note .ensures .1, refl)
+returns-5 c =
+    let c4 = c .before .before .before .before in
+    let c7 = c4 .before .before .before in
+    rw ((c7 .enum-told3 .given .1)) (c4 .step-note .ensures .0, c4 .step-note .ensures .1, refl)
 
 same-length-6 : tie.Need-same-length-6
 same-length-6 c = search needs
@@ -80,7 +85,8 @@ same-length-7 c = search needs
 
 returns-6 : tie.Need-returns-6
 unfolding accessBlock accessLoan accessSwap
-returns-6 c = rw ((c .before .before .before .before .before .enum-told4 .given .1)) (c .before .before .step-write .ensures .0, refl, c .before .before .step-write .ensures .1)
+returns-6 c = rw ((c .before .before .before .before .before .enum-told4 .given .1))
+    (c .before .before .step-write .ensures .0, refl, c .before .before .step-write .ensures .1)
 
 pub step-access-spec : {M : Type 1} → statement M
 step-access-spec =

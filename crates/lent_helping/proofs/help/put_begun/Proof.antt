@@ -14,14 +14,20 @@ put-mask-requires c κs = search needs
 put-last-requires : tie.Need-put-last-requires
 put-last-requires c κs = search needs
 
-put-task-requires : tie.Need-put-task-requires
-put-task-requires c κs = search needs
+put-control-requires : tie.Need-put-control-requires
+put-control-requires c κs = search needs
 
 same-length : tie.Need-same-length
 same-length c = search needs
 
 returns : tie.Need-returns
-returns c = rw ((c .before .before .before .before .before .before .put-last .ensures), (c .before .before .before .before .before .before .before .before .before .before .put-mask .ensures), (c .before .before .before .before .before .before .before .before .before .before .before .before .before .before .put-noted .ensures), (c .before .before .before .before .before .before .before .before .before .before .before .before .before .before .before .before .before .before .begin .ensures .0), (c .before .before .before .before .before .before .before .before .before .before .before .before .before .before .before .before .before .before .begin .ensures .1)) at (c .before .before .put-task .ensures)
+returns c =
+    let c6 = c .before .before .before .before .before .before in
+    let c10 = c6 .before .before .before .before in
+    let c14 = c10 .before .before .before .before in
+    let c18 = c14 .before .before .before .before in
+    rw ((c6 .put-last .ensures), (c10 .put-mask .ensures), (c14 .put-noted .ensures), (c18 .begin .ensures .0), (c18 .begin .ensures .1)) at
+    (c .before .before .put-control .ensures)
 
 pub put-begun-spec : {M : Type 1} → statement M
 put-begun-spec =
@@ -31,6 +37,6 @@ put-begun-spec =
     put-noted-requires
     put-mask-requires
     put-last-requires
-    put-task-requires
+    put-control-requires
     same-length
     returns)

@@ -25,13 +25,29 @@ same-length : tie.Need-same-length
 same-length c = search needs
 
 returns : tie.Need-returns
-returns c = taken.begun-in ((c .before .before .before .before .before .before .before .before .before .before .before .before .args .b .now)) ((c .before .before .before .before .before .before .before .before .before .before .before .before .args .i)) (c .before .before .before .before .before .before .before .before .before .last-gate .ensures) (c .before .before .before .before .before .before .before .holder-of .ensures) (c .before .before .before .before .before .before .announcement .ensures) (c .before .before .before .before .before .helps .ensures) (c .before .before .before .before .if1 .taken) (c .before .before .put-begun .ensures)
+returns c =
+    let c4 = c .before .before .before .before in
+    let c5 = c4 .before in
+    let c6 = c5 .before in
+    let c7 = c6 .before in
+    let c9 = c7 .before .before in
+    let c12 = c9 .before .before .before in
+    taken.begun-in ((c12 .args .b .now)) ((c12 .args .i)) (c9 .last-gate .ensures) (c7 .holder-of .ensures) (c6 .announcement .ensures) (c5 .helps .ensures)
+    (c4 .if1 .taken) (c .before .before .put-begun .ensures)
 
 same-length-2 : tie.Need-same-length-2
 same-length-2 c = search needs
 
 returns-2 : tie.Need-returns-2
-returns-2 c = taken.passed-in ((c .before .before .before .before .before .before .before .before .before .before .before .before .args .b .now)) ((c .before .before .before .before .before .before .before .before .before .before .before .before .args .i)) (c .before .before .before .before .before .before .before .before .before .last-gate .ensures) (c .before .before .before .before .before .before .before .holder-of .ensures) (c .before .before .before .before .before .before .announcement .ensures) (c .before .before .before .before .before .helps .ensures) (c .before .before .before .before .if1 .left) (c .before .before .put-passed .ensures)
+returns-2 c =
+    let c4 = c .before .before .before .before in
+    let c5 = c4 .before in
+    let c6 = c5 .before in
+    let c7 = c6 .before in
+    let c9 = c7 .before .before in
+    let c12 = c9 .before .before .before in
+    taken.passed-in ((c12 .args .b .now)) ((c12 .args .i)) (c9 .last-gate .ensures) (c7 .holder-of .ensures) (c6 .announcement .ensures) (c5 .helps .ensures)
+    (c4 .if1 .left) (c .before .before .put-passed .ensures)
 
 pub step-help-spec : {M : Type 1} → statement M
 step-help-spec =

@@ -18,7 +18,14 @@ same-length-2 : tie.Need-same-length-2
 same-length-2 c = search needs
 
 returns : tie.Need-returns
-returns c = (rw ((c .before .before .before .before .before .before .before .before .before .before .before .insert .ensures .0), (c .before .before .before .before .before .before .before .before .before .before .before .insert .ensures .1), (c .before .before .before .before .before .before .before .before .before .before .before .before .before .before .before .before .put-marked .ensures)) at (c .before .before .before .before .put-gone-on .ensures .0), rw ((c .before .before .before .before .before .before .before .before .before .before .before .insert .ensures .0), (c .before .before .before .before .before .before .before .before .before .before .before .insert .ensures .1), (c .before .before .before .before .before .before .before .before .before .before .before .before .before .before .before .before .put-marked .ensures)) at (c .before .before .before .before .put-gone-on .ensures .1))
+returns c =
+    let c4 = c .before .before .before .before in
+    let c11 = c4 .before .before .before .before .before .before .before in
+    let c16 = c11 .before .before .before .before .before in (
+      rw ((c11 .insert .ensures .0), (c11 .insert .ensures .1), (c16 .put-marked .ensures)) at (c4 .put-gone-on .ensures .0),
+      rw
+          ((c11 .insert .ensures .0), (c11 .insert .ensures .1), (c16 .put-marked .ensures)) at (c4 .put-gone-on .ensures .1),
+    )
 
 pub put-item-spec : {M : Type 1} → statement M
 put-item-spec =

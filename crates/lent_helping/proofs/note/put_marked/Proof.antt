@@ -15,7 +15,8 @@ same-length : tie.Need-same-length
 same-length c = search needs
 
 returns : tie.Need-returns
-returns c = rw ((c .before .before .before .before .with-bit .ensures), (c .before .before .before .before .before .mask .ensures)) at (c .before .before .put-mask .ensures)
+returns c = rw ((c .before .before .before .before .with-bit .ensures), (c .before .before .before .before .before .mask .ensures)) at
+    (c .before .before .put-mask .ensures)
 
 pub put-marked-spec : {M : Type 1} → statement M
 put-marked-spec =

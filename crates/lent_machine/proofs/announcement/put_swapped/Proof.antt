@@ -4,7 +4,7 @@ use Rattle.lent_machine.proofs.announcement.put_swapped.Statement.{stat
 use Rattle.lent_machine.proofs.announcement.put_swapped.Tie as tie
 use Rattle.lent_machine.proofs.announcement.put_swapped.Reads as reads
 use Rattle.lent_machine.proofs.announcement.put_swapped.Lts as lts
-use Rattle.block.proofs.own.put_task.Reads as put-task-reads
+use Rattle.block.proofs.own.put_control.Reads as put-control-reads
 use Rattle.lent_machine.proofs.announcement.put_won.Reads as put-won-reads
 
 -- src/announcement.rt:57:5
@@ -12,8 +12,8 @@ put-won-requires : tie.Need-put-won-requires
 put-won-requires c κs = search needs
 
 -- src/announcement.rt:58:5
-put-task-requires : tie.Need-put-task-requires
-put-task-requires c κs = search needs
+put-control-requires : tie.Need-put-control-requires
+put-control-requires c κs = search needs
 
 -- src/announcement.rt:51:1
 same-length : tie.Need-same-length
@@ -21,7 +21,9 @@ same-length c = search needs
 
 -- src/announcement.rt:51:1
 returns : tie.Need-returns
-returns c = (rw (← (c .before .before .before .before .before .before .put-won .ensures)) ((c .before .before .put-task .ensures)), refl)
+returns c =
+    let c6 = c .before .before .before .before .before .before in
+    (rw (← (c6 .put-won .ensures)) ((c .before .before .put-control .ensures)), refl)
 
 pub put-swapped-spec : {M : Type 1} → statement M
-put-swapped-spec = tie.close (tie.spec put-won-requires put-task-requires same-length returns)
+put-swapped-spec = tie.close (tie.spec put-won-requires put-control-requires same-length returns)

@@ -6,7 +6,7 @@ use Rattle.lent_machine.proofs.announcement.step_announce.Lts as lts
 use Rattle.block.proofs.cells.put_announcement.Reads as put-announcement-reads
 use Rattle.block.proofs.own.last_gate.Reads as last-gate-reads
 use Rattle.block.proofs.own.operation.Reads as operation-reads
-use Rattle.block.proofs.own.task.Reads as task-reads
+use Rattle.block.proofs.own.control.Reads as control-reads
 use Rattle.lent_machine.proofs.announcement.put_read.Reads as put-read-reads
 use Rattle.machine.proofs.announcement.announce.Reads as announce-reads
 
@@ -19,8 +19,8 @@ last-gate-requires : tie.Need-last-gate-requires
 last-gate-requires c κs = search needs
 
 -- src/announcement.rt:65:56
-task-requires : tie.Need-task-requires
-task-requires c κs = search needs
+control-requires : tie.Need-control-requires
+control-requires c κs = search needs
 
 -- src/announcement.rt:65:9
 announce-requires : tie.Need-announce-requires
@@ -40,7 +40,14 @@ same-length c = search needs
 
 -- src/announcement.rt:62:1
 returns : tie.Need-returns
-returns c = rw ((c .before .before .before .before .before .before .put-announcement .ensures), (c .before .before .before .before .before .before .before .before .before .announce .ensures), (c .before .before .before .before .before .before .before .before .before .before .task .ensures), (c .before .before .before .before .before .before .before .before .before .before .before .before .last-gate .ensures), (c .before .before .before .before .before .before .before .before .before .before .before .before .before .before .operation .ensures)) at ((c .before .before .put-read .ensures))
+returns c =
+    let c6 = c .before .before .before .before .before .before in
+    let c9 = c6 .before .before .before in
+    let c10 = c9 .before in
+    let c12 = c10 .before .before in
+    let c14 = c12 .before .before in
+    rw ((c6 .put-announcement .ensures), (c9 .announce .ensures), (c10 .control .ensures), (c12 .last-gate .ensures), (c14 .operation .ensures)) at
+    ((c .before .before .put-read .ensures))
 
 pub step-announce-spec : {M : Type 1} → statement M
 step-announce-spec =
@@ -48,7 +55,7 @@ step-announce-spec =
     (tie.spec
     operation-requires
     last-gate-requires
-    task-requires
+    control-requires
     announce-requires
     put-announcement-requires
     put-read-requires

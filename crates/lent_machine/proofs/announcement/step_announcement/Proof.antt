@@ -90,7 +90,10 @@ same-length-4 c = search needs
 -- src/announcement.rt:116:1
 returns-4 : tie.Need-returns-4
 unfolding announcementStep accessAnnouncement
-returns-4 c = rw ((c .before .before .before .before .before .before .enum-told3 .given) .1, ← (c .before .before .before .before .first .ensures)) (c .before .before .step-flag2 .ensures, refl)
+returns-4 c =
+    let c4 = c .before .before .before .before in
+    let c6 = c4 .before .before in
+    rw ((c6 .enum-told3 .given) .1, ← (c4 .first .ensures)) (c .before .before .step-flag2 .ensures, refl)
 
 -- src/announcement.rt:116:1
 same-length-5 : tie.Need-same-length-5

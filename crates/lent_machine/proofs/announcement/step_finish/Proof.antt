@@ -8,7 +8,7 @@ use Rattle.block.proofs.cells.announcement.Reads as announcement-reads
 use Rattle.block.proofs.own.last.Reads as last-reads
 use Rattle.block.proofs.own.last_gate.Reads as last-gate-reads
 use Rattle.block.proofs.own.simulation.Reads as simulation-reads
-use Rattle.block.proofs.own.task.Reads as task-reads
+use Rattle.block.proofs.own.control.Reads as control-reads
 use Rattle.lent_machine.proofs.announcement.put_swapped.Reads as put-swapped-reads
 use Rattle.machine.proofs.announcement.finish.Reads as finish-reads
 use Rattle.machine.proofs.places.holder_of.Reads as holder-of-reads
@@ -34,8 +34,8 @@ last-requires : tie.Need-last-requires
 last-requires c κs = search needs
 
 -- src/announcement.rt:111:9
-task-requires : tie.Need-task-requires
-task-requires c κs = search needs
+control-requires : tie.Need-control-requires
+control-requires c κs = search needs
 
 -- src/announcement.rt:104:9
 finish-requires : tie.Need-finish-requires
@@ -51,7 +51,16 @@ same-length c = search needs
 
 -- src/announcement.rt:96:1
 returns : tie.Need-returns
-returns c = finish-in _ _ _ _ ((c .before .before .before .before .before .before .before .before .before .before .before .before .before .before .before .last-gate .ensures)) ((c .before .before .before .before .before .before .before .before .before .before .before .before .before .before .holder-of .ensures)) ((c .before .before .before .before .before .before .before .before .before .before .before .before .simulation .ensures)) ((c .before .before .before .before .before .before .before .before .before .announcement .ensures)) ((c .before .before .before .before .before .before .before .last .ensures)) ((c .before .before .before .before .before .task .ensures)) ((c .before .before .before .before .finish .ensures)) ((c .before .before .put-swapped .ensures))
+returns c =
+    let c4 = c .before .before .before .before in
+    let c5 = c4 .before in
+    let c7 = c5 .before .before in
+    let c9 = c7 .before .before in
+    let c12 = c9 .before .before .before in
+    let c14 = c12 .before .before in
+    let c15 = c14 .before in
+    finish-in _ _ _ _ ((c15 .last-gate .ensures)) ((c14 .holder-of .ensures)) ((c12 .simulation .ensures)) ((c9 .announcement .ensures)) ((c7 .last .ensures))
+    ((c5 .control .ensures)) ((c4 .finish .ensures)) ((c .before .before .put-swapped .ensures))
 
 pub step-finish-spec : {M : Type 1} → statement M
 step-finish-spec =
@@ -62,7 +71,7 @@ step-finish-spec =
     simulation-requires
     announcement-requires
     last-requires
-    task-requires
+    control-requires
     finish-requires
     put-swapped-requires
     same-length

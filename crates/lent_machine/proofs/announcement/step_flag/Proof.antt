@@ -25,7 +25,8 @@ same-length c = search needs
 
 -- src/announcement.rt:80:1
 returns : tie.Need-returns
-returns c = rw ((c .before .before .before .before .read-flag .ensures), (c .before .before .before .before .before .announcement .ensures)) at ((c .before .before .put-read .ensures))
+returns c = rw ((c .before .before .before .before .read-flag .ensures), (c .before .before .before .before .before .announcement .ensures)) at
+    ((c .before .before .put-read .ensures))
 
 pub step-flag-spec : {M : Type 1} → statement M
 step-flag-spec =

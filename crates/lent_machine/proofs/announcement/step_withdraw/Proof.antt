@@ -7,7 +7,7 @@ use Rattle.lent_machine.proofs.announcement.step_withdraw.Lts as lts
 use Rattle.block.proofs.cells.announcement.Reads as announcement-reads
 use Rattle.block.proofs.own.last.Reads as last-reads
 use Rattle.block.proofs.own.operation.Reads as operation-reads
-use Rattle.block.proofs.own.task.Reads as task-reads
+use Rattle.block.proofs.own.control.Reads as control-reads
 use Rattle.lent_machine.proofs.announcement.put_swapped.Reads as put-swapped-reads
 use Rattle.machine.proofs.announcement.withdraw.Reads as withdraw-reads
 
@@ -24,8 +24,8 @@ last-requires : tie.Need-last-requires
 last-requires c κs = search needs
 
 -- src/announcement.rt:75:71
-task-requires : tie.Need-task-requires
-task-requires c κs = search needs
+control-requires : tie.Need-control-requires
+control-requires c κs = search needs
 
 -- src/announcement.rt:75:9
 withdraw-requires : tie.Need-withdraw-requires
@@ -42,7 +42,17 @@ same-length c = search needs
 -- src/announcement.rt:72:1
 returns : tie.Need-returns
 unfolding accessAnnouncement
-returns c = (rw ((c .before .before .before .before .withdraw .ensures), (c .before .before .before .before .before .task .ensures), (c .before .before .before .before .before .before .before .last .ensures), (c .before .before .before .before .before .before .before .before .before .operation .ensures), (c .before .before .before .before .before .before .before .before .before .before .before .announcement .ensures)) at (c .before .before .put-swapped .ensures .0), rw ((c .before .before .before .before .withdraw .ensures), (c .before .before .before .before .before .before .before .last .ensures), (c .before .before .before .before .before .before .before .before .before .operation .ensures), (c .before .before .before .before .before .before .before .before .before .before .before .announcement .ensures)) at (c .before .before .put-swapped .ensures .1))
+returns c =
+    let c4 = c .before .before .before .before in
+    let c5 = c4 .before in
+    let c7 = c5 .before .before in
+    let c9 = c7 .before .before in
+    let c11 = c9 .before .before in (
+      rw ((c4 .withdraw .ensures), (c5 .control .ensures), (c7 .last .ensures), (c9 .operation .ensures), (c11 .announcement .ensures)) at
+          (c .before .before .put-swapped .ensures .0),
+      rw
+          ((c4 .withdraw .ensures), (c7 .last .ensures), (c9 .operation .ensures), (c11 .announcement .ensures)) at (c .before .before .put-swapped .ensures .1),
+    )
 
 pub step-withdraw-spec : {M : Type 1} → statement M
 step-withdraw-spec =
@@ -51,7 +61,7 @@ step-withdraw-spec =
     announcement-requires
     operation-requires
     last-requires
-    task-requires
+    control-requires
     withdraw-requires
     put-swapped-requires
     same-length

@@ -39,7 +39,14 @@ same-length c = search needs
 
 -- src/counting.rt:11:1
 returns : tie.Need-returns
-returns c = rw ((c .before .before .before .before .before .before .put-steps .ensures), (c .before .before .before .before .before .before .before .before .before .before .before .wrapping-add-u64 .ensures), (c .before .before .before .before .before .before .before .before .before .before .before .before .steps .ensures), (c .before .before .before .before .before .before .before .before .wrapping-add-u642 .ensures), (c .before .before .before .before .before .before .before .before .before .count .ensures)) at (c .before .before .put-count .ensures)
+returns c =
+    let c6 = c .before .before .before .before .before .before in
+    let c8 = c6 .before .before in
+    let c9 = c8 .before in
+    let c11 = c9 .before .before in
+    let c12 = c11 .before in
+    rw ((c6 .put-steps .ensures), (c11 .wrapping-add-u64 .ensures), (c12 .steps .ensures), (c8 .wrapping-add-u642 .ensures), (c9 .count .ensures)) at
+    (c .before .before .put-count .ensures)
 
 pub put-counted-spec : {M : Type 1} → statement M
 put-counted-spec =

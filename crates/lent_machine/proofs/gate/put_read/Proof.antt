@@ -4,15 +4,15 @@ use Rattle.lent_machine.proofs.gate.put_read.Tie as tie
 use Rattle.lent_machine.proofs.gate.put_read.Reads as reads
 use Rattle.lent_machine.proofs.gate.put_read.Lts as lts
 use Rattle.block.proofs.own.put_last_gate.Reads as put-last-gate-reads
-use Rattle.block.proofs.own.put_task.Reads as put-task-reads
+use Rattle.block.proofs.own.put_control.Reads as put-control-reads
 
 -- src/gate.rt:28:5
 put-last-gate-requires : tie.Need-put-last-gate-requires
 put-last-gate-requires c κs = search needs
 
 -- src/gate.rt:29:5
-put-task-requires : tie.Need-put-task-requires
-put-task-requires c κs = search needs
+put-control-requires : tie.Need-put-control-requires
+put-control-requires c κs = search needs
 
 -- src/gate.rt:23:1
 same-length : tie.Need-same-length
@@ -20,7 +20,9 @@ same-length c = search needs
 
 -- src/gate.rt:23:1
 returns : tie.Need-returns
-returns c = rw (← (c .before .before .before .before .before .before .put-last-gate .ensures)) ((c .before .before .put-task .ensures))
+returns c =
+    let c6 = c .before .before .before .before .before .before in
+    rw (← (c6 .put-last-gate .ensures)) ((c .before .before .put-control .ensures))
 
 pub put-read-spec : {M : Type 1} → statement M
-put-read-spec = tie.close (tie.spec put-last-gate-requires put-task-requires same-length returns)
+put-read-spec = tie.close (tie.spec put-last-gate-requires put-control-requires same-length returns)

@@ -4,7 +4,7 @@ use Rattle.lent_machine.proofs.gate.step_last.Tie as tie
 use Rattle.lent_machine.proofs.gate.step_last.Reads as reads
 use Rattle.lent_machine.proofs.gate.step_last.Lts as lts
 use Rattle.block.proofs.cells.gate.Reads as gate-reads
-use Rattle.block.proofs.own.task.Reads as task-reads
+use Rattle.block.proofs.own.control.Reads as control-reads
 use Rattle.lent_machine.proofs.gate.put_read.Reads as put-read-reads
 use Rattle.machine.proofs.gate.read_last.Reads as read-last-reads
 
@@ -13,8 +13,8 @@ gate-requires : tie.Need-gate-requires
 gate-requires c κs = search needs
 
 -- src/gate.rt:66:32
-task-requires : tie.Need-task-requires
-task-requires c κs = search needs
+control-requires : tie.Need-control-requires
+control-requires c κs = search needs
 
 -- src/gate.rt:66:9
 read-last-requires : tie.Need-read-last-requires
@@ -30,9 +30,13 @@ same-length c = search needs
 
 -- src/gate.rt:63:1
 returns : tie.Need-returns
-returns c = rw ((c .before .before .before .before .read-last .ensures), (c .before .before .before .before .before .task .ensures), (c .before .before .before .before .before .before .before .gate .ensures)) at ((c .before .before .put-read .ensures))
+returns c =
+    let c4 = c .before .before .before .before in
+    let c5 = c4 .before in
+    let c7 = c5 .before .before in
+    rw ((c4 .read-last .ensures), (c5 .control .ensures), (c7 .gate .ensures)) at ((c .before .before .put-read .ensures))
 
 pub step-last-spec : {M : Type 1} → statement M
 step-last-spec =
     tie.close
-    (tie.spec gate-requires task-requires read-last-requires put-read-requires same-length returns)
+    (tie.spec gate-requires control-requires read-last-requires put-read-requires same-length returns)

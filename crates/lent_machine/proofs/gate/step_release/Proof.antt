@@ -7,7 +7,7 @@ use Rattle.lent_machine.proofs.gate.step_release.Reads as reads
 use Rattle.lent_machine.proofs.gate.step_release.Lts as lts
 use Rattle.block.proofs.cells.gate.Reads as gate-reads
 use Rattle.block.proofs.own.last_gate.Reads as last-gate-reads
-use Rattle.block.proofs.own.task.Reads as task-reads
+use Rattle.block.proofs.own.control.Reads as control-reads
 use Rattle.lent_machine.proofs.gate.put_swapped.Reads as put-swapped-reads
 use Rattle.machine.proofs.gate.release.Reads as release-reads
 
@@ -20,8 +20,8 @@ last-gate-requires : tie.Need-last-gate-requires
 last-gate-requires c κs = search needs
 
 -- src/gate.rt:82:47
-task-requires : tie.Need-task-requires
-task-requires c κs = search needs
+control-requires : tie.Need-control-requires
+control-requires c κs = search needs
 
 -- src/gate.rt:82:9
 release-requires : tie.Need-release-requires
@@ -38,7 +38,15 @@ same-length c = search needs
 -- src/gate.rt:79:1
 returns : tie.Need-returns
 unfolding gateStep accessGate
-returns c = (rw ((c .before .before .before .before .release .ensures), (c .before .before .before .before .before .task .ensures), (c .before .before .before .before .before .before .before .last-gate .ensures), (c .before .before .before .before .before .before .before .before .before .gate .ensures)) at (c .before .before .put-swapped .ensures .0), rw ((c .before .before .before .before .release .ensures), (c .before .before .before .before .before .before .before .last-gate .ensures), (c .before .before .before .before .before .before .before .before .before .gate .ensures)) at (c .before .before .put-swapped .ensures .1))
+returns c =
+    let c4 = c .before .before .before .before in
+    let c5 = c4 .before in
+    let c7 = c5 .before .before in
+    let c9 = c7 .before .before in (
+      rw ((c4 .release .ensures), (c5 .control .ensures), (c7 .last-gate .ensures), (c9 .gate .ensures)) at (c .before .before .put-swapped .ensures .0),
+      rw
+          ((c4 .release .ensures), (c7 .last-gate .ensures), (c9 .gate .ensures)) at (c .before .before .put-swapped .ensures .1),
+    )
 
 pub step-release-spec : {M : Type 1} → statement M
 step-release-spec =
@@ -46,7 +54,7 @@ step-release-spec =
     (tie.spec
     gate-requires
     last-gate-requires
-    task-requires
+    control-requires
     release-requires
     put-swapped-requires
     same-length

@@ -5,7 +5,8 @@ use Rattle.lent_session.proofs.answering.refuses.Statement.{statement}
 use Rattle.lent_session.proofs.answering.refuses.Tie as tie
 
 returns : tie.Need-returns
-returns c = ((c .is-refused .ensures) ∙ ap isRefused ((c .before .before .before .before .step .ensures) .0), (c .before .before .before .before .step .ensures) .1)
+returns c =
+    ((c .is-refused .ensures) ∙ ap isRefused ((c .before .before .before .before .step .ensures) .0), (c .before .before .before .before .step .ensures) .1)
 
 pub refuses-spec : {M : Type 1} → statement M
 refuses-spec =

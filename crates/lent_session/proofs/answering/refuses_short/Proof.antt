@@ -6,10 +6,17 @@ use Rattle.lent_session.proofs.answering.refuses_short.Statement.{state
 use Rattle.lent_session.proofs.answering.refuses_short.Tie as tie
 
 returns : tie.Need-returns
-returns c = rw (← answered.asked _ _ ((c .before .before .before .before .before .before .before .before .before .args) .command) (c .before .before .before .before .before .before .before .if1 .taken) (c .before .before .before .before .before .loan-words .ensures) (c .before .before .before .before .if2 .taken)) (c .before .before .asks .ensures)
+returns c =
+    let c4 = c .before .before .before .before in
+    let c5 = c4 .before in
+    let c7 = c5 .before .before in
+    let c9 = c7 .before .before in
+    rw (← answered.asked _ _ ((c9 .args) .command) (c7 .if1 .taken) (c5 .loan-words .ensures) (c4 .if2 .taken)) (c .before .before .asks .ensures)
 
 returns-2 : tie.Need-returns-2
-returns-2 c = let e = answered.not-asked ((c .before .before .before .before .before .args) .short) ((c .before .before .before .before .before .args) .b .now) ((c .before .before .before .before .before .args) .command) (c .before .loan-words .ensures) (c .if2 .left) in (ap (λ (x : Asked). x .refused) e, ap (λ (x : Asked). x .block) e)
+returns-2 c = let e = answered.not-asked ((c .before .before .before .before .before .args) .short) ((c .before .before .before .before .before .args) .b .now)
+    ((c .before .before .before .before .before .args) .command) (c .before .loan-words .ensures) (c .if2 .left) in
+    (ap (λ (x : Asked). x .refused) e, ap (λ (x : Asked). x .block) e)
 
 returns-3 : tie.Need-returns-3
 unfolding askedShort

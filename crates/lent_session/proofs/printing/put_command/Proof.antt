@@ -4,7 +4,9 @@ use Rattle.lent_session.proofs.printing.put_command.Statement.{statemen
 use Rattle.lent_session.proofs.printing.put_command.Tie as tie
 
 returns : tie.Need-returns
-returns c = printed.prints _ _ _ _ _ _ (c .before .before .before .before .before .before .before .before .before .execute .ensures) (c .before .before .put-line .ensures)
+returns c =
+    let c9 = c .before .before .before .before .before .before .before .before .before in
+    printed.prints _ _ _ _ _ _ (c9 .execute .ensures) (c .before .before .put-line .ensures)
 
 pub put-command-spec : {M : Type 1} → statement M
 put-command-spec =

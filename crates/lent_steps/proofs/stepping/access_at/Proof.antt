@@ -4,12 +4,12 @@ use Rattle.lent_steps.proofs.stepping.access_at.Tie as tie
 use Rattle.lent_steps.proofs.stepping.access_at.Reads as reads
 use Rattle.lent_steps.proofs.stepping.access_at.Lts as lts
 use Rattle.block.proofs.own.exit.Reads as exit-reads
-use Rattle.block.proofs.own.task.Reads as task-reads
+use Rattle.block.proofs.own.control.Reads as control-reads
 use Rattle.machine.proofs.places.access_of.Reads as access-of-reads
 
 -- src/stepping.rt:45:9
-task-requires : tie.Need-task-requires
-task-requires c κs = search needs
+control-requires : tie.Need-control-requires
+control-requires c κs = search needs
 
 -- src/stepping.rt:47:22
 exit-requires : tie.Need-exit-requires
@@ -21,7 +21,7 @@ access-of-requires c κs = search needs
 
 -- src/stepping.rt:42:1
 returns : tie.Need-returns
-returns c = rw ((c .before .before .task .ensures), (c .before .exit .ensures)) at (c .access-of .ensures)
+returns c = rw ((c .before .before .control .ensures), (c .before .exit .ensures)) at (c .access-of .ensures)
 
 pub access-at-spec : {M : Type 1} → statement M
-access-at-spec = tie.close (tie.spec task-requires exit-requires access-of-requires returns)
+access-at-spec = tie.close (tie.spec control-requires exit-requires access-of-requires returns)

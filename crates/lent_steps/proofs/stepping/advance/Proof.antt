@@ -29,7 +29,14 @@ same-length-2 c = search needs
 
 -- src/stepping.rt:51:1
 returns : tie.Need-returns
-returns c = (rw ((c .before .before .before .before .before .before .before .before .step-access .ensures .0), (c .before .before .before .before .before .before .before .before .before .before .before .access-at .ensures)) at (c .before .before .put-counted .ensures), rw (c .before .before .before .before .before .before .before .before .before .before .before .access-at .ensures) at ((c .before .before .before .before .before .before .before .before .step-access .ensures .1)), rw (c .before .before .before .before .before .before .before .before .before .before .before .access-at .ensures) at (c .before .before .before .before .before .before .before .before .step-access .ensures .2))
+returns c =
+    let c8 = c .before .before .before .before .before .before .before .before in
+    let c11 = c8 .before .before .before in (
+      rw ((c8 .step-access .ensures .0), (c11 .access-at .ensures)) at (c .before .before .put-counted .ensures),
+      rw (c11 .access-at .ensures) at
+          ((c8 .step-access .ensures .1)),
+      rw (c11 .access-at .ensures) at (c8 .step-access .ensures .2),
+    )
 
 pub advance-spec : {M : Type 1} → statement M
 advance-spec =

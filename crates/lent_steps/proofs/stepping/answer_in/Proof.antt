@@ -5,13 +5,13 @@ use Rattle.lent_steps.proofs.stepping.answer_in.Reads as reads
 use Rattle.lent_steps.proofs.stepping.answer_in.Lts as lts
 use Rattle.block.proofs.own.count.Reads as count-reads
 use Rattle.block.proofs.own.last.Reads as last-reads
-use Rattle.block.proofs.own.task.Reads as task-reads
+use Rattle.block.proofs.own.control.Reads as control-reads
 use Rattle.machine.proofs.announcement.returned.Reads as returned-reads
 use Rattle.machine.proofs.places.is_idle.Reads as is-idle-reads
 
 -- src/stepping.rt:63:9
-task-requires : tie.Need-task-requires
-task-requires c κs = search needs
+control-requires : tie.Need-control-requires
+control-requires c κs = search needs
 
 -- src/stepping.rt:65:8
 is-idle-requires : tie.Need-is-idle-requires
@@ -31,17 +31,24 @@ returned-requires c κs = search needs
 
 -- src/stepping.rt:60:1
 returns : tie.Need-returns
-returns c = rw (← (c .before .before .before .before .before .task .ensures), ← (c .before .before .before .before .is-idle .ensures), (c .before .before .before .if1 .taken), ← (c .before .before .last .ensures), ← (c .before .count .ensures)) (c .returned .ensures)
+returns c = rw (
+  ← (c .before .before .before .before .before .control .ensures),
+  ← (c .before .before .before .before .is-idle .ensures),
+  (c .before .before .before .if1 .taken),
+  ← (c .before .before .last .ensures),
+  ← (c .before .count .ensures),
+)
+    (c .returned .ensures)
 
 -- src/stepping.rt:60:1
 returns-2 : tie.Need-returns-2
-returns-2 c = rw (← (c .before .before .task .ensures), ← (c .before .is-idle .ensures), (c .if1 .left))
+returns-2 c = rw (← (c .before .before .control .ensures), ← (c .before .is-idle .ensures), (c .if1 .left))
 
 pub answer-in-spec : {M : Type 1} → statement M
 answer-in-spec =
     tie.close
     (tie.spec
-    task-requires
+    control-requires
     is-idle-requires
     last-requires
     count-requires

@@ -8,7 +8,14 @@ returns : tie.Need-returns
 returns c = judging.step-refused _ _ _ (c .before .before .judge .ensures) (sym (c .before .is-refused .ensures) ∙ (c .if1 .taken))
 
 returns-2 : tie.Need-returns-2
-returns-2 c = judging.step-taken _ _ _ (c .before .before .before .before .before .before .before .before .before .before .before .judge .ensures) (sym (c .before .before .before .before .before .before .before .before .before .before .is-refused .ensures) ∙ (c .before .before .before .before .before .before .before .before .before .if1 .left)) (c .before .before .before .before .before .before .before .before .before .before .before .before .before .before .narrow .ensures) ((c .before .before .before .before .before .before .advance .ensures) .0) ((c .before .before .before .before .before .before .advance .ensures) .1) (c .answer-in .ensures)
+returns-2 c =
+    let c6 = c .before .before .before .before .before .before in
+    let c9 = c6 .before .before .before in
+    let c10 = c9 .before in
+    let c11 = c10 .before in
+    let c14 = c11 .before .before .before in
+    judging.step-taken _ _ _ (c11 .judge .ensures) (sym (c10 .is-refused .ensures) ∙ (c9 .if1 .left)) (c14 .narrow .ensures) ((c6 .advance .ensures) .0)
+    ((c6 .advance .ensures) .1) (c .answer-in .ensures)
 
 pub step-spec : {M : Type 1} → statement M
 step-spec =

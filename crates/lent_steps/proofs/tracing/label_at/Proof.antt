@@ -4,12 +4,12 @@ use Rattle.lent_steps.proofs.tracing.label_at.Tie as tie
 use Rattle.lent_steps.proofs.tracing.label_at.Reads as reads
 use Rattle.lent_steps.proofs.tracing.label_at.Lts as lts
 use Rattle.block.proofs.own.exit.Reads as exit-reads
-use Rattle.block.proofs.own.task.Reads as task-reads
+use Rattle.block.proofs.own.control.Reads as control-reads
 use Rattle.reports.proofs.label_of.Reads as label-of-reads
 
 -- src/tracing.rt:48:9
-task-requires : tie.Need-task-requires
-task-requires c κs = search needs
+control-requires : tie.Need-control-requires
+control-requires c κs = search needs
 
 -- src/tracing.rt:50:21
 exit-requires : tie.Need-exit-requires
@@ -21,7 +21,7 @@ label-of-requires c κs = search needs
 
 -- src/tracing.rt:45:1
 returns : tie.Need-returns
-returns c = rw ((c .before .before .task .ensures), (c .before .exit .ensures)) at (c .label-of .ensures)
+returns c = rw ((c .before .before .control .ensures), (c .before .exit .ensures)) at (c .label-of .ensures)
 
 pub label-at-spec : {M : Type 1} → statement M
-label-at-spec = tie.close (tie.spec task-requires exit-requires label-of-requires returns)
+label-at-spec = tie.close (tie.spec control-requires exit-requires label-of-requires returns)

@@ -15,7 +15,11 @@ same-length : tie.Need-same-length
 same-length c = search needs
 
 returns : tie.Need-returns
-returns c = rw ((c .before .before .call .ensures .1), ← (c .before .before .before .before .before .before .before .is-again .ensures), (c .before .before .before .before .before .before .if1 .taken), (c .before .before .before .before .before .request-in .ensures))
+returns c =
+    let c5 = c .before .before .before .before .before in
+    let c6 = c5 .before in
+    let c7 = c6 .before in
+    rw ((c .before .before .call .ensures .1), ← (c7 .is-again .ensures), (c6 .if1 .taken), (c5 .request-in .ensures))
 
 returns-2 : tie.Need-returns-2
 returns-2 c = rw (← (c .before .is-again .ensures), (c .if1 .left))

@@ -17,7 +17,10 @@ same-length : tie.Need-same-length Inv-loop μ-loop
 same-length c = search needs
 
 returns : tie.Need-returns Inv-loop μ-loop
-returns c = sweeps-short (c .before .before .before .before .before .before .before .before .args .calls .now) (c .before .before .before .before .before .before .before .before .args .b .now) (c .before .before .before .before .before .before .before .before .args .l .now) (c .before .before .before .before .before .before .before .before .args .schedule .now) (omega (arith, (c .before .loan-words .ensures))) (c .before .before .before .none .ensures)
+returns c =
+    let c8 = c .before .before .before .before .before .before .before .before in
+    sweeps-short (c8 .args .calls .now) (c8 .args .b .now) (c8 .args .l .now) (c8 .args .schedule .now) (omega (arith, (c .before .loan-words .ensures)))
+    (c .before .before .before .none .ensures)
 
 loop-holds : tie.Need-loop-holds Inv-loop μ-loop
 loop-holds c = swept-none (c .before .before .before .none .ensures) (omega (arith, c .before .loan-words .ensures))
@@ -37,7 +40,11 @@ loop-less : tie.Need-loop-less Inv-loop μ-loop
 loop-less c = omega arith
 
 loop-again : tie.Need-loop-again Inv-loop μ-loop
-loop-again c = swept-on (c .before .before .before .before .before .before .before .before .before .loop .inv) (c .before .before .before .before .before .before .before .before .loop-test .taken) refl (c .before .before .before .before .turn .ensures)
+loop-again c =
+    let c4 = c .before .before .before .before in
+    let c8 = c4 .before .before .before .before in
+    let c9 = c8 .before in
+    swept-on (c9 .loop .inv) (c8 .loop-test .taken) refl (c4 .turn .ensures)
 
 same-length-2 : tie.Need-same-length-2 Inv-loop μ-loop
 same-length-2 c = c .before .loop .inv .block
@@ -49,4 +56,6 @@ returns-2 : tie.Need-returns-2 Inv-loop μ-loop
 returns-2 c = swept-all (c .before .loop .inv) (omega arith)
 
 pub run-spec : {M : Type 1} → statement M
-run-spec = tie.close (tie.spec Inv-loop μ-loop (λ c κs. tt) (λ c κs. tt) same-length returns loop-holds shared-slice-read-turn turn-requires add-k loop-less loop-again same-length-2 same-length-3 returns-2)
+run-spec = tie.close
+    (tie.spec Inv-loop μ-loop (λ c κs. tt) (λ c κs. tt) same-length returns loop-holds shared-slice-read-turn turn-requires add-k loop-less loop-again
+    same-length-2 same-length-3 returns-2)

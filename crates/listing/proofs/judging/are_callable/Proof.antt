@@ -18,13 +18,28 @@ loop-holds : tie.Need-loop-holds Inv-loop μ-loop
 loop-holds c = (ap (λ (n : ℕ). areCallable (c .args .card) (c .args .calls) n 0) (omega arith), omega arith)
 
 returns : tie.Need-returns Inv-loop μ-loop
-returns c = sym (laws.callable-stop (c .before .before .before .before .before .before .args .card) (c .before .before .before .before .before .before .args .calls) _ _ (c .before .before .before .if1 .taken) (c .before .before .request-at .ensures) (c .before .is-below .ensures) (not-true _ (c .if2 .taken))) ∙ c .before .before .before .before .before .loop .inv .0
+returns c =
+    let c5 = c .before .before .before .before .before in
+    let c6 = c5 .before in
+    sym
+    (laws.callable-stop (c6 .args .card) (c6 .args .calls) _ _ (c .before .before .before .if1 .taken) (c .before .before .request-at .ensures)
+    (c .before .is-below .ensures) (not-true _ (c .if2 .taken)))
+    ∙ c5 .loop .inv .0
 
 loop-again : tie.Need-loop-again Inv-loop μ-loop
-loop-again c = (sym (laws.callable-turn (c .before .before .before .before .before .before .args .card) (c .before .before .before .before .before .before .args .calls) _ _ (c .before .before .before .if1 .taken) (c .before .before .request-at .ensures) (c .before .is-below .ensures) (not-false _ (c .if2 .left))) ∙ c .before .before .before .before .before .loop .inv .0, omega arith)
+loop-again c =
+    let c5 = c .before .before .before .before .before in
+    let c6 = c5 .before in (
+      sym
+          (laws.callable-turn (c6 .args .card) (c6 .args .calls) _ _ (c .before .before .before .if1 .taken) (c .before .before .request-at .ensures)
+          (c .before .is-below .ensures) (not-false _ (c .if2 .left)))
+          ∙ c5 .loop .inv .0,
+      omega arith,
+    )
 
 returns-2 : tie.Need-returns-2 Inv-loop μ-loop
-returns-2 c = sym (laws.callable-none (c .before .before .before .args .card) (c .before .before .before .args .calls) _ _ (omega arith)) ∙ c .before .before .loop .inv .0
+returns-2 c = sym (laws.callable-none (c .before .before .before .args .card) (c .before .before .before .args .calls) _ _ (omega arith)) ∙
+    c .before .before .loop .inv .0
 
 pub are-callable-spec : {M : Type 1} → statement M
 are-callable-spec =

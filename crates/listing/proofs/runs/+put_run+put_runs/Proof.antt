@@ -40,11 +40,12 @@ put-runs-below t =
     and 3 put-runs-kinds.ps (falls 3 put-runs-kinds.ps _<_ μ-put-runs t) put-runs.Pre
 
 abbrev put-runs-Inv-loop : put-runs-lts.InvT-loop
-put-runs-Inv-loop buffer₀ at left tasks count numbers₀ x answers₀ y i₀ k₀ buffer numbers answers i k =
-    laws.Turning (laws.runsOf left tasks count (take x numbers₀) (take y answers₀)) count (capacity (left - 1) (longest left x y)) buffer₀ at numbers₀ x answers₀ y buffer i k numbers answers
+put-runs-Inv-loop buffer₀ at left controls count numbers₀ x answers₀ y i₀ k₀ buffer numbers answers i k =
+    laws.Turning (laws.runsOf left controls count (take x numbers₀) (take y answers₀)) count (capacity (left - 1) (longest left x y)) buffer₀ at numbers₀ x
+    answers₀ y buffer i k numbers answers
 
 abbrev put-runs-μ-loop : put-runs-lts.MeasureT-loop
-put-runs-μ-loop buffer₀ at left tasks count numbers₀ x answers₀ y i₀ k₀ buffer numbers answers i k = count - k
+put-runs-μ-loop buffer₀ at left controls count numbers₀ x answers₀ y i₀ k₀ buffer numbers answers i k = count - k
 
 put-runs-slice-reshare-prefix-put-line-2 :
     (t : ℕ) → put-runs-lts.Need-slice-reshare-prefix-put-line-2 (
@@ -53,7 +54,9 @@ put-runs-slice-reshare-prefix-put-line-2 :
       put-run-below t,
       put-run.Post,
     ) (put-runs-at t) put-runs.Post put-runs-Inv-loop put-runs-μ-loop
-put-runs-slice-reshare-prefix-put-line-2 t c = omega (arith, c .before .before .before .before .before .before .pre .1 .fields)
+put-runs-slice-reshare-prefix-put-line-2 t c =
+    let c6 = c .before .before .before .before .before .before in
+    omega (arith, c6 .pre .1 .fields)
 
 pub +put-run+put-runs-spec : {M : Type 1} → statement M
 +put-run+put-runs-spec = close μ-put-run μ-put-runs (λ t. put-run-lts.spec (
@@ -69,15 +72,51 @@ pub +put-run+put-runs-spec : {M : Type 1} → statement M
     (put-run-at t)
     put-run.Post
     (λ c κs. search needs)
-    (λ c. laws.run-idle (c .before .before .before .before .before .args .tasks) (c .before .before .before .before .before .args .k) (c .before .before .before .before .before .args .left) (c .before .before .before .before .before .args .count) _ _ _ _ (c .before .is-idle-at .ensures) (c .if1 .taken) (omega arith))
+    (λ c. laws.run-idle (c .before .before .before .before .before .args .controls) (c .before .before .before .before .before .args .k)
+    (c .before .before .before .before .before .args .left) (c .before .before .before .before .before .args .count) _ _ _ _
+    (c .before .is-idle-at .ensures) (c .if1 .taken) (omega arith))
     (λ c κs. search needs)
     (λ c κs. search needs)
-    (λ c. omega (arith, c .before .before .before .before .before .before .before .before .before .before .before .before .before .before .pre .1 .0))
-    (λ c κs. (omega (arith, c .before .before .before .before .before .before .before .before .before .before .before .before .before .before .before .before .pre .0, c .before .before .before .before .before .before .before .before .before .before .before .before .before .before .before .before .pre .1 .0), laws.run-holds (c .before .before .before .before .before .before .before .before .before .before .before .before .before .before .before .before .args .tasks) (c .before .before .before .before .before .before .before .before .before .before .before .before .before .before .before .before .args .k) (c .before .before .before .before .before .before .before .before .before .before .before .before .before .before .before .before .args .left) (c .before .before .before .before .before .before .before .before .before .before .before .before .before .before .before .before .args .count) _ _ _ _ (c .before .before .before .before .before .before .before .before .before .before .before .before .is-idle-at .ensures) (c .before .before .before .before .before .before .before .before .before .before .before .before .before .before .before .before .pre .1 .2) (c .before .before .before .before .before .before .before .before .before .before .before .before .before .before .before .before .pre .1 .1) (c .before .before .before .before .before .before .before .before .before .before .before .before .before .before .before .before .pre .1 .0) (c .before .before .before .before .before .before .before .before .before .before .before .if1 .left) (c .before .before .before .before .before .before .before .before .before .put-decimal .ensures) (c .before .before .before .before .before .put-answer .ensures .0) (c .before .before .before .before .before .put-answer .ensures .1)))
+    (λ c. let c7 = c .before .before .before .before .before .before .before in
+    let c14 = c7 .before .before .before .before .before .before .before in
+    omega (arith, c14 .pre .1 .0))
+    (λ c κs. (
+      omega (
+        arith,
+        c .before .before .before .before .before .before .before .before .before .before .before .before .before .before .before .before .pre .0,
+        c .before .before .before .before .before .before .before .before .before .before .before .before .before .before .before .before .pre .1 .0,
+      ),
+      laws.run-holds
+          (c .before .before .before .before .before .before .before .before .before .before .before .before .before .before .before .before .args .controls)
+          (c .before .before .before .before .before .before .before .before .before .before .before .before .before .before .before .before .args .k)
+          (c .before .before .before .before .before .before .before .before .before .before .before .before .before .before .before .before .args .left)
+          (c .before .before .before .before .before .before .before .before .before .before .before .before .before .before .before .before .args .count)
+          _ _ _ _ (c .before .before .before .before .before .before .before .before .before .before .before .before .is-idle-at .ensures)
+          (c .before .before .before .before .before .before .before .before .before .before .before .before .before .before .before .before .pre .1 .2)
+          (c .before .before .before .before .before .before .before .before .before .before .before .before .before .before .before .before .pre .1 .1)
+          (c .before .before .before .before .before .before .before .before .before .before .before .before .before .before .before .before .pre .1 .0)
+          (c .before .before .before .before .before .before .before .before .before .before .before .if1 .left)
+          (c .before .before .before .before .before .before .before .before .before .put-decimal .ensures)
+          (c .before .before .before .before .before .put-answer .ensures .0) (c .before .before .before .before .before .put-answer .ensures .1),
+    ))
     (λ c. search needs)
     (λ c. search needs)
     (λ c. search needs)
-    (λ c. laws.run-busy (c .before .before .before .before .before .before .before .before .before .before .before .before .before .before .before .before .before .before .before .before .before .before .before .args .tasks) (c .before .before .before .before .before .before .before .before .before .before .before .before .before .before .before .before .before .before .before .before .before .before .before .args .k) (c .before .before .before .before .before .before .before .before .before .before .before .before .before .before .before .before .before .before .before .before .before .before .before .args .left) (c .before .before .before .before .before .before .before .before .before .before .before .before .before .before .before .before .before .before .before .before .before .before .before .args .count) _ _ _ _ (c .before .before .before .before .before .before .before .before .before .before .before .before .before .before .before .before .before .before .before .is-idle-at .ensures) (c .before .before .before .before .before .before .before .before .before .before .before .before .before .before .before .before .before .before .before .before .before .before .before .pre .1 .2) (c .before .before .before .before .before .before .before .before .before .before .before .before .before .before .before .before .before .before .before .before .before .before .before .pre .1 .1) (c .before .before .before .before .before .before .before .before .before .before .before .before .before .before .before .before .before .before .before .before .before .before .before .pre .1 .0) (c .before .before .before .before .before .before .before .before .before .before .before .before .before .before .before .before .before .before .if1 .left) (c .before .before .before .before .before .before .before .before .before .before .before .before .before .before .before .before .put-decimal .ensures) (c .before .before .before .before .before .before .before .before .before .before .before .before .put-answer .ensures .0) (c .before .before .before .before .before .before .before .before .before .before .before .before .put-answer .ensures .1) (c .before .before .before .before .before .before .put-runs .ensures)))
+    (λ c. laws.run-busy
+    (c .before .before .before .before .before .before .before .before .before .before .before .before .before .before .before .before .before .before .before .before .before .before .before .args .controls)
+    (c .before .before .before .before .before .before .before .before .before .before .before .before .before .before .before .before .before .before .before .before .before .before .before .args .k)
+    (c .before .before .before .before .before .before .before .before .before .before .before .before .before .before .before .before .before .before .before .before .before .before .before .args .left)
+    (c .before .before .before .before .before .before .before .before .before .before .before .before .before .before .before .before .before .before .before .before .before .before .before .args .count)
+    _ _ _ _
+    (c .before .before .before .before .before .before .before .before .before .before .before .before .before .before .before .before .before .before .before .is-idle-at .ensures)
+    (c .before .before .before .before .before .before .before .before .before .before .before .before .before .before .before .before .before .before .before .before .before .before .before .pre .1 .2)
+    (c .before .before .before .before .before .before .before .before .before .before .before .before .before .before .before .before .before .before .before .before .before .before .before .pre .1 .1)
+    (c .before .before .before .before .before .before .before .before .before .before .before .before .before .before .before .before .before .before .before .before .before .before .before .pre .1 .0)
+    (c .before .before .before .before .before .before .before .before .before .before .before .before .before .before .before .before .before .before .if1 .left)
+    (c .before .before .before .before .before .before .before .before .before .before .before .before .before .before .before .before .put-decimal .ensures)
+    (c .before .before .before .before .before .before .before .before .before .before .before .before .put-answer .ensures .0)
+    (c .before .before .before .before .before .before .before .before .before .before .before .before .put-answer .ensures .1)
+    (c .before .before .before .before .before .before .put-runs .ensures)))
     λ t. put-runs-lts.spec
     (put-line-reads.Asked, put-line-reads.Learnt, put-run-below t, put-run.Post)
     (put-runs-at t)
@@ -92,13 +131,71 @@ pub +put-run+put-runs-spec : {M : Type 1} → statement M
     (λ c. search needs)
     (λ c. search needs)
     (λ c. search needs)
-    (λ c. laws.runs-line (c .before .before .before .before .before .before .before .before .before .before .args .left) (c .before .before .before .before .before .before .before .before .before .before .args .tasks) (c .before .before .before .before .before .before .before .before .before .before .args .count) _ _ _ _ (c .before .before .before .before .before .before .if1 .taken) (c .before .before .put-line .ensures))
-    (λ c. laws.turning-begin (laws.runs-series (c .before .before .before .before .args .left) (c .before .before .before .before .args .tasks) (c .before .before .before .before .args .count) _ _) (c .before .before .before .before .args .count) (capacity (c .before .before .before .before .args .left - 1) (longest (c .before .before .before .before .args .left) (c .before .before .before .before .args .x) (c .before .before .before .before .args .y))) _ _ _ _ _ _ (omega arith))
-    (λ c κs. (omega (arith, c .before .before .before .before .before .before .before .before .before .pre .0), (omega arith, c .before .before .before .loop-test .taken, laws.turning-holds (laws.runs-series (c .before .before .before .before .before .before .before .before .before .args .left) (c .before .before .before .before .before .before .before .before .before .args .tasks) (c .before .before .before .before .before .before .before .before .before .args .count) _ _) (c .before .before .before .before .before .before .before .before .before .args .count) (capacity (c .before .before .before .before .before .before .before .before .before .args .left - 1) (longest (c .before .before .before .before .before .before .before .before .before .args .left) (c .before .before .before .before .before .before .before .before .before .args .x) (c .before .before .before .before .before .before .before .before .before .args .y))) _ _ _ _ _ _ (c .before .before .before .before .loop .inv) (c .before .before .before .before .before .before .before .before .before .pre .1))))
+    (λ c. let c6 = c .before .before .before .before .before .before in
+    let c10 = c6 .before .before .before .before in
+    laws.runs-line (c10 .args .left) (c10 .args .controls) (c10 .args .count) _ _ _ _ (c6 .if1 .taken) (c .before .before .put-line .ensures))
+    (λ c. laws.turning-begin
+    (laws.runs-series (c .before .before .before .before .args .left) (c .before .before .before .before .args .controls)
+    (c .before .before .before .before .args .count) _ _)
+    (c .before .before .before .before .args .count)
+    (capacity (c .before .before .before .before .args .left - 1)
+    (longest (c .before .before .before .before .args .left) (c .before .before .before .before .args .x)
+    (c .before .before .before .before .args .y)))
+    _ _ _ _ _ _ (omega arith))
+    (λ c κs. (
+      omega (arith, c .before .before .before .before .before .before .before .before .before .pre .0),
+      (
+        omega arith,
+        c .before .before .before .loop-test .taken,
+        laws.turning-holds
+            (laws.runs-series (c .before .before .before .before .before .before .before .before .before .args .left)
+            (c .before .before .before .before .before .before .before .before .before .args .controls)
+            (c .before .before .before .before .before .before .before .before .before .args .count) _ _)
+            (c .before .before .before .before .before .before .before .before .before .args .count)
+            (capacity (c .before .before .before .before .before .before .before .before .before .args .left - 1)
+            (longest (c .before .before .before .before .before .before .before .before .before .args .left)
+            (c .before .before .before .before .before .before .before .before .before .args .x)
+            (c .before .before .before .before .before .before .before .before .before .args .y)))
+            _ _ _ _ _ _ (c .before .before .before .before .loop .inv)
+            (c .before .before .before .before .before .before .before .before .before .pre .1),
+      ),
+    ))
     (λ c. search needs)
     (λ c. omega arith)
-    (λ c. laws.turning-turn (laws.runs-series (c .before .before .before .before .before .before .before .before .before .before .before .before .before .before .before .before .args .left) (c .before .before .before .before .before .before .before .before .before .before .before .before .before .before .before .before .args .tasks) (c .before .before .before .before .before .before .before .before .before .before .before .before .before .before .before .before .args .count) _ _) (c .before .before .before .before .before .before .before .before .before .before .before .before .before .before .before .before .args .count) (capacity (c .before .before .before .before .before .before .before .before .before .before .before .before .before .before .before .before .args .left - 1) (longest (c .before .before .before .before .before .before .before .before .before .before .before .before .before .before .before .before .args .left) (c .before .before .before .before .before .before .before .before .before .before .before .before .before .before .before .before .args .x) (c .before .before .before .before .before .before .before .before .before .before .before .before .before .before .before .before .args .y))) _ _ _ _ _ _ (c .before .before .before .before .before .before .before .before .before .before .before .loop .inv) (laws.run-kept (c .before .before .before .before .before .before .before .before .before .before .before .before .before .before .before .before .args .left) (c .before .before .before .before .before .before .before .before .before .before .before .before .before .before .before .before .args .tasks) (c .before .before .before .before .before .before .before .before .before .before .before .before .before .before .before .before .args .count) (c .before .before .before .before .before .before .before .before .before .before .before .loop .k) (c .before .before .before .before .before .before .before .before .before .before .before .loop .inv .digits) (c .before .before .before .before .before .before .before .before .before .before .before .loop .inv .fields)) (c .before .before .before .before .before .before .before .before .before .before .loop-test .taken) (c .before .before .before .before .before .before .put-run .ensures) (search needs) (search needs))
+    (λ c. laws.turning-turn
+    (laws.runs-series
+    (c .before .before .before .before .before .before .before .before .before .before .before .before .before .before .before .before .args .left)
+    (c .before .before .before .before .before .before .before .before .before .before .before .before .before .before .before .before .args .controls)
+    (c .before .before .before .before .before .before .before .before .before .before .before .before .before .before .before .before .args .count)
+    _ _)
+    (c .before .before .before .before .before .before .before .before .before .before .before .before .before .before .before .before .args .count)
+    (capacity
+    (c .before .before .before .before .before .before .before .before .before .before .before .before .before .before .before .before .args .left
+    - 1)
+    (longest
+    (c .before .before .before .before .before .before .before .before .before .before .before .before .before .before .before .before .args .left)
+    (c .before .before .before .before .before .before .before .before .before .before .before .before .before .before .before .before .args .x)
+    (c .before .before .before .before .before .before .before .before .before .before .before .before .before .before .before .before .args .y)))
+    _ _ _ _ _ _ (c .before .before .before .before .before .before .before .before .before .before .before .loop .inv)
+    (laws.run-kept
+    (c .before .before .before .before .before .before .before .before .before .before .before .before .before .before .before .before .args .left)
+    (c .before .before .before .before .before .before .before .before .before .before .before .before .before .before .before .before .args .controls)
+    (c .before .before .before .before .before .before .before .before .before .before .before .before .before .before .before .before .args .count)
+    (c .before .before .before .before .before .before .before .before .before .before .before .loop .k)
+    (c .before .before .before .before .before .before .before .before .before .before .before .loop .inv .digits)
+    (c .before .before .before .before .before .before .before .before .before .before .before .loop .inv .fields))
+    (c .before .before .before .before .before .before .before .before .before .before .loop-test .taken)
+    (c .before .before .before .before .before .before .put-run .ensures) (search needs) (search needs))
     (λ c. rest-length (c .before .loop .inv .rest))
     (λ c. c .before .loop .inv .digitsSize)
     (λ c. c .before .loop .inv .fieldsSize)
-    (λ c. laws.runs-lines (c .before .before .before .before .before .before .args .left) (c .before .before .before .before .before .before .args .tasks) (c .before .before .before .before .before .before .args .count) (c .before .before .if1 .left) (laws.turning-end (laws.runs-series (c .before .before .before .before .before .before .args .left) (c .before .before .before .before .before .before .args .tasks) (c .before .before .before .before .before .before .args .count) _ _) (c .before .before .before .before .before .before .args .count) (capacity (c .before .before .before .before .before .before .args .left - 1) (longest (c .before .before .before .before .before .before .args .left) (c .before .before .before .before .before .before .args .x) (c .before .before .before .before .before .before .args .y))) _ _ _ _ _ _ (c .before .loop .inv) (c .before .before .before .before .before .before .pre .1 .few) (c .loop-test .left)))
+    (λ c. laws.runs-lines (c .before .before .before .before .before .before .args .left) (c .before .before .before .before .before .before .args .controls)
+    (c .before .before .before .before .before .before .args .count) (c .before .before .if1 .left)
+    (laws.turning-end
+    (laws.runs-series (c .before .before .before .before .before .before .args .left)
+    (c .before .before .before .before .before .before .args .controls) (c .before .before .before .before .before .before .args .count) _ _)
+    (c .before .before .before .before .before .before .args .count)
+    (capacity (c .before .before .before .before .before .before .args .left - 1)
+    (longest (c .before .before .before .before .before .before .args .left) (c .before .before .before .before .before .before .args .x)
+    (c .before .before .before .before .before .before .args .y)))
+    _ _ _ _ _ _ (c .before .loop .inv) (c .before .before .before .before .before .before .pre .1 .few) (c .loop-test .left)))

@@ -2,7 +2,7 @@ use borrow.Author.Needs.{needs}
 use native.Mathlib.Omega.{arith}
 use Prim.Native.Nat.{ℕ, _-_, _≤_}
 use mathlib.Core.Path.{_≡_, sym, ap, _∙_}
-use Rattle.construction.specs.declared.{Answered.Answered}
+use Rattle.construction.specs.declared.{answers.Answered.Answered}
 use Rattle.executions.proofs.Runs.{calledFrom, called-run}
 use Rattle.listing.proofs.Tests as laws
 use Rattle.listing.proofs.starting.call_all.Statement.{statement}
@@ -18,10 +18,21 @@ loop-holds : tie.Need-loop-holds Inv-loop μ-loop
 loop-holds c = (ap (λ (n : ℕ). calledFrom (c .args .card) (c .args .calls) n 0) (omega arith), omega arith)
 
 loop-again : tie.Need-loop-again Inv-loop μ-loop
-loop-again c = (sym (laws.called-turn (c .before .before .before .before .before .before .args .calls) _ _ _ _ (c .before .before .before .before .loop-test .taken) (c .before .before .before .request-at .ensures) (ap (λ (r : Answered). r .card) (c .before .call .ensures))) ∙ c .before .before .before .before .before .loop .inv .0, omega arith)
+loop-again c =
+    let c4 = c .before .before .before .before in
+    let c5 = c4 .before in
+    let c6 = c5 .before in (
+      sym
+          (laws.called-turn (c6 .args .calls) _ _ _ _ (c4 .loop-test .taken) (c .before .before .before .request-at .ensures)
+          (ap (λ (r : Answered). r .card) (c .before .call .ensures)))
+          ∙ c5 .loop .inv .0,
+      omega arith,
+    )
 
 returns : tie.Need-returns Inv-loop μ-loop
-returns c = sym (called-run (c .before .before .args .card) (c .before .before .args .calls) ∙ sym (c .before .loop .inv .0) ∙ laws.called-none (c .before .before .args .calls) _ _ _ (omega arith))
+returns c = sym
+    (called-run (c .before .before .args .card) (c .before .before .args .calls) ∙ sym (c .before .loop .inv .0) ∙ laws.called-none
+    (c .before .before .args .calls) _ _ _ (omega arith))
 
 pub call-all-spec : {M : Type 1} → statement M
 call-all-spec =

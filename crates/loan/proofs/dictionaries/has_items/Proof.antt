@@ -6,13 +6,16 @@ use Rattle.loan.proofs.dictionaries.has_items.Statement.{statement}
 use Rattle.loan.proofs.dictionaries.has_items.Tie as tie
 
 mul-result : tie.Need-mul-result
-mul-result c = let h = spans.base-small (c .room .result) (c .before .before .before .args .i) (spans.room-small _ _ (c .room .ensures)) (omega arith) in omega arith
+mul-result c = let h = spans.base-small (c .room .result) (c .before .before .before .args .i) (spans.room-small _ _ (c .room .ensures)) (omega arith) in
+    omega arith
 
 add-result : tie.Need-add-result
-add-result c = let h = spans.base-small (c .room .result) (c .before .before .before .args .i) (spans.room-small _ _ (c .room .ensures)) (omega arith) in omega arith
+add-result c = let h = spans.base-small (c .room .result) (c .before .before .before .args .i) (spans.room-small _ _ (c .room .ensures)) (omega arith) in
+    omega arith
 
 mul-result-2 : tie.Need-mul-result-2
-mul-result-2 c = let h = spans.base-small (c .room .result) (c .before .before .before .args .i) (spans.room-small _ _ (c .room .ensures)) (omega arith) in omega arith
+mul-result-2 c = let h = spans.base-small (c .room .result) (c .before .before .before .args .i) (spans.room-small _ _ (c .room .ensures)) (omega arith) in
+    omega arith
 
 returns : tie.Need-returns
 unfolding hasItems

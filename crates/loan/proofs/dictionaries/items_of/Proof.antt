@@ -6,7 +6,8 @@ use Rattle.loan.proofs.dictionaries.items_of.Statement.{statement}
 use Rattle.loan.proofs.dictionaries.items_of.Tie as tie
 
 mul-t8 : tie.Need-mul-t8
-mul-t8 c = let h = spans.base-small (c .room .result) (c .before .before .before .before .before .args .i) (spans.room-small _ _ (c .room .ensures)) (omega arith) in omega arith
+mul-t8 c = let h = spans.base-small (c .room .result) (c .before .before .before .before .before .args .i) (spans.room-small _ _ (c .room .ensures))
+    (omega arith) in omega arith
 
 returns : tie.Need-returns
 returns c = rw (sym (c .before .before .before .has-items .ensures) ∙ (c .before .before .if1 .taken), c .before .room .ensures, c .noted .ensures)

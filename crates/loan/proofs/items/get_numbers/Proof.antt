@@ -19,8 +19,11 @@ abbrev μ-loop : tie.MeasureT-loop
 loop-holds : tie.Need-loop-holds Inv-loop μ-loop
 loop-holds c =
     let a = c .before .args in
-    let p = c .before .pre in
-    (p .3 ∙ tables.padded-start (λ j. itemAt (a .l .now) (a .base) j .variable), p .4 ∙ tables.padded-start (λ j. itemAt (a .l .now) (a .base) j .value), omega arith)
+    let p = c .before .pre in (
+      p .3 ∙ tables.padded-start (λ j. itemAt (a .l .now) (a .base) j .variable),
+      p .4 ∙ tables.padded-start (λ j. itemAt (a .l .now) (a .base) j .value),
+      omega arith,
+    )
 
 loop-again : tie.Need-loop-again Inv-loop μ-loop
 loop-again c =

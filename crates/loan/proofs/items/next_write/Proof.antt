@@ -22,10 +22,32 @@ item-at-requires : tie.Need-item-at-requires Inv-loop μ-loop
 item-at-requires c κs = (omega arith, omega arith)
 
 returns : tie.Need-returns Inv-loop μ-loop
-returns c = laws.write-here _ _ _ _ (c .before .before .before .before .loop .inv) (rw (← loans.noted-length _ _ _ (c .before .before .before .before .before .before .pre .1)) (c .before .before .before .loop-test .taken)) (rw (loans.item-is (c .before .before .before .before .before .before .args .l .now) (c .before .before .before .before .before .before .args .base) (c .before .before .before .before .before .before .args .end) (c .before .before .before .before .loop .k) (c .before .before .before .loop-test .taken), ← (c .before .before .item-at .ensures), ← (c .before .altered .ensures)) (c .if1 .taken))
+returns c =
+    let c3 = c .before .before .before in
+    let c4 = c3 .before in
+    let c6 = c4 .before .before in
+    laws.write-here _ _ _ _ (c4 .loop .inv) (rw (← loans.noted-length _ _ _ (c6 .pre .1)) (c3 .loop-test .taken))
+    (rw (
+      loans.item-is (c6 .args .l .now) (c6 .args .base) (c6 .args .end) (c4 .loop .k) (c3 .loop-test .taken),
+      ←
+          (c .before .before .item-at .ensures),
+      ← (c .before .altered .ensures),
+    )
+    (c .if1 .taken))
 
 loop-again : tie.Need-loop-again Inv-loop μ-loop
-loop-again c = laws.write-more _ _ _ _ (c .before .before .before .before .loop .inv) (rw (← loans.noted-length _ _ _ (c .before .before .before .before .before .before .pre .1)) (c .before .before .before .loop-test .taken)) (rw (loans.item-is (c .before .before .before .before .before .before .args .l .now) (c .before .before .before .before .before .before .args .base) (c .before .before .before .before .before .before .args .end) (c .before .before .before .before .loop .k) (c .before .before .before .loop-test .taken), ← (c .before .before .item-at .ensures), ← (c .before .altered .ensures)) (c .if1 .left))
+loop-again c =
+    let c3 = c .before .before .before in
+    let c4 = c3 .before in
+    let c6 = c4 .before .before in
+    laws.write-more _ _ _ _ (c4 .loop .inv) (rw (← loans.noted-length _ _ _ (c6 .pre .1)) (c3 .loop-test .taken))
+    (rw (
+      loans.item-is (c6 .args .l .now) (c6 .args .base) (c6 .args .end) (c4 .loop .k) (c3 .loop-test .taken),
+      ←
+          (c .before .before .item-at .ensures),
+      ← (c .before .altered .ensures),
+    )
+    (c .if1 .left))
 
 returns-2 : tie.Need-returns-2 Inv-loop μ-loop
 returns-2 c = laws.write-end _ _ _ _ (c .before .loop .inv) (rw (← loans.noted-length _ _ _ (c .before .before .before .pre .1)) (c .loop-test .left))

@@ -22,13 +22,21 @@ put-value-requires : tie.Need-put-value-requires Inv-loop μ-loop
 put-value-requires c κs = (omega arith, omega arith)
 
 loop-again : tie.Need-loop-again Inv-loop μ-loop
-loop-again c = (laws.values-more _ _ _ _ _ _ (c .before .before .before .before .before .before .loop .inv .0) (c .before .before .put-value .ensures .0), (rw (c .before .before .put-value .ensures .0) (simp length-set (c .before .before .before .before .before .before .loop .inv .1))), laws.below-or-last _ _ (c .before .before .before .before .before .before .loop .inv .2) (c .before .before .put-value .ensures .1), omega arith)
+loop-again c =
+    let c6 = c .before .before .before .before .before .before in (
+      laws.values-more _ _ _ _ _ _ (c6 .loop .inv .0) (c .before .before .put-value .ensures .0),
+      (rw (c .before .before .put-value .ensures .0) (simp length-set (c6 .loop .inv .1))),
+      laws.below-or-last _ _ (c6 .loop .inv .2)
+          (c .before .before .put-value .ensures .1),
+      omega arith,
+    )
 
 same-length : tie.Need-same-length Inv-loop μ-loop
 same-length c = (c .before .loop .inv .1)
 
 returns : tie.Need-returns Inv-loop μ-loop
-returns c = let e : (c .before .loop .k) ≡ (c .before .before .before .args .end) = omega arith in (rw e at (c .before .loop .inv .0), rw e at (c .before .loop .inv .2))
+returns c = let e : (c .before .loop .k) ≡ (c .before .before .before .args .end) = omega arith in
+    (rw e at (c .before .loop .inv .0), rw e at (c .before .loop .inv .2))
 
 pub put-values-spec : {M : Type 1} → statement M
 put-values-spec =

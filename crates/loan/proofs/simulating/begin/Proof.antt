@@ -5,8 +5,11 @@ use Rattle.loan.proofs.simulating.begin.Tie as tie
 
 returns : tie.Need-returns
 returns c =
-    let a = c .before .before .before .before .before .before .before .before .before .args in
-    runs.begins (a .b .now) _ (a .i) (a .number) (a .cell) _ _ _ _ _ _ (c .before .before .before .before .before .before .started .ensures) (c .before .before .before .simulate .ensures) (c .after-pause .ensures)
+    let c6 = c .before .before .before .before .before .before in
+    let c9 = c6 .before .before .before in
+    let a = c9 .args in
+    runs.begins (a .b .now) _ (a .i) (a .number) (a .cell) _ _ _ _ _ _ (c6 .started .ensures) (c .before .before .before .simulate .ensures)
+    (c .after-pause .ensures)
 
 pub begin-spec : {M : Type 1} → statement M
 begin-spec =

@@ -8,7 +8,8 @@ unfolding accessGate
 access-gate-spec =
     tie.close
     (tie.spec
-    (λ c. search needs) (λ c κs. search needs) (λ c. search needs) (λ c κs. search needs) (λ c. search needs) (λ c κs. search needs) (λ c. search needs) (λ c κs. search needs)
+    (λ c. search needs) (λ c κs. search needs) (λ c. search needs) (λ c κs. search needs) (λ c. search needs) (λ c κs. search needs) (λ c. search needs)
+    (λ c κs. search needs)
     (λ c. rw (c .before .before .access .given .1) (c .read-holder .ensures))
     (λ c. rw (c .before .enum-told .given .1) (c .read-last .ensures))
     (λ c. rw (c .before .enum-told2 .given .1) (c .nominate .ensures))

@@ -4,10 +4,16 @@ use Rattle.machine_commands.proofs.printing.put_machine.Statement.{stat
 use Rattle.machine_commands.proofs.printing.put_machine.Tie as tie
 
 returns : tie.Need-returns
-returns c = laws.put-none _ _ (c .before .before .before .before .before .before .is-malformed .ensures) (c .before .before .before .before .before .if1 .taken) (c .before .before .put-word .ensures)
+returns c =
+    let c5 = c .before .before .before .before .before in
+    let c6 = c5 .before in
+    laws.put-none _ _ (c6 .is-malformed .ensures) (c5 .if1 .taken) (c .before .before .put-word .ensures)
 
 returns-2 : tie.Need-returns-2
-returns-2 c = laws.put-some _ _ (c .before .before .before .before .before .before .is-malformed .ensures) (c .before .before .before .before .before .if1 .left) (c .before .before .put-number .ensures)
+returns-2 c =
+    let c5 = c .before .before .before .before .before in
+    let c6 = c5 .before in
+    laws.put-some _ _ (c6 .is-malformed .ensures) (c5 .if1 .left) (c .before .before .put-number .ensures)
 
 pub put-machine-spec : {M : Type 1} → statement M
 put-machine-spec =

@@ -5,7 +5,10 @@ use Rattle.machine_commands.proofs.printing.put_terms_refusal.Statement
 use Rattle.machine_commands.proofs.printing.put_terms_refusal.Tie as tie
 
 returns : tie.Need-returns
-returns c = laws.put-terms-refusal _ (omega arith) (c .before .before .before .before .before .before .before .before .before .before .put-word .ensures) (c .before .before .before .before .before .before .put-verdict .ensures) (c .before .before .put-byte .ensures)
+returns c =
+    let c6 = c .before .before .before .before .before .before in
+    let c10 = c6 .before .before .before .before in
+    laws.put-terms-refusal _ (omega arith) (c10 .put-word .ensures) (c6 .put-verdict .ensures) (c .before .before .put-byte .ensures)
 
 pub put-terms-refusal-spec : {M : Type 1} → statement M
 put-terms-refusal-spec =

@@ -10,13 +10,15 @@ use Rattle.machine_session.proofs.running.put_lines.Statement.{statemen
 use Rattle.machine_session.proofs.running.put_lines.Tie as tie
 
 abbrev Inv-loop : tie.InvT-loop
-Inv-loop calls blocks₀ loans₀ buffer₀ state₀ length₀ blocks loans buffer state n = (laws.Going calls (stage state₀ blocks₀ loans₀) buffer₀ (stage state blocks loans) n buffer) × (list.length blocks ≡ list.length blocks₀) × (list.length loans ≡ list.length loans₀)
+Inv-loop calls blocks₀ loans₀ buffer₀ state₀ length₀ blocks loans buffer state n =
+    (laws.PrintLoop calls (stage state₀ blocks₀ loans₀) buffer₀ (stage state blocks loans) n buffer) × (list.length blocks ≡ list.length blocks₀) ×
+    (list.length loans ≡ list.length loans₀)
 
 abbrev μ-loop : tie.MeasureT-loop
 μ-loop calls blocks₀ loans₀ buffer₀ state₀ length₀ blocks loans buffer state n = list.length calls - state .at
 
 loop-holds : tie.Need-loop-holds Inv-loop μ-loop
-loop-holds c = (laws.going _ _ _ (omega arith), refl, refl)
+loop-holds c = (laws.print-loop _ _ _ (omega arith), refl, refl)
 
 sub-if2 : tie.Need-sub-if2 Inv-loop μ-loop
 sub-if2 c = let g = (c .before .before .loop .inv .0) in let w = g .within in let e = laws.same g in omega arith
@@ -34,13 +36,36 @@ returns : tie.Need-returns Inv-loop μ-loop
 returns c = laws.stopped (c .before .before .before .loop .inv .0) (c .before .if1 .taken) (c .if2 .taken)
 
 execute-requires : tie.Need-execute-requires Inv-loop μ-loop
-execute-requires c κs = rw (c .before .before .before .request-at .ensures) (request-inside (c .before .before .before .before .before .before .before .before .before .before .before .before .args .calls .now) _)
+execute-requires c κs =
+    let c6 = c .before .before .before .before .before .before in
+    let c12 = c6 .before .before .before .before .before .before in
+    rw (c .before .before .before .request-at .ensures) (request-inside (c12 .args .calls .now) _)
 
 loop-less : tie.Need-loop-less Inv-loop μ-loop
-loop-less c = laws.less (c .before .before .before .before .before .before .before .before .before .before .before .before .before .before .before .before .before .before .before .loop .inv .0) (c .before .before .before .before .before .before .before .before .before .before .before .before .before .before .before .before .before .if1 .taken) (c .before .before .before .before .before .before .before .before .before .before .before .before .before .before .before .before .if2 .left) (c .before .before .before .before .before .before .before .before .before .before .before .before .before .before .before .request-at .ensures) (c .before .before .before .before .before .before .before .before .before .before .before .execute .ensures) (c .before .before .before .before .put-line .ensures)
+loop-less c =
+    let c4 = c .before .before .before .before in
+    let c11 = c4 .before .before .before .before .before .before .before in
+    let c15 = c11 .before .before .before .before in
+    let c16 = c15 .before in
+    let c17 = c16 .before in
+    let c19 = c17 .before .before in
+    laws.less (c19 .loop .inv .0) (c17 .if1 .taken) (c16 .if2 .left) (c15 .request-at .ensures) (c11 .execute .ensures) (c4 .put-line .ensures)
 
 loop-again : tie.Need-loop-again Inv-loop μ-loop
-loop-again c = (laws.again (c .before .before .before .before .before .before .before .before .before .before .before .before .before .before .before .before .before .before .before .loop .inv .0) (c .before .before .before .before .before .before .before .before .before .before .before .before .before .before .before .before .before .if1 .taken) (c .before .before .before .before .before .before .before .before .before .before .before .before .before .before .before .before .if2 .left) (c .before .before .before .before .before .before .before .before .before .before .before .before .before .before .before .request-at .ensures) (c .before .before .before .before .before .before .before .before .before .before .before .execute .ensures) (c .before .before .before .before .put-line .ensures) (c .next-line .ensures), (c .before .before .before .before .before .before .before .before .before .before .blocks2 .given) ∙ (c .before .before .before .before .before .before .before .before .before .before .before .before .before .before .before .before .before .before .before .loop .inv .1), (c .before .before .before .before .before .before .before .before .loans .given) ∙ (c .before .before .before .before .before .before .before .before .before .before .before .before .before .before .before .before .before .before .before .loop .inv .2))
+loop-again c =
+    let c4 = c .before .before .before .before in
+    let c8 = c4 .before .before .before .before in
+    let c10 = c8 .before .before in
+    let c11 = c10 .before in
+    let c15 = c11 .before .before .before .before in
+    let c16 = c15 .before in
+    let c17 = c16 .before in
+    let c19 = c17 .before .before in (
+      laws.again (c19 .loop .inv .0) (c17 .if1 .taken) (c16 .if2 .left) (c15 .request-at .ensures) (c11 .execute .ensures) (c4 .put-line .ensures)
+          (c .next-line .ensures),
+      (c10 .blocks2 .given) ∙ (c19 .loop .inv .1),
+      (c8 .loans .given) ∙ (c19 .loop .inv .2),
+    )
 
 same-length-4 : tie.Need-same-length-4 Inv-loop μ-loop
 same-length-4 c = (c .before .before .loop .inv .1)

@@ -15,10 +15,20 @@ abbrev μ-loop : tie.MeasureT-loop
 μ-loop programs most₀ k₀ most k = k
 
 loop-again : tie.Need-loop-again Inv-loop μ-loop
-loop-again c = (laws.heavier-more (c .before .before .before .before .before .args .t1) (c .before .before .before .before .loop .k) _ (c .before .before .before .before .loop .inv .0) (c .before .before .before .loop-test .taken) (omega arith) (c .before .weight .ensures) (c .if1 .taken), omega arith)
+loop-again c = (
+  laws.heavier-more (c .before .before .before .before .before .args .t1) (c .before .before .before .before .loop .k) _
+      (c .before .before .before .before .loop .inv .0) (c .before .before .before .loop-test .taken) (omega arith) (c .before .weight .ensures)
+      (c .if1 .taken),
+  omega arith,
+)
 
 loop-again-2 : tie.Need-loop-again-2 Inv-loop μ-loop
-loop-again-2 c = (laws.heavier-less (c .before .before .before .before .before .args .t1) (c .before .before .before .before .loop .k) _ (c .before .before .before .before .loop .inv .0) (c .before .before .before .loop-test .taken) (omega arith) (c .before .weight .ensures) (c .if1 .left), omega arith)
+loop-again-2 c = (
+  laws.heavier-less (c .before .before .before .before .before .args .t1) (c .before .before .before .before .loop .k) _
+      (c .before .before .before .before .loop .inv .0) (c .before .before .before .loop-test .taken) (omega arith) (c .before .weight .ensures)
+      (c .if1 .left),
+  omega arith,
+)
 
 returns : tie.Need-returns Inv-loop μ-loop
 returns c = (c .before .loop .inv .0) ∙ ap (λ (n : ℕ). heaviest (drop n (c .before .before .args .t1))) (let z : (c .before .loop .k) ≡ 0 = omega arith in z)

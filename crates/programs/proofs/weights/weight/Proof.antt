@@ -16,13 +16,15 @@ abbrev μ-loop : tie.MeasureT-loop
 -- the weight with the instruction at the counter
 total-is :
     (c : tie.After-weight-of Inv-loop μ-loop) →
-    c .before .before .before .before .loop .total + c .weight-of .result ≡ weightBefore (c .before .before .before .before .before .args .t1) (c .before .before .before .before .loop .k + 1)
+    c .before .before .before .before .loop .total + c .weight-of .result ≡ weightBefore (c .before .before .before .before .before .args .t1)
+    (c .before .before .before .before .loop .k + 1)
 total-is c =
     laws.weight-turn (c .before .before .before .before .before .args .t1) (c .before .before .before .before .loop .k)
     (c .before .before .before .before .loop .inv .0) (c .before .before .before .loop-test .taken) (c .before .instruction-at .ensures) (c .weight-of .ensures)
 
 add-total : tie.Need-add-total Inv-loop μ-loop
-add-total c = omega (arith, total-is c, laws.room (c .before .before .before .before .before .args .t1) (c .before .before .before .before .loop .k) (search needs))
+add-total c = omega
+    (arith, total-is c, laws.room (c .before .before .before .before .before .args .t1) (c .before .before .before .before .loop .k) (search needs))
 
 pub weight-spec : {M : Type 1} → statement M
 unfolding weightBefore

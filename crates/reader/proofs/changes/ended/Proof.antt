@@ -7,7 +7,8 @@ use Rattle.reader.proofs.changes.ended.Tie as tie
 returns-3 : tie.Need-returns-3
 returns-3 c =
     let start = c .before .before .before .before .before .before in
-    c .program-refused-at .ensures ∙ laws.change-left (start .args .text .now) (start .args .read) (c .before .before .before .enum-told .given .1) (c .before .if1 .left)
+    c .program-refused-at .ensures ∙ laws.change-left (start .args .text .now) (start .args .read) (c .before .before .before .enum-told .given .1)
+    (c .before .if1 .left)
 
 pub ended-spec : {M : Type 1} → statement M
 ended-spec =

@@ -16,9 +16,12 @@ abbrev μ-loop : tie.MeasureT-loop
 returns : tie.Need-returns Inv-loop μ-loop
 unfolding sameCard
 returns c =
-    laws.joins (c .both4 .ensures) (c .before .before .before .before .before .same-numbers .ensures)
-    (laws.joins (c .before .both3 .ensures) (c .before .before .before .before .same-starts .ensures)
-    (laws.joins (c .before .before .both2 .ensures) (c .before .before .before .same-records .ensures) (laws.ends _ _ _ (c .before .before .before .before .before .before .before .before .before .before .before .loop .inv .0) (omega arith))))
+    let c4 = c .before .before .before .before in
+    let c5 = c4 .before in
+    let c11 = c5 .before .before .before .before .before .before in
+    laws.joins (c .both4 .ensures) (c5 .same-numbers .ensures)
+    (laws.joins (c .before .both3 .ensures) (c4 .same-starts .ensures)
+    (laws.joins (c .before .before .both2 .ensures) (c .before .before .before .same-records .ensures) (laws.ends _ _ _ (c11 .loop .inv .0) (omega arith))))
 
 pub same-card-spec : {M : Type 1} → statement M
 same-card-spec =

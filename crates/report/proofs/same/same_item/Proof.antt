@@ -18,4 +18,5 @@ same-item-spec =
     (λ c κs. search needs)
     (λ c κs. search needs)
     (λ c κs. search needs)
-    (λ c. laws.joins (c .both2 .ensures) (c .before .before .before .before .before .before .same-number .ensures) (laws.joins (c .before .both .ensures) (c .before .before .before .same-number2 .ensures) (c .before .before .same-record .ensures))))
+    (λ c. laws.joins (c .both2 .ensures) (c .before .before .before .before .before .before .same-number .ensures)
+    (laws.joins (c .before .both .ensures) (c .before .before .before .same-number2 .ensures) (c .before .before .same-record .ensures))))

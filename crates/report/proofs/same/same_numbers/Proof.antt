@@ -11,7 +11,8 @@ returns c =
     laws.joins (c .both5 .ensures) (compared .before .before .before .before .before .before .before .before .before .same-number .ensures)
     (laws.joins (c .before .both4 .ensures) (compared .before .before .before .before .before .before .same-number2 .ensures)
     (laws.joins (c .before .before .both3 .ensures) (compared .before .before .before .same-number3 .ensures)
-    (laws.joins (c .before .before .before .both2 .ensures) (compared .before .before .same-number4 .ensures) (laws.joins (c .before .before .before .before .both .ensures) (compared .before .same-number5 .ensures) (compared .same-gate .ensures)))))
+    (laws.joins (c .before .before .before .both2 .ensures) (compared .before .before .same-number4 .ensures)
+    (laws.joins (c .before .before .before .before .both .ensures) (compared .before .same-number5 .ensures) (compared .same-gate .ensures)))))
 
 pub same-numbers-spec : {M : Type 1} → statement M
 same-numbers-spec =

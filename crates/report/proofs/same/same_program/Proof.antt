@@ -14,7 +14,8 @@ abbrev μ-loop : tie.MeasureT-loop
 μ-loop a b same₀ k₀ same k = 32 - k
 
 loop-again : tie.Need-loop-again Inv-loop μ-loop
-loop-again c = (laws.goes-on _ _ (c .before .before .before .before .before .loop .inv .0) (c .before .same-instruction .ensures) (c .both .ensures), omega arith)
+loop-again c =
+    (laws.goes-on _ _ (c .before .before .before .before .before .loop .inv .0) (c .before .same-instruction .ensures) (c .both .ensures), omega arith)
 
 returns : tie.Need-returns Inv-loop μ-loop
 unfolding sameProgram

@@ -16,4 +16,5 @@ same-simulation-spec =
     (λ c κs. search needs)
     (λ c κs. search needs)
     (λ c κs. search needs)
-    (λ c. laws.joins (c .both2 .ensures) (c .before .before .before .before .same-number .ensures) (laws.joins (c .before .both .ensures) (c .before .before .before .same-words .ensures) (c .before .before .same-yield .ensures))))
+    (λ c. laws.joins (c .both2 .ensures) (c .before .before .before .before .same-number .ensures)
+    (laws.joins (c .before .both .ensures) (c .before .before .before .same-words .ensures) (c .before .before .same-yield .ensures))))

@@ -7,9 +7,12 @@ use Rattle.report.proofs.same.same_texts.Tie as tie
 returns : tie.Need-returns
 unfolding sameTexts
 returns c =
-    laws.joins (c .both3 .ensures) (c .before .before .before .before .before .before .same-program .ensures)
-    (laws.joins (c .before .both2 .ensures) (c .before .before .before .before .before .same-number .ensures)
-    (laws.joins (c .before .before .both .ensures) (c .before .before .before .before .same-program2 .ensures) (c .before .before .before .same-program3 .ensures)))
+    let c4 = c .before .before .before .before in
+    let c5 = c4 .before in
+    let c6 = c5 .before in
+    laws.joins (c .both3 .ensures) (c6 .same-program .ensures)
+    (laws.joins (c .before .both2 .ensures) (c5 .same-number .ensures)
+    (laws.joins (c .before .before .both .ensures) (c4 .same-program2 .ensures) (c .before .before .before .same-program3 .ensures)))
 
 pub same-texts-spec : {M : Type 1} → statement M
 same-texts-spec =

@@ -7,10 +7,15 @@ use Rattle.report.proofs.same.same_work.Tie as tie
 returns : tie.Need-returns
 unfolding sameWork
 returns c =
-    laws.joins (c .both4 .ensures) (c .before .before .before .before .before .before .before .before .same-task .ensures)
-    (laws.joins (c .before .both3 .ensures) (c .before .before .before .before .before .before .before .same-operation .ensures)
-    (laws.joins (c .before .before .both2 .ensures) (c .before .before .before .before .before .before .same-bool .ensures)
-    (laws.joins (c .before .before .before .both .ensures) (c .before .before .before .before .before .same-number .ensures) (c .before .before .before .before .same-number2 .ensures))))
+    let c4 = c .before .before .before .before in
+    let c5 = c4 .before in
+    let c6 = c5 .before in
+    let c7 = c6 .before in
+    let c8 = c7 .before in
+    laws.joins (c .both4 .ensures) (c8 .same-control .ensures)
+    (laws.joins (c .before .both3 .ensures) (c7 .same-operation .ensures)
+    (laws.joins (c .before .before .both2 .ensures) (c6 .same-bool .ensures)
+    (laws.joins (c .before .before .before .both .ensures) (c5 .same-number .ensures) (c4 .same-number2 .ensures))))
 
 pub same-work-spec : {M : Type 1} → statement M
 same-work-spec =

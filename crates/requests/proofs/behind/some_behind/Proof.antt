@@ -9,10 +9,10 @@ use Rattle.requests.proofs.behind.some_behind.Statement.{statement}
 use Rattle.requests.proofs.behind.some_behind.Tie as tie
 
 abbrev Inv-loop : tie.InvT-loop
-Inv-loop processCount number tasks gates behind₀ i₀ behind i = (behind ≡ someBehind tasks gates processCount number i) × (i ≤ 8)
+Inv-loop processCount number controls gatesRead behind₀ i₀ behind i = (behind ≡ someBehind controls gatesRead processCount number i) × (i ≤ 8)
 
 abbrev μ-loop : tie.MeasureT-loop
-μ-loop processCount number tasks gates behind₀ i₀ behind i = 8 - i
+μ-loop processCount number controls gatesRead behind₀ i₀ behind i = 8 - i
 
 loop-holds : tie.Need-loop-holds Inv-loop μ-loop
 unfolding someBehind

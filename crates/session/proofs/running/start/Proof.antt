@@ -10,7 +10,8 @@ use Rattle.session.proofs.running.start.Tie as tie
 returns : tie.Need-returns
 returns c =
     let put = c .before .before .before in
-    laws.starts (put .before .before .before .before .before .before .«open» .ensures) (put .put-card-refusal .ensures) (c .begun .ensures) (rw (put .before .before .before .verdict .given .1))
+    laws.starts (put .before .before .before .before .before .before .«open» .ensures) (put .put-card-refusal .ensures) (c .begun .ensures)
+    (rw (put .before .before .before .verdict .given .1))
 
 returns-2 : tie.Need-returns-2
 returns-2 c =

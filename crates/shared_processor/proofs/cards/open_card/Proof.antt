@@ -29,8 +29,11 @@ same-length c = search needs
 
 returns : tie.Need-returns
 returns c =
-    let a = c .before .before .before .before .before .before .before .before .args in
-    laws.opens (a .text .now) (a .blocks .now) (a .m) _ _ (c .before .before .before .before .before .start-of .ensures) (c .before .before .before .before .end-of .ensures) (c .before .before .«open» .ensures)
+    let c4 = c .before .before .before .before in
+    let c5 = c4 .before in
+    let c8 = c5 .before .before .before in
+    let a = c8 .args in
+    laws.opens (a .text .now) (a .blocks .now) (a .m) _ _ (c5 .start-of .ensures) (c4 .end-of .ensures) (c .before .before .«open» .ensures)
 
 pub open-card-spec : {M : Type 1} → statement M
 open-card-spec =

@@ -8,7 +8,8 @@ use Rattle.shared_processor.proofs.requesting.change.Statement.{stateme
 use Rattle.shared_processor.proofs.requesting.change.Tie as tie
 
 returns : tie.Need-returns
-returns c = let a = (c .before .before .before .before .args) in laws.absent (a .a) 0 (a .blocks .now) [] (a .m) (Entry.Change (a .program) (a .from) (a .text .now)) (c .if1 .taken)
+returns c = let a = (c .before .before .before .before .args) in
+    laws.absent (a .a) 0 (a .blocks .now) [] (a .m) (Entry.Change (a .program) (a .from) (a .text .now)) (c .if1 .taken)
 
 start-of-requires : tie.Need-start-of-requires
 start-of-requires c κs = search needs
@@ -35,7 +36,14 @@ same-length : tie.Need-same-length
 same-length c = search needs
 
 returns-2 : tie.Need-returns-2
-returns-2 c = let a = (c .before .before .before .before .before .before .before .before .before .before .args) in laws.plain (a .a) (a .blocks .now) (a .m) (c .before .before .before .before .before .before .if1 .left) _ _ (c .before .before .before .before .before .start-of .ensures) (c .before .before .before .before .end-of .ensures) (Entry.Change (a .program) (a .from) (a .text .now)) tt (ap untraced (c .before .before .change .ensures .0)) (c .before .before .change .ensures .1)
+returns-2 c =
+    let c4 = c .before .before .before .before in
+    let c5 = c4 .before in
+    let c6 = c5 .before in
+    let c10 = c6 .before .before .before .before in
+    let a = (c10 .args) in
+    laws.plain (a .a) (a .blocks .now) (a .m) (c6 .if1 .left) _ _ (c5 .start-of .ensures) (c4 .end-of .ensures)
+    (Entry.Change (a .program) (a .from) (a .text .now)) tt (ap untraced (c .before .before .change .ensures .0)) (c .before .before .change .ensures .1)
 
 pub change-spec : {M : Type 1} → statement M
 change-spec =

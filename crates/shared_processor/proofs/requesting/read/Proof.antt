@@ -30,7 +30,12 @@ read-requires : tie.Need-read-requires
 read-requires c κs = search needs
 
 returns-2 : tie.Need-returns-2
-returns-2 c = let a = (c .before .before .before .before .before .before .before .args) in laws.read-plain (a .a) (a .blocks .now) (a .m) (c .before .before .before .before .if1 .left) _ _ (c .before .before .before .start-of .ensures) (c .before .before .end-of .ensures) (a .variable) (c .read .ensures)
+returns-2 c =
+    let c4 = c .before .before .before .before in
+    let c7 = c4 .before .before .before in
+    let a = (c7 .args) in
+    laws.read-plain (a .a) (a .blocks .now) (a .m) (c4 .if1 .left) _ _ (c .before .before .before .start-of .ensures) (c .before .before .end-of .ensures)
+    (a .variable) (c .read .ensures)
 
 pub read-spec : {M : Type 1} → statement M
 read-spec =

@@ -35,7 +35,14 @@ same-length : tie.Need-same-length
 same-length c = search needs
 
 returns-2 : tie.Need-returns-2
-returns-2 c = let a = (c .before .before .before .before .before .before .before .before .before .args) in laws.plain (a .a) (a .blocks .now) (a .m) (c .before .before .before .before .before .before .if1 .left) _ _ (c .before .before .before .before .before .start-of .ensures) (c .before .before .before .before .end-of .ensures) (Entry.Exit (a .process)) tt (ap untraced (c .before .before .request-exit .ensures .0)) (c .before .before .request-exit .ensures .1)
+returns-2 c =
+    let c4 = c .before .before .before .before in
+    let c5 = c4 .before in
+    let c6 = c5 .before in
+    let c9 = c6 .before .before .before in
+    let a = (c9 .args) in
+    laws.plain (a .a) (a .blocks .now) (a .m) (c6 .if1 .left) _ _ (c5 .start-of .ensures) (c4 .end-of .ensures) (Entry.Exit (a .process)) tt
+    (ap untraced (c .before .before .request-exit .ensures .0)) (c .before .before .request-exit .ensures .1)
 
 pub request-exit-spec : {M : Type 1} → statement M
 request-exit-spec =

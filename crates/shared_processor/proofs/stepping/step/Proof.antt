@@ -19,7 +19,11 @@ same-length-2 : tie.Need-same-length-2
 same-length-2 c = search needs
 
 returns : tie.Need-returns
-returns c = let a = (c .before .before .before .before .before .before .before .args) in laws.refused-step (a .a) (a .stride) (a .blocks .now) (a .loans .now) (a .m) (a .process) (Entry.Step (a .process)) Steps.by-step _ (c .before .before .judge .ensures) (sym (c .before .is-refused .ensures) ∙ (c .if1 .taken))
+returns c =
+    let c7 = c .before .before .before .before .before .before .before in
+    let a = (c7 .args) in
+    laws.refused-step (a .a) (a .stride) (a .blocks .now) (a .loans .now) (a .m) (a .process) (Entry.Step (a .process)) Steps.by-step _
+    (c .before .before .judge .ensures) (sym (c .before .is-refused .ensures) ∙ (c .if1 .taken))
 
 start-of-requires : tie.Need-start-of-requires
 start-of-requires c κs = search needs
@@ -67,7 +71,20 @@ same-length-4 : tie.Need-same-length-4
 same-length-4 c = search needs
 
 returns-2 : tie.Need-returns-2
-returns-2 c = let a = (c .before .before .before .before .before .before .before .before .before .before .before .before .before .before .before .before .before .before .before .args) in laws.accepted-step-made (a .a) (a .stride) (a .blocks .now) (a .loans .now) (a .m) (a .process) (Entry.Step (a .process)) Steps.by-step _ _ (c .before .before .before .before .before .before .before .before .before .before .before .start-of .ensures) (c .before .before .before .before .before .before .before .before .before .before .end-of .ensures) _ _ (c .before .before .before .before .before .before .before .before .before .start-of2 .ensures) (c .before .before .before .before .before .before .before .before .end-of2 .ensures) _ (c .before .before .before .before .before .before .before .before .before .before .before .before .before .before .judge .ensures) (sym (c .before .before .before .before .before .before .before .before .before .before .before .before .before .is-refused .ensures) ∙ (c .before .before .before .before .before .before .before .before .before .before .before .before .if1 .left)) (ap untraced (c .before .before .before .before .before .step .ensures .0)) (c .before .before .before .before .before .step .ensures .1) (c .before .before .before .before .before .step .ensures .2)
+returns-2 c =
+    let c5 = c .before .before .before .before .before in
+    let c8 = c5 .before .before .before in
+    let c9 = c8 .before in
+    let c10 = c9 .before in
+    let c11 = c10 .before in
+    let c12 = c11 .before in
+    let c13 = c12 .before in
+    let c14 = c13 .before in
+    let c19 = c14 .before .before .before .before .before in
+    let a = (c19 .args) in
+    laws.accepted-step-made (a .a) (a .stride) (a .blocks .now) (a .loans .now) (a .m) (a .process) (Entry.Step (a .process)) Steps.by-step _ _
+    (c11 .start-of .ensures) (c10 .end-of .ensures) _ _ (c9 .start-of2 .ensures) (c8 .end-of2 .ensures) _ (c14 .judge .ensures)
+    (sym (c13 .is-refused .ensures) ∙ (c12 .if1 .left)) (ap untraced (c5 .step .ensures .0)) (c5 .step .ensures .1) (c5 .step .ensures .2)
 
 pub step-spec : {M : Type 1} → statement M
 step-spec =

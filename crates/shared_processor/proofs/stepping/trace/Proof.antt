@@ -21,7 +21,13 @@ same-length-2 : tie.Need-same-length-2
 same-length-2 c = search needs
 
 returns : tie.Need-returns
-returns c = let a = (c .before .before .before .before .before .before .before .before .before .args) in rw (c .no-report .ensures) (laws.refused-step (a .a) (a .stride) (a .blocks .now) (a .loans .now) (a .m) (a .process) (Entry.Trace (a .process)) Steps.by-trace _ (c .before .before .before .before .judge .ensures) (sym (c .before .before .is-refused .ensures) ∙ (c .before .if1 .taken)))
+returns c =
+    let c4 = c .before .before .before .before in
+    let c9 = c4 .before .before .before .before .before in
+    let a = (c9 .args) in
+    rw (c .no-report .ensures)
+    (laws.refused-step (a .a) (a .stride) (a .blocks .now) (a .loans .now) (a .m) (a .process) (Entry.Trace (a .process)) Steps.by-trace _
+    (c4 .judge .ensures) (sym (c .before .before .is-refused .ensures) ∙ (c .before .if1 .taken)))
 
 start-of-requires : tie.Need-start-of-requires
 start-of-requires c κs = search needs
@@ -69,7 +75,21 @@ same-length-4 : tie.Need-same-length-4
 same-length-4 c = search needs
 
 returns-2 : tie.Need-returns-2
-returns-2 c = let a = (c .before .before .before .before .before .before .before .before .before .before .before .before .before .before .before .before .before .before .before .before .args) in laws.accepted-step-made (a .a) (a .stride) (a .blocks .now) (a .loans .now) (a .m) (a .process) (Entry.Trace (a .process)) Steps.by-trace _ _ (c .before .before .before .before .before .before .before .before .before .before .before .start-of .ensures) (c .before .before .before .before .before .before .before .before .before .before .end-of .ensures) _ _ (c .before .before .before .before .before .before .before .before .before .start-of2 .ensures) (c .before .before .before .before .before .before .before .before .end-of2 .ensures) _ (c .before .before .before .before .before .before .before .before .before .before .before .before .before .before .before .judge .ensures) (sym (c .before .before .before .before .before .before .before .before .before .before .before .before .before .is-refused .ensures) ∙ (c .before .before .before .before .before .before .before .before .before .before .before .before .if1 .left)) (λ j. record { answer = (c .before .before .before .before .before .trace .ensures .0) j; report = (c .before .before .before .before .before .trace .ensures .1) j }) (c .before .before .before .before .before .trace .ensures .2) (c .before .before .before .before .before .trace .ensures .3)
+returns-2 c =
+    let c5 = c .before .before .before .before .before in
+    let c8 = c5 .before .before .before in
+    let c9 = c8 .before in
+    let c10 = c9 .before in
+    let c11 = c10 .before in
+    let c12 = c11 .before in
+    let c13 = c12 .before in
+    let c15 = c13 .before .before in
+    let c20 = c15 .before .before .before .before .before in
+    let a = (c20 .args) in
+    laws.accepted-step-made (a .a) (a .stride) (a .blocks .now) (a .loans .now) (a .m) (a .process) (Entry.Trace (a .process)) Steps.by-trace _ _
+    (c11 .start-of .ensures) (c10 .end-of .ensures) _ _ (c9 .start-of2 .ensures) (c8 .end-of2 .ensures) _ (c15 .judge .ensures)
+    (sym (c13 .is-refused .ensures) ∙ (c12 .if1 .left)) (λ j. record { answer = (c5 .trace .ensures .0) j; report = (c5 .trace .ensures .1) j })
+    (c5 .trace .ensures .2) (c5 .trace .ensures .3)
 
 pub trace-spec : {M : Type 1} → statement M
 trace-spec =

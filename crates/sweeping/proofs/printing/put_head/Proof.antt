@@ -9,8 +9,14 @@ use Rattle.sweeping.proofs.printing.put_head.Tie as tie
 returns : tie.Need-returns
 unfolding headText
 returns c =
-    laws.put-three (omega arith) (c .before .before .before .before .before .before .before .before .before .before .before .before .put-counts .ensures) (rw (c .before .before .before .before .before .before .before .before .bound .ensures) at (c .before .before .before .before .before .before .before .put-wait .ensures))
-    (rw (c .before .before .before .before .before .before .before .before .before .before .before .before .before .before .gate .ensures) at (c .before .before .put-count .ensures))
+    let c7 = c .before .before .before .before .before .before .before in
+    let c8 = c7 .before in
+    let c12 = c8 .before .before .before .before in
+    let c14 = c12 .before .before in
+    laws.put-three (omega arith) (c12 .put-counts .ensures) (rw (c8 .bound .ensures) at (c7 .put-wait .ensures))
+    (rw (c14 .gate .ensures) at (c .before .before .put-count .ensures))
 
 pub put-head-spec : {M : Type 1} → statement M
-put-head-spec = tie.close (tie.spec (λ c κs. search needs) (λ c κs. search needs) (λ c κs. search needs) (λ c κs. search needs) (λ c. search needs) (λ c κs. search needs) (λ c. search needs) returns)
+put-head-spec = tie.close
+    (tie.spec (λ c κs. search needs) (λ c κs. search needs) (λ c κs. search needs) (λ c κs. search needs) (λ c. search needs) (λ c κs. search needs)
+    (λ c. search needs) returns)

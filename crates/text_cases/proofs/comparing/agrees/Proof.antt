@@ -16,7 +16,11 @@ abbrev μ-loop : tie.MeasureT-loop
 μ-loop buffer text told same₀ k₀ same k = length buffer - k
 
 loop-again : tie.Need-loop-again Inv-loop μ-loop
-loop-again c = (laws.goes-on _ _ (c .before .before .before .before .before .loop .inv .0) (rw (← c .before .before .before .expected .ensures) (c .before .same-byte .ensures)) (c .both .ensures), search needs)
+loop-again c = (
+  laws.goes-on _ _ (c .before .before .before .before .before .loop .inv .0)
+      (rw (← c .before .before .before .expected .ensures) (c .before .same-byte .ensures)) (c .both .ensures),
+  search needs,
+)
 
 pub agrees-spec : {M : Type 1} → statement M
 unfolding agreesWith

@@ -7,7 +7,9 @@ use Rattle.text_cases.proofs.lines.put_outcome.Tie as tie
 
 returns : tie.Need-returns
 unfolding outcomeText
-returns c = put-both (omega arith) ((c .before .before .before .before .before .before .put-written .ensures .0)) (c .before .before .put-agreement .ensures)
+returns c =
+    let c6 = c .before .before .before .before .before .before in
+    put-both (omega arith) ((c6 .put-written .ensures .0)) (c .before .before .put-agreement .ensures)
 
 pub put-outcome-spec : {M : Type 1} → statement M
 put-outcome-spec =

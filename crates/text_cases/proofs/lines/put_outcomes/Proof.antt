@@ -7,7 +7,11 @@ use Rattle.text_cases.proofs.lines.put_outcomes.Tie as tie
 
 returns : tie.Need-returns
 unfolding outcomesText
-returns c = laws.put-four (omega arith) (c .before .before .before .before .before .before .before .before .before .before .before .before .before .before .put-outcome .ensures) (c .before .before .before .before .before .before .before .before .before .before .put-outcome2 .ensures) (c .before .before .before .before .before .before .put-outcome3 .ensures) (c .before .before .put-outcome4 .ensures)
+returns c =
+    let c6 = c .before .before .before .before .before .before in
+    let c10 = c6 .before .before .before .before in
+    let c14 = c10 .before .before .before .before in
+    laws.put-four (omega arith) (c14 .put-outcome .ensures) (c10 .put-outcome2 .ensures) (c6 .put-outcome3 .ensures) (c .before .before .put-outcome4 .ensures)
 
 pub put-outcomes-spec : {M : Type 1} → statement M
 put-outcomes-spec =

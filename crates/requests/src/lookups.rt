@@ -1,7 +1,7 @@
 // What a place of a card's arrays holds, given what stands at the place modulo the array's room: the opening value where the place is past it.
-use construction::Announcement;
-use construction::Program;
-use construction::Record;
+use construction::cells::Announcement;
+use construction::cells::Record;
+use construction::programs::Program;
 ghost use mathlib.Core.Path.{_≡_};
 ghost use mathlib.Core.Bool.{cond};
 ghost use lib.Dec.{ltb};

@@ -1,9 +1,9 @@
 use borrow.Author.Needs.{needs}
-use Rattle.block.proofs.parts.task_at.Statement.{statement}
-use Rattle.block.proofs.parts.task_at.Tie as tie
+use Rattle.block.proofs.parts.control_at.Statement.{statement}
+use Rattle.block.proofs.parts.control_at.Tie as tie
 
-pub task-at-spec : {M : Type 1} → statement M
-task-at-spec =
+pub control-at-spec : {M : Type 1} → statement M
+control-at-spec =
     tie.close
     (tie.spec
     (λ c. search needs) (λ c. search needs) (λ c κs. search needs) (λ c. search needs) (λ c. search needs) (λ c. search needs)

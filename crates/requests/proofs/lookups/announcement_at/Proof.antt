@@ -1,7 +1,7 @@
 use borrow.Author.Tests.{lt-ltb, le-ltb}
 use borrow.Author.Needs.{needs}
-use Rattle.requests.proofs.rooms.announcement_at.Statement.{statement}
-use Rattle.requests.proofs.rooms.announcement_at.Tie as tie
+use Rattle.requests.proofs.lookups.announcement_at.Statement.{statement}
+use Rattle.requests.proofs.lookups.announcement_at.Tie as tie
 
 returns : tie.Need-returns
 returns c = rw (lt-ltb _ _ (c .if1 .taken))

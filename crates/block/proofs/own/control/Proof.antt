@@ -1,0 +1,29 @@
+use native.Mathlib.Omega.{arith}
+use mathlib.Core.Path.{refl}
+use borrow.Author.Needs.{needs}
+use Rattle.block.proofs.Rooms as rooms
+use Rattle.block.proofs.own.control.Statement.{statement}
+use Rattle.block.proofs.own.control.Tie as tie
+
+pub control-spec : {M : Type 1} → statement M
+control-spec =
+    tie.close
+    (tie.spec
+    (λ c κs. search needs) (λ c. search needs) (λ c. search needs)
+    (λ c κs. (
+      omega (
+        arith,
+        rooms.inside _ _ _ (c .before .is-room .ensures) (c .if1 .taken) .0,
+        rooms.inside _ _ _ (c .before .is-room .ensures)
+            (c .if1 .taken) .1,
+      ),
+      omega (
+        arith,
+        rooms.inside _ _ _ (c .before .is-room .ensures) (c .if1 .taken) .0,
+        rooms.inside _ _ _ (c .before .is-room .ensures)
+            (c .if1 .taken) .1,
+      ),
+    ))
+    (λ c. rooms.row-in _ _ _ (c .before .before .is-room .ensures) _ _ _ _ _ (c .before .if1 .taken) (c .control-at .ensures))
+    (λ c κs. search needs)
+    (λ c. rooms.row-none _ _ _ (c .before .before .is-room .ensures) _ _ _ _ _ (c .before .if1 .left) (c .idle-control .ensures)))

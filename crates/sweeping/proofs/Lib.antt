@@ -4,3 +4,5 @@ pub mod CallsMade
 pub mod Files
 pub mod Progressing
 pub mod Whole
+pub mod CallWords
+pub mod Begins

@@ -1,5 +1,5 @@
--- WHERE NOTHING IS PRINTED THE SWEEP BEGINS (document 02, order 12): the files then leave every process called, so that the pieces of the sweep are one sweep, from
--- the card text and the calls on.
+-- WHERE NOTHING IS PRINTED THE SWEEP BEGINS (document 02, order 12): the files then leave every process called, so that the pieces of the sweep are one
+-- sweep, from the card text and the calls on.
 use Prim.Native.Nat.{ℕ, zero, suc, _+_, _*_, _<_, _≤_}
 use mathlib.Core.Path.{_≡_, refl, sym, _∙_, ap, subst}
 use mathlib.Core.Bool.{Bool, true, false, not}

@@ -2,3 +2,4 @@
 pub mod Answering
 pub mod Session
 pub mod Starting
+pub mod Runs

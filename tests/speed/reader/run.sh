@@ -6,11 +6,11 @@ here=$(cd "$(dirname "$0")" && pwd)
 root=$(cd "$here/../../.." && pwd)
 work=${1:-$(mktemp -d)}
 mkdir -p "$work/crates/reader_speed/src"
-for crate in grammar construction opening lines reader; do
+for crate in grammar construction opening programs lines reader; do
     cp -r "$root/crates/$crate" "$work/crates/"
 done
 cp "$here/reader_speed.rt.txt" "$work/crates/reader_speed/src/lib.rt"
-grep -E '^(grammar|construction|opening|lines|reader):' "$root/crates.txt" > "$work/crates.txt"
+grep -E '^(grammar|construction|opening|programs|lines|reader):' "$root/crates.txt" > "$work/crates.txt"
 echo 'reader_speed: reader construction' >> "$work/crates.txt"
 cd "$work"
 rt staticlib reader_speed

@@ -1,4 +1,4 @@
--- The types of this crate, which src/lib.rt declares, and the variants that stand under their own names, for one `use` line a file
+-- The types of this crate, which src/ declares, and the variants that stand under their own names, for one `use` line a file
 pub use Rattle.construction.specs.declared.cells.Holder.{Holder}
 pub use Rattle.construction.specs.declared.cells.Holder.the-variants.{Nobody, Process}
 pub use Rattle.construction.specs.declared.cells.Gate.{Gate}

@@ -92,7 +92,8 @@ pub enum Swap {
     Won,
 }
 
-// The place of a process. The target is the nominee at P13, the variable at H21, the item of the dictionary at H36.
+// What a process goes on with: its place, the label of its next access, and its target, the nominee at P13, the variable at H21, the item of
+// the dictionary at H36.
 pub struct Control {
     pub place: Label,
     pub target: u8,

@@ -1,10 +1,10 @@
--- The swap of an access by pieces is that of the access on the card
+-- The swap of an access by what decides it is that of the access on the card
 use Prim.Native.Nat.{ℕ}
 use mathlib.Core.Path.{_≡_, refl}
 use Rattle.construction.specs.declared.{accesses.Access.Access, card.Card.Card}
 use Rattle.construction.specs.Parts.{contentsOf, announcementAt, recordAt, localAt}
 use Rattle.construction.specs.Machine.{cellOf, writing, perform}
-use Rattle.reports.specs.Pieces.{announcementIn, recordIn, swapBy}
+use Rattle.reports.specs.Swaps.{announcementIn, recordIn, swapBy}
 
 pub swap-is :
     (c : Card) (i : ℕ) (a : Access) → let l = localAt c i in

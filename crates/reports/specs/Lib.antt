@@ -1,2 +1,2 @@
 -- The definitions that the contracts of reports add to those of construction
-pub mod Pieces
+pub mod Swaps

@@ -27,7 +27,7 @@ ghost use mathlib.Core.Bool.{cond};
 ghost use Rattle.construction.specs.Machine.{cellBy};
 ghost use Rattle.construction.specs.Tracing.{labelOf, notedAt, reportWith, noReport};
 ghost use Rattle.construction.specs.Answers.{isRefused};
-ghost use Rattle.reports.specs.Pieces.{announcementIn, recordIn, swapBy};
+ghost use Rattle.reports.specs.Swaps.{announcementIn, recordIn, swapBy};
 
 // The label of the access of a place: at the top of the loop P6 with an exit request, P10 without one.
 pub fn label_of(place: Label, exit: bool) -> Label

@@ -1,4 +1,4 @@
--- A step that is traced: its report by the pieces that code takes out of the card
+-- A step that is traced: its report by what code reads off the card
 use Prim.Native.Nat.{ℕ, _%_, _<_}
 use mathlib.Core.Bool.{Bool, true, false, cond, not, true≢false}
 use mathlib.Core.List.{[]}
@@ -20,7 +20,7 @@ use Rattle.construction.specs.OneAccess.{touchedCell}
 use Rattle.construction.specs.Requests.{isProcess, isIdle, refused, step}
 use Rattle.construction.specs.Answers.{isRefused}
 use Rattle.construction.specs.Tracing.{labelOf, reportWith, reportOf, noReport, trace}
-use Rattle.reports.specs.Pieces.{announcementIn, recordIn, swapBy}
+use Rattle.reports.specs.Swaps.{announcementIn, recordIn, swapBy}
 use Rattle.reports.proofs.Swaps.{swap-is}
 use Rattle.card.proofs.Requests.{steppedAt}
 use Rattle.requests.proofs.Arrays.{FullArrays, found, in-room}
@@ -43,8 +43,8 @@ accepted c i h =
     h in
     (in-room i (c .processCount) 8 (p .0), p .1)
 
--- the pieces of process i, the cell and what stands there, as code takes them out
-pub record Pieces (c : Card) (i : ℕ) (label : Label) (a : Access) (w : Writing) (x : Cell) (m v : ℕ) (b : Announcement) (r : Record) (s : Swap) : Type 0 where
+-- the next access of process i as code reads it off the card: label, access, what is to be written, the cell and what stands there
+pub record AccessRead (c : Card) (i : ℕ) (label : Label) (a : Access) (w : Writing) (x : Cell) (m v : ℕ) (b : Announcement) (r : Record) (s : Swap) : Type 0 where
   pub labelled : label ≡ labelOf (localAt c i .control .place) (localAt c i .exit)
   pub chosen : a ≡ accessOf (localAt c i .control .place) (localAt c i .exit)
   pub writes : w ≡ writing (localAt c i .gate .seq) (localAt c i .control) (getD (c .dictionaries) i (record { length = 0; items = [] }))
@@ -59,7 +59,7 @@ pub record Pieces (c : Card) (i : ℕ) (label : Label) (a : Access) (w : Writing
       (localAt c i .control) (w .item)
 
 module _ {c : Card} {i : ℕ} {label : Label} {a : Access} {w : Writing} {x : Cell} {m v : ℕ} {b : Announcement} {r : Record} {s : Swap}
-    (R : FullArrays c) (lt : i < 8) (p : Pieces c i label a w x m v b r s) where
+    (R : FullArrays c) (lt : i < 8) (p : AccessRead c i label a w x m v b r s) where
   own-dictionary : getD (c .dictionaries) i (record { length = 0; items = [] }) ≡ localAt c i .dictionary
   own-dictionary = inside (c .dictionaries) i (record { length = 0; items = [] }) empty (omega (arith, R .dictionaries))
 
@@ -91,7 +91,7 @@ module _ {c : Card} {i : ℕ} {label : Label} {a : Access} {w : Writing} {x : Ce
 -- what code gives
 pub trace-is :
     (c : Card) (i : ℕ) → FullArrays c → {label : Label} {a : Access} {w : Writing} {x : Cell} {m v : ℕ} {b : Announcement} {r : Record} {s : Swap} →
-    Pieces c (i % 8) label a w x m v b r s → (y : Answered) → y ≡ step c i →
+    AccessRead c (i % 8) label a w x m v b r s → (y : Answered) → y ≡ step c i →
     (t : Report) → t ≡ cond (isRefused (y .answer)) noReport
     (reportWith label x s (getD (y .card .gatesRead) (i % 8) noGate .seq) (getD (y .card .masks) (i % 8) 0)) →
     _≡_ {A = Traced} (record { card = y .card; answer = y .answer; report = t }) (trace c i)
@@ -112,6 +112,6 @@ trace-is c i R {label} {a} {w} {x} {m} {v} {b} {r} {s} p y e t told = rw (told, 
     go false h =
         let z = accepted c i h in
         let same : i % 8 ≡ i = mod-eq-of-lt (z .0) in
-        let q : Pieces c i label a w x m v b r s = rw same at p in
+        let q : AccessRead c i label a w x m v b r s = rw same at p in
         ap (λ (u : Report). record { card = step c i .card; answer = step c i .answer; report = u })
         (rw (same, ap (λ (n : Answered). n .card) (z .1)) (report-is R (z .0) q))

@@ -15,7 +15,7 @@ use requests::lookups::record_at;
 ghost use mathlib.Core.Path.{_≡_};
 ghost use Rattle.construction.specs.Tracing.{trace};
 
-// Step with its report (document 02, order 1): the step itself is `step`; what is told of its access is read off the pieces that it goes by and
+// Step with its report (document 02, order 1): the step itself is `step`; what is told of its access is read off what it goes by and
 // off what it leaves.
 pub fn trace(card: Card, process: u32) -> Traced
     ensures { λ r. ⌜ r ≡ trace card process ⌝ }

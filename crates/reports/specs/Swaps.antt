@@ -1,4 +1,4 @@
--- The swap of an access by the pieces of a card and of its process that decide it, and the place of the cell that it touches
+-- The swap of an access by what decides it in a card and in its process, and the place of the cell that it touches
 use Prim.Native.Nat.{ℕ}
 use Rattle.construction.specs.declared.{cells.Gate.Gate, cells.Yield.Yield, cells.Announcement.Announcement, cells.Record.Record, simulations.Item.Item}
 use Rattle.construction.specs.declared.{accesses.Access.Access, accesses.Cell.Cell, accesses.Swap.Swap, accesses.Control.Control, card.Operation.Operation}

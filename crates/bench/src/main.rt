@@ -1,23 +1,10 @@
 // The bench program (document 01, "The bench program"): reads `card.txt` and `calls.txt` in the folder where it is run and prints the
 // session. The printed text is that of the crate session; only reading the files and writing the bytes is left to do here.
+use host::read_file;
 use libc::STDOUT_FILENO;
 use session::State;
 use session::running::put_lines;
 use session::running::start;
-ghost use Rattle.io.specs.Counts.{Counts};
-
-// Reads as much of a file as the buffer takes. A file that cannot be opened counts as empty.
-fn read_file(path: &[u8], buffer: &mut [u8]) -> usize
-    ensures { λ r. ⌜ Counts r (now (buffer .exit)) ⌝ }
-{
-    let file = os::open_read(path);
-    if file < 0 {
-        return 0;
-    }
-    let count = io::read_full(file, buffer);
-    libc::close(file);
-    count
-}
 
 // Prints the lines of a session, as many whole ones at a time as a large buffer takes, until no command is left or some cannot be
 // written. Whether all were written.

@@ -19,29 +19,16 @@ use crate::printing::put_start;
 use commands::reading::command_at;
 use grammar::Number;
 use grammar::reading::number_at;
+use host::read_file;
 use libc::STDERR_FILENO;
 use libc::STDOUT_FILENO;
 use loan::dictionaries::loan_words;
 use report::same::both;
-ghost use Rattle.io.specs.Counts.{Counts};
 
 // What was put into a buffer: its length, and where the next command stands.
 struct Begun {
     length: usize,
     at: usize,
-}
-
-// Reads as much of a file as the buffer takes. A file that cannot be opened counts as empty.
-fn read_file(path: &[u8], buffer: &mut [u8]) -> usize
-    ensures { λ r. ⌜ Counts r (now (buffer .exit)) ⌝ }
-{
-    let file = os::open_read(path);
-    if file < 0 {
-        return 0;
-    }
-    let count = io::read_full(file, buffer);
-    libc::close(file);
-    count
 }
 
 // The number of an argument, 0 where it is none.

@@ -1,24 +1,11 @@
 // Machines that share one processor (document 02, order 14): reads `machines.txt`, `card0.txt` to `card3.txt` and `calls.txt` in the folder where it is run and
 // prints the session. The printed text is that of the crate machine_session; only reading the files and writing the bytes is left to do here.
+use host::read_file;
 use libc::STDERR_FILENO;
 use libc::STDOUT_FILENO;
 use machine_session::State;
 use machine_session::running::put_lines;
 use machine_session::starting::start;
-ghost use Rattle.io.specs.Counts.{Counts};
-
-// Reads as much of a file as the buffer takes. A file that cannot be opened counts as empty.
-fn read_file(path: &[u8], buffer: &mut [u8]) -> usize
-    ensures { λ r. ⌜ Counts r (now (buffer .exit)) ⌝ }
-{
-    let file = os::open_read(path);
-    if file < 0 {
-        return 0;
-    }
-    let count = io::read_full(file, buffer);
-    libc::close(file);
-    count
-}
 
 // Prints the lines of a session, as many at a time as a large buffer has room for, until no request is left or some cannot be written. Whether all were written.
 fn print_lines(first: State, calls: &[u8], blocks: &mut [u64], loans: &mut [u64]) -> bool {

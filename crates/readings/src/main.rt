@@ -9,38 +9,17 @@ use dump_reader::rows::put_rows;
 use grammar::writing::put_byte;
 use grammar::writing::put_decimal;
 use grammar::writing::put_word;
+use host::print;
+use host::read_file;
 use libc::STDERR_FILENO;
-use libc::STDOUT_FILENO;
 ghost use mathlib.Core.Path.{_≡_};
 ghost use lib.ListN.{length};
-ghost use Rattle.io.specs.Counts.{Counts};
 
 // The most bytes of a dump that are read.
 const LIMIT: usize = 4_194_304;
 
 // The latest step that can be asked for.
 const LAST: u64 = 1_000_000_000_000_000_000;
-
-// Reads as much of a file as the buffer takes. A file that cannot be opened counts as empty.
-fn read_file(path: &[u8], buffer: &mut [u8]) -> usize
-    ensures { λ r. ⌜ Counts r (now (buffer .exit)) ⌝ }
-{
-    let file = os::open_read(path);
-    if file < 0 {
-        return 0;
-    }
-    let count = io::read_full(file, buffer);
-    libc::close(file);
-    count
-}
-
-// Writes the bytes before a place. Whether all were written.
-fn print(buffer: &[u8], end: usize) -> bool {
-    if buffer.len() < end {
-        return false;
-    }
-    io::write_all(STDOUT_FILENO, &buffer[..end])
-}
 
 // `dump,refused,number,line`.
 fn print_refusal(number: u64, line: u64) -> bool {

@@ -6,6 +6,9 @@ use arguments::decimal_of;
 use construction::card::Card;
 use grammar::writing::put_decimal;
 use grammar::writing::put_word;
+use host::is_due;
+use host::read_file;
+use host::seconds;
 use libc::STDERR_FILENO;
 use libc::STDOUT_FILENO;
 use listing::pieces::count_pieces;
@@ -30,29 +33,6 @@ fn read_argument() -> Argument {
         return Argument::Wrong;
     }
     decimal_of(&text[..length])
-}
-
-// Reads as much of a file as the buffer takes. A file that cannot be opened counts as empty.
-fn read_file(path: &[u8], buffer: &mut [u8]) -> usize
-    ensures { λ r. ⌜ Counts r (now (buffer .exit)) ⌝ }
-{
-    let file = os::open_read(path);
-    if file < 0 {
-        return 0;
-    }
-    let count = io::read_full(file, buffer);
-    libc::close(file);
-    count
-}
-
-// The seconds of the system's clock.
-fn seconds() -> u64 {
-    let mut clock: i64 = 0;
-    let now = libc::time(&mut clock);
-    if now > 0 {
-        return now as u64;
-    }
-    0
 }
 
 // How many of the pieces are done, and in which time, as a line in a buffer; its length, or 0 where it does not fit.
@@ -82,10 +62,7 @@ fn tell(done: u32, pieces: u32, elapsed: u64) {
 // Tells how far it is where two seconds have passed since that was last told; when it was last told.
 fn report(done: u32, pieces: u32, started: u64, told: u64) -> u64 {
     let now = seconds();
-    if now < told {
-        return told;
-    }
-    if now - told < 2 {
+    if !is_due(now, told) {
         return told;
     }
     if now >= started {

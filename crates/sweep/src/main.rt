@@ -3,6 +3,9 @@
 // bytes and telling how far it is are left to do here. Block and loan stand in two arrays of this program.
 use arguments::Argument;
 use arguments::decimal_of;
+use host::is_due;
+use host::read_file;
+use host::seconds;
 use libc::STDERR_FILENO;
 use libc::STDOUT_FILENO;
 use sweeping::Progress;
@@ -10,7 +13,6 @@ use sweeping::pieces::advance;
 use sweeping::pieces::begin;
 use sweeping::printing::put_summary;
 use sweeping::starting::start;
-ghost use Rattle.io.specs.Counts.{Counts};
 ghost use Rattle.sweeping.specs.Pieces.{Finishes};
 
 // An argument by its place.
@@ -18,29 +20,6 @@ fn argument_at(place: usize) -> Argument {
     let mut text = io::buffer();
     let length = os::arg(place, &mut text);
     decimal_of(&text[..length])
-}
-
-// Reads as much of a file as the buffer takes. A file that cannot be opened counts as empty.
-fn read_file(path: &[u8], buffer: &mut [u8]) -> usize
-    ensures { λ r. ⌜ Counts r (now (buffer .exit)) ⌝ }
-{
-    let file = os::open_read(path);
-    if file < 0 {
-        return 0;
-    }
-    let count = io::read_full(file, buffer);
-    libc::close(file);
-    count
-}
-
-// The seconds of the system's clock.
-fn seconds() -> u64 {
-    let mut clock: i64 = 0;
-    let now = libc::time(&mut clock);
-    if now < 0 {
-        return 0;
-    }
-    now as u64
 }
 
 // A quotient, 0 where the divisor is 0.
@@ -67,10 +46,7 @@ fn tell(done: u64, left: u64, elapsed: u64) {
 // Tells how far it is where two seconds have passed since that was last told; when it was last told.
 fn report(q: Progress, started: u64, told: u64) -> u64 {
     let now = seconds();
-    if now < told {
-        return told;
-    }
-    if now - told < 2 {
+    if !is_due(now, told) {
         return told;
     }
     if now >= started {

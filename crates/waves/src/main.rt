@@ -4,32 +4,11 @@ use dump_writer::Course;
 use dump_writer::running::open;
 use dump_writer::running::put_commands;
 use dump_writer::running::put_end;
+use host::print;
+use host::read_file;
 use libc::STDERR_FILENO;
-use libc::STDOUT_FILENO;
 use session::State;
 use session::running::start;
-ghost use Rattle.io.specs.Counts.{Counts};
-
-// Reads as much of a file as the buffer takes. A file that cannot be opened counts as empty.
-fn read_file(path: &[u8], buffer: &mut [u8]) -> usize
-    ensures { λ r. ⌜ Counts r (now (buffer .exit)) ⌝ }
-{
-    let file = os::open_read(path);
-    if file < 0 {
-        return 0;
-    }
-    let count = io::read_full(file, buffer);
-    libc::close(file);
-    count
-}
-
-// Writes the bytes before a place. Whether all were written.
-fn print(buffer: &[u8], end: usize) -> bool {
-    if buffer.len() < end {
-        return false;
-    }
-    io::write_all(STDOUT_FILENO, &buffer[..end])
-}
 
 // Prints what the commands of a course change, as many at a time as a large buffer takes, and the last time. Whether all was written.
 fn print_course(first: Course, calls: &[u8]) -> bool {

@@ -7,8 +7,8 @@ use mir.Syntax.{w64}
 use mir.Val.{toZ, ofZ}
 use mir.Facts.{fits-natAbs, sfits-toZ, fits-ofZ}
 use borrow.Author.Needs.{needs}
-use Rattle.sweep.proofs.seconds.Statement.{statement}
-use Rattle.sweep.proofs.seconds.Tie as tie
+use Rattle.host.proofs.seconds.Statement.{statement}
+use Rattle.host.proofs.seconds.Tie as tie
 
 -- the test `now < 0`
 not-negative : (z : ℤ) → ltZ z (pos 0) ≡ false → T (nonNeg z)

@@ -1,8 +1,8 @@
 use mathlib.Core.Path.{sym}
 use lib.Seq.{length-take-le}
 use borrow.Author.Needs.{needs}
-use Rattle.waves.proofs.print.Statement.{statement}
-use Rattle.waves.proofs.print.Tie as tie
+use Rattle.host.proofs.print.Statement.{statement}
+use Rattle.host.proofs.print.Tie as tie
 
 pub print-spec : {M : Type 1} → statement M
 print-spec = tie.close

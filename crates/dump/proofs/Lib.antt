@@ -10,4 +10,3 @@ pub mod Judging
 pub mod Written
 pub mod Narrow
 pub mod Runs
-pub mod Pieces

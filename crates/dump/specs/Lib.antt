@@ -5,4 +5,3 @@ pub mod Judging
 pub mod Inverse
 pub mod Histories
 pub mod Runs
-pub mod Pieces

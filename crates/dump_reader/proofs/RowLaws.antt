@@ -11,7 +11,7 @@ use Rattle.grammar.proofs.Cases.{clash}
 use Rattle.dump.specs.declared.DumpLine.{DumpLine}
 use Rattle.dump.specs.Reading.{lineAt}
 use Rattle.dump.proofs.DumpLines.{time-there, value-there}
-use Rattle.dump.proofs.Pieces as pieces
+use Rattle.grammar.proofs.Pieces as pieces
 use Rattle.dump_reader.specs.declared.{Scan.Scan}
 use Rattle.dump_reader.specs.Taking.{pastLine, timeWith}
 use Rattle.dump_reader.specs.Rows.{isLine, linesIn, linesAt, numbersText, rowText, endedText, ended, keptWith, scanAfter, rowsOf, rowsText, linesLeft}

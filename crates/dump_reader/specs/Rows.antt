@@ -7,7 +7,7 @@ use lib.ListN.{length, getD, set, take}
 use lib.Dec.{ltb}
 use Rattle.grammar.specs.Writing.{decimal}
 use Rattle.dump.specs.declared.DumpLine.{DumpLine}
-use Rattle.dump.specs.Pieces.{fitting, pieceInto}
+use Rattle.grammar.specs.Pieces.{fitting, pieceInto}
 use Rattle.dump.specs.Reading.{lineAt, readHeader, noValues}
 use Rattle.dump_reader.specs.declared.{Scan.Scan, Shown.Shown}
 use Rattle.dump_reader.specs.Taking.{pastLine, timeWith}

@@ -23,7 +23,7 @@ use Rattle.session.specs.declared.{State.State, Advanced.Advanced}
 use Rattle.session.specs.Session.{entriesOf, execute, afterLine, advanced, entries, firstState}
 use Rattle.dump.specs.Dump.{Change, changesAt, changesFrom, changesText, toldAfter, timeAbove, linesText, openingText, dump, written, writtenInto}
 use Rattle.dump.specs.Histories.{rowOf, rowsOf, dumpOf}
-use Rattle.dump.proofs.Pieces as pieces
+use Rattle.grammar.proofs.Pieces as pieces
 use Rattle.dump_writer.specs.declared.{Told.Told, Course.Course, Piece.Piece}
 use Rattle.dump_writer.specs.Courses.{Tells, stepsIn, countsIn, nextChanges, nextText, nextCourse, PutsCommand, longest, countOf, leftRows, leftText}
 use Rattle.dump_writer.specs.Courses.{startCourse, Opens, dumpText, partOf, courseAfter, commandsLeft, pieceOf, PutsPiece}

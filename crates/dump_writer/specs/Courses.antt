@@ -17,7 +17,7 @@ use Rattle.session.specs.declared.State.{State}
 use Rattle.session.specs.Session.{advanced, entries}
 use Rattle.dump.specs.Dump.{Change, change, changesAt, changesFrom, changesText, toldAfter, linesText, openingText, written, writtenInto}
 use Rattle.dump.specs.Histories.{rowOf, rowsOf, dumpOf}
-use Rattle.dump.specs.Pieces.{fitting, pieceInto}
+use Rattle.grammar.specs.Pieces.{fitting, pieceInto}
 use Rattle.dump_writer.specs.declared.{Told.Told, Course.Course, Piece.Piece}
 
 -- the values of m variables from v on, by the gate, the announcement of its holder and the records

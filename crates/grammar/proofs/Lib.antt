@@ -4,4 +4,5 @@ pub mod Digits
 pub mod Fields
 pub mod Decimals
 pub mod Puts
+pub mod Pieces
 pub mod RoundTrip

@@ -2,8 +2,8 @@
 use mathlib.Core.Path.{_≡_, refl, sym, _∙_, ap}
 use mathlib.Core.List.{List, [], _∷_, _++_}
 use Prim.Native.Nat.{ℕ, suc, _+_, _/_, _%_, _<_, _≤_}
-use lib.ListN.{getD, set, drop, length, length-append, drop-of-length-le}
-use lib.Seq.{sets, sets-eq, length-sets, set-out, drop-cons}
+use lib.ListN.{getD, set, take, drop, length, length-append, drop-of-length-le}
+use lib.Seq.{sets, sets-eq, length-sets, set-out, take-at, drop-cons}
 use native.Mathlib.Omega.{arith}
 use native.Mathlib.Numerals.{add-one}
 use native.Mathlib.Nat.{add-zero}
@@ -111,6 +111,11 @@ module _ {b text : List ℕ} {next : ℕ} {z : List ℕ} where
   put-front h p =
       let e : 0 + length text ≡ length text = omega arith in
       p .bytes ∙ sets-eq text b 0 (omega arith) ∙ rw e
+
+  pub front-text : Put b 0 text next z → next < largest → next ≤ length b → take next z ≡ text
+  front-text p h l =
+      let e = p .place in
+      ap (λ (y : List ℕ). take next y) (put-front (omega arith) p) ∙ take-at text (drop (length text) b) next (omega arith)
 
   -- the place told decides whether a text fits a buffer, even one too long for any place
   pub put-fits : (n : ℕ) → n < largest → Put b 0 text next z → (next ≤ n → (length text ≤ n) × (next ≡ length text)) × (n < next → n < length text)

@@ -7,11 +7,13 @@ use borrow.Author.Tests.{lt-ltb, le-ltb}
 use lib.ListN.{length, take}
 use lib.Seq.{length-take-le, length-sets}
 use Rattle.grammar.specs.Writing.{Put}
+use Rattle.grammar.specs.Pieces.{Gathered}
 use Rattle.construction.specs.declared.{card.Card.Card, answers.Refusal.Refusal, texts.Verdict.Verdict}
 use Rattle.construction.specs.Opening.{readCard}
 use Rattle.commands.specs.declared.Command.{Command}
 use Rattle.commands.specs.Printing.{lineText, longest, cardRefusal, callsRefusal}
-use Rattle.session.specs.Session.{Gathered, firstState, overState, verdictBeginning}
+use Rattle.session.specs.declared.State.{State}
+use Rattle.session.specs.Session.{firstState, overState, verdictBeginning}
 use Rattle.block.specs.Cards.{cardOf}
 use Rattle.lent_text.specs.Opened.{openedBlock, judged, Opens}
 use Rattle.lent_steps.specs.declared.tracing.Told.{Told}
@@ -34,13 +36,13 @@ module _ (calls : List ℕ) (x : Card) {w : Verdict} where
 
 module _ (card calls b u : List ℕ) {v : Verdict} {c : List ℕ} (o : Opens card b v c) where
   starts-with :
-      {g : Gathered} {n at : ℕ} {z : List ℕ} → lentBeginning card calls b ≡ g → Put u 0 (g .text) n z → n ≤ longest → at ≡ g .state .at →
+      {g : Gathered State} {n at : ℕ} {z : List ℕ} → lentBeginning card calls b ≡ g → Put u 0 (g .text) n z → n ≤ longest → at ≡ g .state .at →
       Starts card calls b u (record { length = n; at = at }) c z
   starts-with e p s a =
       record {
         block = o .words;
-        text = rw (ap (λ (h : Gathered). h .text) e) p;
-        place = a ∙ ap (λ (h : Gathered). h .state .at) (sym e);
+        text = rw (ap (λ (h : Gathered State). h .text) e) p;
+        place = a ∙ ap (λ (h : Gathered State). h .state .at) (sym e);
         short = s;
       }
 

@@ -3,17 +3,19 @@ use Prim.Native.Nat.{ℕ, _≤_}
 use mathlib.Core.List.{List, []}
 use mathlib.Core.Path.{_≡_}
 use Rattle.grammar.specs.Writing.{Put}
+use Rattle.grammar.specs.Pieces.{Gathered}
 use Rattle.construction.specs.Opening.{readCard}
 use Rattle.commands.specs.declared.Command.{Command}
 use Rattle.commands.specs.Printing.{lineText, longest}
-use Rattle.session.specs.Session.{Gathered, verdictBeginning}
+use Rattle.session.specs.declared.State.{State}
+use Rattle.session.specs.Session.{verdictBeginning}
 use Rattle.block.specs.Cards.{cardOf}
 use Rattle.lent_text.specs.Opened.{openedBlock, judged}
 use Rattle.lent_session.specs.declared.Begun.{Begun}
 use Rattle.lent_session.specs.Answering.{lentExecuted}
 
 -- what is printed before any command, by the verdict on the card text and the block
-abbrev pub lentBeginning : List ℕ → List ℕ → List ℕ → Gathered
+abbrev pub lentBeginning : List ℕ → List ℕ → List ℕ → Gathered State
 lentBeginning card calls b = verdictBeginning calls (cardOf (openedBlock card b) []) (judged (readCard card .verdict) b)
 
 -- the answer r, and the block c and the buffer z that are left of the block b and the buffer u

@@ -2,12 +2,12 @@
 use mathlib.Core.Path.{_≡_, refl, sym, _∙_, ap}
 use mathlib.Core.List.{List, [], _∷_, _++_, append-assoc}
 use Prim.Native.Nat.{ℕ, _+_, _-_, _<_, _≤_}
-use lib.ListN.{length, take, drop}
-use lib.Seq.{sets, length-take-le, length-sets, take-at}
+use lib.ListN.{length, take}
+use lib.Seq.{sets, length-take-le, length-sets}
 use native.Mathlib.Omega.{arith}
 use borrow.Author.Tests.{le-leb, lt-leb}
 use Rattle.grammar.specs.Writing.{placeAfter, largest, Put}
-use Rattle.grammar.proofs.Puts.{put-both, put-front}
+use Rattle.grammar.proofs.Puts.{put-both, front-text}
 use Rattle.shared_processor.specs.declared.stepping.Traced.{Traced}
 use Rattle.machine_commands.specs.declared.Line.{Line}
 use Rattle.machine_commands.specs.Requests.{request, requests}
@@ -16,12 +16,6 @@ use Rattle.machine_commands.proofs.RequestsLaws.{request-past, requests-end, re
 use Rattle.machine_session.specs.declared.{State.State, Printed.Printed}
 use Rattle.machine_session.specs.Answering.{executed, Executes}
 use Rattle.machine_session.specs.Session.{Stage, stage, lineOf, afterLine, linesOf, linesText, Gathered, gather, fitting, Prints}
-
--- what was put at the front of a buffer stands there
-front-text : {b x : List ℕ} {n : ℕ} {z : List ℕ} → Put b 0 x n z → n < largest → n ≤ length b → take n z ≡ x
-front-text {b} {x} {n} p h l =
-    let e = p .place in
-    ap (λ (y : List ℕ). take n y) (put-front (omega arith) p) ∙ take-at x (drop (length x) b) n (omega arith)
 
 -- ---- the loop that prints: s₀ and b₀ as it began, s and b as they stand, n bytes printed
 pub record PrintLoop (t : List ℕ) (s₀ : Stage) (b₀ : List ℕ) (s : Stage) (n : ℕ) (b : List ℕ) : Type 0 where

@@ -4,9 +4,9 @@ use mathlib.Core.Bool.{cond}
 use mathlib.Core.Path.{_≡_}
 use mathlib.Core.List.{List, [], _∷_, _++_}
 use lib.ListN.{length, take}
-use lib.Seq.{sets}
-use lib.Dec.{ltb, leb}
+use lib.Dec.{ltb}
 use Rattle.grammar.specs.Writing.{placeAfter, Put}
+use Rattle.grammar.specs.Pieces.{Gathered, fitting, pieceInto}
 use Rattle.construction.specs.declared.{card.Card.Card, answers.Answered.Answered, answers.Report.Report, answers.Traced.Traced, texts.Verdict.Verdict}
 use Rattle.construction.specs.declared.answers.Refusal.the-variants.{Malformed}
 use Rattle.construction.specs.Requests.{refused}
@@ -81,11 +81,6 @@ unfoldable pub entries : List ℕ → List Parsed → List Entry
 entries t [] = []
 entries t (m ∷ ms) = entriesOf t (m .command) ++ entries t ms
 
--- Lines gathered so far, and the session after them.
-pub record Gathered : Type 0 where
-  pub text : List ℕ
-  pub state : State
-
 -- What is printed before any command: nothing, or a refusal, past which no command is left. Calls over the limit print only that line, and
 -- so does a refused card, 'judged before the calls'.
 abbrev pub firstState : Card → State
@@ -94,51 +89,37 @@ firstState c = record { card = c; at = 0; line = 1 }
 abbrev pub overState : List ℕ → Card → State
 overState calls c = record { card = c; at = length calls; line = 1 }
 
-abbrev pub callsBeginning : List ℕ → Card → Gathered
+abbrev pub callsBeginning : List ℕ → Card → Gathered State
 callsBeginning calls c =
     cond (ltb 65536 (length calls))
     (record { text = callsRefusal; state = overState calls c })
     (record { text = []; state = firstState c })
 
-abbrev pub verdictBeginning : List ℕ → Card → Verdict → Gathered
+abbrev pub verdictBeginning : List ℕ → Card → Verdict → Gathered State
 verdictBeginning calls c Verdict.Accepted = callsBeginning calls c
 verdictBeginning calls c (Verdict.Refused r line) =
     record { text = cardRefusal (Verdict.Refused r line); state = overState calls c }
 
-unfoldable pub beginning : List ℕ → List ℕ → Gathered
+unfoldable pub beginning : List ℕ → List ℕ → Gathered State
 beginning card calls = verdictBeginning calls (opened card .card) (opened card .verdict)
 
 -- the whole session: what the bench program prints for a card text and a calls text
 unfoldable pub session : List ℕ → List ℕ → List ℕ
 session card calls = beginning card calls .text ++ linesText calls (beginning card calls .state)
 
--- The session in pieces: as many whole lines as `room` bytes take
-unfoldable pub gather : List ℕ → ℕ → Gathered → List Parsed → Gathered
-gather t room g [] = g
-gather t room g (m ∷ ms) =
-    cond (leb (length (g .text ++ lineOf t (g .state) m)) room)
-    (gather t room (record { text = g .text ++ lineOf t (g .state) m; state = afterLine t (g .state) m }) ms)
-    g
+-- the commands that are left of a session
+abbrev pub commandsLeft : List ℕ → State → List Parsed
+commandsLeft t s = commands t (s .at)
 
-abbrev pub fitting : List ℕ → State → ℕ → Gathered
-fitting t s room = gather t room (record { text = []; state = s }) (commands t (s .at))
-
--- the line of the first of these commands
-abbrev pub firstLine : List ℕ → State → List Parsed → List ℕ
-firstLine t s [] = []
-firstLine t s (m ∷ ms) = lineOf t s m
-
--- what is printed into a buffer: the lines that fit
+-- what is printed into a buffer: as many whole lines as it takes
 unfoldable pub printed : List ℕ → State → List ℕ → Printed
 printed t s b =
-    let g = fitting t s (length b) in
+    let g = fitting (lineOf t) (afterLine t) s (commandsLeft t s) (length b) in
     record { state = g .state; length = length (g .text) }
 
 -- the buffer then: those lines, after them as much of the next line as there is room for, and the other bytes as they were
-unfoldable pub printedInto : List ℕ → State → List ℕ → List ℕ
-printedInto t s b =
-    let g = fitting t s (length b) in
-    sets b 0 (g .text ++ firstLine t (g .state) (commands t (g .state .at)))
+abbrev pub printedInto : List ℕ → State → List ℕ → List ℕ
+printedInto t s b = pieceInto (lineOf t) (afterLine t) (commandsLeft t) s b
 
 -- Printing into a buffer: the answer, the buffer, and that nothing of the session's text is lost; a buffer that has room for a line goes on.
 pub record Prints (t : List ℕ) (s : State) (b : List ℕ) (r : Printed) (z : List ℕ) : Type 0 where
@@ -149,7 +130,7 @@ pub record Prints (t : List ℕ) (s : State) (b : List ℕ) (r : Printed) (z : L
   pub onward : longest ≤ length b → s .at < length t → s .at < r .state .at
 
 -- Starting a session with a buffer: what is printed and the session after it, the buffer, and that this and the lines that follow are all.
-pub record Begins (x : Gathered) (b : List ℕ) (r : Printed) (z : List ℕ) : Type 0 where
+pub record Begins (x : Gathered State) (b : List ℕ) (r : Printed) (z : List ℕ) : Type 0 where
   pub state : r .state ≡ x .state
   pub put : Put b 0 (x .text) (r .length) z
   pub short : r .length ≤ longest

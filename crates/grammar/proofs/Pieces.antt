@@ -2,20 +2,15 @@
 use mathlib.Core.Path.{_≡_, refl, _∙_, ap}
 use mathlib.Core.List.{List, [], _∷_, _++_, append-nil}
 use Prim.Native.Nat.{ℕ, suc, _<_, _≤_}
-use lib.ListN.{length, take, drop, set}
-use lib.Seq.{sets, length-sets, take-at, take-set-le}
+use lib.ListN.{length, take, set}
+use lib.Seq.{sets, length-sets, take-set-le}
 use native.Mathlib.Omega.{arith}
 use borrow.Author.Tests.{le-leb, lt-leb}
 use Rattle.grammar.specs.Writing.{largest, Put}
-use Rattle.grammar.proofs.Puts.{put-both, put-front, put-fits}
-use Rattle.dump.specs.Pieces.{gather, fitting, pieceInto}
+use Rattle.grammar.proofs.Puts.{front-text, put-both, put-fits}
+use Rattle.grammar.specs.Pieces.{gather, fitting, firstPart, pieceInto}
 
--- what was put at the front of a buffer stands there, and a store past it keeps it
-front-text : {b x : List ℕ} {n : ℕ} {z : List ℕ} → Put b 0 x n z → n < largest → n ≤ length b → take n z ≡ x
-front-text {b} {x} {n} p h l =
-    let e = p .place in
-    ap (λ (y : List ℕ). take n y) (put-front (omega arith) p) ∙ take-at x (drop (length x) b) n (omega arith)
-
+-- a store past the front of a buffer keeps it
 take-sets : (x b : List ℕ) (n : ℕ) → take n (sets b n x) ≡ take n b
 take-sets x b n = go x b n n (omega arith)
   where
@@ -37,6 +32,10 @@ module _ {S L : Type 0} (part : S → L → List ℕ) (after : S → L → S) (l
     pub bytes : z ≡ pieceInto part after left s₀ b₀
     pub front : take n z ≡ lines
     pub within : n ≤ length z
+
+  pub piece-length : (s : S) (b : List ℕ) → length (pieceInto part after left s b) ≡ length b
+  unfolding pieceInto
+  piece-length s b = let g = fitting part after s (left s) (length b) in length-sets b 0 (g .text ++ firstPart part after (g .state) (left (g .state)))
 
   pub print-loop : (s : S) (b : List ℕ) → length b < largest → PrintLoop s b [] s 0 b
   print-loop s b h = record { put = record { place = refl; bytes = refl }; gathered = refl; within = omega arith; small = h }

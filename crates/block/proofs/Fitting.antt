@@ -15,7 +15,8 @@ use Rattle.codes.specs.Types.{Item}
 use Rattle.codes.specs.Parts.{wordAt, part, table}
 use Rattle.codes.specs.Codes.{gateOf, controlOf, announcementOf, recordOf, operationOf, simulationOf, programOf}
 use Rattle.codes.proofs.Values as values
-use Rattle.codes.proofs.Values.{Fits, nobody-fits, from-fits, FitsAnnouncement, FitsItem, FitsRecord, FitsWords, FitsOperation, FitsSimulation, half-fits}
+use Rattle.construction.proofs.Simulating.Sizes.{FitsSimulation, zeros-fit, started-fits}
+use Rattle.codes.proofs.Values.{Fits, nobody-fits, from-fits, FitsAnnouncement, FitsItem, FitsRecord, FitsOperation, half-fits}
 use Rattle.codes.proofs.Values.{byte-fits}
 use Rattle.codes.proofs.Programs.{FitsProgram, program-fits, no-program-fits}
 use Rattle.block.specs.Layout.{isRoom, rowAt, numberAt, processCountIn, variableCountIn, programCountIn, roomIn, notedIn, gateIn, announcementIn}
@@ -32,9 +33,6 @@ row-fits :
     P (rowAt b base size n decode none i)
 unfolding rowAt
 row-fits P b base size n decode none i p q = either P (isRoom b i n) (p (part b (base + size * i) size)) q
-
-no-words : FitsWords (record { w0 = 0; w1 = 0; w2 = 0; w3 = 0 })
-no-words = record { w0 = omega arith; w1 = omega arith; w2 = omega arith; w3 = omega arith }
 
 no-announcement : FitsAnnouncement openAnnouncement
 no-announcement = record { program = omega arith; w0 = omega arith; w1 = omega arith; w2 = omega arith; w3 = omega arith }
@@ -72,7 +70,7 @@ module _ (b : List ℕ) where
     control-fits = row-fits (λ t. t .target < 256) b 336 2 8 controlOf idleControl i (λ w. byte-fits (wordAt w 1)) (omega arith)
 
     pub operation-fits : FitsOperation (operationIn b i)
-    operation-fits = row-fits FitsOperation b 352 5 8 operationOf noOperation i values.operation-fits (record { program = omega arith; inputs = no-words })
+    operation-fits = row-fits FitsOperation b 352 5 8 operationOf noOperation i values.operation-fits (record { program = omega arith; inputs = zeros-fit })
 
     pub last-gate-fits : Fits (lastGateIn b i .holder)
     last-gate-fits = row-fits (λ g. Fits (g .holder)) b 408 2 8 gateOf noGate i (λ w. from-fits (wordAt w 0)) nobody-fits
@@ -82,8 +80,7 @@ module _ (b : List ℕ) where
 
     pub simulation-fits : FitsSimulation (simulationIn b i)
     simulation-fits =
-        row-fits FitsSimulation b 496 10 8 simulationOf started i values.simulation-fits
-        (record { counter = omega arith; registers = no-words; outputs = no-words })
+        row-fits FitsSimulation b 496 10 8 simulationOf started i values.simulation-fits started-fits
 
     pub start-fits : startIn b i < 4294967296
     start-fits = half-fits (numberAt b 592 64 i)

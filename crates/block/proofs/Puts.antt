@@ -21,7 +21,8 @@ use Rattle.codes.specs.Codes.{byte, half, odd, bit, gateOf, gateWords, controlO
 use Rattle.codes.specs.Codes.{operationOf, operationWords, simulationOf, simulationWords, programOf, programWords}
 use Rattle.codes.proofs.Blocks.{length-stores, length-table, inside, table-same, table-set, rows-set}
 use Rattle.codes.proofs.Values.{Fits, gate-back, control-back, FitsAnnouncement, announcement-back, FitsRecord, record-back, FitsOperation, operation-back}
-use Rattle.codes.proofs.Values.{FitsSimulation, simulation-back, odd-back}
+use Rattle.construction.proofs.Simulating.Sizes.{FitsSimulation}
+use Rattle.codes.proofs.Values.{simulation-back, odd-back}
 use Rattle.codes.proofs.Programs.{FitsProgram, program-back}
 use Rattle.block.specs.Layout.{isRoom, rowAt, putRow, numberAt, putNumber, roomIn, putProcessCount, putVariableCount, putProgramCount, putLimit, putRoom}
 use Rattle.block.specs.Layout.{putStart, putSteps, putGate, putAnnouncement, putRecord, putControl, putOperation, putExit, putCount, putLastGate, putLast}

@@ -6,6 +6,8 @@ use mathlib.Core.List.{List}
 use native.Mathlib.Omega.{arith}
 use lib.Dec.{eqb}
 use borrow.Author.Tests.{ne-eqb}
+use Rattle.construction.specs.Cells.{FitsWords}
+use Rattle.construction.proofs.Simulating.Sizes.{FitsSimulation}
 use Rattle.codes.specs.Types.{Holder, Nobody, Process, Gate, Flag, Done, Active, Exit, Announcement, Record, Label, Idle, P1, P3, P5, P7, P10, C2, C4}
 use Rattle.codes.specs.Types.{P13, P14, P16, H21, H36, P19, P20, P21, P22, F1, F3, P6, Words, Control, Operation, Simulation, Item}
 use Rattle.codes.specs.Parts.{wordAt}
@@ -167,12 +169,6 @@ record-back r p =
     λ j. record { val0 = val0 j; val1 = val1 j; toggle = toggle j; seq = r .seq }
 
 -- an operation and a simulation
-pub record FitsWords (f : Words) : Type 0 where
-  pub w0 : f .w0 < 4294967296
-  pub w1 : f .w1 < 4294967296
-  pub w2 : f .w2 < 4294967296
-  pub w3 : f .w3 < 4294967296
-
 abbrev halves : Words → Words
 halves f = record { w0 = half (f .w0); w1 = half (f .w1); w2 = half (f .w2); w3 = half (f .w3) }
 
@@ -193,11 +189,6 @@ operation-back o p =
     let program : byte (o .program) ≡ o .program = omega (arith, p .program) in
     let inputs = words-back (o .inputs) (p .inputs) in
     λ j. record { program = program j; inputs = inputs j }
-
-pub record FitsSimulation (s : Simulation) : Type 0 where
-  pub counter : s .counter < 256
-  pub registers : FitsWords (s .registers)
-  pub outputs : FitsWords (s .yields .outputs)
 
 pub simulation-back : (s : Simulation) → FitsSimulation s → simulationOf (simulationWords s) ≡ s
 simulation-back s p =

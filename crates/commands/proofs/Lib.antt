@@ -1,2 +1,3 @@
 pub mod CommandsLaws
+pub mod Fitting
 pub mod PrintingLaws

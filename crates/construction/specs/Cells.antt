@@ -1,5 +1,5 @@
 -- The shared cells (document 01, 'Shared cells'): opening values, whole-cell equality, and the swap.
-use Prim.Native.Nat.{ℕ, _+_, _%_}
+use Prim.Native.Nat.{ℕ, _+_, _%_, _<_}
 use mathlib.Core.Bool.{Bool, true, false, cond, not, _&&_}
 use lib.Dec.{eqb}
 use Rattle.construction.specs.Types.{Holder, Nobody, Process, Gate, Flag, Done, Active, Exit, Words, Yield, Announcement, Record, SwappedGate}
@@ -8,6 +8,13 @@ use Rattle.construction.specs.Types.{SwappedAnnouncement, SwappedRecord}
 -- four zeros
 abbrev pub zeros : Words
 zeros = record { w0 = 0; w1 = 0; w2 = 0; w3 = 0 }
+
+-- 'unsigned 32-bit words': four numbers of which each fits its word
+pub record FitsWords (f : Words) : Type 0 where
+  pub w0 : f .w0 < 4294967296
+  pub w1 : f .w1 < 4294967296
+  pub w2 : f .w2 < 4294967296
+  pub w3 : f .w3 < 4294967296
 
 -- what an operation yields that has output nothing, and one that ends as a fault: 'its outputs are 0' (document 02, order 6)
 abbrev pub noYield : Yield

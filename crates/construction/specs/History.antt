@@ -5,7 +5,7 @@ use mathlib.Core.List.{List, [], _∷_}
 use lib.ListN.{length, take, getD}
 use lib.Dec.{eqb, leb}
 use Rattle.construction.specs.Types.{Words, Yield, Announcement, Program, Card, Answer, Answered, Contents}
-use Rattle.construction.specs.Cells.{zeros, isDone}
+use Rattle.construction.specs.Cells.{FitsWords, zeros, isDone}
 use Rattle.construction.specs.Sequential.{Ending, sequential}
 use Rattle.construction.specs.Instructions.{noProgram}
 use Rattle.construction.specs.Parts.{contentsOf}
@@ -30,6 +30,19 @@ act c (Entry.Step i) = step c i
 act c (Entry.Trace i) = untold (trace c i)
 act c (Entry.Read v) = read c v
 act c (Entry.Change k from t) = change c k from t
+
+-- the inputs of a call are 32-bit words, as the functions' types have it
+abbrev pub FitsEntry : Entry → Type 0
+FitsEntry (Entry.Call i k inputs) = FitsWords inputs
+FitsEntry (Entry.Exit i) = Unit {0}
+FitsEntry (Entry.Step i) = Unit {0}
+FitsEntry (Entry.Trace i) = Unit {0}
+FitsEntry (Entry.Read v) = Unit {0}
+FitsEntry (Entry.Change k from t) = Unit {0}
+
+abbrev pub FitEntries : List Entry → Type 0
+FitEntries [] = Unit {0}
+FitEntries (e ∷ es) = FitsEntry e × FitEntries es
 
 -- an entry that steps process i
 pub data Steps : Entry → ℕ → Type 0 where

@@ -10,15 +10,14 @@ use lib.ListN.{length, getD, set, take}
 use borrow.Author.Tests.{ltb-true, not-false}
 use Rattle.grammar.proofs.Cases.{on-test, and-true, clash}
 use Rattle.construction.specs.declared.{cells.Words.Words, programs.Instruction.Instruction, programs.Decoded.Decoded, programs.Encoded.Encoded}
-use Rattle.construction.specs.declared.{programs.Line.Line, programs.Program.Program, programs.Effect.Effect, simulations.Simulation.Simulation, card.Card.Card}
+use Rattle.construction.specs.declared.{programs.Line.Line, programs.Program.Program, simulations.Simulation.Simulation, card.Card.Card}
 use Rattle.construction.specs.declared.{texts.Contents.Contents, texts.CardLine.CardLine, texts.Verdict.Verdict, texts.ProgramReading.ProgramReading}
 use Rattle.construction.specs.declared.{texts.Reading.Reading}
 use Rattle.construction.specs.declared.answers.Refusal.{Refusal}
 use Rattle.construction.specs.declared.answers.Refusal.the-variants.{TooLong, Malformed}
-use Rattle.construction.specs.Cells.{zeros}
-use Rattle.construction.specs.Instructions.{word, withWord, sum, difference, load, store, free, isCell, effectOf, shortened, nextInstruction, nextEffect, fetch}
-use Rattle.construction.specs.Instructions.{noLine, noProgram, started, withRegister, withOutput, skipped, decode, encoded, encode}
-use Rattle.construction.specs.Effects.{Store, Executed, allocated, execute}
+use Rattle.construction.specs.Cells.{FitsWords}
+use Rattle.construction.specs.Instructions.{fetch, noLine, noProgram, started, decode, encoded, encode}
+use Rattle.construction.specs.Effects.{Store}
 use Rattle.construction.specs.Sequential.{Ending, wordAt, withStores, nextExecuted, runFrom, sequential}
 use Rattle.construction.specs.Lines.{insLine, sheetLine, varLine, cardLine}
 use Rattle.construction.specs.Parts.{contentsOf}
@@ -26,69 +25,16 @@ use Rattle.construction.specs.Opening.{fresh, refusedAt, programRefusedAt, with
 use Rattle.construction.specs.Opening.{atEnd, thenPrograms, afterCard, readCard, opened}
 use Rattle.construction.specs.Weight.{cardWeight}
 use Rattle.construction.specs.Changes.{changeRead, ifProgramAccepted}
-use Rattle.construction.specs.History.{Entry, act, Invocation, Replacement, History, Event, eventOf, latestCall, textAt, finishing, withFinish, withFinishes}
+use Rattle.construction.specs.History.{Entry, FitsEntry, FitEntries, act, Invocation, Replacement, History, Event, eventOf, latestCall, textAt, finishing, withFinish, withFinishes}
 use Rattle.construction.specs.History.{withResponse, withEntry, Observation, observe, observeAll, opening, run}
 use Rattle.construction.proofs.Basics.{set-keeps, getD-replicate-same}
 use Rattle.construction.proofs.Text.Lines.{card-read, ins-read, var-read}
 use Rattle.construction.proofs.Text.Decoding.{decoded-encodes}
 use Rattle.construction.proofs.Text.Reading.{afterFields, afterLength, on-ins, on-sheet, on-weighed, on-program, on-var, on-accepted, on-card}
 use Rattle.construction.proofs.Simulating.Effects.{on-executed}
-use Rattle.dump.specs.Histories.{FourNarrow, NarrowEntry, Narrow}
-
-abbrev Small : ℕ → Type 0
-Small x = x < 4294967296
-
--- ---- four words
-word-narrow : (f : Words) (k : ℕ) → FourNarrow f → Small (word f k)
-unfolding word
-word-narrow f k h =
-    on-test Small (eqb k 0) (λ _. h .w0)
-    (λ _. on-test Small (eqb k 1) (λ _. h .w1) (λ _. on-test Small (eqb k 2) (λ _. h .w2) (λ _. h .w3)))
-
-with-narrow : (f : Words) (k x : ℕ) → FourNarrow f → Small x → FourNarrow (withWord f k x)
-unfolding withWord
-with-narrow f k x h s =
-    on-test FourNarrow (eqb k 0) (λ _. record { w0 = s; w1 = h .w1; w2 = h .w2; w3 = h .w3 })
-    (λ _. on-test FourNarrow (eqb k 1) (λ _. record { w0 = h .w0; w1 = s; w2 = h .w2; w3 = h .w3 })
-    (λ _. on-test FourNarrow (eqb k 2) (λ _. record { w0 = h .w0; w1 = h .w1; w2 = s; w3 = h .w3 })
-    (λ _. record { w0 = h .w0; w1 = h .w1; w2 = h .w2; w3 = s })))
-
-zeros-narrow : FourNarrow zeros
-zeros-narrow = record { w0 = omega arith; w1 = omega arith; w2 = omega arith; w3 = omega arith }
+use Rattle.construction.proofs.Simulating.Sizes.{Small, FitsConstant, FitsSimulation, FitStores, FitsExecuted, zeros-fit, started-fits, next-fits}
 
 -- ---- instructions: the constant is a word
-abbrev NarrowIns : Instruction → Type 0
-NarrowIns Instruction.Stop = Unit {0}
-NarrowIns (Instruction.Input a b) = Unit {0}
-NarrowIns (Instruction.Constant a b) = Small b
-NarrowIns (Instruction.Load a v) = Unit {0}
-NarrowIns (Instruction.Store v b) = Unit {0}
-NarrowIns (Instruction.LoadAt a b) = Unit {0}
-NarrowIns (Instruction.StoreAt a b) = Unit {0}
-NarrowIns (Instruction.Add a b) = Unit {0}
-NarrowIns (Instruction.Subtract a b) = Unit {0}
-NarrowIns (Instruction.SkipEqual a b c) = Unit {0}
-NarrowIns (Instruction.SkipLess a b c) = Unit {0}
-NarrowIns (Instruction.Output a b) = Unit {0}
-NarrowIns (Instruction.Allocate a) = Unit {0}
-NarrowIns (Instruction.Free a) = Unit {0}
-
-shortened-narrow : (m : ℕ) (i : Instruction) → NarrowIns i → NarrowIns (shortened m i)
-shortened-narrow m Instruction.Stop h = tt
-shortened-narrow m (Instruction.Input a b) h = tt
-shortened-narrow m (Instruction.Constant a b) h = h
-shortened-narrow m (Instruction.Load a v) h = tt
-shortened-narrow m (Instruction.Store v b) h = tt
-shortened-narrow m (Instruction.LoadAt a b) h = tt
-shortened-narrow m (Instruction.StoreAt a b) h = tt
-shortened-narrow m (Instruction.Add a b) h = tt
-shortened-narrow m (Instruction.Subtract a b) h = tt
-shortened-narrow m (Instruction.SkipEqual a b c) h = tt
-shortened-narrow m (Instruction.SkipLess a b c) h = tt
-shortened-narrow m (Instruction.Output a b) h = tt
-shortened-narrow m (Instruction.Allocate a) h = tt
-shortened-narrow m (Instruction.Free a) h = tt
-
 -- a constant that was decoded is a word
 constant-narrow : (n a b : ℕ) → decode n (encoded 2 a b 0) ≡ Decoded.Valid (Instruction.Constant a b) → Small b
 unfolding decode
@@ -97,7 +43,7 @@ constant-narrow n a b =
     (λ t d. clash (cc))
     (λ t d. let h = and-true (ltb a 4) _ (not-false _ t) in ltb-true b 4294967296 (and-true (ltb b 4294967296) true (h .1) .0))
 
-decoded-narrow : (n : ℕ) (x : Encoded) (y : Instruction) → n ≤ 256 → decode n x ≡ Decoded.Valid y → NarrowIns y
+decoded-narrow : (n : ℕ) (x : Encoded) (y : Instruction) → n ≤ 256 → decode n x ≡ Decoded.Valid y → FitsConstant y
 unfolding encode
 decoded-narrow n x Instruction.Stop h e = tt
 decoded-narrow n x (Instruction.Input a b) h e = tt
@@ -117,7 +63,7 @@ decoded-narrow n x (Instruction.Free a) h e = tt
 
 -- ---- programs
 abbrev NarrowProgram : Program → Type 0
-NarrowProgram p = (k : ℕ) → NarrowIns (getD (p .lines) k noLine .instruction)
+NarrowProgram p = (k : ℕ) → FitsConstant (getD (p .lines) k noLine .instruction)
 
 none-narrow : NarrowProgram noProgram
 none-narrow k = rw (getD-replicate-same 32 k noLine) tt
@@ -131,7 +77,7 @@ ins-narrow n t zero k r small h = h
 ins-narrow n t (suc m) k r small h =
     on-ins NarrowReading (insLine n t (r .at)) r k (λ x. insFrom n t m (suc k) x)
     (λ y i e. ins-narrow n t m (suc k) (withLine r k y i) small
-    (λ j. set-keeps (λ (l : Line). NarrowIns (l .instruction)) (r .program .lines) k j (record { instruction = y }) noLine
+    (λ j. set-keeps (λ (l : Line). FitsConstant (l .instruction)) (r .program .lines) k j (record { instruction = y }) noLine
     (λ _. let d = ins-read n t (r .at) y i e in decoded-narrow n (d .numbers) y small (d .fits)) (h j)))
     (λ why. none-narrow)
 
@@ -226,82 +172,21 @@ unfolding readCard
 contents-narrow t = on-test NarrowText (ltb 16384 (length t)) (λ _. empty-narrow TooLong 0) (λ _. card-narrow t (cardLine t 0) refl)
 
 -- ---- the sequential run
-abbrev NarrowEffect : Effect → Type 0
-NarrowEffect Effect.Stop = Unit {0}
-NarrowEffect Effect.Fault = Unit {0}
-NarrowEffect (Effect.Set a x) = Small x
-NarrowEffect (Effect.Load a v) = Unit {0}
-NarrowEffect (Effect.Store v x) = Small x
-NarrowEffect (Effect.Output a x) = Unit {0}
-NarrowEffect (Effect.Skip c) = Unit {0}
-NarrowEffect (Effect.Allocate a) = Unit {0}
-NarrowEffect (Effect.Free c) = Small c
-
-load-narrow : (n a v : ℕ) → NarrowEffect (load n a v)
-unfolding load
-load-narrow n a v = on-test NarrowEffect (ltb v n) (λ _. tt) (λ _. tt)
-
-store-narrow : (n v x : ℕ) → Small x → NarrowEffect (store n v x)
-unfolding store
-store-narrow n v x h = on-test NarrowEffect (ltb v n) (λ _. h) (λ _. tt)
-
-effect-narrow : (n : ℕ) (inputs r : Words) (i : Instruction) → FourNarrow inputs → FourNarrow r → NarrowIns i → NarrowEffect (effectOf n inputs r i)
-unfolding effectOf sum difference free
-effect-narrow n inputs r Instruction.Stop hi hr h = tt
-effect-narrow n inputs r (Instruction.Input a b) hi hr h = word-narrow inputs b hi
-effect-narrow n inputs r (Instruction.Constant a b) hi hr h = h
-effect-narrow n inputs r (Instruction.Load a v) hi hr h = load-narrow n a v
-effect-narrow n inputs r (Instruction.Store v b) hi hr h = store-narrow n v (word r b) (word-narrow r b hr)
-effect-narrow n inputs r (Instruction.LoadAt a b) hi hr h = load-narrow n a (word r b)
-effect-narrow n inputs r (Instruction.StoreAt a b) hi hr h = store-narrow n (word r a) (word r b) (word-narrow r b hr)
-effect-narrow n inputs r (Instruction.Add a b) hi hr h = omega arith
-effect-narrow n inputs r (Instruction.Subtract a b) hi hr h = omega (arith, word-narrow r a hr)
-effect-narrow n inputs r (Instruction.SkipEqual a b c) hi hr h = tt
-effect-narrow n inputs r (Instruction.SkipLess a b c) hi hr h = tt
-effect-narrow n inputs r (Instruction.Output a b) hi hr h = tt
-effect-narrow n inputs r (Instruction.Allocate a) hi hr h = tt
-effect-narrow n inputs r (Instruction.Free a) hi hr h = on-test NarrowEffect (isCell n (word r a)) (λ _. word-narrow r a hr) (λ _. tt)
-
-abbrev NarrowStores : List Store → Type 0
-NarrowStores [] = Unit {0}
-NarrowStores (x ∷ l) = Small (x .value) × NarrowStores l
-
-abbrev NarrowGoes : Executed → Type 0
-NarrowGoes Executed.Ends = Unit {0}
-NarrowGoes Executed.Faults = Unit {0}
-NarrowGoes (Executed.Goes s l) = FourNarrow (s .registers) × NarrowStores l
-
-execute-narrow :
-    (n : ℕ) (look : ℕ → ℕ) (s : Simulation) (e : Effect) → ((v : ℕ) → Small (look v)) → FourNarrow (s .registers) → NarrowEffect e →
-    NarrowGoes (execute n look s e)
-unfolding allocated withRegister withOutput skipped
-execute-narrow n look s Effect.Stop hl hs h = tt
-execute-narrow n look s Effect.Fault hl hs h = tt
-execute-narrow n look s (Effect.Set a x) hl hs h = (with-narrow (s .registers) a x hs h, tt)
-execute-narrow n look s (Effect.Load a v) hl hs h = (with-narrow (s .registers) a (look v) hs (hl v), tt)
-execute-narrow n look s (Effect.Store v x) hl hs h = (hs, (h, tt))
-execute-narrow n look s (Effect.Output a x) hl hs h = (hs, tt)
-execute-narrow n look s (Effect.Skip c) hl hs h = (hs, tt)
-execute-narrow n look s (Effect.Allocate a) hl hs h =
-    on-test NarrowGoes (isCell n (look 0)) (λ _. (with-narrow (s .registers) a (look 0) hs (hl 0), (hl (look 0), (omega arith, tt))))
-    (λ _. on-test NarrowGoes (eqb (look 0) 0) (λ _. (with-narrow (s .registers) a 0 hs (omega arith), tt)) (λ _. tt))
-execute-narrow n look s (Effect.Free c) hl hs h = (hs, (hl 0, (h, tt)))
-
 abbrev NarrowWords : List ℕ → Type 0
 NarrowWords words = (v : ℕ) → Small (getD words v 0)
 
-stores-narrow : (words : List ℕ) (l : List Store) → NarrowWords words → NarrowStores l → NarrowWords (withStores words l)
+stores-narrow : (words : List ℕ) (l : List Store) → NarrowWords words → FitStores l → NarrowWords (withStores words l)
 stores-narrow words [] h q = h
 stores-narrow words (x ∷ l) h q =
     stores-narrow (set words (x .variable) (x .value)) l (λ v. set-keeps Small words (x .variable) v (x .value) 0 (λ _. q .0) (h v)) (q .1)
 
-fetch-narrow : (p : Program) (k : ℕ) → NarrowProgram p → NarrowIns (fetch p k)
+fetch-narrow : (p : Program) (k : ℕ) → NarrowProgram p → FitsConstant (fetch p k)
 unfolding fetch
-fetch-narrow p k h = on-test NarrowIns (ltb k (p .length)) (λ _. h k) (λ _. tt)
+fetch-narrow p k h = on-test FitsConstant (ltb k (p .length)) (λ _. h k) (λ _. tt)
 
-module _ (n : ℕ) (p : Program) (inputs : Words) (hp : NarrowProgram p) (hi : FourNarrow inputs) where
+module _ (n : ℕ) (p : Program) (inputs : Words) (hp : NarrowProgram p) (hi : FitsWords inputs) where
   run-narrow :
-      (fuel : ℕ) (s : Simulation) (words : List ℕ) → FourNarrow (s .registers) → NarrowWords words → NarrowWords (runFrom n p inputs fuel s words .words)
+      (fuel : ℕ) (s : Simulation) (words : List ℕ) → FitsSimulation s → NarrowWords words → NarrowWords (runFrom n p inputs fuel s words .words)
   unfolding runFrom
   run-narrow zero s words hs hw = hw
   run-narrow (suc fuel) s words hs hw =
@@ -309,21 +194,18 @@ module _ (n : ℕ) (p : Program) (inputs : Words) (hp : NarrowProgram p) (hi : F
       (λ _. hw)
       (λ _. hw)
       (λ t l e.
-      let i = nextInstruction p (s .counter) in
-      let q : FourNarrow (t .registers) × NarrowStores l = subst NarrowGoes e
-      (execute-narrow n (wordAt words) s (nextEffect n p inputs s) hw hs
-      (effect-narrow n inputs (s .registers) i hi hs (shortened-narrow _ (fetch p (s .counter)) (fetch-narrow p (s .counter) hp)))) in
+      let q = subst FitsExecuted e (next-fits n p inputs (wordAt words) s (fetch-narrow p (s .counter) hp) hi hw hs) in
       run-narrow fuel t (withStores words l) (q .0) (stores-narrow words l hw (q .1)))
 
   sequential-narrow : (words : List ℕ) → NarrowWords words → NarrowWords (sequential n p inputs words .words)
   unfolding sequential
   sequential-narrow words hw =
-      on-test NarrowWords (runFrom n p inputs 32 started words .yields .fault) (λ _. hw) (λ _. run-narrow 32 started words zeros-narrow hw)
+      on-test NarrowWords (runFrom n p inputs 32 started words .yields .fault) (λ _. hw) (λ _. run-narrow 32 started words started-fits hw)
 
 -- ---- the observer's notes
 abbrev NarrowCalls : List Invocation → Type 0
 NarrowCalls [] = Unit {0}
-NarrowCalls (x ∷ xs) = FourNarrow (x .inputs) × NarrowCalls xs
+NarrowCalls (x ∷ xs) = FitsWords (x .inputs) × NarrowCalls xs
 
 abbrev NarrowChanges : List Replacement → Type 0
 NarrowChanges [] = Unit {0}
@@ -334,11 +216,11 @@ record NarrowHistory (s : History) : Type 0 where
   changes : NarrowChanges (s .changes)
   words : NarrowWords (s .words)
 
-latest-narrow : (xs : List Invocation) (i : ℕ) → NarrowCalls xs → FourNarrow (latestCall xs i .inputs)
+latest-narrow : (xs : List Invocation) (i : ℕ) → NarrowCalls xs → FitsWords (latestCall xs i .inputs)
 unfolding latestCall
-latest-narrow [] i h = zeros-narrow
+latest-narrow [] i h = zeros-fit
 latest-narrow (x ∷ xs) i h =
-    on-test (λ (y : Invocation). FourNarrow (y .inputs)) (eqb (x .process) i) (λ _. h .0) (λ _. latest-narrow xs i (h .1))
+    on-test (λ (y : Invocation). FitsWords (y .inputs)) (eqb (x .process) i) (λ _. h .0) (λ _. latest-narrow xs i (h .1))
 
 module _ (o : Card) (ho : NarrowContents (contentsOf o)) where
   text-narrow : (ys : List Replacement) (k number : ℕ) → NarrowChanges ys → NarrowProgram (textAt (contentsOf o) ys k number)
@@ -366,7 +248,7 @@ module _ (o : Card) (ho : NarrowContents (contentsOf o)) where
   response-narrow s i (Event.returned r) h = record { calls = h .calls; changes = h .changes; words = h .words }
   response-narrow s i Event.none h = h
 
-  entry-narrow : (s : History) (e : Entry) (v : Event) → NarrowEntry e → NarrowHistory s → NarrowHistory (withEntry o s e v)
+  entry-narrow : (s : History) (e : Entry) (v : Event) → FitsEntry e → NarrowHistory s → NarrowHistory (withEntry o s e v)
   entry-narrow s (Entry.Call i k x) Event.taken q h = record { calls = (q, h .calls); changes = h .changes; words = h .words }
   entry-narrow s (Entry.Call i k x) (Event.returned r) q h = h
   entry-narrow s (Entry.Call i k x) Event.none q h = h
@@ -379,7 +261,7 @@ module _ (o : Card) (ho : NarrowContents (contentsOf o)) where
   entry-narrow s (Entry.Change k from t) (Event.returned r) q h = h
   entry-narrow s (Entry.Change k from t) Event.none q h = h
 
-  all-narrow : (m : Observation) (es : List Entry) → Narrow es → NarrowHistory (m .history) → NarrowHistory (observeAll o m es .history)
+  all-narrow : (m : Observation) (es : List Entry) → FitEntries es → NarrowHistory (m .history) → NarrowHistory (observeAll o m es .history)
   unfolding observeAll observe
   all-narrow m [] q h = h
   all-narrow m (e ∷ es) q h =
@@ -395,7 +277,7 @@ start-narrow (x ∷ l) (suc n) h zero = h zero
 start-narrow (x ∷ l) (suc n) h (suc v) = start-narrow l n (λ w. h (suc w)) v
 
 -- the words of the bench after any list of entries whose inputs are words
-pub words-narrow : (t : List ℕ) (es : List Entry) → Narrow es → (v : ℕ) → getD (run (opened t .card) es .history .words) v 0 < 4294967296
+pub words-narrow : (t : List ℕ) (es : List Entry) → FitEntries es → (v : ℕ) → getD (run (opened t .card) es .history .words) v 0 < 4294967296
 unfolding opened fresh
 words-narrow t es q =
     let c = contents-narrow t in

@@ -16,12 +16,12 @@ use Rattle.construction.specs.Parts.{localAt}
 use Rattle.construction.specs.Machine.{advance}
 use Rattle.construction.specs.Requests.{answerOf, isIdle, returned, isVariable, valueOf, read}
 use Rattle.construction.specs.Opening.{fresh, opened}
-use Rattle.construction.specs.History.{Entry, act, Steps, Observation, observe, observeAll, opening, run}
+use Rattle.construction.specs.History.{Entry, FitEntries, act, Steps, Observation, observe, observeAll, opening, run}
 use Rattle.construction.proofs.Observing.Outcomes.{Outcome, outcome}
 use Rattle.construction.proofs.Observing.Consistency.{Consistent, entry-kept, read-shown}
 use Rattle.construction.proofs.Observing.Runs.{opened-consistent}
 use Rattle.construction.proofs.Statements.Refusals.{read-value}
-use Rattle.dump.specs.Histories.{Narrow, rowFrom, rowOf, isStep, accepts, rowsOf, acceptedSteps, dumpOf}
+use Rattle.dump.specs.Histories.{rowFrom, rowOf, isStep, accepts, rowsOf, acceptedSteps, dumpOf}
 use Rattle.dump.specs.Reading.{readings}
 use Rattle.dump.specs.Inverse.{Fits}
 use Rattle.dump.specs.Runs.{ReadsBack}
@@ -191,7 +191,7 @@ module _ (o : Card) where
       by (Moved.stepped a p s l) h = absurd (omega (arith, ap (λ (x : Contents). x .processCount) (O .text)))
       by (Moved.stays a w s) h = rw a h
 
-narrow-front : (es₁ es₂ : List Entry) → Narrow (es₁ ++ es₂) → Narrow es₁
+narrow-front : (es₁ es₂ : List Entry) → FitEntries (es₁ ++ es₂) → FitEntries es₁
 narrow-front [] es₂ h = tt
 narrow-front (e ∷ es₁) es₂ h = (h .0, narrow-front es₁ es₂ (h .1))
 
@@ -234,10 +234,10 @@ module _ (t : List ℕ) where
         ap (λ (a : Answered). a .answer) (read-shown o (run o es) (opened-consistent t es) v l) in
         cc
 
-    row-small : Narrow es → (v : ℕ) → v < n → getD (rowOf (run o es .card)) v 0 < 4294967296
+    row-small : FitEntries es → (v : ℕ) → v < n → getD (rowOf (run o es .card)) v 0 < 4294967296
     row-small h v l = rw (row-word v l) (words-narrow t es h v)
 
-  module _ (es : List Entry) (h : Narrow es) where
+  module _ (es : List Entry) (h : FitEntries es) where
     steps-are : run o es .card .steps ≡ acceptedSteps o es
     steps-are = counted o (opening o) es first-consistent ∙
         (let z = opened-steps in let e : o .steps + length (rowsOf o es) ≡ length (rowsOf o es) = omega arith in e)
@@ -257,7 +257,7 @@ module _ (t : List ℕ) where
         }
       where
         by : {row : List ℕ} (v : ℕ) → v < n → Part o (opening o) es row → getD row v 0 < 4294967296
-        by v q p = rw (p .is) (row-small (p .first) (narrow-front (p .first) (p .rest) (subst Narrow (p .split) h)) v q)
+        by v q p = rw (p .is) (row-small (p .first) (narrow-front (p .first) (p .rest) (subst FitEntries (p .split) h)) v q)
 
     shown-then :
         (es₁ es₂ : List Entry) → es ≡ es₁ ++ es₂ → (v : ℕ) → v < n →

@@ -21,7 +21,8 @@ use Rattle.requests.proofs.Arrays.{in-room}
 use Rattle.codes.specs.Types.{Words, Gate, Control, Operation, Card, P1}
 use Rattle.codes.specs.Parts.{wordAt}
 use Rattle.codes.specs.Codes.{byte, bit, controlWords, operationWords}
-use Rattle.codes.proofs.Values.{FitsWords, FitsOperation}
+use Rattle.construction.specs.Cells.{FitsWords}
+use Rattle.codes.proofs.Values.{FitsOperation}
 use Rattle.block.specs.Layout.{isRoom, numberAt, processCountIn, variableCountIn, programCountIn, gateIn, controlIn, fromIn, putControl, putOperation, putExit}
 use Rattle.block.specs.Cards.{cardOf, withOperation, withExit, withCount}
 use Rattle.block.proofs.Gets.{process-count-is, variable-count-is, program-count-is, gate-is, announcement-is, record-is, control-is, last-gate-is, from-is}

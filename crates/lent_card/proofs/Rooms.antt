@@ -17,7 +17,7 @@ use Rattle.construction.proofs.Basics.{on-test}
 use Rattle.codes.specs.Types.{Words, Control, Operation, Card, P1}
 use Rattle.codes.specs.Parts.{part, table}
 use Rattle.codes.specs.Codes.{bit, controlWords, operationWords, programWords}
-use Rattle.codes.proofs.Values.{FitsWords}
+use Rattle.construction.specs.Cells.{FitsWords}
 use Rattle.block.specs.Layout.{putRow, putNumber, roomIn, putControl, putOperation, putExit, putFrom, keepLater}
 use Rattle.block.specs.Cards.{cardOf}
 use Rattle.block.proofs.Standing.{number-same}

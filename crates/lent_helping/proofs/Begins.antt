@@ -10,7 +10,8 @@ use Rattle.construction.specs.Dictionary.{empty}
 use Rattle.construction.specs.Parts.{localAt, announcementAt, textsOf, programOf, withOwn, withAnnouncement, withSteps}
 use Rattle.construction.specs.Machine.{goTo, holderOf, helps, helped, beginHelp, perform}
 use Rattle.codes.specs.Types.{Gate, Announcement, Program, Dictionary, Simulation, Control, Access, Card, P21}
-use Rattle.codes.proofs.Values.{FitsAnnouncement, FitsSimulation}
+use Rattle.construction.proofs.Simulating.Sizes.{FitsSimulation}
+use Rattle.codes.proofs.Values.{FitsAnnouncement}
 use Rattle.block.specs.Layout.{variableCountIn, roomIn, controlIn, lastGateIn, putSimulation, putNoted, putMask, putLast, putControl}
 use Rattle.block.specs.Cards.{dictionaryAt, cardOf, textIn, withControl, withCopy, withSimulation, withDictionary, withMask}
 use Rattle.block.proofs.Gets.{empty-at, variable-count-is, announcement-is, control-is, last-gate-is, text-is}

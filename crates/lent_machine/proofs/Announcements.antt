@@ -7,13 +7,13 @@ use native.Mathlib.Omega.{arith}
 use lib.Dec.{ltb}
 use lib.ListN.{length}
 use borrow.Author.Tests.{ltb-true}
-use Rattle.construction.specs.Cells.{sameAnnouncement, swapAnnouncement}
+use Rattle.construction.specs.Cells.{FitsWords, sameAnnouncement, swapAnnouncement}
 use Rattle.construction.specs.Parts.{localAt, announcementAt, withAnnouncement, withSteps}
 use Rattle.construction.specs.Machine.{firstChoice, holderOf, announced, flagged, withdrawn, finished, announce, replaceAnnouncement, readFlag, whose}
 use Rattle.construction.specs.Machine.{accessAnnouncement, perform}
 use Rattle.codes.specs.Types.{Yield, Gate, Announcement, AnnouncementAccess, AnnouncementAccessed, Access, Operation, Words, Flag, Done, Active, Exit, Label}
 use Rattle.codes.specs.Types.{C4, P7, P13, Card}
-use Rattle.codes.proofs.Values.{FitsAnnouncement, FitsWords, FitsOperation}
+use Rattle.codes.proofs.Values.{FitsAnnouncement, FitsOperation}
 use Rattle.block.specs.Layout.{processCountIn, announcementIn, putAnnouncement, controlIn, operationIn, lastGateIn, lastIn, putLast, simulationIn}
 use Rattle.block.specs.Cards.{cardOf}
 use Rattle.block.proofs.Gets.{process-count-is, announcement-is, control-is, operation-is, last-gate-is, last-is, simulation-is}

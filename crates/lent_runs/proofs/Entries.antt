@@ -16,7 +16,7 @@ use Rattle.construction.specs.Answers.{isRefused}
 use Rattle.construction.specs.Requests.{isIdle, call, requestExit, step, read}
 use Rattle.construction.specs.Changes.{change}
 use Rattle.construction.specs.Tracing.{trace}
-use Rattle.construction.specs.History.{Entry, act}
+use Rattle.construction.specs.History.{Entry, FitsEntry, act}
 use Rattle.construction.proofs.Basics.{and-true}
 use Rattle.construction.proofs.Observing.Entries.{on-step}
 use Rattle.construction.proofs.Statements.OneAccess.{one-access}
@@ -36,7 +36,7 @@ use Rattle.lent_steps.specs.Steps.{stepVerdict, stepBlock, stepLoan, answerTo, 
 use Rattle.lent_steps.proofs.Judging.{judgedIn}
 use Rattle.lent_steps.proofs.Keeping.{step-block-kept}
 use Rattle.lent_steps.proofs.Stepped.{step-is, report-is}
-use Rattle.lent_runs.specs.Runs.{Handed, Memory, replyIn, replyOf, untraced, isEleven, isShort, isAccepted, memoryAfter, Fits}
+use Rattle.lent_runs.specs.Runs.{Handed, Memory, replyIn, replyOf, untraced, isEleven, isShort, isAccepted, memoryAfter}
 use Rattle.lent_runs.proofs.Loans.{NoneNoted, same-card}
 use Rattle.lent_runs.proofs.Requested.{Counts, call-counts, exit-counts, change-counts, call-within, exit-within, change-within, call-numbers}
 use Rattle.lent_runs.proofs.Requested.{exit-numbers, read-numbers, change-numbers}
@@ -190,7 +190,7 @@ module _ (b l : List ℕ) (c : Card) (s : Stands (record { block = b; loan = l }
   onward after d size card room counts = record { long = let h = s .long in omega arith; card = card; room = room; none = none-noted counts (s .none) }
 
   passes-by :
-      (h : List ℕ) (e : Entry) → Fits e → (isAccepted b h e ≡ true → take (loanWords b) h ≡ take (loanWords b) l) →
+      (h : List ℕ) (e : Entry) → FitsEntry e → (isAccepted b h e ≡ true → take (loanWords b) h ≡ take (loanWords b) l) →
       Passed c (record { block = b; loan = l }) (record { entry = e; loan = h })
   unfolding trace
   passes-by h (Entry.Call i k inputs) f _ =
@@ -224,6 +224,6 @@ module _ (b l : List ℕ) (c : Card) (s : Stands (record { block = b; loan = l }
       (change-room-kept b l (s .room) k from t) (change-counts b k from t))
 
 pub passes :
-    (m : Memory) (c : Card) → Stands m c → Roomy c → (x : Handed) → Fits (x .entry) →
+    (m : Memory) (c : Card) → Stands m c → Roomy c → (x : Handed) → FitsEntry (x .entry) →
     (isAccepted (m .block) (x .loan) (x .entry) ≡ true → take (loanWords (m .block)) (x .loan) ≡ take (loanWords (m .block)) (m .loan)) → Passed c m x
 passes m c s roomy x fits same = passes-by (m .block) (m .loan) c s roomy (x .loan) (x .entry) fits same

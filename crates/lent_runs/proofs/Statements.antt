@@ -16,7 +16,7 @@ use Rattle.construction.specs.Marks.{Marks}
 use Rattle.construction.specs.Limits.{Limited}
 use Rattle.construction.specs.Swaps.{TellsSwap}
 use Rattle.construction.specs.OneAccess.{OneAccess}
-use Rattle.construction.specs.History.{Entry, Finish, Observation, run}
+use Rattle.construction.specs.History.{Entry, FitsEntry, Finish, Observation, run}
 use Rattle.construction.specs.Linearizability.{Linearizable}
 use Rattle.construction.specs.Waits.{WaitFree}
 use Rattle.construction.specs.Paths.{Follows, unnoticed, noticedFrom, accesses}
@@ -42,7 +42,7 @@ use Rattle.construction.proofs.Statements.Changes.{runs-its-text, runs-by-numbe
 use Rattle.loan.specs.Loans.{loanWords}
 use Rattle.lent_card.specs.Requests.{readAnswer, changeAnswer}
 use Rattle.lent_card.proofs.Cards.{read-is, change-is}
-use Rattle.lent_runs.specs.Runs.{Handed, Memory, replyIn, replyOf, isAccepted, memoryAfter, remember, isShort, entriesOf, Fits, AllFit, HandedBack}
+use Rattle.lent_runs.specs.Runs.{Handed, Memory, replyIn, replyOf, isAccepted, memoryAfter, remember, isShort, entriesOf, AllFit, HandedBack}
 use Rattle.lent_runs.specs.Runs.{openedMemory, memoryOf, lentRun, entriesByValue, Speaks}
 use Rattle.lent_runs.proofs.Entries.{Passed, passes}
 use Rattle.lent_runs.proofs.Runs.{roomy, as-by-value, stands-after}
@@ -61,7 +61,7 @@ module _
     -- the next entry, whatever it is, has the reply that the card by value gives, unless 11 refuses it: what a theorem says of the next step on the card it
     -- says of the next step on block and loan
     pub next-reply :
-        (x : Handed) → Fits (x .entry) →
+        (x : Handed) → FitsEntry (x .entry) →
         (isAccepted (memoryOf t b l xs .block) (x .loan) (x .entry) ≡ true →
         take (loanWords (memoryOf t b l xs .block)) (x .loan) ≡ take (loanWords (memoryOf t b l xs .block)) (memoryOf t b l xs .loan)) →
         isShort (memoryOf t b l xs) x ≡ false →

@@ -9,9 +9,8 @@ use lib.ListN.{take}
 use Rattle.construction.specs.declared.{answers.Answer.Answer, card.Card.Card, answers.Report.Report}
 use Rattle.construction.specs.Answers.{numberOf, isRefused}
 use Rattle.construction.specs.Tracing.{trace, noReport}
-use Rattle.construction.specs.History.{Entry, act, eventOf, History, finishing, withFinishes, withEntry, Observation, opening, run}
+use Rattle.construction.specs.History.{Entry, FitsEntry, act, eventOf, History, finishing, withFinishes, withEntry, Observation, opening, run}
 use Rattle.construction.specs.Opening.{opened}
-use Rattle.codes.proofs.Values.{FitsWords}
 use Rattle.block.specs.Cards.{cardOf}
 use Rattle.loan.specs.Loans.{loanWords}
 use Rattle.lent_text.specs.Opened.{openedBlock}
@@ -128,18 +127,10 @@ HandedBack m (x ∷ xs) =
     (isAccepted (m .block) (x .loan) (x .entry) ≡ true → take (loanWords (m .block)) (x .loan) ≡ take (loanWords (m .block)) (m .loan))
     × HandedBack (memoryAfter m x) xs
 
--- the inputs of a call have 32 bits each, as the functions' types have it
-abbrev pub Fits : Entry → Type 0
-Fits (Entry.Call i k inputs) = FitsWords inputs
-Fits (Entry.Exit i) = Unit
-Fits (Entry.Step i) = Unit
-Fits (Entry.Trace i) = Unit
-Fits (Entry.Read v) = Unit
-Fits (Entry.Change k from t) = Unit
-
+-- the inputs of every call are 32-bit words
 unfoldable pub AllFit : List Handed → Type 0
 AllFit [] = Unit
-AllFit (x ∷ xs) = Fits (x .entry) × AllFit xs
+AllFit (x ∷ xs) = FitsEntry (x .entry) × AllFit xs
 
 -- the text opened into a block, with a loan of any content
 abbrev pub openedMemory : List ℕ → List ℕ → List ℕ → Memory

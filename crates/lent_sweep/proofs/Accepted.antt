@@ -14,7 +14,7 @@ use Rattle.construction.specs.Opening.{opened}
 use Rattle.construction.specs.History.{Entry, Observation, opening, observe, observeAll, run}
 use Rattle.construction.proofs.Observing.Entries.{on-call, on-step}
 use Rattle.construction.proofs.Observing.Runs.{opened-consistent}
-use Rattle.codes.proofs.Values.{FitsWords}
+use Rattle.construction.specs.Cells.{FitsWords}
 use Rattle.block.specs.Cards.{cardOf}
 use Rattle.calls.specs.Tables.{requestIn}
 use Rattle.loan.specs.Loans.{loanWords}

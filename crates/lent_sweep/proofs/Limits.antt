@@ -27,7 +27,7 @@ use Rattle.construction.proofs.Observing.Entries.{on-step}
 use Rattle.construction.proofs.Observing.Runs.{opened-consistent}
 use Rattle.construction.proofs.Statements.OneAccess.{one-access}
 use Rattle.construction.proofs.Statements.Refusals.{call-taken, step-accepted}
-use Rattle.codes.proofs.Values.{FitsWords}
+use Rattle.construction.specs.Cells.{FitsWords}
 use Rattle.calls.specs.Tables.{hasRequest, requestIn}
 use Rattle.loan.specs.Loans.{loanWords}
 use Rattle.lent_steps.specs.Steps.{answerTo}

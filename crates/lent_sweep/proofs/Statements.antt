@@ -9,7 +9,7 @@ use Rattle.construction.specs.Answers.{isRefused}
 use Rattle.construction.specs.Requests.{step}
 use Rattle.construction.specs.Opening.{opened}
 use Rattle.construction.specs.History.{Entry, run}
-use Rattle.codes.proofs.Values.{FitsWords}
+use Rattle.construction.specs.Cells.{FitsWords}
 use Rattle.calls.specs.Tables.{requestIn}
 use Rattle.loan.specs.Loans.{loanWords}
 use Rattle.lent_helping.specs.Steps.{accessLoan}

@@ -21,7 +21,7 @@ use Rattle.construction.proofs.Basics.{and-true}
 use Rattle.construction.proofs.Observing.Runs.{opened-consistent}
 use Rattle.construction.proofs.Statements.Paths.{wish-kept}
 use Rattle.construction.proofs.Statements.Waits.{wait-free}
-use Rattle.codes.proofs.Values.{FitsWords}
+use Rattle.construction.specs.Cells.{FitsWords}
 use Rattle.calls.specs.Tables.{requestIn}
 use Rattle.loan.specs.Loans.{loanWords}
 use Rattle.lent_steps.specs.Steps.{answerTo}

@@ -8,7 +8,6 @@ use native.Mathlib.Omega.{arith}
 use lib.Dec.{ltb}
 use lib.ListN.{length, getD, replicate, length-append, length-take}
 use borrow.Author.Tests.{lt-ltb, ltb-true}
-use Rattle.construction.specs.Cells.{zeros}
 use Rattle.construction.specs.Instructions.{started}
 use Rattle.construction.specs.Dictionary.{noItem, empty, noted, valueAt, insert}
 use Rattle.construction.specs.Machine.{afterPause}
@@ -18,7 +17,8 @@ use Rattle.codes.specs.Types.{Announcement, Item, Dictionary}
 use Rattle.codes.specs.Parts.{wordAt, stores, table}
 use Rattle.codes.specs.Codes.{itemOf, itemWords}
 use Rattle.codes.proofs.Blocks.{apart, kept, length-stores, length-table, getD-table, table-same, part-same}
-use Rattle.codes.proofs.Values.{FitsItem, FitsWords, FitsAnnouncement, FitsSimulation}
+use Rattle.construction.proofs.Simulating.Sizes.{Small, FitsSimulation, started-fits}
+use Rattle.codes.proofs.Values.{FitsItem, FitsAnnouncement}
 use Rattle.block.specs.Layout.{roomIn, notedIn, variableCountIn, lastIn, simulationIn}
 use Rattle.block.specs.Cards.{itemPlace, itemAt, dictionaryAt, dictionaryIn, textIn}
 use Rattle.block.proofs.Fitting.{variable-count-fits, noted-room, noted-fits, room-fits, last-fits, simulation-fits, text-fits, dictionary-fits}
@@ -28,7 +28,7 @@ use Rattle.loan.specs.Simulated.{begunIn, simulatedIn, valuesOf, simulat
 use Rattle.loan.proofs.Held.{values-length, values-kept, values-are}
 use Rattle.loan.proofs.Inserting.{item-more}
 use Rattle.loan.proofs.Spans.{has-long, span-fits}
-use Rattle.loan.proofs.Sizes.{Small, SmallValues, simulate-small}
+use Rattle.loan.proofs.Sizes.{SmallValues, simulate-small}
 use Rattle.loan.proofs.Pauses.{pause-narrow, control-narrow}
 use Rattle.loan.proofs.Revaluing.{Revalued, simulate-revalued, by-values}
 
@@ -160,9 +160,8 @@ module _ (b l : List ℕ) (i number : ℕ) where
 module _ (b : List ℕ) (number : ℕ) (a : Announcement) where
   pub begun-fits : FitsAnnouncement a → FitsSimulation (begunIn b number a .simulation)
   begun-fits fits =
-      let none : FitsWords zeros = record { w0 = omega arith; w1 = omega arith; w2 = omega arith; w3 = omega arith } in
       simulate-small (variableCountIn b) (textIn b (a .program) number) (a .words) started empty (text-fits b (a .program) number)
-      (record { w0 = fits .w0; w1 = fits .w1; w2 = fits .w2; w3 = fits .w3 }) (record { counter = omega arith; registers = none; outputs = none })
+      (record { w0 = fits .w0; w1 = fits .w1; w2 = fits .w2; w3 = fits .w3 }) started-fits
       (λ k. subst (λ (e : Item). Small (e .value)) (sym (getD-replicate-same 32 k noItem)) (omega arith)) .0
 
   pub begun-empty : begunIn b number a .dictionary ≡ empty

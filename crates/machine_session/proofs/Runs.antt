@@ -8,8 +8,7 @@ use mathlib.Core.List.{List, [], _∷_, _++_}
 use lib.Dec.{leb, ltb}
 use lib.ListN.{length, getD, take, drop}
 use borrow.Author.Tests.{ltb-true, ltb-false}
-use Rattle.grammar.specs.declared.Number.{Number}
-use Rattle.grammar.specs.Reading.{field, hasWord}
+use Rattle.grammar.specs.Reading.{hasWord}
 use Rattle.grammar.specs.Writing.{placeAfter}
 use Rattle.grammar.proofs.Cases.{on-test, clash}
 use Rattle.construction.specs.declared.{answers.Answer.Answer, answers.Report.Report}
@@ -17,8 +16,9 @@ use Rattle.construction.specs.declared.answers.Refusal.the-variants.{Malformed}
 use Rattle.construction.specs.Tracing.{noReport}
 use Rattle.construction.specs.History.{Entry}
 use Rattle.construction.proofs.Basics.{true-or-false}
-use Rattle.commands.specs.declared.{Command.Command, Parsed.Parsed, Word.Word, Verb.Verb}
-use Rattle.commands.specs.Commands.{part, limited, word, withWord, callAt, changeAt, found, fieldsAt}
+use Rattle.commands.specs.declared.{Command.Command, Word.Word}
+use Rattle.commands.specs.Commands.{part, word, found, fieldsAt}
+use Rattle.commands.proofs.Fitting.{FitsCommand, fields-fit}
 use Rattle.allowance.specs.Requests as sharing
 use Rattle.lent_runs.specs.Runs.{Reply, untraced}
 use Rattle.shared_runs.specs.Runs.{Shared, sharedAfter, sharedReply, sharedRun, sharedReplies, AllFitRequests}
@@ -138,37 +138,15 @@ module _ {t : List ℕ} {s : State} {bs ls b : List ℕ} {r : Printed} {bs' ls' 
       ∙ (ap sharedIn prints-last ∙ machines-run t (stage s bs ls))
 
 -- ---- the inputs of every call that a text names have 32 bits each
-on-word :
-    (P : Parsed → Type 0) (t : List ℕ) {m : Parsed} → P m → (s at : ℕ) {go : ℕ → ℕ → Parsed} → ((v i : ℕ) → v < 4294967296 → P (go v i)) →
-    P (withWord (word t s at) m go)
-unfolding word
-on-word P t {m} p s at {go} f = by (field t s at)
-  where
-    by : (n : Number) → P (withWord (limited n) m go)
-    by (Number.Value v i) = on-test (λ w. P (withWord w m go)) (ltb v 4294967296) (λ e. f v i (ltb-true v 4294967296 e)) (λ _. p)
-    by Number.Malformed = p
-
-fields-fit : (t : List ℕ) (m : ℕ) (v : Verb) (line at : ℕ) → AllFitRequests (asked t (Request.To m (fieldsAt t v line at .command)))
-unfolding AllFitRequests fieldsAt callAt changeAt
-fields-fit t m v line at = go v
-  where
-    P : Parsed → Type 0
-    P x = AllFitRequests (asked t (Request.To m (x .command)))
-
-    go : (v : Verb) → P (fieldsAt t v line at)
-    go Verb.Call =
-        on-word P t tt 44 at
-        (λ _ i _. on-word P t tt 44 i
-        (λ _ j _. on-word P t tt 44 j
-        (λ _ k a. on-word P t tt 44 k
-        (λ _ n b. on-word P t tt 44 n
-        (λ _ o c. on-word P t tt 10 o (λ _ _ d. (record { w0 = a; w1 = b; w2 = c; w3 = d }, tt)))))))
-    go Verb.Exit = on-word P t tt 10 at (λ _ _ _. (tt, tt))
-    go Verb.Step = on-word P t tt 10 at (λ _ _ _. (tt, tt))
-    go Verb.Trace = on-word P t tt 10 at (λ _ _ _. (tt, tt))
-    go Verb.Read = on-word P t tt 10 at (λ _ _ _. (tt, tt))
-    go Verb.Change = on-word P t tt 44 at (λ _ i _. on-word P t tt 44 i (λ _ j _. on-word P t tt 10 j (λ _ _ _. (tt, tt))))
-    go Verb.Unknown = tt
+asked-fits : (t : List ℕ) (j : ℕ) (m : Command) → FitsCommand m → AllFitRequests (asked t (Request.To j m))
+unfolding AllFitRequests
+asked-fits t j (Command.Call i k x) h = (h .inputs, tt)
+asked-fits t j (Command.Exit i) h = (tt, tt)
+asked-fits t j (Command.Step i) h = (tt, tt)
+asked-fits t j (Command.Trace i) h = (tt, tt)
+asked-fits t j (Command.Read v) h = (tt, tt)
+asked-fits t j (Command.Change k from count start end) h = (tt, tt)
+asked-fits t j Command.Malformed h = tt
 
 request-fits : (t : List ℕ) (at : ℕ) → AllFitRequests (asked t (request t at .request))
 unfolding request AllFitRequests
@@ -176,7 +154,7 @@ request-fits t at =
     on-test (λ (m : Line). AllFitRequests (asked t (m .request))) (hasWord t at turnLine) (λ _. (tt, tt)) (λ _. go (word t 44 (found t at .next)))
   where
     go : (w : Word) → AllFitRequests (asked t (afterMachine t (found t at .verb) at w .request))
-    go (Word.Value m i) = fields-fit t m (found t at .verb) at i
+    go (Word.Value m i) = asked-fits t m (fieldsAt t (found t at .verb) at i .command) (fields-fit t (found t at .verb) at i)
     go Word.Malformed = tt
 
 fit-append : (xs ys : List (sharing.Request Entry)) → AllFitRequests xs → AllFitRequests ys → AllFitRequests (xs ++ ys)

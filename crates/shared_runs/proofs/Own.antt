@@ -8,10 +8,10 @@ use native.Mathlib.Omega.{arith}
 use lib.Dec.{eqb}
 use lib.ListN.{length}
 use borrow.Author.Tests.{ltb-false, eqb-true, ne-eqb}
-use Rattle.construction.specs.History.{Entry}
+use Rattle.construction.specs.History.{Entry, FitsEntry}
 use Rattle.construction.proofs.Basics.{true-or-false}
 use Rattle.loan.specs.Loans.{loanWords}
-use Rattle.lent_runs.specs.Runs.{Handed, Memory, Reply, Fits, AllFit, memoryAfter, remember, replyIn, repliesIn, asLeft, handing}
+use Rattle.lent_runs.specs.Runs.{Handed, Memory, Reply, AllFit, memoryAfter, remember, replyIn, repliesIn, asLeft, handing}
 use Rattle.lent_runs.proofs.Handing.{enough, still}
 use Rattle.allowance.specs.Requests.{Request, Outcome, Machines, Answered, acted, request, log}
 use Rattle.allowance.specs.declared.Allowance.{Allowance}
@@ -90,7 +90,7 @@ module _ (stride m : ℕ) where
       ∙ ap (λ (l : List Handed). handing (memoryIn stride (s .blocks) (s .loans) m) (entries l)) (sym first))
 
   -- .. of requests that fit
-  fits-with : (j : ℕ) (x : Handed) (o : Outcome Reply) (l : List Handed) → Fits (x .entry) → AllFit l → AllFit (withRequest m (Request.To j x) o l)
+  fits-with : (j : ℕ) (x : Handed) (o : Outcome Reply) (l : List Handed) → FitsEntry (x .entry) → AllFit l → AllFit (withRequest m (Request.To j x) o l)
   unfolding AllFit
   fits-with j x o l f h = by o
     where

@@ -7,11 +7,11 @@ use mathlib.Core.List.{List, [], _∷_, map}
 use lib.ListN.{length}
 use Rattle.construction.specs.declared.{answers.Answer.Answer}
 use Rattle.construction.specs.Answers.{Fields, fields, refusedWith}
-use Rattle.construction.specs.History.{Entry, run}
+use Rattle.construction.specs.History.{Entry, FitsEntry, run}
 use Rattle.construction.specs.Opening.{opened}
 use Rattle.loan.specs.Loans.{loanWords}
 use Rattle.lent_text.specs.Opened.{openedBlock}
-use Rattle.lent_runs.specs.Runs.{Handed, Memory, Reply, untraced, repliesOf, asLeft, Fits, standingIn, lentRun, openedMemory, handing}
+use Rattle.lent_runs.specs.Runs.{Handed, Memory, Reply, untraced, repliesOf, asLeft, standingIn, lentRun, openedMemory, handing}
 use Rattle.allowance.specs.declared.Allowance.{Allowance}
 use Rattle.allowance.specs.Allowing.{turn}
 use Rattle.allowance.specs.Requests.{Request, Outcome, Machines, Logged, log}
@@ -101,7 +101,7 @@ module _ (stride : ℕ) where
 
 -- the inputs of calls have 32 bits each, as the functions' types have it
 abbrev pub FitsRequest : Request Entry → Type 0
-FitsRequest (Request.To m e) = Fits e
+FitsRequest (Request.To m e) = FitsEntry e
 FitsRequest Request.Turn = Unit
 
 unfoldable pub AllFitRequests : List (Request Entry) → Type 0

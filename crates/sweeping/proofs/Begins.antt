@@ -26,7 +26,7 @@ use Rattle.construction.proofs.Basics.{on-set}
 use Rattle.construction.proofs.Text.Bounds.{opened-bounded}
 use Rattle.construction.proofs.Text.RoundTrip.{given-back}
 use Rattle.construction.proofs.Observing.Entries.{on-call}
-use Rattle.codes.proofs.Values.{FitsWords}
+use Rattle.construction.specs.Cells.{FitsWords}
 use Rattle.block.specs.Layout.{processCountIn, roomIn}
 use Rattle.block.specs.Cards.{cardOf}
 use Rattle.block.proofs.Gets.{process-count-is}

@@ -6,62 +6,16 @@ use mathlib.Core.List.{List}
 use native.Mathlib.Omega.{arith}
 use lib.Dec.{eqb, ltb}
 use lib.ListN.{length, getD, set, replicate, length-set}
-use borrow.Author.Tests.{ltb-true}
-use Rattle.grammar.specs.declared.Number.{Number}
-use Rattle.grammar.specs.Reading.{field}
 use Rattle.grammar.proofs.Cases.{on-test}
-use Rattle.construction.specs.declared.cells.Words.{Words}
 use Rattle.construction.proofs.Basics.{set-keeps, getD-replicate-same}
-use Rattle.codes.proofs.Values.{FitsWords}
+use Rattle.construction.specs.Cells.{FitsWords}
 use Rattle.executions.specs.declared.Request.{Request}
-use Rattle.commands.specs.declared.{Verb.Verb, Command.Command, Parsed.Parsed}
-use Rattle.commands.specs.Commands.{limited, word, withWord, callAt, changeAt, found, fieldsAt, command}
+use Rattle.commands.specs.declared.Command.{Command}
+use Rattle.commands.specs.Commands.{command}
+use Rattle.commands.proofs.Fitting.{FitsCall, FitsCommand, command-fits}
 use Rattle.calls.specs.declared.Calls.{Calls}
 use Rattle.calls.specs.Tables.{requestIn, withRequest}
 use Rattle.calls.specs.Texts.{wrongLine, ownCall, requested, ifRequested, callsFrom, callsOf}
-
--- a call of a command has words of 32 bits
-pub record FitsCall (k : ℕ) (x : Words) : Type 0 where
-  pub program : k < 4294967296
-  pub inputs : FitsWords x
-
-on-word :
-    (P : Parsed → Type 0) (t : List ℕ) {m : Parsed} → P m → (s at : ℕ) {go : ℕ → ℕ → Parsed} → ((v i : ℕ) → v < 4294967296 → P (go v i)) →
-    P (withWord (word t s at) m go)
-unfolding word
-on-word P t {m} p s at {go} f = by (field t s at)
-  where
-    by : (n : Number) → P (withWord (limited n) m go)
-    by (Number.Value v i) = on-test (λ w. P (withWord w m go)) (ltb v 4294967296) (λ l. f v i (ltb-true v 4294967296 l)) (λ _. p)
-    by Number.Malformed = p
-
-abbrev Fits : Command → Type 0
-Fits (Command.Call i k x) = FitsCall k x
-Fits (Command.Exit i) = Unit
-Fits (Command.Step i) = Unit
-Fits (Command.Trace i) = Unit
-Fits (Command.Read v) = Unit
-Fits (Command.Change k from count start end) = Unit
-Fits Command.Malformed = Unit
-
-abbrev Fit : Parsed → Type 0
-Fit m = Fits (m .command)
-
-fields-fit : (t : List ℕ) (verb : Verb) (line at : ℕ) → Fit (fieldsAt t verb line at)
-unfolding fieldsAt callAt changeAt
-fields-fit t Verb.Call line at =
-    on-word Fit t tt 44 at
-    (λ _ i _. on-word Fit t tt 44 i
-    (λ _ j a. on-word Fit t tt 44 j
-    (λ _ k b. on-word Fit t tt 44 k
-    (λ _ l c. on-word Fit t tt 44 l
-    (λ _ m d. on-word Fit t tt 10 m (λ _ _ e. record { program = a; inputs = record { w0 = b; w1 = c; w2 = d; w3 = e } }))))))
-fields-fit t Verb.Exit line at = on-word Fit t tt 10 at (λ _ _ _. tt)
-fields-fit t Verb.Step line at = on-word Fit t tt 10 at (λ _ _ _. tt)
-fields-fit t Verb.Trace line at = on-word Fit t tt 10 at (λ _ _ _. tt)
-fields-fit t Verb.Read line at = on-word Fit t tt 10 at (λ _ _ _. tt)
-fields-fit t Verb.Change line at = on-word Fit t tt 44 at (λ _ i _. on-word Fit t tt 44 i (λ _ j _. on-word Fit t tt 10 j (λ _ _ _. tt)))
-fields-fit t Verb.Unknown line at = tt
 
 -- a table of calls
 pub record Table (words : List ℕ) : Type 0 where
@@ -80,7 +34,7 @@ request-table words i x f h =
 
 -- a line that makes the call of process i puts it there
 module _ (words : List ℕ) (i : ℕ) (h : Table words) (go : Request → Calls) (put : (x : Request) → Table (withRequest words i x) → Table (go x .words)) where
-  line : (m : Command) → Fits m → Table (ifRequested (requested m i) (wrongLine words i) go .words)
+  line : (m : Command) → FitsCommand m → Table (ifRequested (requested m i) (wrongLine words i) go .words)
   line (Command.Call j k x) f = by (eqb j i) refl
     where
       y : Request
@@ -97,11 +51,11 @@ module _ (words : List ℕ) (i : ℕ) (h : Table words) (go : Request → Calls)
   line Command.Malformed f = h
 
 calls-table : (m : ℕ) (t : List ℕ) (i at : ℕ) (words : List ℕ) → Table words → Table (callsFrom m t i at words .words)
-unfolding callsFrom command
+unfolding callsFrom
 calls-table zero t i at words h = on-test (λ (x : Calls). Table (x .words)) (ltb at (length t)) (λ _. h) (λ _. h)
 calls-table (suc m) t i at words h =
     line words i h _ (λ x q. calls-table m t (suc i) (command t at .next) (withRequest words i x) q) (command t at .command)
-    (fields-fit t (found t at .verb) at (found t at .next))
+    (command-fits t at)
 
 pub table-read : (t : List ℕ) (p : ℕ) → Table (callsOf t p .words)
 unfolding callsOf

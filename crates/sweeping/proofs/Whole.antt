@@ -13,7 +13,7 @@ use Rattle.construction.specs.declared.{card.Card.Card, texts.Contents.Contents
 use Rattle.construction.specs.Opening.{opened}
 use Rattle.construction.specs.History.{Entry, Observation, run}
 use Rattle.construction.proofs.Observing.Runs.{opened-consistent}
-use Rattle.codes.proofs.Values.{FitsWords}
+use Rattle.construction.specs.Cells.{FitsWords}
 use Rattle.block.specs.Layout.{processCountIn, limitIn, stepsIn}
 use Rattle.block.specs.Cards.{cardOf}
 use Rattle.block.proofs.Gets.{process-count-is, limit-is, steps-is}

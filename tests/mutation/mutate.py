@@ -127,12 +127,20 @@ def judge(copy, crate, change):
     return verdict
 
 
-def work(scratch, crate, jobs, verdicts):
-    """One copy of the repository, and changes until none is left."""
-    copy = pathlib.Path(tempfile.mkdtemp(dir=scratch)) / "repository"
-    shutil.copytree(ROOT, copy, ignore=shutil.ignore_patterns(".git"))
-    if ask(copy, "dev", crate) != "still proved":
+def copies(scratch, crate):
+    """One copy of the repository for each worker, with the crate as it stands proved in the edit loop."""
+    first = pathlib.Path(scratch) / "0"
+    shutil.copytree(ROOT, first, ignore=shutil.ignore_patterns(".git"))
+    if ask(first, "dev", crate) != "still proved":
         sys.exit(f"{crate} is not proved as it stands")
+    others = [pathlib.Path(scratch) / str(worker) for worker in range(1, WORKERS)]
+    for other in others:
+        shutil.copytree(first, other)
+    return [first, *others]
+
+
+def work(copy, crate, jobs, verdicts):
+    """Changes in one copy, until none is left."""
     while True:
         try:
             index, change = jobs.get_nowait()
@@ -153,7 +161,7 @@ def main():
     for item in enumerate(chosen):
         jobs.put(item)
     with tempfile.TemporaryDirectory() as scratch:
-        workers = [threading.Thread(target=work, args=(scratch, crate, jobs, verdicts)) for _ in range(WORKERS)]
+        workers = [threading.Thread(target=work, args=(copy, crate, jobs, verdicts)) for copy in copies(scratch, crate)]
         for worker in workers:
             worker.start()
         for worker in workers:

@@ -7,14 +7,15 @@ use lib.Dec.{ltb, eqb}
 use lib.ListN.{length, drop, getD, length-drop, drop-of-length-le}
 use lib.Seq.{drop-cons}
 use native.Mathlib.Omega.{arith}
-use borrow.Author.Tests.{lt-ltb, le-ltb, ltb-true}
+use borrow.Author.Tests.{ltb-true}
 use Rattle.grammar.specs.declared.Number.{Number}
 use Rattle.grammar.specs.Reading.{field, hasWord}
 use Rattle.grammar.proofs.Cases.{clash, on-test}
 use Rattle.grammar.proofs.Fields.{field-within}
+use Rattle.grammar.proofs.Items.{items-end, items-more, items-induction}
 use Rattle.commands.specs.declared.{Word.Word, Verb.Verb, Found.Found, Command.Command, Parsed.Parsed}
 use Rattle.commands.specs.Commands.{callWord, wishWord, stepWord, lookWord, traceWord, changeWord, lineEnd, linesEnd, malformed, limited, word, withWord}
-use Rattle.commands.specs.Commands.{callAt, changeAt, Inside, found, fieldsAt, command, commandsFrom, commands}
+use Rattle.commands.specs.Commands.{callAt, changeAt, Inside, found, fieldsAt, command, commands}
 
 -- the place past a field, 0 where there is none
 abbrev nextOf : Word → ℕ
@@ -57,15 +58,17 @@ lines-step (suc k) at t h = rw (let e : suc k - 1 ≡ k = omega arith in e)
 pub line-more : (t : List ℕ) (at : ℕ) → at < length t → length t - lineEnd at (drop at t) < length t - at
 line-more t at h = omega (arith, line-past t at h)
 
-on-word :
-    (P : Parsed → Type 0) (t : List ℕ) {m : Parsed} → P m → (s at : ℕ) {go : ℕ → ℕ → Parsed} → ((v i : ℕ) → at < i → i ≤ length t → P (go v i)) →
-    P (withWord (word t s at) m go)
+-- a field of 32 bits, by cases
+pub on-word :
+    (P : Parsed → Type 0) (t : List ℕ) {m : Parsed} → P m → (s at : ℕ) {go : ℕ → ℕ → Parsed} →
+    ((v i : ℕ) → at < i → i ≤ length t → v < 4294967296 → P (go v i)) → P (withWord (word t s at) m go)
 unfolding word
 on-word P t {m} p s at {go} f = by (field t s at) refl
   where
     by : (n : Number) → field t s at ≡ n → P (withWord (limited n) m go)
     by (Number.Value v i) e =
-        on-test (λ w. P (withWord w m go)) (ltb v 4294967296) (λ _. let l = field-within t s at v i e in f v i (l .0) (l .1)) (λ _. p)
+        on-test (λ w. P (withWord w m go)) (ltb v 4294967296)
+        (λ h. let l = field-within t s at v i e in f v i (l .0) (l .1) (ltb-true v 4294967296 h)) (λ _. p)
     by Number.Malformed e = p
 
 -- a field of 32 bits ends past its place
@@ -95,20 +98,20 @@ fields-past t v line at h p = go v
     go : (v : Verb) → P (fieldsAt t v line at)
     go Verb.Call =
         on-word P t l 44 at
-        (λ _ i a _. on-word P t l 44 i
-        (λ _ j b _. on-word P t l 44 j
-        (λ _ k c _. on-word P t l 44 k
-        (λ _ n d _. on-word P t l 44 n
-        (λ _ o e _. on-word P t l 10 o (λ _ q f _. omega arith))))))
-    go Verb.Exit = on-word P t l 10 at (λ v i g _. omega arith)
-    go Verb.Step = on-word P t l 10 at (λ v i g _. omega arith)
-    go Verb.Trace = on-word P t l 10 at (λ v i g _. omega arith)
-    go Verb.Read = on-word P t l 10 at (λ v i g _. omega arith)
+        (λ _ i a _ _. on-word P t l 44 i
+        (λ _ j b _ _. on-word P t l 44 j
+        (λ _ k c _ _. on-word P t l 44 k
+        (λ _ n d _ _. on-word P t l 44 n
+        (λ _ o e _ _. on-word P t l 10 o (λ _ q f _ _. omega arith))))))
+    go Verb.Exit = on-word P t l 10 at (λ v i g _ _. omega arith)
+    go Verb.Step = on-word P t l 10 at (λ v i g _ _. omega arith)
+    go Verb.Trace = on-word P t l 10 at (λ v i g _ _. omega arith)
+    go Verb.Read = on-word P t l 10 at (λ v i g _ _. omega arith)
     go Verb.Change =
         on-word P t l 44 at
-        (λ _ i a _. on-word P t l 44 i
-        (λ _ j b _. on-word P t l 10 j
-        (λ count start d _. omega (arith, lines-past count start t))))
+        (λ _ i a _ _. on-word P t l 44 i
+        (λ _ j b _ _. on-word P t l 10 j
+        (λ count start d _ _. omega (arith, lines-past count start t))))
     go Verb.Unknown = l
 
 -- a verb ends at its place or past it
@@ -150,45 +153,36 @@ fields-inside t v line at = go v
     go : (v : Verb) → P (fieldsAt t v line at)
     go Verb.Call =
         on-word P t tt 44 at
-        (λ _ i _ _. on-word P t tt 44 i
-        (λ _ j _ _. on-word P t tt 44 j
-        (λ _ k _ _. on-word P t tt 44 k
-        (λ _ n _ _. on-word P t tt 44 n
-        (λ _ o _ _. on-word P t tt 10 o (λ _ _ _ _. tt))))))
-    go Verb.Exit = on-word P t tt 10 at (λ _ _ _ _. tt)
-    go Verb.Step = on-word P t tt 10 at (λ _ _ _ _. tt)
-    go Verb.Trace = on-word P t tt 10 at (λ _ _ _ _. tt)
-    go Verb.Read = on-word P t tt 10 at (λ _ _ _ _. tt)
+        (λ _ i _ _ _. on-word P t tt 44 i
+        (λ _ j _ _ _. on-word P t tt 44 j
+        (λ _ k _ _ _. on-word P t tt 44 k
+        (λ _ n _ _ _. on-word P t tt 44 n
+        (λ _ o _ _ _. on-word P t tt 10 o (λ _ _ _ _ _. tt))))))
+    go Verb.Exit = on-word P t tt 10 at (λ _ _ _ _ _. tt)
+    go Verb.Step = on-word P t tt 10 at (λ _ _ _ _ _. tt)
+    go Verb.Trace = on-word P t tt 10 at (λ _ _ _ _ _. tt)
+    go Verb.Read = on-word P t tt 10 at (λ _ _ _ _ _. tt)
     go Verb.Change =
         on-word P t tt 44 at
-        (λ _ i _ _. on-word P t tt 44 i
-        (λ _ j _ _. on-word P t tt 10 j
-        (λ count start _ l. (lines-past count start t, lines-within count start t l))))
+        (λ _ i _ _ _. on-word P t tt 44 i
+        (λ _ j _ _ _. on-word P t tt 10 j
+        (λ count start _ l _. (lines-past count start t, lines-within count start t l))))
     go Verb.Unknown = tt
 
 pub command-inside : (t : List ℕ) (at : ℕ) → Inside t (command t at .command)
 unfolding command
 command-inside t at = fields-inside t (found t at .verb) at (found t at .next)
 
--- ---- the commands of a text: enough fuel is enough
+-- ---- the commands of a text
 module _ (t : List ℕ) where
-  fuel : (f at : ℕ) → length t ≤ at + f → commandsFrom f t at ≡ commandsFrom (suc f) t at
-  unfolding commandsFrom
-  fuel zero at p = rw (let h : length t ≤ at = omega arith in le-ltb at (length t) h)
-  fuel (suc f) at p = go (λ n h. fuel f n h) (ltb at (length t)) refl
-    where
-      go :
-          ((n : ℕ) → length t ≤ n + f → commandsFrom f t n ≡ commandsFrom (suc f) t n) → (b : Bool) → ltb at (length t) ≡ b →
-          cond b (command t at ∷ commandsFrom f t (command t at .next)) [] ≡ cond b (command t at ∷ commandsFrom (suc f) t (command t at .next)) []
-      go h true e =
-          let n = command-past t at (ltb-true at (length t) e) in
-          ap (λ (ms : List Parsed). command t at ∷ ms) (h (command t at .next) (omega arith))
-      go h false e = refl
-
   pub commands-end : (at : ℕ) → length t ≤ at → commands t at ≡ []
-  unfolding commands commandsFrom
-  commands-end at h = fuel (length t) at (omega arith) ∙ rw (le-ltb at (length t) h)
+  unfolding commands
+  commands-end at h = items-end command (λ (m : Parsed). m .next) t (command-past t) at h
 
   pub commands-more : (at : ℕ) → at < length t → commands t at ≡ command t at ∷ commands t (command t at .next)
-  unfolding commands commandsFrom
-  commands-more at h = fuel (length t) at (omega arith) ∙ rw (lt-ltb at (length t) h)
+  unfolding commands
+  commands-more at h = items-more command (λ (m : Parsed). m .next) t (command-past t) at h
+
+  pub commands-induction : (P : List Parsed → Type 0) → P [] → ((at : ℕ) (ms : List Parsed) → P ms → P (command t at ∷ ms)) → (at : ℕ) → P (commands t at)
+  unfolding commands
+  commands-induction P none more at = items-induction command (λ (m : Parsed). m .next) t P none more at

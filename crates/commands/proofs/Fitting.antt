@@ -1,25 +1,11 @@
 -- The numbers of a command are 32-bit words: what a field cannot hold is malformed.
 use Prim.Native.Nat.{ℕ, _<_}
 use mathlib.Core.List.{List}
-use lib.Dec.{ltb}
-use borrow.Author.Tests.{ltb-true}
-use Rattle.grammar.specs.declared.Number.{Number}
-use Rattle.grammar.specs.Reading.{field}
-use Rattle.grammar.proofs.Cases.{on-test}
 use Rattle.construction.specs.declared.cells.Words.{Words}
 use Rattle.construction.specs.Cells.{FitsWords}
 use Rattle.commands.specs.declared.{Verb.Verb, Command.Command, Parsed.Parsed}
-use Rattle.commands.specs.Commands.{limited, word, withWord, callAt, changeAt, fieldsAt, found, command}
-
-on-word :
-    (P : Parsed → Type 0) (t : List ℕ) {m : Parsed} → P m → (s at : ℕ) {go : ℕ → ℕ → Parsed} → ((v i : ℕ) → v < 4294967296 → P (go v i)) →
-    P (withWord (word t s at) m go)
-unfolding word
-on-word P t {m} p s at {go} f = by (field t s at)
-  where
-    by : (n : Number) → P (withWord (limited n) m go)
-    by (Number.Value v i) = on-test (λ w. P (withWord w m go)) (ltb v 4294967296) (λ l. f v i (ltb-true v 4294967296 l)) (λ _. p)
-    by Number.Malformed = p
+use Rattle.commands.specs.Commands.{callAt, changeAt, fieldsAt, found, command}
+use Rattle.commands.proofs.CommandsLaws.{on-word}
 
 -- the program and the inputs of a call
 pub record FitsCall (k : ℕ) (x : Words) : Type 0 where
@@ -42,16 +28,16 @@ pub fields-fit : (t : List ℕ) (verb : Verb) (line at : ℕ) → FitsCommand (f
 unfolding fieldsAt callAt changeAt
 fields-fit t Verb.Call line at =
     on-word Fits t tt 44 at
-    (λ _ i _. on-word Fits t tt 44 i
-    (λ _ j a. on-word Fits t tt 44 j
-    (λ _ k b. on-word Fits t tt 44 k
-    (λ _ l c. on-word Fits t tt 44 l
-    (λ _ m d. on-word Fits t tt 10 m (λ _ _ e. record { program = a; inputs = record { w0 = b; w1 = c; w2 = d; w3 = e } }))))))
-fields-fit t Verb.Exit line at = on-word Fits t tt 10 at (λ _ _ _. tt)
-fields-fit t Verb.Step line at = on-word Fits t tt 10 at (λ _ _ _. tt)
-fields-fit t Verb.Trace line at = on-word Fits t tt 10 at (λ _ _ _. tt)
-fields-fit t Verb.Read line at = on-word Fits t tt 10 at (λ _ _ _. tt)
-fields-fit t Verb.Change line at = on-word Fits t tt 44 at (λ _ i _. on-word Fits t tt 44 i (λ _ j _. on-word Fits t tt 10 j (λ _ _ _. tt)))
+    (λ _ i _ _ _. on-word Fits t tt 44 i
+    (λ _ j _ _ a. on-word Fits t tt 44 j
+    (λ _ k _ _ b. on-word Fits t tt 44 k
+    (λ _ l _ _ c. on-word Fits t tt 44 l
+    (λ _ m _ _ d. on-word Fits t tt 10 m (λ _ _ _ _ e. record { program = a; inputs = record { w0 = b; w1 = c; w2 = d; w3 = e } }))))))
+fields-fit t Verb.Exit line at = on-word Fits t tt 10 at (λ _ _ _ _ _. tt)
+fields-fit t Verb.Step line at = on-word Fits t tt 10 at (λ _ _ _ _ _. tt)
+fields-fit t Verb.Trace line at = on-word Fits t tt 10 at (λ _ _ _ _ _. tt)
+fields-fit t Verb.Read line at = on-word Fits t tt 10 at (λ _ _ _ _ _. tt)
+fields-fit t Verb.Change line at = on-word Fits t tt 44 at (λ _ i _ _ _. on-word Fits t tt 44 i (λ _ j _ _ _. on-word Fits t tt 10 j (λ _ _ _ _ _. tt)))
 fields-fit t Verb.Unknown line at = tt
 
 pub command-fits : (t : List ℕ) (at : ℕ) → FitsCommand (command t at .command)

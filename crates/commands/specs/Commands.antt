@@ -8,6 +8,7 @@ use lib.ListN.{length, take, drop}
 use lib.Dec.{eqb, ltb}
 use Rattle.grammar.specs.declared.Number.{Number}
 use Rattle.grammar.specs.Reading.{field, hasWord}
+use Rattle.grammar.specs.Items.{items}
 use Rattle.commands.specs.declared.{Word.Word, Verb.Verb, Found.Found, Command.Command, Parsed.Parsed}
 
 -- `call,` `wish,` `step,` `look,`
@@ -141,11 +142,6 @@ fieldsAt t Verb.Unknown line at = malformed t line
 unfoldable pub command : List ℕ → ℕ → Parsed
 command t at = fieldsAt t (found t at .verb) at (found t at .next)
 
--- the commands from a place on, one after the other; each has a byte at least, so the length of the text bounds how many there are
-unfoldable pub commandsFrom : ℕ → List ℕ → ℕ → List Parsed
-commandsFrom zero t at = []
-commandsFrom (suc fuel) t at =
-    cond (ltb at (length t)) (command t at ∷ commandsFrom fuel t (command t at .next)) []
-
+-- the commands from a place on, one after the other
 unfoldable pub commands : List ℕ → ℕ → List Parsed
-commands t at = commandsFrom (length t) t at
+commands t at = items command (λ (m : Parsed). m .next) t at

@@ -1,14 +1,12 @@
 -- The dump of a session reads back (document 02, order 7): the commands of a calls text name entries whose inputs are 32-bit words, so what the crate dump
 -- proves of every run holds of every card text and every calls text.
-use Prim.Native.Nat.{ℕ, zero, suc}
+use Prim.Native.Nat.{ℕ}
 use mathlib.Core.List.{List, _++_}
-use lib.Dec.{ltb}
-use lib.ListN.{length}
-use Rattle.grammar.proofs.Cases.{on-test}
 use Rattle.construction.specs.Opening.{opened}
 use Rattle.construction.specs.History.{Entry, FitEntries}
 use Rattle.commands.specs.declared.{Command.Command, Parsed.Parsed}
-use Rattle.commands.specs.Commands.{command, commandsFrom, commands}
+use Rattle.commands.specs.Commands.{command, commands}
+use Rattle.commands.proofs.CommandsLaws.{commands-induction}
 use Rattle.commands.proofs.Fitting.{FitsCommand, command-fits}
 use Rattle.session.specs.Session.{entriesOf, entries}
 use Rattle.dump.specs.Runs.{ReadsBack}
@@ -24,18 +22,11 @@ fit-more t (Command.Read v) es h r = (tt, r)
 fit-more t (Command.Change k from count start end) es h r = (tt, r)
 fit-more t Command.Malformed es h r = r
 
-from-fit : (f : ℕ) (t : List ℕ) (at : ℕ) → FitEntries (entries t (commandsFrom f t at))
-unfolding entries commandsFrom
-from-fit zero t at = tt
-from-fit (suc f) t at =
-    on-test (λ (ms : List Parsed). FitEntries (entries t ms)) (ltb at (length t))
-    (λ _. fit-more t (command t at .command) (entries t (commandsFrom f t (command t at .next))) (command-fits t at)
-    (from-fit f t (command t at .next)))
-    (λ _. tt)
-
 pub session-fits : (calls : List ℕ) → FitEntries (entries calls (commands calls 0))
-unfolding commands
-session-fits calls = from-fit (length calls) calls 0
+unfolding entries
+session-fits t =
+    commands-induction t (λ (ms : List Parsed). FitEntries (entries t ms)) tt
+    (λ at ms h. fit-more t (command t at .command) (entries t ms) (command-fits t at) h) 0
 
 -- of every card text and every calls text: the dump that the writer writes (`dumpText`) is that of this run
 pub session-reads-back : (card calls : List ℕ) → ReadsBack (opened card .card) (entries calls (commands calls 0))

@@ -5,4 +5,5 @@ pub mod Fields
 pub mod Decimals
 pub mod Puts
 pub mod Pieces
+pub mod Items
 pub mod RoundTrip

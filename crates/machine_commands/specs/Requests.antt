@@ -1,11 +1,10 @@
 -- The requests of a calls text (document 02, order 14; docs/FORMATS.md): 'the commands of the bench program with the machine after the verb, and `turn`, which
 -- is the whole line'.
-use Prim.Native.Nat.{ℕ, zero, suc, _+_}
+use Prim.Native.Nat.{ℕ, _+_}
 use mathlib.Core.Bool.{cond}
 use mathlib.Core.List.{List, [], _∷_}
-use lib.ListN.{length}
-use lib.Dec.{ltb}
 use Rattle.grammar.specs.Reading.{hasWord}
+use Rattle.grammar.specs.Items.{items}
 use Rattle.commands.specs.declared.{Word.Word, Verb.Verb}
 use Rattle.commands.specs.declared.Parsed.{Parsed}
 use Rattle.commands.specs.Commands.{Inside, malformed, word, found, fieldsAt}
@@ -38,11 +37,6 @@ abbrev pub InsideOf : List ℕ → Request → Type 0
 InsideOf t (Request.To m c) = Inside t c
 InsideOf t Request.Turn = Unit
 
--- the requests from a place on, one after the other; each has a byte at least, so the length of the text bounds how many there are
-unfoldable pub requestsFrom : ℕ → List ℕ → ℕ → List Line
-requestsFrom zero t at = []
-requestsFrom (suc fuel) t at =
-    cond (ltb at (length t)) (request t at ∷ requestsFrom fuel t (request t at .next)) []
-
+-- the requests from a place on, one after the other
 unfoldable pub requests : List ℕ → ℕ → List Line
-requests t at = requestsFrom (length t) t at
+requests t at = items request (λ (m : Line). m .next) t at

@@ -23,9 +23,9 @@ use Rattle.allowance.specs.Requests as sharing
 use Rattle.lent_runs.specs.Runs.{Reply, untraced}
 use Rattle.shared_runs.specs.Runs.{Shared, sharedAfter, sharedReply, sharedRun, sharedReplies, AllFitRequests}
 use Rattle.machine_commands.specs.declared.{Request.Request, Line.Line}
-use Rattle.machine_commands.specs.Requests.{turnLine, afterMachine, request, requestsFrom, requests}
+use Rattle.machine_commands.specs.Requests.{turnLine, afterMachine, request, requests}
 use Rattle.machine_commands.specs.Printing.{lineText, longest}
-use Rattle.machine_commands.proofs.RequestsLaws.{requests-end, requests-more}
+use Rattle.machine_commands.proofs.RequestsLaws.{requests-end, requests-more, requests-induction}
 use Rattle.machine_session.specs.declared.{State.State, Printed.Printed}
 use Rattle.machine_session.specs.Answering.{Executed, untold, toldOf, performed, executed}
 use Rattle.machine_session.specs.Session.{Stage, stage, lineOf, afterLine, linesOf, linesText, Gathered, gather, fitting, Prints}
@@ -162,15 +162,8 @@ unfolding AllFitRequests
 fit-append [] ys p q = q
 fit-append (x ∷ xs) ys p q = (p .0, fit-append xs ys (p .1) q)
 
-from-fit : (n : ℕ) (t : List ℕ) (at : ℕ) → AllFitRequests (requestsNamed t (requestsFrom n t at))
-unfolding AllFitRequests requestsNamed requestsFrom
-from-fit zero t at = tt
-from-fit (suc n) t at =
-    on-test (λ (ms : List Line). AllFitRequests (requestsNamed t ms)) (ltb at (length t))
-    (λ _. fit-append (asked t (request t at .request)) (requestsNamed t (requestsFrom n t (request t at .next))) (request-fits t at)
-    (from-fit n t (request t at .next)))
-    (λ _. tt)
-
 pub named-fit : (t : List ℕ) (at : ℕ) → AllFitRequests (requestsNamed t (requests t at))
-unfolding requests
-named-fit t at = from-fit (length t) t at
+unfolding AllFitRequests requestsNamed
+named-fit t =
+    requests-induction t (λ (ms : List Line). AllFitRequests (requestsNamed t ms)) tt
+    (λ at ms h. fit-append (asked t (request t at .request)) (requestsNamed t ms) (request-fits t at) h)

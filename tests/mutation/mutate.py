@@ -9,6 +9,7 @@ arguments swapped; never a contract, a comment or a type) in a copy of the repos
     refused        a fact that the contract asks for no longer holds
     reshaped       the proof names parts that the changed code lacks, which shows nothing of the contract (tests/must_fail/reasons.py tells them apart)
     invalid        the compiler's front end refuses the change
+    caught         a program is still proved, as no contract says what is read or written, and its stored output or its cases tell the change
     still proved   the change has no effect, or the contract leaves something open: printed for a person to judge
 
 With MOST, an even sample of that many changes is tried. The edit loop (`rt dev`) asks first; what it still proves is checked again from
@@ -29,7 +30,18 @@ sys.path.insert(0, str(ROOT / "tests" / "must_fail"))
 from reasons import reason  # noqa: E402
 
 WORKERS = os.cpu_count() or 1
-VERDICTS = ("refused", "reshaped", "invalid", "still proved")
+VERDICTS = ("refused", "reshaped", "invalid", "caught", "still proved")
+
+# The stored cases of a program, tried where it is still proved and writes what its file 'stdout' has.
+CASES = {
+    "bench": ["tests/bench/run.sh", "target/bin/bench"],
+    "lent_session": ["tests/lent/run.sh", "target/bin/lent_session"],
+    "machines": ["tests/machines/run.sh", "target/bin/machines"],
+    "readings": ["tests/waves/run.sh", "target/bin/waves", "target/bin/readings"],
+    "schedules": ["tests/schedules/run.sh", "target/bin/schedules"],
+    "sweep": ["tests/sweep/run.sh", "target/bin/sweep"],
+    "waves": ["tests/waves/run.sh", "target/bin/waves", "target/bin/readings"],
+}
 
 SWAPS = {"<": "<=", "<=": "<", "==": "!=", "!=": "==", "+": "-", "-": "+", "&&": "||", "||": "&&", "true": "false", "false": "true"}
 OPERAND = r"[a-z_][\w.]*(?:\[[\w.]+\])?"
@@ -107,7 +119,7 @@ def ask(copy, command, crate):
     if answer.returncode == 0:
         return "still proved"
     if "logic=not-proved" not in output:
-        return "invalid"
+        return "caught" if f"rt: {crate} proved" in output else "invalid"
     return "refused" if reason(output)[0] == "fact" else "reshaped"
 
 
@@ -123,6 +135,8 @@ def judge(copy, crate, change):
     verdict = ask(copy, "dev", crate)
     if verdict == "still proved":
         verdict = ask(copy, "check", crate)
+    if verdict == "still proved" and crate in CASES and subprocess.run(CASES[crate], cwd=copy, capture_output=True).returncode != 0:
+        verdict = "caught"
     target.write_text(text)
     return verdict
 

@@ -140,5 +140,10 @@ repeat "$((65536 - $(wc -c <"$large/calls.txt")))" '' >>"$large/calls.txt"
 printf 'look,0,7\nchange,0,refused,1,0\n' >"$large/expected.txt"
 compare change-to-the-end "$large"
 
+# with standard input closed the first file that is opened has its number, 0
+cp "$here/cases/listing/card.txt" "$here/cases/listing/calls.txt" "$large/"
+(cd "$large" && "$program") >"$work/output" 2>"$work/errors" <&- || echo "ended with status $?" >>"$work/output"
+judge input-closed "$work/output" "$here/cases/listing/expected.txt"
+
 echo "$((passed + failed)) cases, $failed failed"
 [ "$failed" -eq 0 ]

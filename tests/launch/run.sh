@@ -108,7 +108,6 @@ stamp_of() {
     } | sha256sum | cut -d' ' -f1
 }
 echo "$*" >>asked
-echo "$RT_JOBS" >jobs
 mkdir -p target/log target/stamp target/bin target/rlib
 for name in below $([ "$2" != program ] || echo beside) "$2"; do
     : >"target/log/$name.out"
@@ -172,11 +171,6 @@ proving beside
 proved 2 of 3: beside (1 s)
 proving program
 proved 3 of 3: program (1 s)"
-
-holds "rt is told how many provers to start, one to eight" grep -qx '[1-8]' "$repository/jobs"
-forget
-RT_JOBS=3 launch "$folder" </dev/null
-holds "a number of provers that is set stays" grep -qx 3 "$repository/jobs"
 
 rm "$repository/asked"
 launch "$folder" </dev/null

@@ -25,7 +25,7 @@ judge() {
     fi
 }
 
-# compare NAME FOLDER: runs the program in a folder of its own with the two files of FOLDER
+# compare NAME FOLDER: runs the program in a folder of its own with the two files of FOLDER; it says nothing on standard error
 compare() {
     local run="$work/run"
     rm -rf "$run"
@@ -36,6 +36,7 @@ compare() {
         fi
     done
     (cd "$run" && "$program") >"$work/output" 2>"$work/errors" </dev/null || echo "ended with status $?" >>"$work/output"
+    cat "$work/errors" >>"$work/output"
     judge "$1" "$work/output" "$2/expected.txt"
 }
 
@@ -87,10 +88,12 @@ compare lines-65536 "$large"
 head -n 1 "$large/expected.txt" >"$work/first"
 judge closed-output "$work/output" "$work/first"
 
-# an output that cannot be written is told in one line on standard error
-(cd "$large" && "$program") >/dev/full 2>"$work/errors" </dev/null || true
+# an output that cannot be written is told in one line on standard error, that of a refusal too
 echo "$(basename "$program"): the session could not be written: No space left on device" >"$work/expected"
-judge full-output "$work/errors" "$work/expected"
+for folder in "$large" "$here/../../examples/refused-card"; do
+    (cd "$folder" && "$program") >/dev/full 2>"$work/errors" </dev/null || true
+    judge "full-output in $(basename "$folder")" "$work/errors" "$work/expected"
+done
 
 # one line of 65,536 bytes without an end, and with one
 awk 'BEGIN { for (i = 0; i < 65536; i++) printf "9" }' >"$large/calls.txt"
@@ -143,6 +146,7 @@ compare change-to-the-end "$large"
 # with standard input closed the first file that is opened has its number, 0
 cp "$here/cases/listing/card.txt" "$here/cases/listing/calls.txt" "$large/"
 (cd "$large" && "$program") >"$work/output" 2>"$work/errors" <&- || echo "ended with status $?" >>"$work/output"
+cat "$work/errors" >>"$work/output"
 judge input-closed "$work/output" "$here/cases/listing/expected.txt"
 
 echo "$((passed + failed)) cases, $failed failed"

@@ -117,11 +117,14 @@ cp "$large"/{machines,card0,calls}.txt "$work/run/"
 head -n 1 "$large/expected.txt" >"$work/expected"
 judge closed-output "$work/output" "$work/expected"
 
-# an output that cannot be written is told in one line on standard error
-(cd "$work/run" && "$program") >/dev/full 2>"$work/errors" </dev/null || true
-sed 's/^machines: .*No space left on device$/told/' "$work/errors" >"$work/output"
+# an output that cannot be written is told in one line on standard error, that of a refusal too
 echo told >"$work/expected"
-judge full-output "$work/output" "$work/expected"
+for kind in lines refusal; do
+    (cd "$work/run" && "$program") >/dev/full 2>"$work/errors" </dev/null || true
+    sed 's/^machines: .*No space left on device$/told/' "$work/errors" >"$work/output"
+    judge "full-output, $kind" "$work/output" "$work/expected"
+    echo x >"$work/run/machines.txt"
+done
 
 # T = 5,000: 357 operations of 14 steps each and two steps of the next one, then nothing more in this turn; a new turn goes on with the third step
 sed 1s/100/1000000/ "$card_k" >"$large/card0.txt"

@@ -139,10 +139,12 @@ for argument in '' ' 1' '1 '; do
     judge "the argument '$argument'" "$work/output" "$work/expected"
 done
 
-# an output that cannot be written is told in one line on standard error
-(cd "$every" && "$program" 12) >/dev/full 2>"$work/errors" </dev/null || true
+# an output that cannot be written is told in one line on standard error, that of a refusal too
 echo "schedules: the listing could not be written: No space left on device" >"$work/expected"
-judge full-output "$work/errors" "$work/expected"
+for folder in "$every" "$here/../../examples/refused-card"; do
+    (cd "$folder" && "$program" 12) >/dev/full 2>"$work/errors" </dev/null || true
+    judge "full-output in $(basename "$folder")" "$work/errors" "$work/expected"
+done
 
 echo "$((passed + failed)) cases, $failed failed"
 [ "$failed" -eq 0 ]

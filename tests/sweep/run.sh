@@ -84,10 +84,12 @@ grep -E '^(usage|sweep): ' "$work/errors" >>"$work/output" || true
 echo told >"$work/expected"
 judge "a long sweep tells how far it is" "$work/output" "$work/expected"
 
-# an output that cannot be written is told in one line on standard error
-(cd "$large" && "$program" 100 1) >/dev/full 2>"$work/errors" </dev/null || true
+# an output that cannot be written is told in one line on standard error, that of a refusal too
 echo "sweep: the counts could not be written: No space left on device" >"$work/expected"
-judge full-output "$work/errors" "$work/expected"
+for folder in "$large" "$here/../../examples/refused-card"; do
+    (cd "$folder" && "$program" 100 1) >/dev/full 2>"$work/errors" </dev/null || true
+    judge "full-output in $(basename "$folder")" "$work/errors" "$work/expected"
+done
 
 # 65,536 bytes of calls are judged by their lines, one more is refusal 1; the card is judged first
 awk 'BEGIN { for (i = 0; i < 65536; i++) print "" }' >"$large/calls.txt"

@@ -43,12 +43,14 @@ write() {
         [ ! -e "$2/$file" ] || cp "$2/$file" "$room/"
     done
     run "$room" "$waves"
+    cat "$work/errors" >>"$work/output"
     judge "$1" "$work/output" "${3:-$2/expected.txt}"
 }
 
 # read_off NAME FOLDER EXPECTED [STEP]: what is read off the dump of a folder
 read_off() {
     run "$2" "$readings" dump.vcd "${@:4}"
+    cat "$work/errors" >>"$work/output"
     judge "$1${4:+ after step $4}" "$work/output" "$3"
 }
 
@@ -184,19 +186,23 @@ for step in '' 07 00 +7 -1 ' 7' '7 ' 7.0 x 1000000000000000001 18446744073709551
     usage_line "readings with step '${step:0:30}'" "$readings" "$large/dump.vcd" "$step"
 done
 
-# an output that is closed early ends the program; one that cannot be written is told in one line on standard error
+# an output that is closed early ends the program; one that cannot be written is told in one line on standard error, that of a refusal too
 dump_of 4194304 >"$large/dump.vcd"
 (cd "$large" && timeout 60 "$readings" dump.vcd) 2>/dev/null </dev/null | head -n 1 >"$work/output" || true
 echo 0,0 >"$work/expected"
 judge closed-output "$work/output" "$work/expected"
 cp "$card_k" "$large/card.txt"
-for program in waves readings; do
-    arguments=()
-    [ "$program" = waves ] || arguments=(dump.vcd)
-    (cd "$large" && "${!program}" "${arguments[@]}") >/dev/full 2>"$work/errors" </dev/null || true
-    sed "s/^$program: .*No space left on device$/told/" "$work/errors" >"$work/output"
-    echo told >"$work/expected"
-    judge "full output of $program" "$work/output" "$work/expected"
+echo told >"$work/expected"
+for kind in whole refused; do
+    for program in waves readings; do
+        arguments=()
+        [ "$program" = waves ] || arguments=(dump.vcd)
+        (cd "$large" && "${!program}" "${arguments[@]}") >/dev/full 2>"$work/errors" </dev/null || true
+        sed "s/^$program: .*No space left on device$/told/" "$work/errors" >"$work/output"
+        judge "full output of $program, $kind" "$work/output" "$work/expected"
+    done
+    echo x >"$large/card.txt"
+    echo x >"$large/dump.vcd"
 done
 
 echo "waves and readings: $((passed + failed)) cases, $failed failed"

@@ -25,7 +25,12 @@ judge() {
     fi
 }
 
-# compare NAME FOLDER: runs the program in a folder of its own with the two files of FOLDER; it says nothing on standard error
+# failures: what the program has told of a wrong call or a failure
+failures() {
+    grep -E "^(usage|$(basename "$program")): " "$work/errors" || true
+}
+
+# compare NAME FOLDER: runs the program in a folder of its own with the two files of FOLDER; it tells no failure on standard error
 compare() {
     local run="$work/run"
     rm -rf "$run"
@@ -36,7 +41,7 @@ compare() {
         fi
     done
     (cd "$run" && "$program") >"$work/output" 2>"$work/errors" </dev/null || echo "ended with status $?" >>"$work/output"
-    cat "$work/errors" >>"$work/output"
+    failures >>"$work/output"
     judge "$1" "$work/output" "$2/expected.txt"
 }
 
@@ -146,7 +151,7 @@ compare change-to-the-end "$large"
 # with standard input closed the first file that is opened has its number, 0
 cp "$here/cases/listing/card.txt" "$here/cases/listing/calls.txt" "$large/"
 (cd "$large" && "$program") >"$work/output" 2>"$work/errors" <&- || echo "ended with status $?" >>"$work/output"
-cat "$work/errors" >>"$work/output"
+failures >>"$work/output"
 judge input-closed "$work/output" "$here/cases/listing/expected.txt"
 
 echo "$((passed + failed)) cases, $failed failed"

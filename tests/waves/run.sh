@@ -192,6 +192,7 @@ dump_of 4194304 >"$large/dump.vcd"
 echo 0,0 >"$work/expected"
 judge closed-output "$work/output" "$work/expected"
 cp "$card_k" "$large/card.txt"
+cp "$here/../bench/cases/listing/calls.txt" "$large/"
 echo told >"$work/expected"
 for kind in whole refused; do
     for program in waves readings; do
@@ -204,6 +205,14 @@ for kind in whole refused; do
     echo x >"$large/card.txt"
     echo x >"$large/dump.vcd"
 done
+
+# so is one that fills up on the way: a file of at most 1,024 bytes, where the header of a dump has room
+cp "$card_k" "$large/card.txt"
+awk 'BEGIN { for (i = 1; i <= 200; i++) { print "call,0,0," i ",0,0,0"; for (k = 0; k < 14; k++) print "step,0" } }' >"$large/calls.txt"
+sed -i '1s/,[0-9]*$/,1000000/' "$large/card.txt"
+(trap '' XFSZ && ulimit -f 1 && cd "$large" && "$waves" >"$work/output") 2>"$work/errors" </dev/null || true
+sed 's/^waves: .*File too large$/told/' "$work/errors" >"$work/output"
+judge "an output that fills up" "$work/output" "$work/expected"
 
 echo "waves and readings: $((passed + failed)) cases, $failed failed"
 [ "$failed" -eq 0 ]

@@ -2,8 +2,10 @@
 // assumed as the kit's libc states it. It rests on the kit alone.
 use libc::STDOUT_FILENO;
 ghost use mathlib.Core.Path.{_≡_};
-ghost use Prim.Native.Nat.{_+_};
+ghost use mathlib.Core.Bool.{false};
+ghost use Prim.Native.Nat.{_+_, _<_};
 ghost use lib.Dec.{leb};
+ghost use lib.ListN.{length};
 ghost use Rattle.io.specs.Counts.{Counts};
 
 // Reads as much of a file as the buffer takes. A file that cannot be opened counts as empty.
@@ -19,8 +21,10 @@ pub fn read_file(path: &[u8], buffer: &mut [u8]) -> usize
     count
 }
 
-// Writes the bytes before a place. Whether all were written.
-pub fn print(buffer: &[u8], end: usize) -> bool {
+// Writes the bytes before a place. Whether all were written, which they are not where the place is past the buffer.
+pub fn print(buffer: &[u8], end: usize) -> bool
+    ensures { λ r. ⌜ (length (now (buffer .entry)) < end → r ≡ false) ⌝ }
+{
     if buffer.len() < end {
         return false;
     }

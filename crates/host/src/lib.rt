@@ -1,5 +1,6 @@
-// What every program asks of the system that it runs on: the bytes of a file, bytes printed, and the seconds of its clock. What the system answers is
-// assumed as the kit's libc states it. It rests on the kit alone.
+// What every program asks of the system that it runs on: the bytes of a file, bytes printed or told, and the seconds of its clock. What the system answers
+// is assumed as the kit's libc states it. It rests on the kit alone.
+use libc::STDERR_FILENO;
 use libc::STDOUT_FILENO;
 ghost use mathlib.Core.Path.{_≡_};
 ghost use mathlib.Core.Bool.{false};
@@ -22,13 +23,27 @@ pub fn read_file(path: &[u8], buffer: &mut [u8]) -> usize
 }
 
 // Writes the bytes before a place. Whether all were written, which they are not where the place is past the buffer.
-pub fn print(buffer: &[u8], end: usize) -> bool
+fn write(file: i32, buffer: &[u8], end: usize) -> bool
     ensures { λ r. ⌜ (length (now (buffer .entry)) < end → r ≡ false) ⌝ }
 {
     if buffer.len() < end {
         return false;
     }
-    io::write_all(STDOUT_FILENO, &buffer[..end])
+    io::write_all(file, &buffer[..end])
+}
+
+// On standard output, what a program is asked for.
+pub fn print(buffer: &[u8], end: usize) -> bool
+    ensures { λ r. ⌜ (length (now (buffer .entry)) < end → r ≡ false) ⌝ }
+{
+    write(STDOUT_FILENO, buffer, end)
+}
+
+// On standard error, how far it is.
+pub fn tell(buffer: &[u8], end: usize) -> bool
+    ensures { λ r. ⌜ (length (now (buffer .entry)) < end → r ≡ false) ⌝ }
+{
+    write(STDERR_FILENO, buffer, end)
 }
 
 // The seconds of the system's clock.

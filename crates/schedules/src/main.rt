@@ -9,6 +9,7 @@ use grammar::writing::put_word;
 use host::is_due;
 use host::read_file;
 use host::seconds;
+use host::tell;
 use libc::STDERR_FILENO;
 use libc::STDOUT_FILENO;
 use listing::pieces::count_pieces;
@@ -17,7 +18,8 @@ use schedule_files::prepare;
 ghost use mathlib.Core.Path.{_≡_};
 ghost use Prim.Native.Nat.{_≤_};
 ghost use lib.ListN.{length};
-ghost use Rattle.io.specs.Counts.{Counts};
+ghost use Rattle.grammar.specs.Writing.{Put};
+ghost use Rattle.schedules.specs.Progress.{progressText};
 
 // The steps of a piece after its first ones: it has at most 243 lines of at most 2,129 bytes, for which a buffer of 524,288 bytes has room.
 const LAST: u8 = 5;
@@ -35,9 +37,9 @@ fn read_argument() -> Argument {
     decimal_of(&text[..length])
 }
 
-// How many of the pieces are done, and in which time, as a line in a buffer; its length, or 0 where it does not fit.
+// How many of the pieces are done, and in which time, as a line in a buffer; the place past it.
 fn put_progress(buffer: &mut [u8], done: u32, pieces: u32, elapsed: u64) -> usize
-    ensures { λ r. ⌜ Counts r (now (buffer .exit)) ⌝ }
+    ensures { λ r. ⌜ Put (now (buffer .entry)) 0 (progressText done pieces elapsed) r (now (buffer .exit)) ⌝ }
 {
     let i = put_word(buffer, 0, b"listed ");
     let j = put_decimal(buffer, i, done as u64);
@@ -45,18 +47,14 @@ fn put_progress(buffer: &mut [u8], done: u32, pieces: u32, elapsed: u64) -> usiz
     let l = put_decimal(buffer, k, pieces as u64);
     let m = put_word(buffer, l, b" beginnings of schedules, ");
     let n = put_decimal(buffer, m, elapsed);
-    let end = put_word(buffer, n, b" s\n");
-    if end <= buffer.len() {
-        return end;
-    }
-    0
+    put_word(buffer, n, b" s\n")
 }
 
 // Tells how many of the pieces are done, and in which time.
-fn tell(done: u32, pieces: u32, elapsed: u64) {
+fn tell_progress(done: u32, pieces: u32, elapsed: u64) {
     let mut text = io::buffer();
-    let length = put_progress(&mut text, done, pieces, elapsed);
-    io::write_all(STDERR_FILENO, &text[..length]);
+    let end = put_progress(&mut text, done, pieces, elapsed);
+    tell(&text, end);
 }
 
 // Tells how far it is where two seconds have passed since that was last told; when it was last told.
@@ -66,7 +64,7 @@ fn report(done: u32, pieces: u32, started: u64, told: u64) -> u64 {
         return told;
     }
     if now >= started {
-        tell(done, pieces, now - started);
+        tell_progress(done, pieces, now - started);
     }
     now
 }

@@ -3,9 +3,12 @@
 // bytes and telling how far it is are left to do here. Block and loan stand in two arrays of this program.
 use arguments::Argument;
 use arguments::decimal_of;
+use grammar::writing::put_decimal;
+use grammar::writing::put_word;
 use host::is_due;
 use host::read_file;
 use host::seconds;
+use host::tell;
 use libc::STDERR_FILENO;
 use libc::STDOUT_FILENO;
 use sweeping::Progress;
@@ -13,7 +16,10 @@ use sweeping::pieces::advance;
 use sweeping::pieces::begin;
 use sweeping::printing::put_summary;
 use sweeping::starting::start;
+ghost use mathlib.Core.Path.{_≡_};
+ghost use Rattle.grammar.specs.Writing.{Put};
 ghost use Rattle.sweeping.specs.Pieces.{Finishes};
+ghost use Rattle.sweep.specs.Progress.{quotientOf, rateText, progressText};
 
 // An argument by its place.
 fn argument_at(place: usize) -> Argument {
@@ -23,35 +29,52 @@ fn argument_at(place: usize) -> Argument {
 }
 
 // A quotient, 0 where the divisor is 0.
-fn quotient(a: u64, b: u64) -> u64 {
+fn quotient(a: u64, b: u64) -> u64
+    ensures { λ r. ⌜ r ≡ quotientOf a b ⌝ }
+{
     if b == 0 {
         return 0;
     }
     a / b
 }
 
+// Steps a second, and the seconds that are left at this rate.
+fn put_rate(buffer: &mut [u8], at: usize, rate: u64, left: u64) -> usize
+    ensures { λ r. ⌜ Put (now (buffer .entry)) at (rateText rate left) r (now (buffer .exit)) ⌝ }
+{
+    let i = put_decimal(buffer, at, rate);
+    let j = put_word(buffer, i, b" a second, ");
+    let k = put_decimal(buffer, j, quotient(left, rate));
+    put_word(buffer, k, b" s left\n")
+}
+
+// How many of the steps are done, how many in a second, and how many seconds are left, as a line in a buffer; the place past it.
+fn put_progress(buffer: &mut [u8], done: u64, steps: u64, left: u64, elapsed: u64) -> usize
+    ensures { λ r. ⌜ Put (now (buffer .entry)) 0 (progressText done steps left elapsed) r (now (buffer .exit)) ⌝ }
+{
+    let i = put_decimal(buffer, 0, done);
+    let j = put_word(buffer, i, b" of ");
+    let k = put_decimal(buffer, j, steps);
+    let l = put_word(buffer, k, b" steps, ");
+    put_rate(buffer, l, quotient(done, elapsed), left)
+}
+
 // Tells how many of the steps are done, how many in a second, and how many seconds are left.
-fn tell(done: u64, left: u64, elapsed: u64) {
-    let rate = quotient(done, elapsed);
-    io::print_decimal(STDERR_FILENO, done);
-    io::write_all(STDERR_FILENO, b" of ");
-    io::print_decimal(STDERR_FILENO, std::num::wrapping_add_u64(done, left));
-    io::write_all(STDERR_FILENO, b" steps, ");
-    io::print_decimal(STDERR_FILENO, rate);
-    io::write_all(STDERR_FILENO, b" a second, ");
-    io::print_decimal(STDERR_FILENO, quotient(left, rate));
-    io::write_all(STDERR_FILENO, b" s left\n");
+fn tell_progress(done: u64, steps: u64, left: u64, elapsed: u64) {
+    let mut text = io::buffer();
+    let end = put_progress(&mut text, done, steps, left, elapsed);
+    tell(&text, end);
 }
 
 // Tells how far it is where two seconds have passed since that was last told; when it was last told.
-fn report(q: Progress, started: u64, told: u64) -> u64 {
+fn report(q: Progress, steps: u64, started: u64, told: u64) -> u64 {
     let now = seconds();
     if !is_due(now, told) {
         return told;
     }
     if now >= started {
         let counts = q.counts;
-        tell(counts.accepted, q.left, now - started);
+        tell_progress(counts.accepted, steps, q.left, now - started);
     }
     now
 }
@@ -65,7 +88,7 @@ fn sweep_all(b: &mut [u64], l: &mut [u64], calls: &[u32], first: Progress) -> Pr
     let mut q = first;
     while q.left > 0 {
         q = advance(b, l, calls, q);
-        told = report(q, started, told);
+        told = report(q, first.left, started, told);
     }
     q
 }

@@ -1,12 +1,6 @@
-use mathlib.Core.Path.{refl, sym}
-use native.Mathlib.Omega.{arith}
-use lib.Seq.{length-take-le}
 use borrow.Author.Needs.{needs}
 use Rattle.host.proofs.print.Statement.{statement}
 use Rattle.host.proofs.print.Tie as tie
 
 pub print-spec : {M : Type 1} → statement M
-print-spec = tie.close
-    (tie.spec (λ c _. refl)
-    (λ c. sym (length-take-le ((c .before .before .before .args) .end) ((c .before .before .before .args) .buffer .now) (c .before .if1 .left)))
-    (λ c κs. search needs) (λ c h. absurd (omega (arith, h, c .before .before .if1 .left))))
+print-spec = tie.close (tie.spec (λ c κs. search needs) (λ c. c .write .ensures))

@@ -8,10 +8,10 @@ use Rattle.sweep.proofs.sweep_all.Statement.{statement}
 use Rattle.sweep.proofs.sweep_all.Tie as tie
 
 abbrev Inv-loop : tie.InvT-loop
-Inv-loop b₀ l₀ calls started told₀ q₀ b l told q = PiecesTo calls (stage b₀ l₀ q₀) (stage b l q) × (length b ≡ length b₀) × (length l ≡ length l₀)
+Inv-loop b₀ l₀ calls first started told₀ q₀ b l told q = PiecesTo calls (stage b₀ l₀ q₀) (stage b l q) × (length b ≡ length b₀) × (length l ≡ length l₀)
 
 abbrev μ-loop : tie.MeasureT-loop
-μ-loop b₀ l₀ calls started told₀ q₀ b l told q = q .left
+μ-loop b₀ l₀ calls first started told₀ q₀ b l told q = q .left
 
 seconds-requires : tie.Need-seconds-requires Inv-loop μ-loop
 seconds-requires c κs = search needs

@@ -1,0 +1,2 @@
+-- Definitions of the program schedules
+pub mod Progress

@@ -1,0 +1,2 @@
+-- Definitions of the program sweep
+pub mod Progress

@@ -11,7 +11,7 @@ use report::same::both;
 ghost use mathlib.Core.Path.{_≡_};
 ghost use Rattle.construction.specs.Cells.{swapGate};
 ghost use Rattle.lent.specs.Row.{rowAnswer, rowAfter};
-ghost use Rattle.lent_demo.specs.Rows.{recordOf, firstRow, sameRow};
+ghost use Rattle.lent_demo.specs.Rows.{recordOf, firstRow, newRecord, heldGate, freeGate, sameRow};
 
 // A row that came back from a loan, and what the swap answered.
 struct Returned {
@@ -69,6 +69,33 @@ fn first_row() -> [Record; 4]
     [first, second, third, fourth]
 }
 
+// The record that a swap puts in: it differs from each of them.
+fn new_record() -> Record
+    ensures { λ r. ⌜ r ≡ newRecord ⌝ }
+{
+    record(9, 8, true, 7)
+}
+
+// The gate that is lent.
+fn held_gate() -> Gate
+    ensures { λ r. ⌜ r ≡ heldGate ⌝ }
+{
+    Gate {
+        holder: Holder::Process(1),
+        seq: 7,
+    }
+}
+
+// The gate that a swap puts in.
+fn free_gate() -> Gate
+    ensures { λ r. ⌜ r ≡ freeGate ⌝ }
+{
+    Gate {
+        holder: Holder::Nobody,
+        seq: 8,
+    }
+}
+
 fn same_row(a: [Record; 4], b: [Record; 4]) -> bool
     ensures { λ r. ⌜ r ≡ sameRow a b ⌝ }
 {
@@ -112,7 +139,7 @@ fn row_case(label: &[u8], place: usize, expected: Record, new: Record, wanted: [
 fn won_row(label: &[u8], place: usize) {
     if place < 4 {
         let row = first_row();
-        let new = record(9, 8, true, 7);
+        let new = new_record();
         let mut wanted = row;
         wanted[place] = new;
         let expected = row[place];
@@ -125,32 +152,19 @@ fn changed_row(label: &[u8], place: usize) {
     if place < 4 {
         let row = first_row();
         let expected = row[place];
-        row_case(label, place, expected, record(9, 8, true, 7), row);
+        row_case(label, place, expected, new_record(), row);
     }
 }
 
 // A swap that expects the first record and is to change nothing.
 fn kept_row(label: &[u8], place: usize) {
     let row = first_row();
-    row_case(
-        label,
-        place,
-        record(1, 2, false, 5),
-        record(9, 8, true, 7),
-        row,
-    );
+    let expected = row[0];
+    row_case(label, place, expected, new_record(), row);
 }
 
 fn gate_case(label: &[u8], expected: Gate, wanted: Gate) {
-    let gate = Gate {
-        holder: Holder::Process(1),
-        seq: 7,
-    };
-    let new = Gate {
-        holder: Holder::Nobody,
-        seq: 8,
-    };
-    let after = swap_gate(gate, expected, new);
+    let after = swap_gate(held_gate(), expected, free_gate());
     io::write_all(STDOUT_FILENO, label);
     if after.won {
         io::write_all(STDOUT_FILENO, b"won");
@@ -161,15 +175,8 @@ fn gate_case(label: &[u8], expected: Gate, wanted: Gate) {
 }
 
 fn gate_cases() {
-    let held = Gate {
-        holder: Holder::Process(1),
-        seq: 7,
-    };
-    let free = Gate {
-        holder: Holder::Nobody,
-        seq: 8,
-    };
-    gate_case(b"gate,equal,", held, free);
+    let held = held_gate();
+    gate_case(b"gate,equal,", held, free_gate());
     gate_case(b"gate,the gate as it was,", held, held);
     gate_case(
         b"gate,other seq,",

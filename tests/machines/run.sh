@@ -126,6 +126,12 @@ for kind in lines refusal; do
     echo x >"$work/run/machines.txt"
 done
 
+# so is one that fills up on the way: a file of at most 512 KiB
+cp "$large/machines.txt" "$work/run/"
+(trap '' XFSZ && ulimit -f 512 && cd "$work/run" && "$program" >"$work/output") 2>"$work/errors" </dev/null || true
+sed 's/^machines: .*File too large$/told/' "$work/errors" >"$work/output"
+judge "an output that fills up" "$work/output" "$work/expected"
+
 # T = 5,000: 357 operations of 14 steps each and two steps of the next one, then nothing more in this turn; a new turn goes on with the third step
 sed 1s/100/1000000/ "$card_k" >"$large/card0.txt"
 printf 'machines,1,5000\nmachine,100,100000\n' >"$large/machines.txt"
@@ -169,11 +175,11 @@ echo machines,refused,2,1 >"$large/expected.txt"
 compare folder-as-machines "$large" "$large/expected.txt"
 rmdir "$large/machines.txt"
 
-# an argument is a usage line on standard error and nothing else, whatever the files are
+# an argument is the usage line on standard error and nothing else, whatever the files are
 for argument in x '' 1 --help; do
     play "$large" "$argument"
-    sed 's/^usage: machines\>.*/usage/' "$work/errors" >>"$work/output"
-    echo usage >"$work/expected"
+    cat "$work/errors" >>"$work/output"
+    echo "usage: machines (reads machines.txt, card0.txt to card3.txt and calls.txt in the current folder)" >"$work/expected"
     judge "argument '$argument'" "$work/output" "$work/expected"
 done
 

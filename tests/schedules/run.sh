@@ -96,10 +96,13 @@ done
 awk 'BEGIN { for (k = 0; k < 14; k++) runs = runs ",run"; print "0000000000000001" runs ",done,1,7,0,0,0,15,run" }' >"$work/expected"
 judge closed-output "$work/output" "$work/expected"
 
-# a listing that takes long tells on standard error how far it is, and no line there is one of a failure
+# a listing that takes long tells on standard error how far it is, every two seconds or later, by rising numbers of 177,147 pieces; no other line is there
 (cd "$large" && timeout 8 "$program" 16 >/dev/null 2>"$work/errors" </dev/null) || true
-grep -c -v -E '^(usage|schedules): ' "$work/errors" | sed 's/^[1-9].*/told/' >"$work/output" || true
-grep -E '^(usage|schedules): ' "$work/errors" >>"$work/output" || true
+awk '
+    !/^listed [0-9]+ of 177147 beginnings of schedules, [0-9]+ s$/ { print; next }
+    $2 <= done || $2 >= 177147 || $8 < seconds + 2 || $8 > seconds + 60 { print }
+    { done = $2; seconds = $8; told++ }
+    END { print (told > 1 ? "told" : "not told") }' "$work/errors" >"$work/output"
 echo told >"$work/expected"
 judge "a long listing tells how far it is" "$work/output" "$work/expected"
 
@@ -125,17 +128,17 @@ awk 'BEGIN { for (i = 0; i < 16385; i++) printf "x" }' >"$large/card.txt"
 echo card,refused,1,0 >"$large/expected.txt"
 compare card-16385 "$large" 3 "$large/expected.txt"
 
-# a wrong argument, or a wrong number of them, is a usage line on standard error, which may explain L in brackets, and nothing else, whatever the files are
-echo "usage: schedules L" >"$work/expected"
+# a wrong argument, or a wrong number of them, is the usage line on standard error and nothing else, whatever the files are
+echo "usage: schedules L (the number of steps, a decimal below 4294967296)" >"$work/expected"
 for arguments in '' 'x' '016' '00' '-1' '+1' '1x' '0x1' '1.0' '4294967296' '18446744073709551617' '1 2'; do
     # shellcheck disable=SC2086
     list "$large" $arguments
-    sed 's/^\(usage: schedules L\) (.*)$/\1/' "$work/errors" >>"$work/output"
+    cat "$work/errors" >>"$work/output"
     judge "argument '$arguments'" "$work/output" "$work/expected"
 done
 for argument in '' ' 1' '1 '; do
     list "$large" "$argument"
-    sed 's/^\(usage: schedules L\) (.*)$/\1/' "$work/errors" >>"$work/output"
+    cat "$work/errors" >>"$work/output"
     judge "the argument '$argument'" "$work/output" "$work/expected"
 done
 
@@ -145,6 +148,11 @@ for folder in "$every" "$here/../../examples/refused-card"; do
     (cd "$folder" && "$program" 12) >/dev/full 2>"$work/errors" </dev/null || true
     judge "full-output in $(basename "$folder")" "$work/errors" "$work/expected"
 done
+
+# so is one that fills up on the way: a file of at most 512 KiB
+echo "schedules: the listing could not be written: File too large" >"$work/expected"
+(trap '' XFSZ && ulimit -f 512 && cd "$every" && "$program" 16 >"$work/output") 2>"$work/errors" </dev/null || true
+judge "an output that fills up" "$work/errors" "$work/expected"
 
 echo "$((passed + failed)) cases, $failed failed"
 [ "$failed" -eq 0 ]

@@ -77,10 +77,16 @@ for steps in 130001 1300002 1300014; do
     compare "card K, $steps steps" "$large" "$steps" "$steps" "$large/expected.txt"
 done
 
-# a sweep that takes long tells on standard error how far it is, and no line there is one of a failure
-(cd "$large" && timeout 6 "$program" 18446744073709551615 1 >"$work/output" 2>"$work/errors" </dev/null) || true
-grep -c -v -E '^(usage|sweep): ' "$work/errors" | sed 's/^[1-9].*/told/' >>"$work/output" || true
-grep -E '^(usage|sweep): ' "$work/errors" >>"$work/output" || true
+# a sweep that takes long tells on standard error how far it is, every two seconds or later: the steps, their rate and the seconds left at this rate fit
+# together; no other line is there
+all=1000000000000
+(cd "$large" && timeout 8 "$program" "$all" 1 >"$work/output" 2>"$work/errors" </dev/null) || true
+awk -v all="$all" '
+    !/^[0-9]+ of [0-9]+ steps, [0-9]+ a second, [0-9]+ s left$/ { print; next }
+    { seconds = $5 > 0 ? int($1 / $5) : 0 }
+    $1 <= done || $3 != all || seconds < last + 2 || seconds > last + 60 || $8 != int((all - $1) / $5) { print }
+    { done = $1; last = seconds; told++ }
+    END { print (told > 1 ? "told" : "not told") }' "$work/errors" >>"$work/output"
 echo told >"$work/expected"
 judge "a long sweep tells how far it is" "$work/output" "$work/expected"
 
@@ -102,14 +108,14 @@ awk 'BEGIN { for (i = 0; i < 16385; i++) printf "x" }' >"$large/card.txt"
 echo card,refused,1,0 >"$large/expected.txt"
 compare card-16385 "$large" 3 1 "$large/expected.txt"
 
-# a wrong argument, or a wrong number of them, is a usage line on standard error and nothing else, whatever the files are
-echo "usage: sweep STEPS SEED" >"$work/expected"
-# misused NAME ARGUMENT..: it is so; the line may tell more
+# a wrong argument, or a wrong number of them, is the usage line on standard error and nothing else, whatever the files are
+echo "usage: sweep STEPS SEED (decimals below 18446744073709551616, SEED not 0)" >"$work/expected"
+# misused NAME ARGUMENT..: it is so
 misused() {
     local name="$1"
     shift
     sweep "$large" "$@"
-    sed 's/^\(usage: sweep STEPS SEED\) (.*)$/\1/' "$work/errors" >>"$work/output"
+    cat "$work/errors" >>"$work/output"
     judge "$name" "$work/output" "$work/expected"
 }
 for arguments in '' '1' '1 2 3' 'x 1' '1 x' '1 0' '016 1' '1 016' '00 1' '1 00' '-1 1' '1 -1' '+1 1' '1 +1' '1x 1' '0x1 1' '1.0 1' '1e3 1' \

@@ -63,13 +63,16 @@ values() {
         END { print line() }' "$1"
 }
 
-# usage_line NAME PROGRAM [ARGUMENT..]: nothing is printed, and standard error is a usage line
+# usage_line NAME PROGRAM [ARGUMENT..]: nothing is printed, and standard error is the program's usage line
 usage_line() {
     local name="$1"
     shift
     run "$work" "$@"
-    sed 's/^usage: .*/usage/' "$work/errors" >>"$work/output"
-    echo usage >"$work/expected"
+    cat "$work/errors" >>"$work/output"
+    case "$1" in
+        "$waves") echo "usage: waves" ;;
+        *) echo "usage: readings DUMP [STEP] (a step from 0 to 1000000000000000000)" ;;
+    esac >"$work/expected"
     judge "usage of $name" "$work/output" "$work/expected"
 }
 
@@ -206,13 +209,17 @@ for kind in whole refused; do
     echo x >"$large/dump.vcd"
 done
 
-# so is one that fills up on the way: a file of at most 1,024 bytes, where the header of a dump has room
+# so is one that fills up on the way: of a dump after 1,024 bytes, which have room for the header, of its values after 512 KiB
 cp "$card_k" "$large/card.txt"
 awk 'BEGIN { for (i = 1; i <= 200; i++) { print "call,0,0," i ",0,0,0"; for (k = 0; k < 14; k++) print "step,0" } }' >"$large/calls.txt"
 sed -i '1s/,[0-9]*$/,1000000/' "$large/card.txt"
-(trap '' XFSZ && ulimit -f 1 && cd "$large" && "$waves" >"$work/output") 2>"$work/errors" </dev/null || true
-sed 's/^waves: .*File too large$/told/' "$work/errors" >"$work/output"
-judge "an output that fills up" "$work/output" "$work/expected"
+dump_of 4194304 >"$large/dump.vcd"
+for case in waves,1 readings,512,dump.vcd; do
+    IFS=, read -r program blocks argument <<<"$case"
+    (trap '' XFSZ && ulimit -f "$blocks" && cd "$large" && "${!program}" ${argument:+"$argument"} >"$work/output") 2>"$work/errors" </dev/null || true
+    sed "s/^$program: .*File too large$/told/" "$work/errors" >"$work/output"
+    judge "an output of $program that fills up" "$work/output" "$work/expected"
+done
 
 echo "waves and readings: $((passed + failed)) cases, $failed failed"
 [ "$failed" -eq 0 ]

@@ -1,6 +1,6 @@
 -- What is taken out of a block is that part of the card that it holds, for every block, however short, and every number: one law for parts of several
 -- words and one for parts of one word, cited by each part.
-use Prim.Native.Nat.{ℕ, zero, suc, _+_, _-_, _*_, _<_, _≤_, min}
+use Prim.Native.Nat.{ℕ, _+_, _*_, _<_, _≤_, min}
 use mathlib.Core.Path.{_≡_, refl, sym, _∙_, ap}
 use mathlib.Core.Bool.{Bool, true, false, cond, _&&_}
 use mathlib.Core.List.{List, [], _∷_}
@@ -15,11 +15,11 @@ use Rattle.construction.specs.Opening.{fresh, noContents}
 use Rattle.construction.specs.Parts as construction
 use Rattle.construction.specs.Parts.{idleControl, noOperation, noGate, announcementAt, recordAt, localAt, textsOf}
 use Rattle.construction.proofs.Basics.{getD-replicate-same}
-use Rattle.codes.specs.Types.{Gate, Announcement, Record, Control, Operation, Simulation, Dictionary, Program, Card}
+use Rattle.codes.specs.Types.{Card}
 use Rattle.codes.specs.Parts.{wordAt, part, table, rows}
 use Rattle.codes.specs.Codes.{byte, half, odd, gateOf, controlOf, announcementOf, recordOf, operationOf, simulationOf, programOf}
 use Rattle.codes.proofs.Blocks.{getD-table, table-or}
-use Rattle.block.specs.Layout.{isRoom, rowAt, numberAt, processCountIn, variableCountIn, programCountIn, limitIn, stepsIn, roomIn, notedIn, gateIn}
+use Rattle.block.specs.Layout.{isRoom, rowAt, numberAt, processCountIn, variableCountIn, programCountIn, limitIn, stepsIn, roomIn, gateIn}
 use Rattle.block.specs.Layout.{announcementIn, recordIn, controlIn, operationIn, exitIn, countIn, lastGateIn, lastIn, simulationIn, maskIn, startIn}
 use Rattle.block.specs.Layout.{openingText, fromIn, earlierText, laterText}
 use Rattle.block.specs.Cards.{dictionaryAt, dictionaryIn, textIn, numbers, standing, cardOf}

@@ -1,7 +1,7 @@
 -- A block in which only one interval of words was changed holds the card in which only the parts of that interval may have changed: one law for
 -- all parts. With the interval written out, the tests compute, and each other part is that of the old block.
 use Prim.Native.Nat.{ℕ, _+_, _*_, _<_, _≤_, min}
-use mathlib.Core.Path.{_≡_, refl, sym, _∙_, ap}
+use mathlib.Core.Path.{_≡_, refl, ap}
 use mathlib.Core.Logic.{_⊎_, inl, inr, ⊎-elim}
 use mathlib.Core.Bool.{Bool, true, false, cond, _&&_, _||_}
 use mathlib.Core.List.{List, [], _∷_}
@@ -13,7 +13,7 @@ use Rattle.codes.specs.Types.{Card}
 use Rattle.codes.specs.Parts.{wordAt, part, stores, table, rows}
 use Rattle.codes.specs.Codes.{byte, half, odd, gateOf, controlOf, announcementOf, recordOf, operationOf, simulationOf, programOf}
 use Rattle.codes.proofs.Blocks.{kept, part-same, table-same, rows-same}
-use Rattle.block.specs.Layout.{isRoom, numberAt, roomIn, notedIn}
+use Rattle.block.specs.Layout.{isRoom, numberAt}
 use Rattle.block.specs.Cards.{dictionaryAt, dictionaryIn, numbers, standing}
 use Rattle.construction.proofs.Basics.{and-true}
 

@@ -8,7 +8,7 @@ use lib.ListN.{length, set, replicate}
 use Rattle.construction.specs.Dictionary.{noItem}
 use Rattle.construction.specs.Opening.{fresh, noContents}
 use Rattle.construction.specs.Parts.{withOwn}
-use Rattle.codes.specs.Types.{Gate, Announcement, Record, Control, Operation, Simulation, Dictionary, Program, Item, Card}
+use Rattle.codes.specs.Types.{Gate, Announcement, Control, Operation, Simulation, Dictionary, Program, Item, Card}
 use Rattle.codes.specs.Parts.{wordAt, part, table, rows}
 use Rattle.codes.specs.Codes.{byte, half, odd, gateOf, controlOf, announcementOf, recordOf, operationOf, simulationOf, itemOf, programOf}
 use Rattle.block.specs.Layout.{roomIn, notedIn, fromIn, earlierText, laterText}

@@ -18,7 +18,7 @@
 --   928, 1192   earlier texts; later texts, 8 of each   33 words
 use Prim.Native.Nat.{ℕ, _+_, _*_, min}
 use mathlib.Core.Bool.{Bool, cond, _&&_}
-use mathlib.Core.List.{List, [], _∷_}
+use mathlib.Core.List.{List}
 use lib.Dec.{leb, ltb}
 use lib.ListN.{length, set}
 use Rattle.construction.specs.Cells.{openGate, openAnnouncement, openRecord}

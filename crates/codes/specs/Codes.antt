@@ -8,7 +8,7 @@ use Rattle.construction.specs.Labels.{labelRow}
 use Rattle.construction.specs.Instructions.{encode, noLine}
 use Rattle.codes.specs.Types.{Encoded, Holder, Nobody, Process, Gate, Flag, Done, Active, Exit, Words, Announcement, Record, Label, Idle, P1, P3, P5, P7}
 use Rattle.codes.specs.Types.{P10, C2, C4, P13, P14, P16, H21, H36, P19, P20, P21, P22, F1, F3, P6, Control, Operation, Simulation, Item, Instruction}
-use Rattle.codes.specs.Types.{Line, Program}
+use Rattle.codes.specs.Types.{Program}
 use Rattle.codes.specs.Parts.{wordAt, table}
 
 abbrev pub byte : ℕ → ℕ

@@ -1,6 +1,6 @@
 -- Where the command at a place ends, and the commands of a text one after the other.
 use mathlib.Core.Bool.{Bool, true, false, cond}
-use mathlib.Core.Path.{_≡_, refl, _∙_, ap}
+use mathlib.Core.Path.{_≡_, refl, ap}
 use mathlib.Core.List.{List, [], _∷_}
 use Prim.Native.Nat.{ℕ, zero, suc, _+_, _-_, _<_, _≤_}
 use lib.Dec.{ltb, eqb}
@@ -13,7 +13,7 @@ use Rattle.grammar.specs.Reading.{field, hasWord}
 use Rattle.grammar.proofs.Cases.{clash, on-test}
 use Rattle.grammar.proofs.Fields.{field-within}
 use Rattle.grammar.proofs.Items.{items-end, items-more, items-induction}
-use Rattle.commands.specs.declared.{Word.Word, Verb.Verb, Found.Found, Command.Command, Parsed.Parsed}
+use Rattle.commands.specs.declared.{Word.Word, Verb.Verb, Found.Found, Parsed.Parsed}
 use Rattle.commands.specs.Commands.{callWord, wishWord, stepWord, lookWord, traceWord, changeWord, lineEnd, linesEnd, malformed, limited, word, withWord}
 use Rattle.commands.specs.Commands.{callAt, changeAt, Inside, found, fieldsAt, command, commands}
 

@@ -1,6 +1,6 @@
 -- A program changed while the machine runs (document 02, order 11): 'A change names a sheet and a gate number G and brings that sheet's lines as a card has them.'
 use Prim.Native.Nat.{ℕ, zero, suc, min}
-use mathlib.Core.Bool.{Bool, true, false, cond, not, _&&_, _||_}
+use mathlib.Core.Bool.{Bool, false, cond, not, _&&_, _||_}
 use mathlib.Core.List.{List}
 use lib.ListN.{length, getD}
 use lib.Dec.{eqb, ltb}

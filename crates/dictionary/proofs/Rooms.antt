@@ -1,5 +1,5 @@
 -- The items of a dictionary that code holds fill their array.
-use Prim.Native.Nat.{ℕ, min}
+use Prim.Native.Nat.{min}
 use mathlib.Core.List.{List}
 use mathlib.Core.Path.{_≡_}
 use lib.ListN.{length, length-map, length-take}

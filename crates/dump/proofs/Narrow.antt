@@ -1,6 +1,6 @@
 -- What a read shows has 32 bits (document 01: 'Variables, inputs, outputs and the registers r0 to r3 are unsigned 32-bit words'): the words of the
 -- sequential run stay so, if the inputs of every call are.
-use Prim.Native.Nat.{ℕ, zero, suc, _+_, _-_, _≤_, _<_, min}
+use Prim.Native.Nat.{ℕ, zero, suc, _+_, _≤_, _<_, min}
 use mathlib.Core.Bool.{true, cond, not, _&&_}
 use mathlib.Core.Path.{_≡_, refl, _∙_, ap, subst}
 use mathlib.Core.List.{List, [], _∷_}

@@ -1,6 +1,6 @@
 -- Words to lend, and the longest wait.
 use Prim.Native.Nat.{ℕ, _*_, _<_, _≤_, min}
-use mathlib.Core.Path.{_≡_, refl, sym, _∙_}
+use mathlib.Core.Path.{_≡_, refl, sym}
 use mathlib.Core.List.{List}
 use mathlib.Core.Bool.{Bool, true, false, cond, _&&_}
 use native.Mathlib.Omega.{arith}

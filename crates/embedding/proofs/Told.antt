@@ -1,7 +1,7 @@
 -- The numbers of refusals, and numbers in a lent array.
 use Prim.Native.Nat.{ℕ, _<_}
 use mathlib.Core.List.{List, [], _∷_}
-use mathlib.Core.Path.{_≡_, refl, _∙_, ap}
+use mathlib.Core.Path.{_≡_, _∙_, ap}
 use native.Mathlib.Omega.{arith}
 use borrow.Author.Tests.{ne-eqb}
 use Rattle.construction.specs.declared.{accesses.LabelRow.LabelRow, answers.Report.Report}

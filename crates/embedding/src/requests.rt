@@ -11,7 +11,6 @@ use lent_card::requesting::read;
 use lent_card::requesting::request_exit;
 use lent_steps::stepping::step;
 use lent_steps::tracing::trace;
-ghost use mathlib.Core.Path.{_≡_};
 ghost use Rattle.embedding.specs.Requests.{Opens, Calls, Exits, Steps, Traces, Reads, Changes, Writes};
 
 // Open: a card text into a block. out: the line, where the text is refused.

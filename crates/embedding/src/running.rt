@@ -2,7 +2,6 @@
 use crate::numbers::tell_counts;
 use lent_sweep::running::run;
 use loan::dictionaries::loan_words;
-ghost use mathlib.Core.Path.{_≡_};
 ghost use Rattle.embedding.specs.Requests.{Runs};
 
 // Run (document 02, order 12): a step for each byte of a schedule, which names its process; one that returns is called again at once, by a table of five words

@@ -1,6 +1,6 @@
 -- What an access of a helper keeps: of the block all that no access changes (`Kept` of lent_machine), of the loan every word outside the items of its process
 use Prim.Native.Nat.{ℕ, _+_, _*_, _<_, _≤_}
-use mathlib.Core.Path.{_≡_, refl, sym, _∙_, ap, subst}
+use mathlib.Core.Path.{_≡_, refl, sym, _∙_, subst}
 use mathlib.Core.Logic.{_⊎_}
 use mathlib.Core.Bool.{Bool, true, false, cond, _&&_}
 use mathlib.Core.List.{List}
@@ -11,17 +11,16 @@ use lib.ListN.{length}
 use borrow.Author.Tests.{leb-true, le-leb}
 use Rattle.construction.specs.Marks.{withBit}
 use Rattle.construction.specs.Machine.{outcome, goTo, helps, afterPause}
-use Rattle.codes.specs.Types.{Announcement, Item, P19, P21}
+use Rattle.codes.specs.Types.{Item, P19, P21}
 use Rattle.codes.specs.Parts.{wordAt}
 use Rattle.codes.specs.Codes.{byte}
-use Rattle.block.specs.Layout.{isRoom, numberAt, processCountIn, roomIn, notedIn, putNoted, maskIn, controlIn, putControl, putLast, putSimulation, putMask}
-use Rattle.block.specs.Layout.{putRecord}
+use Rattle.block.specs.Layout.{isRoom, numberAt, processCountIn, roomIn, notedIn, putNoted, maskIn, controlIn, putLast, putSimulation, putMask}
 use Rattle.loan.specs.Loans.{hasItems, isInserted, insertBlock, insertLoan}
-use Rattle.loan.specs.Simulated.{begunIn, simulatedIn, simulatedLoan}
+use Rattle.loan.specs.Simulated.{begunIn, simulatedIn}
 use Rattle.loan.proofs.Kept.{Only, insert-only, simulated-only}
 use Rattle.lent_machine.proofs.Keeping.{Kept, kept-self, kept-twice, kept-if, kept-room, record-kept, control-kept, last-kept, simulation-kept, noted-kept}
 use Rattle.lent_machine.proofs.Keeping.{mask-kept}
-use Rattle.lent_helping.specs.Helps.{numberIn, helpedIn, helpBegun, helpPassed, helpStep, lackedIn, putMarked, goneOn, notedBlock, notedLoan, lackedItem}
+use Rattle.lent_helping.specs.Helps.{numberIn, helpedIn, helpStep, lackedIn, putMarked, goneOn, notedBlock, notedLoan, lackedItem}
 use Rattle.lent_helping.specs.Helps.{noteBlock, noteLoan, writingIn, writtenIn, recordSwapped, writeStep}
 
 kept-either : {b c d : List ℕ} (t : Bool) → Kept b c → Kept b d → Kept b (cond t c d)

@@ -1,12 +1,12 @@
 -- A record read and noted on a block and a loan (lines H21 to H25) is what the machine notes on the card that stands there, where fewer than w items stand
-use Prim.Native.Nat.{ℕ, suc, _+_, _*_, _<_, _≤_, min}
+use Prim.Native.Nat.{ℕ, _+_, _*_, _<_, _≤_, min}
 use mathlib.Core.Path.{_≡_, refl, sym, _∙_, ap}
 use mathlib.Core.Logic.{_≢_, inl}
-use mathlib.Core.Bool.{Bool, true, false, cond, _&&_}
+use mathlib.Core.Bool.{Bool, true, false, cond}
 use mathlib.Core.List.{List}
 use native.Mathlib.Omega.{arith}
 use lib.Dec.{ltb}
-use lib.ListN.{length, getD, set}
+use lib.ListN.{length, set}
 use lib.Seq.{set-set, getD-set-same}
 use borrow.Author.Tests.{lt-ltb}
 use Rattle.construction.specs.declared.accesses.Helped.{Helped}
@@ -18,21 +18,20 @@ use Rattle.construction.specs.Marks.{withBit}
 use Rattle.construction.specs.Helping.{simulate}
 use Rattle.construction.specs.Parts.{localAt, recordAt, textsOf, programOf, withOwn, withRecord, withSteps}
 use Rattle.construction.specs.Machine.{goTo, afterPause, helped, note, perform}
-use Rattle.codes.specs.Types.{Gate, Record, Item, Dictionary, Simulation, Control, Access, Card, P19}
-use Rattle.codes.specs.Parts.{table}
+use Rattle.codes.specs.Types.{Gate, Record, Item, Dictionary, Control, Access, Card, P19}
 use Rattle.codes.specs.Codes.{byte}
 use Rattle.codes.proofs.Blocks.{length-table, table-set}
 use Rattle.codes.proofs.Values.{FitsItem, FitsRecord}
-use Rattle.block.specs.Layout.{variableCountIn, roomIn, notedIn, putNoted, recordIn, controlIn, putControl, lastGateIn, lastIn, simulationIn, putSimulation}
+use Rattle.block.specs.Layout.{roomIn, notedIn, putNoted, controlIn, putControl, lastIn, putSimulation}
 use Rattle.block.specs.Layout.{maskIn}
 use Rattle.block.specs.Cards.{dictionaryAt, dictionaryIn, textIn, standing, cardOf, withControl, withSimulation, withDictionary, withMask}
 use Rattle.block.proofs.Gets.{long-card, variable-count-is, record-is, control-is, last-gate-is, last-is, simulation-is, mask-is, text-is, dictionary-is}
 use Rattle.block.proofs.Standing.{number-same}
 use Rattle.block.proofs.Puts.{simulation-stored, dictionary-stored, mask-stored, control-stored}
 use Rattle.block.proofs.Fitting.{record-fits, control-fits, noted-fits}
-use Rattle.loan.specs.Loans.{hasItems, heldDictionary, isInserted, insertBlock, insertLoan}
+use Rattle.loan.specs.Loans.{hasItems, isInserted, insertBlock, insertLoan}
 use Rattle.loan.specs.Simulated.{simulatedIn, simulatedLoan}
-use Rattle.loan.proofs.Kept.{Only, others, held-is, insert-only, insert-is, simulated-only, simulated-fits, simulated-is, simulated-target}
+use Rattle.loan.proofs.Kept.{others, held-is, insert-only, insert-is, simulated-only, simulated-fits, simulated-is, simulated-target}
 use Rattle.lent_machine.specs.Accesses.{next, counted}
 use Rattle.lent_machine.proofs.Own.{placed, gatesRead-kept, announcementsRead-kept, accepted, control-put, record-same}
 use Rattle.lent_machine.proofs.Keeping.{kept-room, only-number, simulation-kept}

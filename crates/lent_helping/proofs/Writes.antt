@@ -8,10 +8,9 @@ use lib.ListN.{length}
 use Rattle.construction.specs.declared.cells.SwappedRecord.{SwappedRecord}
 use Rattle.construction.specs.declared.accesses.Writing.{Writing}
 use Rattle.construction.specs.Cells.{sameRecord, swapRecord, rewritten}
-use Rattle.construction.specs.Dictionary.{noted}
 use Rattle.construction.specs.Parts.{localAt, recordAt, withRecord, withSteps}
 use Rattle.construction.specs.Machine.{outcome, writing, write, perform}
-use Rattle.codes.specs.Types.{Gate, Record, Item, Control, Access, Card}
+use Rattle.codes.specs.Types.{Item, Access, Card}
 use Rattle.codes.proofs.Values.{FitsItem, FitsRecord}
 use Rattle.block.specs.Layout.{recordIn, putRecord, controlIn}
 use Rattle.block.specs.Cards.{cardOf}

@@ -4,8 +4,7 @@ use block::cells::steps;
 use block::own::count;
 use block::own::put_count;
 ghost use mathlib.Core.Path.{_≡_};
-ghost use Rattle.block.specs.Layout.{stepsIn, putSteps, countIn, putCount};
-ghost use Rattle.lent_machine.specs.Accesses.{next, counted};
+ghost use Rattle.lent_machine.specs.Accesses.{counted};
 
 // Counts have 64 bits.
 pub fn put_counted(b: &mut [u64], i: u8)

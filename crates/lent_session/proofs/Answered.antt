@@ -1,8 +1,8 @@
 -- What the card answers to each command, by what the requests give.
 use Prim.Native.Nat.{ℕ, _<_, _≤_}
-use mathlib.Core.Bool.{Bool, true, false, not}
+use mathlib.Core.Bool.{Bool, true, false}
 use mathlib.Core.List.{List}
-use mathlib.Core.Path.{_≡_, refl, sym, _∙_, ap}
+use mathlib.Core.Path.{_≡_, refl, _∙_, ap}
 use borrow.Author.Tests.{lt-ltb, le-ltb}
 use Rattle.construction.specs.declared.{cells.Words.Words, answers.Answer.Answer}
 use Rattle.construction.specs.declared.answers.Refusal.the-variants.{Malformed}
@@ -12,7 +12,7 @@ use Rattle.loan.specs.Loans.{loanWords}
 use Rattle.lent_card.specs.Requests.{callAnswer, callBlock, exitAnswer, exitBlock, readAnswer, changeAnswer, changeBlock}
 use Rattle.lent_steps.specs.declared.tracing.Told.{Told}
 use Rattle.lent_steps.specs.Steps.{answerTo, stepBlock, stepLoan, reportTo}
-use Rattle.lent_session.specs.Answering.{untold, lentExecuted, Executes, Asked, askedFor, askedShort}
+use Rattle.lent_session.specs.Answering.{untold, lentExecuted, Executes, askedFor, askedShort}
 
 module _ (t b l : List ℕ) {m : Command} {a : Answer} {r : Told} where
   pub called :

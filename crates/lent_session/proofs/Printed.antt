@@ -1,5 +1,5 @@
 -- The lines of a session, by what is put into a buffer.
-use Prim.Native.Nat.{ℕ, _+_, _<_, _≤_}
+use Prim.Native.Nat.{ℕ, _<_, _≤_}
 use mathlib.Core.List.{List, []}
 use mathlib.Core.Path.{_≡_, refl, sym, _∙_, ap}
 use native.Mathlib.Omega.{arith}
@@ -9,15 +9,13 @@ use lib.Seq.{length-take-le, length-sets}
 use Rattle.grammar.specs.Writing.{Put}
 use Rattle.grammar.specs.Pieces.{Gathered}
 use Rattle.construction.specs.declared.{card.Card.Card, answers.Refusal.Refusal, texts.Verdict.Verdict}
-use Rattle.construction.specs.Opening.{readCard}
 use Rattle.commands.specs.declared.Command.{Command}
 use Rattle.commands.specs.Printing.{lineText, longest, cardRefusal, callsRefusal}
 use Rattle.session.specs.declared.State.{State}
 use Rattle.session.specs.Session.{firstState, overState, verdictBeginning}
 use Rattle.block.specs.Cards.{cardOf}
-use Rattle.lent_text.specs.Opened.{openedBlock, judged, Opens}
+use Rattle.lent_text.specs.Opened.{openedBlock, Opens}
 use Rattle.lent_steps.specs.declared.tracing.Told.{Told}
-use Rattle.lent_session.specs.declared.Begun.{Begun}
 use Rattle.lent_session.specs.Answering.{lentExecuted, Executes}
 use Rattle.lent_session.specs.Printing.{lentBeginning, Starts, Prints}
 

@@ -5,7 +5,7 @@ use mathlib.Core.Bool.{Bool, true, cond, _&&_}
 use mathlib.Core.List.{List, [], _∷_}
 use mathlib.Core.Path.{_≡_}
 use lib.Dec.{ltb}
-use Rattle.construction.specs.declared.{answers.Answer.Answer, answers.Report.Report}
+use Rattle.construction.specs.declared.{answers.Answer.Answer}
 use Rattle.construction.specs.declared.answers.Refusal.the-variants.{Malformed}
 use Rattle.construction.specs.Answers.{isRefused}
 use Rattle.construction.specs.Tracing.{noReport}

@@ -6,7 +6,6 @@ use commands::printing::put_calls_refusal;
 use commands::printing::put_card_refusal;
 use commands::printing::put_line;
 use construction::texts::Verdict;
-ghost use mathlib.Core.Path.{_≡_};
 ghost use Rattle.commands.specs.Commands.{Inside};
 ghost use Rattle.lent_session.specs.Printing.{Starts, Prints};
 

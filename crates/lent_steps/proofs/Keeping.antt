@@ -1,14 +1,13 @@
 -- What no step changes, with any block and any loan, handed back or altered: the length of the block, its counts, its limit, w and its texts; the length of the
 -- loan, and every word of it outside the items of the process that steps, so also every word past p × w items ('Entries past p × w remain untouched').
-use Prim.Native.Nat.{ℕ, suc, _+_, _*_, _<_, _≤_}
+use Prim.Native.Nat.{ℕ, suc, _*_, _≤_}
 use mathlib.Core.Path.{_≡_, refl}
-use mathlib.Core.Logic.{_⊎_, inr}
-use mathlib.Core.Bool.{Bool, true, false, cond, _&&_}
+use mathlib.Core.Logic.{inr}
+use mathlib.Core.Bool.{Bool, true, false, cond}
 use mathlib.Core.List.{List}
 use native.Mathlib.Nat.{mul-le-mul-left}
 use native.Mathlib.Omega.{arith}
 use lib.Dec.{ltb}
-use lib.ListN.{length}
 use borrow.Author.Tests.{ltb-true}
 use Rattle.construction.specs.Answers.{isRefused}
 use Rattle.construction.proofs.Basics.{and-true}

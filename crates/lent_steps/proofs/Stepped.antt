@@ -1,7 +1,7 @@
 -- A STEP ON BLOCK AND LOAN IS THE STEP ON THE CARD THAT STANDS THERE (document 02, order 10), for every block and every loan of p × w items: the block and the
 -- loan after it hold the card after it, and answer and report are the same. A process that is about to note a record has fewer than w items, which the
 -- theorem of limits (construction) says of every card of a run. A step with a shorter loan, or one that is refused, leaves block and loan as they were.
-use Prim.Native.Nat.{ℕ, _+_, _*_, _<_, _≤_}
+use Prim.Native.Nat.{ℕ, _<_, _≤_}
 use mathlib.Core.Path.{_≡_, refl, sym, _∙_, ap}
 use mathlib.Core.Bool.{Bool, true, false, cond, not, _&&_, true≢false}
 use mathlib.Core.List.{List}

@@ -1,5 +1,5 @@
 -- THE ACCEPTED STEPS OF A SWEEP ARE THE CARD'S (document 02, order 12): the card that stands in block and loan after it has made as many steps more as the sweep counts.
-use Prim.Native.Nat.{ℕ, _+_, _<_, _≤_, _%_}
+use Prim.Native.Nat.{ℕ, _+_, _≤_}
 use mathlib.Core.Path.{_≡_, refl, sym, _∙_, ap, subst}
 use mathlib.Core.Bool.{Bool, true, false, cond}
 use mathlib.Core.List.{List, [], _∷_, _++_, append-assoc, append-nil}

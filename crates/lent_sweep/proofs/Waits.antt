@@ -1,6 +1,6 @@
 -- THE LONGEST WAIT OF A SWEEP (document 02, orders 3 and 12): the most own steps that a sweep tells never pass the longest wait of the card, where no exit request was
 -- made before it.
-use Prim.Native.Nat.{ℕ, _+_, _<_, _≤_}
+use Prim.Native.Nat.{ℕ, _+_, _≤_}
 use mathlib.Core.Path.{_≡_, refl, _∙_, ap, subst}
 use mathlib.Core.Bool.{Bool, true, false, cond, not, _&&_, true≢false}
 use mathlib.Core.List.{List, [], _∷_, _++_}

@@ -7,13 +7,13 @@ use mathlib.Core.List.{List, [], _∷_, _++_}
 use native.Mathlib.Omega.{arith}
 use native.Mathlib.Numerals.{add-one, lt-of-le-of-ne}
 use lib.Dec.{eqb}
-use lib.ListN.{length, getD, set, take, replicate, length-set, length-take, length-append, length-replicate, List·getD-append}
+use lib.ListN.{length, getD, take, replicate, length-set, length-take, length-append, List·getD-append}
 use lib.Seq.{getD-set-same, getD-set-other}
 use borrow.Author.Tests.{eqb-true, eqb-false, le-ltb}
 use Rattle.construction.specs.Dictionary.{noItem, noted, withValue, nextWrite}
 use Rattle.construction.specs.Machine.{writeControl, writeFrom}
 use Rattle.helping.specs.Numbers.{revalued, withValues, Numbered}
-use Rattle.codes.specs.Types.{Item, Dictionary, Control}
+use Rattle.codes.specs.Types.{Item, Control}
 use Rattle.codes.specs.Parts.{wordAt, table}
 use Rattle.codes.specs.Codes.{byte, half, odd, bit, pair, upper, itemOf}
 use Rattle.codes.proofs.Blocks.{length-table, table-same, getD-table}

@@ -1,12 +1,12 @@
 -- What is put into the loan for one process is the dictionary that is meant, and leaves every other word of the loan, and so every other dictionary.
-use Prim.Native.Nat.{ℕ, zero, suc, _+_, _-_, _*_, _<_, _≤_, min}
+use Prim.Native.Nat.{ℕ, suc, _+_, _-_, _*_, _<_, _≤_}
 use mathlib.Core.Path.{_≡_, refl, sym, _∙_, ap, subst}
 use mathlib.Core.Logic.{_≢_, _⊎_, inl, inr, ⊎-elim}
 use mathlib.Core.Bool.{Bool, true, false, cond, _&&_}
 use mathlib.Core.List.{List, _++_}
 use native.Mathlib.Omega.{arith}
 use lib.Dec.{ltb}
-use lib.ListN.{length, getD, replicate, length-append, length-take}
+use lib.ListN.{length, replicate, length-append, length-take}
 use borrow.Author.Tests.{lt-ltb, ltb-true}
 use Rattle.construction.specs.Instructions.{started}
 use Rattle.construction.specs.Dictionary.{noItem, empty, noted, valueAt, insert}
@@ -21,7 +21,7 @@ use Rattle.construction.proofs.Simulating.Sizes.{Small, FitsSimulation, started
 use Rattle.codes.proofs.Values.{FitsItem, FitsAnnouncement}
 use Rattle.block.specs.Layout.{roomIn, notedIn, variableCountIn, lastIn, simulationIn}
 use Rattle.block.specs.Cards.{itemPlace, itemAt, dictionaryAt, dictionaryIn, textIn}
-use Rattle.block.proofs.Fitting.{variable-count-fits, noted-room, noted-fits, room-fits, last-fits, simulation-fits, text-fits, dictionary-fits}
+use Rattle.block.proofs.Fitting.{variable-count-fits, noted-room, room-fits, last-fits, simulation-fits, text-fits, dictionary-fits}
 use Rattle.loan.specs.Items.{putValues}
 use Rattle.loan.specs.Loans.{hasItems, spanIn, heldDictionary, isInserted, insertLoan}
 use Rattle.loan.specs.Simulated.{begunIn, simulatedIn, valuesOf, simulatedLoan}

@@ -1,11 +1,11 @@
 -- A simulation that stands still for want of a variable wants one that fits a byte, and goes on at a control that does.
-use Prim.Native.Nat.{ℕ, zero, suc, _+_, _<_, _≤_}
-use mathlib.Core.Path.{_≡_, refl}
-use mathlib.Core.Bool.{Bool, true, false, cond, not, _&&_}
+use Prim.Native.Nat.{ℕ, zero, suc, _<_, _≤_}
+use mathlib.Core.Path.{_≡_}
+use mathlib.Core.Bool.{true, not}
 use mathlib.Core.List.{List, [], _∷_}
 use native.Mathlib.Omega.{arith}
 use lib.Dec.{eqb, ltb}
-use lib.ListN.{length, length-take}
+use lib.ListN.{length}
 use borrow.Author.Tests.{ltb-true}
 use Rattle.construction.specs.declared.cells.Words.{Words}
 use Rattle.construction.specs.declared.programs.Program.{Program}

@@ -1,11 +1,11 @@
 -- A simulation alters values of noted items and nothing else: what it leaves is the dictionary that it was given, with the values that it left.
-use Prim.Native.Nat.{ℕ, zero, suc, _+_, _*_, _<_, _≤_}
+use Prim.Native.Nat.{ℕ, zero, suc, _<_, _≤_}
 use mathlib.Core.Path.{_≡_, refl, sym, _∙_, ap}
 use mathlib.Core.Bool.{Bool, true, false}
 use mathlib.Core.List.{List, [], _∷_}
 use native.Mathlib.Omega.{arith}
 use lib.Dec.{ltb}
-use lib.ListN.{length, getD, set, take, length-set, length-take}
+use lib.ListN.{length, getD, take, length-set, length-take}
 use lib.Seq.{ext-getD, getD-take, length-take-le}
 use borrow.Author.Tests.{ltb-true, ltb-false}
 use Rattle.construction.specs.declared.cells.Words.{Words}
@@ -20,7 +20,6 @@ use Rattle.construction.proofs.Simulating.Dictionaries.{hasIn, has-position, ha
 use Rattle.construction.proofs.Simulating.Simulations.{Noted, kept-simulated}
 use Rattle.helping.specs.Numbers.{revalued, withValues}
 use Rattle.codes.specs.Types.{Item, Dictionary}
-use Rattle.codes.specs.Parts.{table}
 use Rattle.loan.specs.Simulated.{valuesOf}
 use Rattle.codes.proofs.Blocks.{length-table, getD-table}
 

@@ -2,7 +2,7 @@
 use Prim.Native.Nat.{ℕ}
 use mathlib.Core.Path.{subst}
 use mathlib.Core.List.{List, [], _∷_}
-use lib.ListN.{getD, set}
+use lib.ListN.{getD}
 use Rattle.construction.specs.Cells.{FitsWords}
 use Rattle.construction.specs.Instructions.{fetch}
 use Rattle.construction.specs.Effects.{Store}

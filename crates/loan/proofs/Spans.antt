@@ -5,7 +5,7 @@ use mathlib.Core.Bool.{Bool, true, false, cond, _&&_}
 use mathlib.Core.List.{List}
 use native.Mathlib.Omega.{arith}
 use native.Mathlib.Nat.{mul-le-mul-left}
-use lib.Dec.{leb, ltb}
+use lib.Dec.{ltb}
 use lib.ListN.{length, getD}
 use borrow.Author.Tests.{leb-true, lt-ltb, le-ltb}
 use Rattle.construction.specs.declared.accesses.Writing.{Writing}
@@ -13,7 +13,7 @@ use Rattle.construction.specs.Dictionary.{noItem, nextWrite}
 use Rattle.construction.specs.Machine.{writeFrom, writing}
 use Rattle.codes.specs.Types.{Item, Control}
 use Rattle.codes.specs.Parts.{stores}
-use Rattle.codes.specs.Codes.{byte, itemWords}
+use Rattle.codes.specs.Codes.{itemWords}
 use Rattle.block.specs.Layout.{numberAt, roomIn, notedIn, putNoted}
 use Rattle.loan.specs.declared.dictionaries.Span.{Span}
 use Rattle.block.specs.Cards.{dictionaryAt}

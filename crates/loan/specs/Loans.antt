@@ -1,6 +1,6 @@
 -- The dictionaries of the processes in a loan (document 02, order 10: 'Let the caller lend p × w noted records in all'): those of process i are the items
 -- from item w i on. A loan that ends before the last of these holds none of them.
-use Prim.Native.Nat.{ℕ, suc, _+_, _*_}
+use Prim.Native.Nat.{ℕ, _+_, _*_}
 use mathlib.Core.Bool.{Bool, cond, _&&_}
 use mathlib.Core.List.{List}
 use lib.Dec.{leb, ltb}

@@ -7,8 +7,8 @@ use native.Mathlib.Omega.{arith}
 use Rattle.grammar.specs.Reading.{hasWord}
 use Rattle.grammar.proofs.Cases.{on-test}
 use Rattle.grammar.proofs.Items.{items-end, items-more, items-induction}
-use Rattle.commands.specs.declared.{Word.Word, Verb.Verb}
-use Rattle.commands.specs.Commands.{word, found, fieldsAt, malformed}
+use Rattle.commands.specs.declared.{Word.Word}
+use Rattle.commands.specs.Commands.{word, found}
 use Rattle.commands.proofs.CommandsLaws.{line-past, word-past, fields-past, found-past, fields-inside}
 use Rattle.machine_commands.specs.declared.Line.{Line}
 use Rattle.machine_commands.specs.Requests.{turnLine, afterMachine, request, InsideOf, requests}

@@ -1,6 +1,6 @@
 -- A SESSION IS A LIST OF REQUESTS (document 02, order 14): what the crate shared_runs says of every list of requests to machines that share a processor, it
 -- says of every session of the program `machines`.
-use Prim.Native.Nat.{ℕ, zero, suc, _+_, _≤_, _<_}
+use Prim.Native.Nat.{ℕ, _+_, _≤_}
 use mathlib.Core.Path.{_≡_, refl, sym, ap, _∙_}
 use mathlib.Core.Bool.{true, false}
 use mathlib.Core.Logic.{_⊎_, inl, inr}

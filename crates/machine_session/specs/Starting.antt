@@ -4,7 +4,7 @@ use Prim.Native.Nat.{ℕ, suc, _≤_}
 use mathlib.Core.Bool.{cond}
 use mathlib.Core.Path.{_≡_}
 use mathlib.Core.List.{List, [], _∷_, _++_}
-use lib.ListN.{length, take, replicate}
+use lib.ListN.{length, replicate}
 use lib.Dec.{ltb}
 use Rattle.grammar.specs.Writing.{Put}
 use Rattle.construction.specs.declared.texts.Verdict.{Verdict}
@@ -14,7 +14,7 @@ use Rattle.shared_processor.specs.Opening.{cardVerdict, withCard}
 use Rattle.machine_commands.specs.Printing.{longest, termsRefusal, cardRefusal}
 use Rattle.machine_terms.specs.Terms.{terms}
 use Rattle.machine_session.specs.declared.{State.State, Printed.Printed, CardsOpened.CardsOpened}
-use Rattle.machine_session.specs.Session.{Gathered, stage, linesText}
+use Rattle.machine_session.specs.Session.{stage, linesText}
 
 -- the card of machine m, if it is there
 abbrev pub oneVerdict : ℕ → ℕ → List ℕ → List ℕ → Verdict

@@ -12,8 +12,7 @@ use grammar::Number;
 use grammar::reading::field_at;
 use grammar::reading::has_word;
 ghost use mathlib.Core.Path.{_≡_};
-ghost use lib.ListN.{length, set};
-ghost use Rattle.allowance.specs.Allowing.{empty};
+ghost use lib.ListN.{set};
 ghost use Rattle.machine_terms.specs.Terms.{pair, line, quotaOf, quotasRead, refused, judgedAs, terms};
 
 // The two numbers of a line, and the place past it.

@@ -2,7 +2,7 @@
 -- returned operation told, beside order 3's number for this card), `gate,SEQ`, then `look,V,VALUE` for every variable.
 use Prim.Native.Nat.{ℕ, zero, suc}
 use Prim.Native.String.{String}
-use mathlib.Core.List.{List, [], _∷_, _++_}
+use mathlib.Core.List.{List, [], _++_}
 use Rattle.grammar.specs.Writing.{fieldText}
 use Rattle.construction.specs.Answers.{bytes}
 use Rattle.construction.specs.Tracing.{noReport}

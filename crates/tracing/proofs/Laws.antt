@@ -14,8 +14,8 @@ use Rattle.construction.specs.declared.{answers.Report.Report, answers.Traced.T
 use Rattle.construction.specs.declared.answers.Refusal.the-variants.{NoProcess, NotBusy, LimitReached}
 use Rattle.construction.specs.Cells.{openAnnouncement, openRecord}
 use Rattle.construction.specs.Dictionary.{empty}
-use Rattle.construction.specs.Parts.{noGate, contentsOf, announcementAt, recordAt, localAt}
-use Rattle.construction.specs.Machine.{accessOf, accessIn, cellBy, cellOf, writing, perform, advance, swapOf}
+use Rattle.construction.specs.Parts.{noGate, localAt}
+use Rattle.construction.specs.Machine.{accessOf, accessIn, cellBy, writing, advance, swapOf}
 use Rattle.construction.specs.OneAccess.{touchedCell}
 use Rattle.construction.specs.Requests.{isProcess, isIdle, refused, step}
 use Rattle.construction.specs.Answers.{isRefused}

@@ -3,9 +3,6 @@ use borrow.Author.Tests.{eq-eqb, ne-eqb}
 use borrow.Author.Needs.{needs}
 use Rattle.codes.proofs.holder_from.Statement.{statement}
 use Rattle.codes.proofs.holder_from.Tie as tie
-use Rattle.codes.proofs.holder_from.Reads as reads
-use Rattle.codes.proofs.holder_from.Lts as lts
-use Rattle.codes.proofs.byte.Reads as byte-reads
 
 returns : tie.Need-returns
 unfolding holderFrom

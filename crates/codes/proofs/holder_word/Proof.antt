@@ -1,8 +1,6 @@
 use borrow.Author.Needs.{needs}
 use Rattle.codes.proofs.holder_word.Statement.{statement}
 use Rattle.codes.proofs.holder_word.Tie as tie
-use Rattle.codes.proofs.holder_word.Reads as reads
-use Rattle.codes.proofs.holder_word.Lts as lts
 
 enum-told : tie.Need-enum-told
 enum-told c = search needs

@@ -4,10 +4,6 @@ use Rattle.codes.specs.Codes.{instructionFrom}
 use borrow.Author.Needs.{needs}
 use Rattle.codes.proofs.instruction_from.Statement.{statement}
 use Rattle.codes.proofs.instruction_from.Tie as tie
-use Rattle.codes.proofs.instruction_from.Reads as reads
-use Rattle.codes.proofs.instruction_from.Lts as lts
-use Rattle.codes.proofs.byte.Reads as byte-reads
-use Rattle.codes.proofs.half.Reads as half-reads
 
 -- src/codes.rt:126:9
 byte-requires : tie.Need-byte-requires

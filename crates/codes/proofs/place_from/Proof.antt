@@ -2,8 +2,6 @@ use Rattle.codes.specs.Codes.{placeFrom}
 use borrow.Author.Tests.{ne-eqb}
 use Rattle.codes.proofs.place_from.Statement.{statement}
 use Rattle.codes.proofs.place_from.Tie as tie
-use Rattle.codes.proofs.place_from.Reads as reads
-use Rattle.codes.proofs.place_from.Lts as lts
 
 returns : tie.Need-returns
 unfolding placeFrom

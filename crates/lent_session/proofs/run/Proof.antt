@@ -3,7 +3,7 @@ use Rattle.commands.proofs.CommandsLaws.{command-inside, command-past}
 use lib.ListN.{length}
 use borrow.Author.Needs.{needs}
 use native.Mathlib.Omega.{arith}
-use mathlib.Core.Path.{_≡_, refl, sym, _∙_}
+use mathlib.Core.Path.{_≡_, refl, _∙_}
 use Prim.Native.Nat.{_-_}
 use Rattle.lent_session.proofs.run.Statement.{statement}
 use Rattle.lent_session.proofs.run.Tie as tie

@@ -1,7 +1,7 @@
 use borrow.Author.Needs.{needs}
 use native.Mathlib.Omega.{arith}
 use Prim.Native.Nat.{_-_, _≤_}
-use mathlib.Core.Path.{_≡_, refl, sym, _∙_}
+use mathlib.Core.Path.{_≡_, sym, _∙_}
 use Rattle.machine_terms.specs.Terms.{quotasFrom, quotasRead}
 use Rattle.machine_terms.proofs.Laws as laws
 use Rattle.machine_terms.proofs.read_quotas.Statement.{statement}

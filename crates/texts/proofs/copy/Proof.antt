@@ -6,8 +6,6 @@ use mathlib.Core.Path.{_≡_, refl}
 use native.Mathlib.Omega.{arith}
 use Rattle.texts.proofs.copy.Statement.{statement}
 use Rattle.texts.proofs.copy.Tie as tie
-use Rattle.texts.proofs.copy.Reads as reads
-use Rattle.texts.proofs.copy.Lts as lts
 
 abbrev Inv-loop : tie.InvT-loop
 Inv-loop b₀ start to k₀ b k = (b ≡ copied b₀ start to k) × (length b ≡ length b₀) × (k ≤ 33)

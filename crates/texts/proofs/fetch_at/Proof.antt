@@ -4,11 +4,6 @@ use native.Mathlib.Omega.{arith}
 use borrow.Author.Needs.{needs}
 use Rattle.texts.proofs.fetch_at.Statement.{statement}
 use Rattle.texts.proofs.fetch_at.Tie as tie
-use Rattle.texts.proofs.fetch_at.Reads as reads
-use Rattle.texts.proofs.fetch_at.Lts as lts
-use Rattle.block.proofs.numbers.is_room.Reads as is-room-reads
-use Rattle.codes.proofs.byte.Reads as byte-reads
-use Rattle.codes.proofs.instruction_from.Reads as instruction-from-reads
 
 is-room-requires : tie.Need-is-room-requires
 is-room-requires c κs = search needs

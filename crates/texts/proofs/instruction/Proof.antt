@@ -1,9 +1,6 @@
 use borrow.Author.Needs.{needs}
 use Rattle.texts.proofs.instruction.Statement.{statement}
 use Rattle.texts.proofs.instruction.Tie as tie
-use Rattle.texts.proofs.instruction.Reads as reads
-use Rattle.texts.proofs.instruction.Lts as lts
-use Rattle.texts.proofs.fetch_at.Reads as fetch-at-reads
 
 fetch-at-requires : tie.Need-fetch-at-requires
 fetch-at-requires c κs = search needs

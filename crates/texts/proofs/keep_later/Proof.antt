@@ -4,10 +4,6 @@ use native.Mathlib.Omega.{arith}
 use borrow.Author.Needs.{needs}
 use Rattle.texts.proofs.keep_later.Statement.{statement}
 use Rattle.texts.proofs.keep_later.Tie as tie
-use Rattle.texts.proofs.keep_later.Reads as reads
-use Rattle.texts.proofs.keep_later.Lts as lts
-use Rattle.block.proofs.numbers.is_room.Reads as is-room-reads
-use Rattle.texts.proofs.copy.Reads as copy-reads
 
 is-room-requires : tie.Need-is-room-requires
 is-room-requires c κs = search needs

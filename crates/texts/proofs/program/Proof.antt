@@ -1,17 +1,10 @@
 use Rattle.texts.specs.Texts.{textBase}
 use Rattle.texts.proofs.Lines as lines
 use Rattle.block.proofs.Rooms as rooms
-use mathlib.Core.Path.{refl}
 use native.Mathlib.Omega.{arith}
 use borrow.Author.Needs.{needs}
 use Rattle.texts.proofs.program.Statement.{statement}
 use Rattle.texts.proofs.program.Tie as tie
-use Rattle.texts.proofs.program.Reads as reads
-use Rattle.texts.proofs.program.Lts as lts
-use Rattle.block.proofs.numbers.is_room.Reads as is-room-reads
-use Rattle.texts.proofs.base_of.Reads as base-of-reads
-use Rattle.texts.proofs.program_at.Reads as program-at-reads
-use Rattle.opening.proofs.no_program.Reads as no-program-reads
 
 is-room-requires : tie.Need-is-room-requires
 is-room-requires c κs = search needs

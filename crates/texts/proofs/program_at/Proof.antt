@@ -9,11 +9,6 @@ use native.Mathlib.Omega.{arith}
 use borrow.Author.Needs.{needs}
 use Rattle.texts.proofs.program_at.Statement.{statement}
 use Rattle.texts.proofs.program_at.Tie as tie
-use Rattle.texts.proofs.program_at.Reads as reads
-use Rattle.texts.proofs.program_at.Lts as lts
-use Rattle.codes.proofs.byte.Reads as byte-reads
-use Rattle.codes.proofs.instruction_from.Reads as instruction-from-reads
-use Rattle.opening.proofs.no_line.Reads as no-line-reads
 
 abbrev Inv-loop : tie.InvT-loop
 Inv-loop b at lines₀ k₀ lines k = (take k lines ≡ table k (lineAt b at)) × (k ≤ 32) × (length lines ≡ 32)

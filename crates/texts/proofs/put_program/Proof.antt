@@ -6,11 +6,6 @@ use native.Mathlib.Omega.{arith}
 use borrow.Author.Needs.{needs}
 use Rattle.texts.proofs.put_program.Statement.{statement}
 use Rattle.texts.proofs.put_program.Tie as tie
-use Rattle.texts.proofs.put_program.Reads as reads
-use Rattle.texts.proofs.put_program.Lts as lts
-use Rattle.block.proofs.numbers.is_room.Reads as is-room-reads
-use Rattle.texts.proofs.base_of.Reads as base-of-reads
-use Rattle.texts.proofs.put_program_at.Reads as put-program-at-reads
 
 is-room-requires : tie.Need-is-room-requires
 is-room-requires c κs = search needs

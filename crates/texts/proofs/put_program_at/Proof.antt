@@ -7,9 +7,6 @@ use native.Mathlib.Omega.{arith}
 use borrow.Author.Needs.{needs}
 use Rattle.texts.proofs.put_program_at.Statement.{statement}
 use Rattle.texts.proofs.put_program_at.Tie as tie
-use Rattle.texts.proofs.put_program_at.Reads as reads
-use Rattle.texts.proofs.put_program_at.Lts as lts
-use Rattle.texts.proofs.line_word.Reads as line-word-reads
 
 abbrev Inv-loop : tie.InvT-loop
 Inv-loop b₀ at y k₀ b k = (b ≡ putLines b₀ at k y) × (length b ≡ length b₀) × (k ≤ 32)

@@ -1,5 +1,4 @@
 use native.Mathlib.Omega.{arith}
-use mathlib.Core.Path.{refl}
 use borrow.Author.Needs.{needs}
 use Rattle.block.proofs.Rooms as rooms
 use Rattle.block.proofs.cells.gate.Statement.{statement}

@@ -1,4 +1,3 @@
-use borrow.Author.Needs.{needs}
 use borrow.Author.Tests.{le-leb, lt-leb}
 use Rattle.block.specs.Layout.{isRoom}
 use Rattle.block.proofs.numbers.is_room.Statement.{statement}

@@ -1,9 +1,6 @@
 use borrow.Author.Needs.{needs}
 use Rattle.block.proofs.texts.is_earlier.Statement.{statement}
 use Rattle.block.proofs.texts.is_earlier.Tie as tie
-use Rattle.block.proofs.texts.is_earlier.Reads as reads
-use Rattle.block.proofs.texts.is_earlier.Lts as lts
-use Rattle.block.proofs.texts.from.Reads as from-reads
 
 from-requires : tie.Need-from-requires
 from-requires c κs = search needs

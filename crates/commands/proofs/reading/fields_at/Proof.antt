@@ -1,4 +1,4 @@
-use mathlib.Core.Path.{_≡_, _∙_}
+use mathlib.Core.Path.{_∙_}
 use Rattle.commands.specs.Commands.{fieldsAt}
 use borrow.Author.Needs.{needs}
 use Rattle.commands.proofs.reading.fields_at.Statement.{statement}

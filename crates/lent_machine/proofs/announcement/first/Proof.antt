@@ -1,11 +1,6 @@
 use borrow.Author.Needs.{needs}
 use Rattle.lent_machine.proofs.announcement.first.Statement.{statement}
 use Rattle.lent_machine.proofs.announcement.first.Tie as tie
-use Rattle.lent_machine.proofs.announcement.first.Reads as reads
-use Rattle.lent_machine.proofs.announcement.first.Lts as lts
-use Rattle.block.proofs.cells.process_count.Reads as process-count-reads
-use Rattle.block.proofs.own.last_gate.Reads as last-gate-reads
-use Rattle.machine.proofs.places.first_choice.Reads as first-choice-reads
 
 -- src/announcement.rt:91:9
 last-gate-requires : tie.Need-last-gate-requires

@@ -1,10 +1,6 @@
 use borrow.Author.Needs.{needs}
 use Rattle.lent_machine.proofs.announcement.put_read.Statement.{statement}
 use Rattle.lent_machine.proofs.announcement.put_read.Tie as tie
-use Rattle.lent_machine.proofs.announcement.put_read.Reads as reads
-use Rattle.lent_machine.proofs.announcement.put_read.Lts as lts
-use Rattle.block.proofs.own.put_last.Reads as put-last-reads
-use Rattle.block.proofs.own.put_control.Reads as put-control-reads
 
 -- src/announcement.rt:35:5
 put-last-requires : tie.Need-put-last-requires

@@ -2,10 +2,6 @@ use mathlib.Core.Path.{refl}
 use borrow.Author.Needs.{needs}
 use Rattle.lent_machine.proofs.announcement.put_swapped.Statement.{statement}
 use Rattle.lent_machine.proofs.announcement.put_swapped.Tie as tie
-use Rattle.lent_machine.proofs.announcement.put_swapped.Reads as reads
-use Rattle.lent_machine.proofs.announcement.put_swapped.Lts as lts
-use Rattle.block.proofs.own.put_control.Reads as put-control-reads
-use Rattle.lent_machine.proofs.announcement.put_won.Reads as put-won-reads
 
 -- src/announcement.rt:57:5
 put-won-requires : tie.Need-put-won-requires

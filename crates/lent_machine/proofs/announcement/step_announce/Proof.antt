@@ -1,14 +1,6 @@
 use borrow.Author.Needs.{needs}
 use Rattle.lent_machine.proofs.announcement.step_announce.Statement.{statement}
 use Rattle.lent_machine.proofs.announcement.step_announce.Tie as tie
-use Rattle.lent_machine.proofs.announcement.step_announce.Reads as reads
-use Rattle.lent_machine.proofs.announcement.step_announce.Lts as lts
-use Rattle.block.proofs.cells.put_announcement.Reads as put-announcement-reads
-use Rattle.block.proofs.own.last_gate.Reads as last-gate-reads
-use Rattle.block.proofs.own.operation.Reads as operation-reads
-use Rattle.block.proofs.own.control.Reads as control-reads
-use Rattle.lent_machine.proofs.announcement.put_read.Reads as put-read-reads
-use Rattle.machine.proofs.announcement.announce.Reads as announce-reads
 
 -- src/announcement.rt:65:22
 operation-requires : tie.Need-operation-requires

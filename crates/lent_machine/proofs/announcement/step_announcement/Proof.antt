@@ -4,13 +4,6 @@ use Rattle.lent_machine.specs.Accesses.{announcementStep}
 use borrow.Author.Needs.{needs}
 use Rattle.lent_machine.proofs.announcement.step_announcement.Statement.{statement}
 use Rattle.lent_machine.proofs.announcement.step_announcement.Tie as tie
-use Rattle.lent_machine.proofs.announcement.step_announcement.Reads as reads
-use Rattle.lent_machine.proofs.announcement.step_announcement.Lts as lts
-use Rattle.lent_machine.proofs.announcement.first.Reads as first-reads
-use Rattle.lent_machine.proofs.announcement.step_announce.Reads as step-announce-reads
-use Rattle.lent_machine.proofs.announcement.step_finish.Reads as step-finish-reads
-use Rattle.lent_machine.proofs.announcement.step_flag.Reads as step-flag-reads
-use Rattle.lent_machine.proofs.announcement.step_withdraw.Reads as step-withdraw-reads
 
 -- src/announcement.rt:120:55
 enum-told : tie.Need-enum-told

@@ -2,16 +2,6 @@ use Rattle.lent_machine.proofs.Finishing.{finish-in}
 use borrow.Author.Needs.{needs}
 use Rattle.lent_machine.proofs.announcement.step_finish.Statement.{statement}
 use Rattle.lent_machine.proofs.announcement.step_finish.Tie as tie
-use Rattle.lent_machine.proofs.announcement.step_finish.Reads as reads
-use Rattle.lent_machine.proofs.announcement.step_finish.Lts as lts
-use Rattle.block.proofs.cells.announcement.Reads as announcement-reads
-use Rattle.block.proofs.own.last.Reads as last-reads
-use Rattle.block.proofs.own.last_gate.Reads as last-gate-reads
-use Rattle.block.proofs.own.simulation.Reads as simulation-reads
-use Rattle.block.proofs.own.control.Reads as control-reads
-use Rattle.lent_machine.proofs.announcement.put_swapped.Reads as put-swapped-reads
-use Rattle.machine.proofs.announcement.finish.Reads as finish-reads
-use Rattle.machine.proofs.places.holder_of.Reads as holder-of-reads
 
 -- src/announcement.rt:99:9
 last-gate-requires : tie.Need-last-gate-requires

@@ -1,11 +1,6 @@
 use borrow.Author.Needs.{needs}
 use Rattle.lent_machine.proofs.announcement.step_flag.Statement.{statement}
 use Rattle.lent_machine.proofs.announcement.step_flag.Tie as tie
-use Rattle.lent_machine.proofs.announcement.step_flag.Reads as reads
-use Rattle.lent_machine.proofs.announcement.step_flag.Lts as lts
-use Rattle.block.proofs.cells.announcement.Reads as announcement-reads
-use Rattle.lent_machine.proofs.announcement.put_read.Reads as put-read-reads
-use Rattle.machine.proofs.announcement.read_flag.Reads as read-flag-reads
 
 -- src/announcement.rt:83:23
 announcement-requires : tie.Need-announcement-requires

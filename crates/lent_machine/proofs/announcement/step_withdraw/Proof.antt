@@ -2,14 +2,6 @@ use Rattle.construction.specs.Machine.{accessAnnouncement}
 use borrow.Author.Needs.{needs}
 use Rattle.lent_machine.proofs.announcement.step_withdraw.Statement.{statement}
 use Rattle.lent_machine.proofs.announcement.step_withdraw.Tie as tie
-use Rattle.lent_machine.proofs.announcement.step_withdraw.Reads as reads
-use Rattle.lent_machine.proofs.announcement.step_withdraw.Lts as lts
-use Rattle.block.proofs.cells.announcement.Reads as announcement-reads
-use Rattle.block.proofs.own.last.Reads as last-reads
-use Rattle.block.proofs.own.operation.Reads as operation-reads
-use Rattle.block.proofs.own.control.Reads as control-reads
-use Rattle.lent_machine.proofs.announcement.put_swapped.Reads as put-swapped-reads
-use Rattle.machine.proofs.announcement.withdraw.Reads as withdraw-reads
 
 -- src/announcement.rt:75:22
 announcement-requires : tie.Need-announcement-requires

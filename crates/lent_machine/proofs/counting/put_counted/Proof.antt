@@ -1,13 +1,6 @@
 use borrow.Author.Needs.{needs}
 use Rattle.lent_machine.proofs.counting.put_counted.Statement.{statement}
 use Rattle.lent_machine.proofs.counting.put_counted.Tie as tie
-use Rattle.lent_machine.proofs.counting.put_counted.Reads as reads
-use Rattle.lent_machine.proofs.counting.put_counted.Lts as lts
-use Rattle.block.proofs.cells.put_steps.Reads as put-steps-reads
-use Rattle.block.proofs.cells.steps.Reads as steps-reads
-use Rattle.block.proofs.own.count.Reads as count-reads
-use Rattle.block.proofs.own.put_count.Reads as put-count-reads
-use Rattle.std.proofs.num.wrapping_add_u64.Reads as wrapping-add-u64-reads
 
 -- src/counting.rt:14:44
 steps-requires : tie.Need-steps-requires

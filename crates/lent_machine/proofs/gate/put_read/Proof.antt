@@ -1,10 +1,6 @@
 use borrow.Author.Needs.{needs}
 use Rattle.lent_machine.proofs.gate.put_read.Statement.{statement}
 use Rattle.lent_machine.proofs.gate.put_read.Tie as tie
-use Rattle.lent_machine.proofs.gate.put_read.Reads as reads
-use Rattle.lent_machine.proofs.gate.put_read.Lts as lts
-use Rattle.block.proofs.own.put_last_gate.Reads as put-last-gate-reads
-use Rattle.block.proofs.own.put_control.Reads as put-control-reads
 
 -- src/gate.rt:28:5
 put-last-gate-requires : tie.Need-put-last-gate-requires

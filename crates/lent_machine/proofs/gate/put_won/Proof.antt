@@ -1,9 +1,6 @@
 use borrow.Author.Needs.{needs}
 use Rattle.lent_machine.proofs.gate.put_won.Statement.{statement}
 use Rattle.lent_machine.proofs.gate.put_won.Tie as tie
-use Rattle.lent_machine.proofs.gate.put_won.Reads as reads
-use Rattle.lent_machine.proofs.gate.put_won.Lts as lts
-use Rattle.block.proofs.cells.put_gate.Reads as put-gate-reads
 
 enum-told : tie.Need-enum-told
 enum-told c = search needs

@@ -4,12 +4,6 @@ use Rattle.lent_machine.specs.Accesses.{gateStep}
 use borrow.Author.Needs.{needs}
 use Rattle.lent_machine.proofs.gate.step_gate.Statement.{statement}
 use Rattle.lent_machine.proofs.gate.step_gate.Tie as tie
-use Rattle.lent_machine.proofs.gate.step_gate.Reads as reads
-use Rattle.lent_machine.proofs.gate.step_gate.Lts as lts
-use Rattle.lent_machine.proofs.gate.step_last.Reads as step-last-reads
-use Rattle.lent_machine.proofs.gate.step_nominate.Reads as step-nominate-reads
-use Rattle.lent_machine.proofs.gate.step_read.Reads as step-read-reads
-use Rattle.lent_machine.proofs.gate.step_release.Reads as step-release-reads
 
 -- src/gate.rt:90:28
 enum-known-access : tie.Need-enum-known-access

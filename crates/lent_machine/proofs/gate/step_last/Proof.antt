@@ -1,12 +1,6 @@
 use borrow.Author.Needs.{needs}
 use Rattle.lent_machine.proofs.gate.step_last.Statement.{statement}
 use Rattle.lent_machine.proofs.gate.step_last.Tie as tie
-use Rattle.lent_machine.proofs.gate.step_last.Reads as reads
-use Rattle.lent_machine.proofs.gate.step_last.Lts as lts
-use Rattle.block.proofs.cells.gate.Reads as gate-reads
-use Rattle.block.proofs.own.control.Reads as control-reads
-use Rattle.lent_machine.proofs.gate.put_read.Reads as put-read-reads
-use Rattle.machine.proofs.gate.read_last.Reads as read-last-reads
 
 -- src/gate.rt:66:23
 gate-requires : tie.Need-gate-requires

@@ -3,13 +3,6 @@ use Rattle.lent_machine.specs.Accesses.{gateStep}
 use borrow.Author.Needs.{needs}
 use Rattle.lent_machine.proofs.gate.step_release.Statement.{statement}
 use Rattle.lent_machine.proofs.gate.step_release.Tie as tie
-use Rattle.lent_machine.proofs.gate.step_release.Reads as reads
-use Rattle.lent_machine.proofs.gate.step_release.Lts as lts
-use Rattle.block.proofs.cells.gate.Reads as gate-reads
-use Rattle.block.proofs.own.last_gate.Reads as last-gate-reads
-use Rattle.block.proofs.own.control.Reads as control-reads
-use Rattle.lent_machine.proofs.gate.put_swapped.Reads as put-swapped-reads
-use Rattle.machine.proofs.gate.release.Reads as release-reads
 
 -- src/gate.rt:82:21
 gate-requires : tie.Need-gate-requires

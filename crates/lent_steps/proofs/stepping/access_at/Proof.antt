@@ -1,11 +1,6 @@
 use borrow.Author.Needs.{needs}
 use Rattle.lent_steps.proofs.stepping.access_at.Statement.{statement}
 use Rattle.lent_steps.proofs.stepping.access_at.Tie as tie
-use Rattle.lent_steps.proofs.stepping.access_at.Reads as reads
-use Rattle.lent_steps.proofs.stepping.access_at.Lts as lts
-use Rattle.block.proofs.own.exit.Reads as exit-reads
-use Rattle.block.proofs.own.control.Reads as control-reads
-use Rattle.machine.proofs.places.access_of.Reads as access-of-reads
 
 -- src/stepping.rt:45:9
 control-requires : tie.Need-control-requires

@@ -1,11 +1,6 @@
 use borrow.Author.Needs.{needs}
 use Rattle.lent_steps.proofs.stepping.advance.Statement.{statement}
 use Rattle.lent_steps.proofs.stepping.advance.Tie as tie
-use Rattle.lent_steps.proofs.stepping.advance.Reads as reads
-use Rattle.lent_steps.proofs.stepping.advance.Lts as lts
-use Rattle.lent_helping.proofs.access.step_access.Reads as step-access-reads
-use Rattle.lent_machine.proofs.counting.put_counted.Reads as put-counted-reads
-use Rattle.lent_steps.proofs.stepping.access_at.Reads as access-at-reads
 
 -- src/stepping.rt:54:9
 access-at-requires : tie.Need-access-at-requires

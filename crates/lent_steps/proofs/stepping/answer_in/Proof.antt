@@ -1,13 +1,6 @@
 use borrow.Author.Needs.{needs}
 use Rattle.lent_steps.proofs.stepping.answer_in.Statement.{statement}
 use Rattle.lent_steps.proofs.stepping.answer_in.Tie as tie
-use Rattle.lent_steps.proofs.stepping.answer_in.Reads as reads
-use Rattle.lent_steps.proofs.stepping.answer_in.Lts as lts
-use Rattle.block.proofs.own.count.Reads as count-reads
-use Rattle.block.proofs.own.last.Reads as last-reads
-use Rattle.block.proofs.own.control.Reads as control-reads
-use Rattle.machine.proofs.announcement.returned.Reads as returned-reads
-use Rattle.machine.proofs.places.is_idle.Reads as is-idle-reads
 
 -- src/stepping.rt:63:9
 control-requires : tie.Need-control-requires

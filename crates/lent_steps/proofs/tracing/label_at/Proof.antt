@@ -1,11 +1,6 @@
 use borrow.Author.Needs.{needs}
 use Rattle.lent_steps.proofs.tracing.label_at.Statement.{statement}
 use Rattle.lent_steps.proofs.tracing.label_at.Tie as tie
-use Rattle.lent_steps.proofs.tracing.label_at.Reads as reads
-use Rattle.lent_steps.proofs.tracing.label_at.Lts as lts
-use Rattle.block.proofs.own.exit.Reads as exit-reads
-use Rattle.block.proofs.own.control.Reads as control-reads
-use Rattle.reports.proofs.label_of.Reads as label-of-reads
 
 -- src/tracing.rt:48:9
 control-requires : tie.Need-control-requires

@@ -1,5 +1,3 @@
-use mathlib.Core.Path.{_∙_, sym, ap}
-use mathlib.Core.Bool.{Bool, _&&_}
 use borrow.Author.Needs.{needs}
 use Rattle.lent_sweep.proofs.running.is_again.Statement.{statement}
 use Rattle.lent_sweep.proofs.running.is_again.Tie as tie

@@ -2,7 +2,6 @@ use Prim.Native.Nat.{_-_, _≤_}
 use mathlib.Core.Path.{_≡_, _∙_}
 use native.Mathlib.Omega.{arith}
 use borrow.Author.Needs.{needs}
-use lib.ListN.{length}
 use Rattle.block.specs.Cards.{itemAt}
 use Rattle.loan.specs.Items.{padded}
 use Rattle.loan.proofs.Tables as tables

@@ -1,4 +1,3 @@
-use borrow.Author.Needs.{needs}
 use Rattle.loan.proofs.Held as laws
 use Rattle.loan.specs.Items.{putValues}
 use Prim.Native.Nat.{ℕ, _-_, _<_, _≤_}

@@ -1,6 +1,6 @@
 use Rattle.grammar.proofs.Bytes.{word-within}
 use Rattle.machine_commands.specs.Requests.{turnLine, directed, request}
-use mathlib.Core.Path.{_≡_, sym, ap, _∙_}
+use mathlib.Core.Path.{sym, ap, _∙_}
 use native.Mathlib.Omega.{arith}
 use borrow.Author.Needs.{needs}
 use Rattle.machine_commands.proofs.reading.request_at.Statement.{statement}

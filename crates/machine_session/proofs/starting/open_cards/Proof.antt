@@ -1,4 +1,4 @@
-use mathlib.Core.Path.{_≡_, _∙_}
+use mathlib.Core.Path.{_∙_}
 use Rattle.machine_session.proofs.Started as laws
 use borrow.Author.Needs.{needs}
 use Rattle.machine_session.proofs.starting.open_cards.Statement.{statement}

@@ -1,6 +1,5 @@
 use borrow.Author.Needs.{needs}
 use native.Mathlib.Omega.{arith}
-use mathlib.Core.Path.{_≡_}
 use lib.ListN.{length-take, length-replicate}
 use Rattle.sweeping.proofs.Progressing.{advanced-by}
 use Rattle.sweeping.proofs.pieces.advance.Statement.{statement}

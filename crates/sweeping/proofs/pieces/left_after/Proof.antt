@@ -1,7 +1,6 @@
 use borrow.Author.Needs.{needs}
 use native.Mathlib.Omega.{arith}
 use borrow.Author.Tests.{eq-eqb, ne-eqb}
-use mathlib.Core.Path.{_≡_}
 use Rattle.sweeping.proofs.pieces.left_after.Statement.{statement}
 use Rattle.sweeping.proofs.pieces.left_after.Tie as tie
 

@@ -1,5 +1,5 @@
 use borrow.Author.Needs.{needs}
-use mathlib.Core.Path.{_≡_, sym, _∙_, ap}
+use mathlib.Core.Path.{sym, _∙_, ap}
 use Rattle.sweeping.specs.Printing.{boundOf}
 use Rattle.sweeping.proofs.printing.bound.Statement.{statement}
 use Rattle.sweeping.proofs.printing.bound.Tie as tie

@@ -1,6 +1,5 @@
 use borrow.Author.Needs.{needs}
 use native.Mathlib.Omega.{arith}
-use mathlib.Core.Path.{_≡_}
 use Rattle.sweeping.specs.Printing.{headText}
 use Rattle.sweeping.proofs.Lines as laws
 use Rattle.sweeping.proofs.printing.put_head.Statement.{statement}

@@ -96,13 +96,12 @@ fn piece_buffer() -> [u8; 524288]
 }
 
 // Prints a listing in pieces: the first steps, and all that go on from there for the last ones.
-fn print_listing(card: Card, length: u32) -> bool {
+fn print_listing(card: Card, length: u32) -> bool
+    requires { ⌜ length ≤ 16 ⌝ }
+{
     let mut buffer = piece_buffer();
     if length <= LAST as u32 {
         return print_pieces(card, 0, length as u8, &mut buffer);
-    }
-    if length > 16 {
-        return false;
     }
     print_pieces(card, length as u8 - LAST, LAST, &mut buffer)
 }

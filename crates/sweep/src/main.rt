@@ -6,6 +6,7 @@ use arguments::decimal_of;
 use grammar::writing::put_decimal;
 use grammar::writing::put_word;
 use host::is_due;
+use host::print;
 use host::read_file;
 use host::seconds;
 use host::tell;
@@ -97,11 +98,8 @@ fn sweep_all(b: &mut [u64], l: &mut [u64], calls: &[u32], first: Progress) -> Pr
 fn print_summary(b: &[u64], q: Progress) -> bool {
     let mut buffer = io::large_buffer();
     let counts = q.counts;
-    let length = put_summary(&mut buffer, b, counts);
-    if length > 65536 {
-        return false;
-    }
-    io::write_all(STDOUT_FILENO, &buffer[..length])
+    let end = put_summary(&mut buffer, b, counts);
+    print(&buffer, end)
 }
 
 // Prints what the files come to: one line, or a sweep. Whether all of it was written. Eight processes with 32 items each have 768 words.

@@ -100,6 +100,11 @@ for folder in "$large" "$here/../../examples/refused-card"; do
     judge "full-output in $(basename "$folder")" "$work/errors" "$work/expected"
 done
 
+# so is one that fills up on the way: a file of at most 512 KiB
+echo "$(basename "$program"): the session could not be written: File too large" >"$work/expected"
+(trap '' XFSZ && ulimit -f 512 && cd "$large" && "$program" >"$work/output") 2>"$work/errors" </dev/null || true
+judge "an output that fills up" "$work/errors" "$work/expected"
+
 # one line of 65,536 bytes without an end, and with one
 awk 'BEGIN { for (i = 0; i < 65536; i++) printf "9" }' >"$large/calls.txt"
 echo line,1,refused,2 >"$large/expected.txt"

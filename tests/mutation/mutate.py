@@ -40,6 +40,7 @@ CASES = {
     "readings": ["tests/waves/run.sh", "target/bin/waves", "target/bin/readings"],
     "schedules": ["tests/schedules/run.sh", "target/bin/schedules"],
     "sweep": ["tests/sweep/run.sh", "target/bin/sweep"],
+    "sweep_speed": ["tests/speed/sweep.py", "check", "target/bin"],
     "waves": ["tests/waves/run.sh", "target/bin/waves", "target/bin/readings"],
 }
 

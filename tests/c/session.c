@@ -245,6 +245,8 @@ int main(int count, char **words)
     static uint8_t calls[CALLS_BYTES + 1];
     size_t card_bytes = read_file("card.txt", card, LACE_TEXT_BYTES);
     size_t calls_bytes = read_file("calls.txt", calls, CALLS_BYTES);
+    uint64_t seed = count > 1 ? strtoull(words[1], NULL, 10) : 0;
+    int is_short = count > 2;
     uint64_t line = 0;
     uint32_t status;
     fill(block_room, sizeof block_room / sizeof *block_room);
@@ -255,8 +257,8 @@ int main(int count, char **words)
     else if (calls_bytes > CALLS_BYTES)
         printf("calls,refused,1\n");
     else
-        run(calls, calls_bytes, count > 1 ? strtoull(words[1], NULL, 10) : 0, count > 2);
+        run(calls, calls_bytes, seed, is_short);
     look_around();
-    fprintf(stderr, kept ? "the loan is kept\n" : "the loan is not kept\n");
+    fprintf(stderr, "the loan is %s, seed %llu%s\n", kept ? "kept" : "not kept", (unsigned long long)seed, is_short ? ", short first" : "");
     return fflush(stdout) == 0 ? 0 : 1;
 }

@@ -8,8 +8,6 @@ use crate::coverage::Coverage;
 use crate::generate::{case, Case};
 use crate::replay::{schedules, Schedule};
 
-/// What the program tells at the end of a session that touched nothing past the words of its loan.
-const KEPT: &[u8] = b"the loan is kept\n";
 /// Seeds of the random words that alter the loan of a stored case or a schedule. A generated case is altered by its own seed.
 const SEEDS: [u64; 3] = [1, 2, 3];
 
@@ -66,7 +64,14 @@ fn failure(program: &Path, words: &[String], case: &Case, right: &[u8]) -> Optio
     if !same {
         return Some("other lines".to_string());
     }
-    (written.told != KEPT).then(|| format!("it told {:?}", String::from_utf8_lossy(&written.told)))
+    (written.told != kept(words).as_bytes()).then(|| format!("it told {:?}", String::from_utf8_lossy(&written.told)))
+}
+
+/// What the program tells at the end of a session that touched nothing past the words of its loan, with the words that it was called with.
+fn kept(words: &[String]) -> String {
+    let seed = words.first().map_or("0", String::as_str);
+    let short = if words.len() > 1 { ", short first" } else { "" };
+    format!("the loan is kept, seed {seed}{short}\n")
 }
 
 /// The schedules of the program replay (its standard input, crates/replay) as sessions.

@@ -41,12 +41,18 @@ fn number_of(argument: usize) -> u64 {
     value
 }
 
-fn tell(kept: bool) {
+// With the arguments as they were taken, so that a run without them is not taken for one with them.
+fn tell(kept: bool, seed: u64, short: bool) {
     if kept {
-        io::write_all(STDERR_FILENO, b"the loan is kept\n");
+        io::write_all(STDERR_FILENO, b"the loan is kept, seed ");
     } else {
-        io::write_all(STDERR_FILENO, b"the loan is not kept\n");
+        io::write_all(STDERR_FILENO, b"the loan is not kept, seed ");
     }
+    io::print_decimal(STDERR_FILENO, seed);
+    if short {
+        io::write_all(STDERR_FILENO, b", short first");
+    }
+    io::write_all(STDERR_FILENO, b"\n");
 }
 
 // Runs the commands from a place on, and prints a line for each.
@@ -70,7 +76,7 @@ fn run(calls: &[u8], start: usize, b: &mut [u64], l: &mut [u64], seed: u64, shor
         at = parsed.next;
         line = session::running::next_line(line, parsed.lines);
     }
-    tell(kept);
+    tell(kept, seed, short);
 }
 
 // Runs a session: a refusal, or its lines.

@@ -5,7 +5,7 @@ usage: tools/respell.py [TOP]
 
 It ran once, on the tree that the kit's port.py had left; docs/PORT.md names the commit. It goes by whole words and reads each name's declaration, so names that
 come from a library, from the source of a function or from the prover stay as they are. A dash stays where it joins names of which one has a capital (same_gate-P7).
-Turned: .antt files, the clauses and `ghost use` items of .rt files, must-fail edits, and code spans of pages. It prints what it turned on standard output.
+Turned: .antt files, .rt files (where only clauses and five fields of a card have such names), must-fail edits, and code spans of pages. It prints what it turned on standard output.
 """
 
 import collections
@@ -137,7 +137,7 @@ class Names:
                 return self.comment(m[0])
             if m[0].lstrip("b")[:1] == '"':
                 return m[0]
-            return WORD.sub(lambda w: self.word(w[0]) if CAMEL.fullmatch(w[0]) or "-" in w[0] else w[0], m[0])
+            return re.sub(r"(?<![\w-])[a-z][\w'-]*", lambda w: self.word(w[0]) if CAMEL.fullmatch(w[0]) or "-" in w[0] else w[0], m[0])
 
         return RUST.sub(turned, text)
 

@@ -1,6 +1,8 @@
 // Machines that share one processor (document 02, order 14): the allowance of steps per shaft turn, by value. What a machine is, its requests and its
 // answers are parameters of the definitions (specs/) and theorems (proofs/), which speak of every list of requests to all machines; the functions are the
 // rule, a turn and the opening. It rests on the crate construction (answers and refusals).
+#![tactic(auto)]
+
 ghost use Rattle.std.specs.Prelude.{◌≡◌, true, cond, ◌&&◌, ◌+◌, ltb, leb};
 ghost use Rattle.allowance.specs.Allowing.{empty, quota_at, larger, reserved, has_allowance, unused, spend, allowed as allowedAs, turn};
 ghost use Rattle.allowance.specs.Opening.{is_accepted, opened, are_ordered, shares, opened_as};

@@ -1,5 +1,7 @@
 // The allowance of machines that share one processor (document 02, order 14) in words that a caller lends: read from them, and stored. It rests on the crates
 // allowance (the value) and codes (words of a part).
+#![tactic(auto)]
+
 ghost use Rattle.std.specs.Prelude.{◌≡◌, ◌+◌, ◌≤◌, length, set};
 ghost use Rattle.codes.specs.Parts.{stores};
 ghost use Rattle.allowance.specs.Allowing.{empty};

@@ -1,6 +1,8 @@
 // Answers by their fields, as document 01 gives them (construction, specs/Answers): the number of a refusal, tests of an answer, and its fields put
 // into a buffer as the crate grammar does, each after a comma: bytes that do not fit fall away, and the place told is past the text all the
 // same. It rests on the crates grammar (words and decimals), construction, which declares the types and defines the fields, and labels.
+#![tactic(auto)]
+
 pub mod reports; // reports.rt: what is printed of a report
 pub mod kinds; // kinds.rt: whether an answer is taken, run or refused
 

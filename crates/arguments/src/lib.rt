@@ -1,5 +1,7 @@
 // An argument of a program: a decimal of 64 bits, as a card text writes one, and nothing else. It rests on the crate grammar (digits). The one public
 // function is total, and its contract gives its whole result.
+#![tactic(auto)]
+
 ghost use Rattle.std.specs.Prelude.{◌≡◌};
 ghost use Rattle.arguments.specs.Arguments.{fits, begins_wrong, argument_of};
 

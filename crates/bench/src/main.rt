@@ -1,5 +1,7 @@
 // The bench program (document 01, "The bench program"): reads `card.txt` and `calls.txt` in the folder where it is run and prints the
 // session. The printed text is that of the crate session; only reading the files and writing the bytes is left to do here.
+#![tactic(auto)]
+
 use host::read_file;
 use libc::STDOUT_FILENO;
 use session::State;

@@ -1,5 +1,7 @@
 // One call for each process (document 02, orders 12 and 13): the table of them, five words for each process, and the text that gives it,
 // `call,i,SHEET,I0,I1,I2,I3` on line i + 1. It rests on the crates grammar, construction, answers, commands (the lines) and executions (what a call asks for).
+#![tactic(auto)]
+
 pub mod reading; // reading.rt: the table of a text
 
 ghost use Rattle.std.specs.Prelude.{◌≡◌, get_or};

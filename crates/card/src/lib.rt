@@ -1,6 +1,8 @@
 // The card of document 01 as code: call, exit request (wish), step and read (look), for every value of a card. With the traced step (crate tracing)
 // and the change (crate changing) these alone take and give a card: each takes the pieces that it needs out of it, has functions on small values judge
 // them and work on them, and puts back what changed. It rests on the crates construction (types and definitions), answers, helping, machine, opening and requests.
+#![tactic(auto)]
+
 ghost use Rattle.std.specs.Prelude.{◌≡◌};
 ghost use Rattle.construction.specs.Requests.{call, request_exit, step, read};
 
@@ -74,8 +76,8 @@ pub fn step(card: Card, process: u32) -> Answered
             answer: judged,
         };
     }
-    let gate = c.gatesRead[i];
-    let last = c.announcementsRead[i];
+    let gate = c.gates_read[i];
+    let last = c.announcements_read[i];
     let steps = std::num::wrapping_add_u64(c.counts[i], 1);
     c.steps = std::num::wrapping_add_u64(c.steps, 1);
     c.counts[i] = steps;
@@ -88,7 +90,7 @@ pub fn step(card: Card, process: u32) -> Answered
             let read = after.read;
             let control = after.control;
             c.gate = stored;
-            c.gatesRead[i] = read;
+            c.gates_read[i] = read;
             c.controls[i] = control;
             answer_of(control, last, steps)
         }
@@ -109,7 +111,7 @@ pub fn step(card: Card, process: u32) -> Answered
             let stored = after.cell;
             let read = after.read;
             let control = after.control;
-            c.announcementsRead[i] = read;
+            c.announcements_read[i] = read;
             c.controls[i] = control;
             let answer = answer_of(control, read, steps);
             if m < 8 {
@@ -138,7 +140,7 @@ pub fn step(card: Card, process: u32) -> Answered
             );
             let state = began.simulation;
             let control = began.control;
-            c.announcementsRead[i] = cell;
+            c.announcements_read[i] = cell;
             c.simulations[i] = state;
             c.controls[i] = control;
             let answer = answer_of(control, cell, steps);

@@ -1,5 +1,7 @@
 // The shared cells of document 01 by value: whole-cell equality, swaps, and the new cells that steps store.
 // It rests on the crate construction, which declares the types and defines each result.
+#![tactic(auto)]
+
 ghost use Rattle.std.specs.Prelude.{◌≡◌};
 ghost use Rattle.construction.specs.Cells.{same_holder, same_flag, same_words, same_gate, same_announcement, same_record};
 ghost use Rattle.construction.specs.Cells.{swap_gate, swap_announcement, swap_record, released, current, previous, rewritten, is_done};

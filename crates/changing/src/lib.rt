@@ -1,6 +1,8 @@
 // A program changed while the machine runs (document 02, order 11), for every value of a card: its text is read by the reader of card texts, functions
 // on small values judge the change, and the text is put into the card if the change is taken. It rests on the crates construction (types and
 // definitions), answers, opening, programs, reader and requests.
+#![tactic(auto)]
+
 ghost use Rattle.std.specs.Prelude.{◌≡◌, min};
 ghost use Rattle.construction.specs.Weight.{heaviest as heaviestOf};
 ghost use Rattle.construction.specs.Changes.{change};

@@ -1,6 +1,8 @@
 // Small values as words (document 02, order 10): a code for each place, flag, holder and instruction, and the value of every word. Every word is some
 // value, so that every block of words is some card. It rests on the crates construction (types), labels
 // (the words of places) and writer (the numbers of an instruction).
+#![tactic(auto)]
+
 ghost use Rattle.std.specs.Prelude.{◌≡◌};
 ghost use Rattle.codes.specs.Codes.{byte, half, odd, bit, holder_from, holder_word, flag_from, flag_word, place_from, place_word, instruction_from, packed, instruction_word};
 

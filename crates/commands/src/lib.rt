@@ -2,6 +2,8 @@
 // printed line of a command with its answer, put into a buffer. It rests on the crates grammar (fields and decimals), answers (the fields of
 // answers and reports) and construction (types and definitions). Every public function is total, and its contract gives its whole result and
 // every byte of the buffer.
+#![tactic(auto)]
+
 pub mod reading; // reading.rt: the command at a place of a calls text
 pub mod printing; // printing.rt: the printed lines
 

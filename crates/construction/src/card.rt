@@ -15,9 +15,9 @@ pub struct Operation {
 #[derive(Drop)]
 pub struct Card {
     // document 01: p, n, s and the step limit
-    pub processCount: u8,
-    pub variableCount: u8,
-    pub programCount: u8,
+    pub process_count: u8,
+    pub variable_count: u8,
+    pub program_count: u8,
     pub limit: u64,
     // the starting values, and the sheets
     pub starts: [u32; 64],
@@ -40,8 +40,8 @@ pub struct Card {
     pub exits: [bool; 8],
     pub counts: [u64; 8],
     // the gate and the announcement that it last read (the paper's g and a)
-    pub gatesRead: [Gate; 8],
-    pub announcementsRead: [Announcement; 8],
+    pub gates_read: [Gate; 8],
+    pub announcements_read: [Announcement; 8],
     // the sheet that it runs in helping, with registers and what it yields; its book of noted records
     pub simulations: [Simulation; 8],
     pub dictionaries: [Dictionary; 8],

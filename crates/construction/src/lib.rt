@@ -1,5 +1,6 @@
 // The universal construction of Chuong, Ellen and Ramachandran (2010) as document 01 condenses it: types in src/, definitions in specs/,
 // laws and theorems in proofs/. It has no function, so that editing code never checks the theorems again. It rests on the crate grammar.
+#![tactic(auto)]
 
 pub mod accesses; // accesses.rt: the paper's labels, and the shared access of each
 pub mod answers; // answers.rt: refusals, answers and reports

@@ -7,9 +7,9 @@ use crate::programs::{Instruction, Program};
 #[derive(Drop)]
 pub enum CardLine {
     Fields {
-        processCount: u8,
-        variableCount: u8,
-        programCount: u8,
+        process_count: u8,
+        variable_count: u8,
+        program_count: u8,
         limit: u64,
         next: usize,
     },
@@ -43,9 +43,9 @@ pub enum InsLine {
 // What a card text says.
 #[derive(Drop)]
 pub struct Contents {
-    pub processCount: u8,
-    pub variableCount: u8,
-    pub programCount: u8,
+    pub process_count: u8,
+    pub variable_count: u8,
+    pub program_count: u8,
     pub limit: u64,
     pub starts: [u32; 64],
     pub programs: [Program; 8],

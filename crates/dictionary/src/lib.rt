@@ -1,5 +1,7 @@
 // The dictionary D of the paper (document 01: book): items in order of first touch, and which is to be written; and the set of the variables noted.
 // It rests on the crates construction (types and definitions) and cells (the two values of a record).
+#![tactic(auto)]
+
 ghost use Rattle.std.specs.Prelude.{◌≡◌, min};
 ghost use Rattle.construction.specs.Marks.{with_bit};
 ghost use Rattle.construction.specs.Dictionary.{value_under, item_of, insert, altered, next_write};

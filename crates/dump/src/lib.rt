@@ -1,5 +1,7 @@
 // The value change dump of document 02, order 7: the types of its reader. The definitions of writer and reader stand in specs/, their theorems in
 // proofs/; there is no function. It rests on the crates grammar (decimals, words at a place) and construction (the card and its runs).
+#![tactic(auto)]
+
 use construction::texts::Verdict;
 
 // A line after the header: a time, a value of a variable, each with the place past the line, or neither.

@@ -1,6 +1,8 @@
 // The reader of a value change dump (document 02, order 7): one pass over the bytes, for any step that is asked for, or with the values of every time
 // in decimal. It rests on the crates grammar (decimals and words at a place), construction (verdicts) and dump (the definitions). Every public function is
 // total, and its contract gives its whole result.
+#![tactic(auto)]
+
 mod binary; // binary.rt: binary numbers at a place
 pub mod header; // header.rt: the header and `#0`
 pub mod lines; // lines.rt: one line after the header

@@ -2,6 +2,8 @@
 // crates grammar (stores into a buffer), construction (the card), answers, commands, machine and requests (commands, answers and what a read shows, on
 // small values), reader (the card text), session (the commands carried out) and dump (the definitions). Every public function is total, and its
 // contract gives its whole result and every byte of the buffer.
+#![tactic(auto)]
+
 mod changes; // changes.rt: the changes between two rows
 mod lines; // lines.rt: the lines of a dump
 pub mod rows; // rows.rt: what a read shows of every variable of a card

@@ -1,6 +1,8 @@
 // Decimals, fields and words of the text formats of document 01: read at a place of a slice, and
 // written into a lent buffer. It rests on no other crate. Every public function is total, and its
 // contract gives its whole result and every byte of the buffer.
+#![tactic(auto)]
+
 pub mod reading; // reading.rt: bytes, words, decimals and fields at a place of a text
 pub mod writing; // writing.rt: the same put into a buffer, as far as it reaches
 

@@ -1,6 +1,8 @@
 // Helping (lines P16 to P18 and H1 to H36 of the paper): what a process goes on with that helps the operation whose turn it is. A program is
 // simulated on the numbers of a dictionary, and only `note` takes a dictionary, updates it and gives it back.
 // It rests on the crates construction (types and definitions), cells, dictionary, opening and programs.
+#![tactic(auto)]
+
 pub mod simulation; // simulation.rt: a program that runs on lent keys and values
 
 ghost use Rattle.std.specs.Prelude.{◌≡◌, ◌≤◌, take};

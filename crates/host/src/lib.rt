@@ -1,5 +1,7 @@
 // What every program asks of the system that it runs on: the bytes of a file, bytes printed or told, and the seconds of its clock. What the system answers
 // is assumed as the kit's libc states it. It rests on the kit alone.
+#![tactic(auto)]
+
 ghost use Rattle.std.specs.Prelude.{◌≡◌, false, ◌+◌, ◌<◌, leb, length};
 ghost use Rattle.io.specs.Counts.{IsPrefixLen};
 

@@ -1,5 +1,7 @@
 // The table of labels (specs/Labels of the crate construction): name, word and what is told of each. Printing, words in a block and tests of a place are
 // read off it. It rests on the crate construction (types and definitions).
+#![tactic(auto)]
+
 ghost use Rattle.std.specs.Prelude.{◌≡◌};
 ghost use Rattle.construction.specs.Labels.{row, label_row, same_label};
 

@@ -1,5 +1,7 @@
 // The two public swaps on cells that their owner lends (document 01, 'Shared cells'): one on a gate, one on one place of a row of records.
 // It rests on the crates construction (types and definitions) and cells (the swaps by value).
+#![tactic(auto)]
+
 ghost use Rattle.std.specs.Prelude.{◌≡◌};
 ghost use Rattle.construction.specs.Cells.{swap_gate};
 ghost use Rattle.construction.specs.Answers.{row_fields};

@@ -1,5 +1,7 @@
 // A test program over the crate lent: it lends a row of four records and a gate, makes won, lost and refused swaps,
 // compares every cell afterwards, and prints a line for each case. It rests on the crates construction, answers, cells, lent and report.
+#![tactic(auto)]
+
 ghost use Rattle.std.specs.Prelude.{◌≡◌};
 ghost use Rattle.construction.specs.Cells.{swap_gate};
 ghost use Rattle.lent.specs.Row.{row_answer, row_after};

@@ -2,6 +2,8 @@
 // and the loan, has the functions on small values that the by-value card uses do the work, and puts back what changed. It rests on the crates
 // construction (types and definitions), block (the parts of a block), loan (dictionaries and the simulation on them), lent_machine (the other accesses),
 // machine, helping and dictionary (small values).
+#![tactic(auto)]
+
 pub mod access; // access.rt: any access of a step
 pub mod help; // help.rt: the start of a help
 pub mod note; // note.rt: a record read and noted

@@ -2,3 +2,4 @@
 // through such a list as the card by value does, so that every theorem of construction speaks of them too; what holds of altered loans; 11 by its number.
 // Definitions and theorems; no function. It rests on the crates construction (definitions and theorems), block, loan, lent_text, lent_card, lent_helping
 // and lent_steps.
+#![tactic(auto)]

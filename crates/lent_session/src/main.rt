@@ -6,6 +6,8 @@
 // With a second argument every step is asked for with a loan too short first, which is to be refused and to change nothing.
 // At the end standard error tells whether the words past those that the card takes kept their pattern and every step with a loan too short was refused.
 // What is computed, compared and answered equals its definition in specs/; no contract can say what is read and written.
+#![tactic(auto)]
+
 mod altering; // altering.rt: other words in the loan, and the words past them
 mod answering; // answering.rt: the answer of the card to a command
 mod printing; // printing.rt: the printed lines

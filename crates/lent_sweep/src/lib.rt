@@ -1,5 +1,7 @@
 // Steps by a schedule, a process called again as soon as its operation returns (document 02, order 12), on a card in lent words. It rests on the crates
 // construction (types and definitions), answers, block, calls (the table of calls), loan, lent_card (the call), lent_steps (the step) and machine.
+#![tactic(auto)]
+
 pub mod counting; // counting.rt: what is counted
 pub mod running; // running.rt: the run over a schedule
 

@@ -1,6 +1,8 @@
 // A card text opened into a block of words that the caller lends, and the text written from a block (document 02, order 10). The text is read and written by the
 // functions that the card by value has; the loan is not touched. It rests on the crates construction (types and definitions), codes (definitions), reader,
 // writer, programs, opening, block and texts.
+#![tactic(auto)]
+
 ghost use Rattle.std.specs.Prelude.{◌≡◌, []};
 ghost use Rattle.construction.specs.Cells.{open_gate};
 ghost use Rattle.construction.specs.Parts.{contents_of};
@@ -170,9 +172,9 @@ pub fn contents_of(b: &[u64]) -> Contents
     let starts = starts_of(b);
     let programs = programs_of(b);
     Contents {
-        processCount: process_count(b),
-        variableCount: variable_count(b),
-        programCount: program_count(b),
+        process_count: process_count(b),
+        variable_count: variable_count(b),
+        program_count: program_count(b),
         limit: limit(b),
         starts,
         programs,

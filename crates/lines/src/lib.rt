@@ -1,5 +1,7 @@
 // The lines of a card text (document 01, "The card text"): each yields its fields and the place past it, or a refusal.
 // It rests on the crates grammar and construction. Every public function is total, and its contract gives its whole result.
+#![tactic(auto)]
+
 ghost use Rattle.std.specs.Prelude.{◌≡◌, ◌&&◌};
 ghost use Rattle.construction.specs.Instructions.{in_range, ranged, unused_zero, each_operand, row_of, instruction_of, encoded, decode as decoded};
 ghost use Rattle.construction.specs.Lines.{card_fits, card_line, var_line, sheet_line, ins_of, ins_line};
@@ -110,7 +112,7 @@ fn instruction_of(code: u64, a: u8, b: u8, c: u8) -> Instruction
 }
 
 // Whether an operand is within the range of its kind, on a card of so many variables. An unused one has no range.
-fn operand_in_range(variableCount: u8, kind: OperandKind, x: u64) -> bool
+fn operand_in_range(variable_count: u8, kind: OperandKind, x: u64) -> bool
     ensures { result ≡ ranged variable_count kind x }
 {
     match kind {
@@ -137,7 +139,7 @@ fn operand_zero_if_unused(kind: OperandKind, x: u64) -> bool
 
 // Whether the operands are within the ranges of their kinds a, b and c.
 fn operands_in_range(
-    variableCount: u8,
+    variable_count: u8,
     a: OperandKind,
     b: OperandKind,
     c: OperandKind,
@@ -169,7 +171,7 @@ fn operands_zero_if_unused(a: OperandKind, b: OperandKind, c: OperandKind, x: En
 
 // The instruction of a code and its operands, on a card of so many variables: refusals 4, 12 and 13. An operand that is not refused is told
 // whole by its low byte, a constant by its low word.
-pub fn decode(variableCount: u8, x: Encoded) -> Decoded
+pub fn decode(variable_count: u8, x: Encoded) -> Decoded
     ensures { result ≡ decoded variable_count x }
 {
     let Known(kind_a, kind_b, kind_c) = format_of(x.code) else {
@@ -194,7 +196,7 @@ pub fn decode(variableCount: u8, x: Encoded) -> Decoded
     Decoded::Valid(instruction_of(x.code, a, b, c))
 }
 
-fn card_fits(processCount: u64, variableCount: u64, programCount: u64, limit: u64) -> bool
+fn card_fits(process_count: u64, variable_count: u64, program_count: u64, limit: u64) -> bool
     ensures { result ≡ card_fits process_count variable_count program_count limit }
 {
     let p = in_range(1, 8, process_count);
@@ -214,9 +216,9 @@ pub fn card_line(text: &[u8], at: usize) -> CardLine
         };
         if card_fits(a, b, c, d) {
             CardLine::Fields {
-                processCount: a as u8,
-                variableCount: b as u8,
-                programCount: c as u8,
+                process_count: a as u8,
+                variable_count: b as u8,
+                program_count: c as u8,
                 limit: d,
                 next,
             }
@@ -281,7 +283,7 @@ fn ins_of(decoded: Decoded, next: usize) -> InsLine
 }
 
 // `ins,code,a,b,c`, on a card of so many variables
-pub fn ins_line(variableCount: u8, text: &[u8], at: usize) -> InsLine
+pub fn ins_line(variable_count: u8, text: &[u8], at: usize) -> InsLine
     ensures { result ≡ ins_line variable_count text.now at }
 {
     if has_word(text, at, b"ins,") {

@@ -1,6 +1,8 @@
 // Every short schedule (document 02, order 13) as code: the listing of a card's executions put into a lent buffer, and its length told without writing
 // it. The text, the refusals and what a schedule is are defined in the crate executions; the machine is that of the crate card. It rests on the
 // crates grammar, construction, executions, answers, machine, opening, requests and card.
+#![tactic(auto)]
+
 pub mod branches; // branches.rt: the executions that go on from a card, by recursion on the steps still to choose
 mod runs; // runs.rt: schedules in which every step runs on
 pub mod pieces; // pieces.rt: the listing in pieces, numbered by its first steps

@@ -17,9 +17,9 @@ pub(crate) fn reopen(card: Card) -> Card
     let starts = card.starts;
     let programs = card.programs;
     fresh(Contents {
-        processCount: card.process_count,
-        variableCount: card.variable_count,
-        programCount: card.program_count,
+        process_count: card.process_count,
+        variable_count: card.variable_count,
+        program_count: card.program_count,
         limit: card.limit,
         starts,
         programs,

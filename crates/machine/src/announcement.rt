@@ -112,7 +112,7 @@ fn replace_announcement(
 }
 
 // Whose announcement an access of a process is of, on a card of so many processes.
-pub fn whose(access: AnnouncementAccess, processCount: u8, process: u8, gate: Gate) -> u8
+pub fn whose(access: AnnouncementAccess, process_count: u8, process: u8, gate: Gate) -> u8
     ensures { result ≡ whose access process_count process gate }
 {
     let holder = gate.holder;

@@ -1,6 +1,8 @@
 // One shared access (specs/Machine of the crate construction) on small values: which access a place makes, and what it does to one
 // shared cell and to what its process keeps. No function of it takes or returns a card or a dictionary.
 // It rests on the crates construction (types and definitions), cells and labels.
+#![tactic(auto)]
+
 pub mod announcement; // announcement.rt: the accesses of an announcement, and the announcements that they store
 pub mod gate; // gate.rt: the accesses of the gate
 pub mod places; // places.rt: the access of each place, and the choices between places

@@ -123,7 +123,7 @@ pub fn holder_of(holder: Holder) -> u8
 }
 
 // Line C1: the process whose turn it is.
-pub fn first_choice(seq: u64, processCount: u8) -> u8
+pub fn first_choice(seq: u64, process_count: u8) -> u8
     ensures { result ≡ first_choice seq process_count }
 {
     if 0 < process_count {

@@ -1,6 +1,8 @@
 // The lines of the program `machines` (document 02, order 14), one at a time, on slices: the request at a place of a calls text, and the printed lines. A
 // command of the bench program has the number of its machine after the verb; `turn` is a line by itself. It rests on the crates commands (verbs, fields and
 // commands), answers and grammar. Every public function is total, and its contract gives its whole result and every byte of the buffer.
+#![tactic(auto)]
+
 pub mod reading; // reading.rt: the request at a place of a calls text
 pub mod printing; // printing.rt: the printed lines
 

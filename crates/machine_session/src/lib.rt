@@ -2,6 +2,8 @@
 // stand in lent words, 1456 for the block of each machine and 768 for its loan; what the machines share is the allowance, by value. It rests on the crates
 // machine_terms (the terms), machine_commands (the lines, read and printed), shared_processor (cards and requests in lent words), allowance (a turn), session
 // (the numbers of lines) and commands. Every public function is total, and its contract gives its whole result, every lent word and every byte of the buffer.
+#![tactic(auto)]
+
 pub mod answering; // answering.rt: the answer to a request
 pub mod starting; // starting.rt: where a session starts
 pub mod running; // running.rt: its lines, as many at a time as a buffer has room for

@@ -1,6 +1,8 @@
 // The text `machines.txt` of the program `machines` (document 02, order 14): the steps of a turn, and the share and the ceiling of each machine, read to the
 // allowance at opening or a refusal with its line. It rests on the crates grammar (words and fields), allowance (the opening), answers and construction (types).
 // Every public function is total, and its contract gives its whole result.
+#![tactic(auto)]
+
 ghost use Rattle.std.specs.Prelude.{◌≡◌, set};
 ghost use Rattle.machine_terms.specs.Terms.{pair, line, quota_of, quotas_read, refused, judged_as, terms};
 

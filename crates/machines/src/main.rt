@@ -1,5 +1,7 @@
 // Machines that share one processor (document 02, order 14): reads `machines.txt`, `card0.txt` to `card3.txt` and `calls.txt` in the folder where it is run and
 // prints the session. The printed text is that of the crate machine_session; only reading the files and writing the bytes is left to do here.
+#![tactic(auto)]
+
 use host::read_file;
 use libc::{STDERR_FILENO, STDOUT_FILENO};
 use machine_session::State;

@@ -1,5 +1,7 @@
 // What stands at opening, by value: the opening value of each part of a card, and the card of given contents as its text opens it
 // (document 01, "Shared cells"). It rests on the crate construction, which declares the types and defines each result.
+#![tactic(auto)]
+
 ghost use Rattle.std.specs.Prelude.{◌≡◌, map};
 ghost use Rattle.construction.specs.Cells.{zeros, open_announcement, open_record};
 ghost use Rattle.construction.specs.Instructions.{started, no_line, no_program};
@@ -125,9 +127,9 @@ pub fn fresh(contents: Contents) -> Card
     let programs = contents.programs;
     let announcement = open_announcement();
     Card {
-        processCount: contents.process_count,
-        variableCount: contents.variable_count,
-        programCount: contents.program_count,
+        process_count: contents.process_count,
+        variable_count: contents.variable_count,
+        program_count: contents.program_count,
         limit: contents.limit,
         starts,
         programs,
@@ -151,11 +153,11 @@ pub fn fresh(contents: Contents) -> Card
         }; 8],
         exits: [false; 8],
         counts: [0; 8],
-        gatesRead: [Gate {
+        gates_read: [Gate {
             holder: Holder::Nobody,
             seq: 0,
         }; 8],
-        announcementsRead: [announcement; 8],
+        announcements_read: [announcement; 8],
         simulations: [started(); 8],
         dictionaries: [empty(); 8],
         masks: [0; 8],

@@ -1,5 +1,7 @@
 // The fourteen instructions of documents 01 ('The card text') and 02 (order 9) as code: operands, arithmetic, and what an instruction does to a
 // running program. It rests on the crate construction, which declares the types and defines each result.
+#![tactic(auto)]
+
 pub mod weights; // weights.rt: how many records programs can touch
 
 ghost use Rattle.std.specs.Prelude.{◌≡◌, cond, suc, ◌-◌, min};

@@ -22,7 +22,7 @@ fn ended(text: &[u8], read: ProgramReading) -> ProgramReading
 }
 
 // The program of a text for a card with so many variables; one that weighs more than `most` is refused.
-pub fn read_change(variableCount: u8, most: u8, text: &[u8]) -> ProgramReading
+pub fn read_change(variable_count: u8, most: u8, text: &[u8]) -> ProgramReading
     ensures { result ≡ program_text variable_count most text.now }
 {
     if 16384 < text.len() {

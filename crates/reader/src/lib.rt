@@ -1,6 +1,8 @@
 // The reader of a card text (document 01, "The card text" and "Turned back"): the text is judged by its length, then line by line,
 // and the card is made once, at the end. The text of a change (document 02, order 11) is read by the same functions. It rests on the crates lines,
 // opening, programs and construction.
+#![tactic(auto)]
+
 pub mod changes; // changes.rt: the text of a change
 mod refusals; // refusals.rt: refused readings, and the refusal of a line
 
@@ -20,9 +22,9 @@ use programs::weights::weight;
 
 // The contents after the `card` line alone.
 pub(crate) fn begun_contents(
-    processCount: u8,
-    variableCount: u8,
-    programCount: u8,
+    process_count: u8,
+    variable_count: u8,
+    program_count: u8,
     limit: u64,
 ) -> Contents
     ensures { result ≡ begun process_count variable_count program_count limit }
@@ -42,7 +44,7 @@ pub(crate) fn begun_contents(
 
 // The lines of a program, as many as its `sheet` line says.
 fn read_lines(
-    variableCount: u8,
+    variable_count: u8,
     text: &[u8],
     length: u8,
     start: usize,
@@ -93,7 +95,7 @@ fn weigh(most: u8, read: ProgramReading, last: u64) -> ProgramReading
 
 // One program: its `sheet` line and its lines.
 pub(crate) fn read_program(
-    variableCount: u8,
+    variable_count: u8,
     most: u8,
     text: &[u8],
     at: usize,
@@ -177,8 +179,8 @@ fn read_vars(text: &[u8], count: u8, contents: Contents, start: usize, first: u6
 // What follows the `card` line: the `var` lines, the programs, and nothing more.
 fn read_body(
     text: &[u8],
-    variableCount: u8,
-    programCount: u8,
+    variable_count: u8,
+    program_count: u8,
     contents: Contents,
     at: usize,
 ) -> Reading

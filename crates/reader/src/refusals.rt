@@ -41,9 +41,9 @@ pub(crate) fn card_refusal(line: CardLine) -> Refusal
     match line {
         CardLine::Refused(refusal) => refusal,
         CardLine::Fields {
-            processCount: _,
-            variableCount: _,
-            programCount: _,
+            process_count: _,
+            variable_count: _,
+            program_count: _,
             limit: _,
             next: _,
         } => Refusal::Malformed,

@@ -1,5 +1,7 @@
 // The program `readings` (document 02, order 7): reads a dump and prints the values after a step, or after each of its times. The dump is judged and read
 // by the crate dump_reader, which forms the lines too; reading the file and the arguments and writing bytes is left to do here.
+#![tactic(auto)]
+
 ghost use Rattle.std.specs.Prelude.{◌≡◌, length};
 
 use arguments::{Argument, decimal_of};

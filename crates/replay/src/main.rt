@@ -4,6 +4,8 @@
 // card text above from its opening. The byte `#` stands nowhere else. A refused card text is told, and its schedules are played on the card that it opens to.
 // The expected output is worked out by the simulator (tests/replay). It rests on the crates commands and session, and on report for the comparison of cards.
 // What is searched for, played and compared equals its definition in specs/; what only prints gives nothing back.
+#![tactic(auto)]
+
 ghost use Rattle.std.specs.Prelude.{◌≤◌, length};
 ghost use Rattle.replay.specs.Playing.{Finds, Plays};
 

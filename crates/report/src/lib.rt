@@ -1,5 +1,7 @@
 // What test programs share: the shared cells written to standard output, and the comparison of cards. It rests on the crates construction, cells,
 // codes, io and libc. What is computed equals its definition in specs/; no contract can say what is written, so whatever writes gives nothing back.
+#![tactic(auto)]
+
 pub mod same; // same.rt: whether two cards are the same in every part
 
 use construction::card::Card;

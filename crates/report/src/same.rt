@@ -232,8 +232,8 @@ fn reads_at(card: Card, i: usize) -> Reads
     ensures { result ≡ reads_at card i }
 {
     let announcement = card.announcements[i];
-    let gate = card.gatesRead[i];
-    let copy = card.announcementsRead[i];
+    let gate = card.gates_read[i];
+    let copy = card.announcements_read[i];
     let simulation = card.simulations[i];
     let dictionary = card.dictionaries[i];
     Reads {

@@ -1,5 +1,7 @@
 // What is told of a step (document 02, order 1), on small values: the label of an access, the cell that it touches, whether its swap won, and the report.
 // It rests on the crates construction (types and definitions), answers, labels and machine; both representations of the card tell their steps by it.
+#![tactic(auto)]
+
 ghost use Rattle.std.specs.Prelude.{◌≡◌, cond};
 ghost use Rattle.construction.specs.Machine.{cell_by};
 ghost use Rattle.construction.specs.Tracing.{label_of, noted_at, report_with, no_report};
@@ -41,7 +43,7 @@ pub fn noted_at(label: Label, mask: u64) -> u64
 // The cell that an access of a process touches, on a card of so many processes: `target` is the variable of H21, `written` that of H36.
 pub fn cell_of(
     access: Access,
-    processCount: u8,
+    process_count: u8,
     process: u8,
     gate: Gate,
     target: u8,

@@ -25,7 +25,7 @@ pub fn is_behind(place: Label, gate: Gate, number: u64) -> bool
 }
 
 // The same of process i, on a card of so many processes.
-fn is_behind_at(i: u8, processCount: u8, place: Label, gate: Gate, number: u64) -> bool
+fn is_behind_at(i: u8, process_count: u8, place: Label, gate: Gate, number: u64) -> bool
     ensures { result ≡ ltb i process_count && is_behind place gate number }
 {
     i < process_count && is_behind(place, gate, number)
@@ -34,8 +34,8 @@ fn is_behind_at(i: u8, processCount: u8, place: Label, gate: Gate, number: u64) 
 // Whether the operation of some process is behind a number.
 pub fn some_behind(
     controls: [Control; 8],
-    gatesRead: [Gate; 8],
-    processCount: u8,
+    gates_read: [Gate; 8],
+    process_count: u8,
     number: u64,
 ) -> bool
     ensures { result ≡ some_behind controls gates_read process_count number 8 }
@@ -45,7 +45,7 @@ pub fn some_behind(
     while i < 8 {
         let at = i as usize;
         let control = controls[at];
-        let gate = gatesRead[at];
+        let gate = gates_read[at];
         let place = control.place;
         if is_behind_at(i, process_count, place, gate, number) {
             behind = true;

@@ -21,9 +21,9 @@ pub fn is_below(number: u32, count: u8, room: u32) -> bool
 // A call: refusals 5, 6 and 7, or taken.
 pub fn judge_call(
     process: u32,
-    processCount: u8,
+    process_count: u8,
     program: u32,
-    programCount: u8,
+    program_count: u8,
     place: Label,
 ) -> Answer
     ensures { result ≡ call_judged process process_count program program_count place }
@@ -41,7 +41,7 @@ pub fn judge_call(
 }
 
 // An exit request: refusals 5 and 8, or taken.
-pub fn judge_exit(process: u32, processCount: u8, place: Label) -> Answer
+pub fn judge_exit(process: u32, process_count: u8, place: Label) -> Answer
     ensures { result ≡ exit_judged process process_count place }
 {
     if !is_below(process, process_count, 8) {
@@ -54,7 +54,7 @@ pub fn judge_exit(process: u32, processCount: u8, place: Label) -> Answer
 }
 
 // A step: refusals 5, 8 and 10, or taken.
-pub fn judge_step(process: u32, processCount: u8, place: Label, steps: u64, limit: u64) -> Answer
+pub fn judge_step(process: u32, process_count: u8, place: Label, steps: u64, limit: u64) -> Answer
     ensures { result ≡ step_judged process process_count place steps limit }
 {
     if !is_below(process, process_count, 8) {
@@ -73,7 +73,7 @@ pub fn judge_step(process: u32, processCount: u8, place: Label, steps: u64, limi
 // from which the program's last change holds, and `behind` tells whether an operation under way last read a gate number below that.
 pub fn judge_change(
     program: u32,
-    programCount: u8,
+    program_count: u8,
     verdict: Verdict,
     number: u64,
     from: u64,

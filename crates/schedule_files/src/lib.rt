@@ -1,6 +1,8 @@
 // What the two files of the program `schedules` say (document 02, order 13): the card with one call per process made, or the one line that is printed
 // instead. It rests on the crates grammar, construction, executions, answers, calls (the calls text), commands (the lines that are printed), reader (the card
 // text) and listing (refusals 6 and 17, the calls made).
+#![tactic(auto)]
+
 ghost use Rattle.std.specs.Prelude.{◌≡◌, true, false, ◌≤◌};
 ghost use Rattle.grammar.specs.Writing.{Put};
 ghost use Rattle.construction.specs.Answers.{number_of};

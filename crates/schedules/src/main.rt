@@ -1,6 +1,8 @@
 // Every short schedule (document 02, order 13): reads `card.txt` and `calls.txt` in the folder where it is run and prints the listing of length L, its
 // argument. What the files say and the text of each piece are those of the crates schedule_files and listing; only reading the argument and the files,
 // writing the bytes and telling how far it is are left to do here.
+#![tactic(auto)]
+
 ghost use Rattle.std.specs.Prelude.{◌≡◌, ◌≤◌, length};
 ghost use Rattle.grammar.specs.Writing.{Put};
 ghost use Rattle.schedules.specs.Progress.{progress_text};

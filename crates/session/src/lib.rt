@@ -2,6 +2,8 @@
 // It rests on the crates commands (the lines, read and printed), reader (the card text), card (the requests), changing (changes of programs),
 // tracing (what is told of a step), grammar (stores into a buffer) and construction (types and definitions). Every public function is total, and
 // its contract gives its whole result and every byte of the buffer.
+#![tactic(auto)]
+
 pub mod running; // running.rt: the session, as many whole lines at a time as a buffer takes
 
 use commands::Command;

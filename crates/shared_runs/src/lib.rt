@@ -2,3 +2,4 @@
 // words, that each machine answers as it would alone, so that every theorem on one card speaks of each machine (order 10), and 5 and 19 by their numbers.
 // Definitions and theorems; no function. It rests on the crates construction, allowance, shared_processor, lent_runs (one card in lent words) and those
 // below them.
+#![tactic(auto)]

@@ -2,6 +2,8 @@
 // of pseudo-random numbers. Standard input holds how many steps are made; the shared cells are printed at the end.
 // tests/speed/run.sh times it against tests/speed/steps/steps.rs, which ends with the same cells.
 // The card stands in one variable, the last request's result, so that nothing but the requests copies it.
+#![tactic(auto)]
+
 ghost use Rattle.std.specs.Prelude.{◌≡◌};
 ghost use Rattle.steps_speed.specs.Runs.{seed, inputs_of, called_from, run_from, opened};
 

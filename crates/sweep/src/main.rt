@@ -1,6 +1,8 @@
 // A sweep (document 02, order 12): reads `card.txt` and `calls.txt` in the folder where it is run, makes STEPS steps by the schedule of SEED, its arguments, and prints
 // what they come to. What the files say, the steps and the printed lines are those of the crate sweeping; only reading the arguments and the files, writing the
 // bytes and telling how far it is are left to do here. Block and loan stand in two arrays of this program.
+#![tactic(auto)]
+
 ghost use Rattle.std.specs.Prelude.{◌≡◌};
 ghost use Rattle.grammar.specs.Writing.{Put};
 ghost use Rattle.sweeping.specs.Pieces.{Finishes};

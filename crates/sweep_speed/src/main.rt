@@ -2,6 +2,8 @@
 // line of standard input is COUNT,LIMIT,WORDS,LOAN: the card's step limit, and how many words of the table of calls and of the loan are lent. The bytes
 // after it, 4,096 at most, are a schedule that is run COUNT times; where there are none, COUNT steps are made by pseudo-random numbers. The shared cells and
 // the counts are printed at the end. tests/speed/sweep.py compares both with tests/speed/steps/steps.rs, and times it.
+#![tactic(auto)]
+
 ghost use Rattle.std.specs.Prelude.{◌≡◌, min, ◌≤◌};
 ghost use Rattle.sweeping.specs.Pieces.{Finishes};
 ghost use Rattle.sweep_speed.specs.Rounds.{Repeats};

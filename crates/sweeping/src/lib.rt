@@ -1,6 +1,8 @@
 // A sweep of the pattern room (document 02, order 12) on slices: what the two files say, the steps in pieces, and the lines that are printed at the end. It rests
 // on the crates grammar, construction (types and definitions), commands (the lines), calls (the table of calls), xorshift (the schedule), lent_text, lent_card,
 // lent_sweep (the run), block, answers, reports and wait_table. Every public function is total, and its contract gives its whole result and everything lent.
+#![tactic(auto)]
+
 pub mod pieces; // pieces.rt: the steps in pieces
 pub mod printing; // printing.rt: the lines at the end
 pub mod starting; // starting.rt: the files judged, every process called

@@ -3,6 +3,8 @@
 // of none, compared with the text. Before them, as number 0, the first text is compared with itself from its second byte on, which must differ.
 // tests/text/make_cases.py makes the cases and, by a judge of its own, the lines that are expected.
 // What is computed and compared equals its definition in specs/; what only prints gives nothing back.
+#![tactic(auto)]
+
 mod cases; // cases.rt: the texts of the input
 mod comparing; // comparing.rt: what the writer does in a buffer, and whether the buffer then holds what it must
 mod lines; // lines.rt: the line of a case

@@ -1,5 +1,7 @@
 // The texts of the programs in a block of words (document 02, orders 10 and 11): an instruction fetched, a text taken out by value and put back, and the
 // later text made the earlier one. It rests on the crates construction (types and definitions), codes, opening and block.
+#![tactic(auto)]
+
 ghost use Rattle.std.specs.Prelude.{◌≡◌, cond, ◌+◌, ◌<◌, ◌≤◌, length};
 ghost use Rattle.construction.specs.Instructions.{no_program, fetch};
 ghost use Rattle.codes.specs.Parts.{part, stores};

@@ -1,5 +1,7 @@
 // The line behind each step (document 02, order 1): a step of the card with its report. It rests on the crates construction (types and
 // definitions), card, helping, machine, reports and requests.
+#![tactic(auto)]
+
 ghost use Rattle.std.specs.Prelude.{◌≡◌};
 ghost use Rattle.construction.specs.Tracing.{trace};
 
@@ -18,8 +20,8 @@ pub fn trace(card: Card, process: u32) -> Traced
     let id = (process % 8) as u8;
     let i = id as usize;
     let control = card.controls[i];
-    let gate = card.gatesRead[i];
-    let last = card.announcementsRead[i];
+    let gate = card.gates_read[i];
+    let last = card.announcements_read[i];
     let operation = card.operations[i];
     let simulation = card.simulations[i];
     let dictionary = card.dictionaries[i];
@@ -51,7 +53,7 @@ pub fn trace(card: Card, process: u32) -> Traced
     let answered = card::step(card, process);
     let answer = answered.answer;
     let after = answered.card;
-    let read = after.gatesRead[i];
+    let read = after.gates_read[i];
     let report = told(answer, label, cell, swap, read.seq, after.masks[i]);
     Traced {
         card: after,

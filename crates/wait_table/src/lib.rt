@@ -1,5 +1,7 @@
 // The longest wait (document 02, order 3): the handbook's table of 264 numbers, for p processes (1 to 8) and the weight w of a card
 // (0 to 32), and its text. It rests on the crates grammar, construction and programs.
+#![tactic(auto)]
+
 ghost use Rattle.std.specs.Prelude.{◌≡◌, ◌+◌, ◌<◌};
 ghost use Rattle.grammar.specs.Writing.{Put};
 ghost use Rattle.construction.specs.Parts.{contents_of};
@@ -55,7 +57,7 @@ fn entry(row: u8, weight: u8) -> u64
 }
 
 // The longest wait for so many processes and a weight.
-pub fn wait_for(processCount: u8, weight: u8) -> Wait
+pub fn wait_for(process_count: u8, weight: u8) -> Wait
     ensures { result ≡ wait_for process_count weight }
 {
     if process_count == 0 {

@@ -1,5 +1,7 @@
 // The program `waves` (document 02, order 7): reads `card.txt` and `calls.txt` in the folder where it is run and prints the dump of the session. The dump is
 // that of the crate dump_writer; only reading the files and writing the bytes is left to do here.
+#![tactic(auto)]
+
 use dump_writer::Course;
 use dump_writer::running::{open, put_commands, put_end};
 use host::{print, read_file};

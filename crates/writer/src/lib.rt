@@ -1,5 +1,7 @@
 // The writer of a card text (document 01, "Turned back"): the card as it was opened, after any steps, put into a lent buffer.
 // It rests on the crates grammar, opening and construction.
+#![tactic(auto)]
+
 ghost use Rattle.std.specs.Prelude.{◌≡◌, get_or};
 ghost use Rattle.grammar.specs.Writing.{Put};
 ghost use Rattle.construction.specs.Instructions.{no_line, no_program, encoded as encodedAs, encode as encodedOf};
@@ -192,9 +194,9 @@ pub fn write(card: Card, buffer: &mut [u8]) -> Written
     let starts = card.starts;
     let programs = card.programs;
     let contents = Contents {
-        processCount: card.process_count,
-        variableCount: card.variable_count,
-        programCount: card.program_count,
+        process_count: card.process_count,
+        variable_count: card.variable_count,
+        program_count: card.program_count,
         limit: card.limit,
         starts,
         programs,

@@ -1,5 +1,7 @@
 // Marsaglia's xorshift (document 02, order 12: schedules of a sweep): 64 bits, shifts 13, 7 and 17. A schedule is drawn into a lent buffer, a process a byte.
 // It rests on nothing but std.
+#![tactic(auto)]
+
 ghost use Rattle.std.specs.Prelude.{◌≡◌};
 ghost use Rattle.xorshift.specs.Xorshift.{next, remainder, Draws};
 

@@ -81,7 +81,7 @@ module _ {c : Card} {w : World} (I : CardInvariant c w) (i : ℕ) (lt : i < c.pr
           (f : Flag) → (announcement_in w i).flag ≡ f →
           Returned (cond (is_idle (local_at c i).control.place) (returned (local_at c i).announcement f (local_at c i).steps) Answer.Run)
       go Done e = inl (e, rw idle (ap (λ (r : Result). Answer.Done r.number r.yields (local_at c i).steps) (result e)))
-      go Active e = absurd (q.0.not-active e)
+      go Active e = absurd (q.0.not_active e)
       go Exit e = inr (e, rw idle)
 
 module _ (F : Frame) (w : World) (i : ℕ) (t : Local) where

@@ -92,7 +92,7 @@ module _ {F : Frame} {w : World} (G : WorldInvariant F w) where
         on_set (λ o. AnnouncementInvariant w.gate.seq (left_in w m) o (announcement_in w m)) w.calls i m q no_operation (omega arith)
         (λ e. recalled (G.announced m) (rw e Q.not_active)) (λ _. G.announced m);
     inside = G.inside;
-    phase = phase_ask i q w.gate.holder Q.Free-of G.phase;
+    phase = phase_ask i q w.gate.holder Q.free_of G.phase;
     recorded = G.recorded;
   }
 
@@ -113,7 +113,7 @@ module _ {F : Frame} {w : World} (G : WorldInvariant F w) where
     bound_below = G.bound_below;
     announced = announced_set i a lt A;
     inside = G.inside;
-    phase = phase_announce i a w.gate.holder Q.Free-of G.phase;
+    phase = phase_announce i a w.gate.holder Q.free_of G.phase;
     recorded = G.recorded;
   }
 

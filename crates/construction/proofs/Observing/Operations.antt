@@ -115,10 +115,11 @@ Late s e r = (k from : ℕ) (t : List ℕ) → e ≡ Entry.Change k from t → r
 
 ran_entry : (o : Card) (s : History) (e : Entry) (r : Event) → Late s e r → Ran o s → Ran o (with_entry o s e r)
 ran_entry o s (Entry.Call i k inputs) Event.taken late R =
+    let x : Invocation = record { process = i; program = k; inputs = inputs } in
     record {
-      listed = listed_more _ s.operations s.order R.listed;
-      words = rw (words_more o s.changes _ s.operations s.order R.listed) R.words;
-      yields = runs_more o s.changes _ s.operations s.order R.listed R.yields;
+      listed = listed_more x s.operations s.order R.listed;
+      words = rw (words_more o s.changes x s.operations s.order R.listed) R.words;
+      yields = runs_more o s.changes x s.operations s.order R.listed R.yields;
     }
 ran_entry o s (Entry.Call i k inputs) (Event.returned r) late R = R
 ran_entry o s (Entry.Call i k inputs) Event.none late R = R

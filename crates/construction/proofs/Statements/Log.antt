@@ -208,7 +208,7 @@ module _ (order : List Finish) (numbers : Numbered order) where
     where
       line : (v : Return) → Agrees order r.operation v → Untied (log_of rs) → Untied (logged r.operation v (log_of rs))
       line (Return.done n o) q rest = (
-        apart r.operation _ (sym (number_rank r.operation n _ q.1 refl)) q.0 rs h.0 a.1,
+        apart r.operation (record { operation = r.operation; gate = n; yields = o }) (sym (number_rank r.operation n _ q.1 refl)) q.0 rs h.0 a.1,
         rest,
       )
       line Return.exited q rest = rest

@@ -89,6 +89,24 @@ module _ {c : Card} {w : World} (I : CardInvariant c w) (j : ℕ) where
         spare = needs.spare;
         room = needs.core.room.array;
       }
+  noting_at Label.Idle exit q n = elim n [ ]
+  noting_at Label.P1 exit q n = elim n [ ]
+  noting_at Label.P3 exit q n = elim n [ ]
+  noting_at Label.P7 exit q n = elim n [ ]
+  noting_at Label.P10 exit q n = elim n [ ]
+  noting_at Label.C2 exit q n = elim n [ ]
+  noting_at Label.C4 exit q n = elim n [ ]
+  noting_at Label.P13 exit q n = elim n [ ]
+  noting_at Label.P14 exit q n = elim n [ ]
+  noting_at Label.P16 exit q n = elim n [ ]
+  noting_at Label.H36 exit q n = elim n [ ]
+  noting_at Label.P19 exit q n = elim n [ ]
+  noting_at Label.P20 exit q n = elim n [ ]
+  noting_at Label.P21 exit q n = elim n [ ]
+  noting_at Label.P22 exit q n = elim n [ ]
+  noting_at Label.F1 exit q n = elim n [ ]
+  noting_at Label.F3 exit q n = elim n [ ]
+  noting_at Label.P6 exit q n = elim q [ ]
 
 -- a word and a dictionary put back for process j
 module _ (c : Card) (Z : Sizes c) (j : ℕ) (lt : j < 8) (H : AllMarked c) where
@@ -150,6 +168,22 @@ noting_told Label.H21 word FromH21ToP20.at-H21 = refl
 noting_told Label.H36 word FromH21ToP20.at-H36 = refl
 noting_told Label.P19 word FromH21ToP20.at-P19 = refl
 noting_told Label.P20 word FromH21ToP20.at-P20 = refl
+noting_told Label.Idle word x' = elim x' [ ]
+noting_told Label.P1 word x'' = elim x'' [ ]
+noting_told Label.P3 word x3 = elim x3 [ ]
+noting_told P5 word x4 = elim x4 [ ]
+noting_told Label.P7 word x5 = elim x5 [ ]
+noting_told Label.P10 word x6 = elim x6 [ ]
+noting_told Label.C2 word x7 = elim x7 [ ]
+noting_told Label.C4 word x8 = elim x8 [ ]
+noting_told Label.P13 word x9 = elim x9 [ ]
+noting_told Label.P14 word x10 = elim x10 [ ]
+noting_told Label.P16 word x11 = elim x11 [ ]
+noting_told Label.P21 word x12 = elim x12 [ ]
+noting_told Label.P22 word x13 = elim x13 [ ]
+noting_told Label.F1 word x14 = elim x14 [ ]
+noting_told Label.F3 word x15 = elim x15 [ ]
+noting_told Label.P6 word x16 = elim x16 [ ]
 
 silent_told : (l : Label) (word : ℕ) → (FromH21ToP20 l → ⊥) → noted_at l word ≡ 0
 silent_told Label.Idle word other = refl

@@ -329,6 +329,22 @@ module _ (c : Card) (i : ℕ) (Z : Sizes c) (lt : i < 8) where
     was_due H21 exit q z = subst (λ (x : Due). Comes x Label.H21 (Cell.Record own.control.target)) (sym q.lacks) Comes.read
     was_due H36 exit q z = subst (λ (x : Due). Comes x Label.H36 (Cell.Record (written_variable own))) (sym q) Comes.write
     was_due P19 exit q z = subst (λ (x : Due). Comes x Label.P19 (Cell.Announcement (holder_of own.gate.holder))) (sym q) Comes.end
+    was_due Idle exit q z = elim z [ ]
+    was_due P1 exit q z = elim z [ ]
+    was_due P3 exit q z = elim z [ ]
+    was_due P7 exit q z = elim z [ ]
+    was_due P10 exit q z = elim z [ ]
+    was_due C2 exit q z = elim z [ ]
+    was_due C4 exit q z = elim z [ ]
+    was_due P13 exit q z = elim z [ ]
+    was_due P14 exit q z = elim z [ ]
+    was_due P16 exit q z = elim z [ ]
+    was_due P20 exit q z = elim z [ ]
+    was_due P21 exit q z = elim z [ ]
+    was_due P22 exit q z = elim z [ ]
+    was_due F1 exit q z = elim z [ ]
+    was_due F3 exit q z = elim z [ ]
+    was_due P6 exit q z = elim z [ ]
 
     -- what is due next is what the place it leads to does
     stays_due :

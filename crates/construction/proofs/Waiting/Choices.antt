@@ -46,6 +46,24 @@ module _ (F : Frame) (w : World) (q j : ℕ) (g : Gate) (t : Local)
   pub apart : (l : Label) → LocAt l F w q (known t) → Chooses l j g t.gate t.control.target
   apart C4 k Chooser.unsure = other k.1 k.2
   apart P13 k Chooser.nominating = λ e. absurd (other k.1 k.3.below e)
+  apart Idle k c = elim c [ ]
+  apart P1 k c = elim c [ ]
+  apart P3 k c = elim c [ ]
+  apart P5 k c = elim c [ ]
+  apart P7 k c = elim c [ ]
+  apart P10 k c = elim c [ ]
+  apart C2 k c = elim c [ ]
+  apart P14 k c = elim c [ ]
+  apart P16 k c = elim c [ ]
+  apart H21 k c = elim c [ ]
+  apart H36 k c = elim c [ ]
+  apart P19 k c = elim c [ ]
+  apart P20 k c = elim c [ ]
+  apart P21 k c = elim c [ ]
+  apart P22 k c = elim c [ ]
+  apart F1 k c = elim c [ ]
+  apart F3 k c = elim c [ ]
+  apart P6 k c = elim k [ ]
 
 -- a step of process i, where j has its turn
 module _ (c : Card) (i j turn : ℕ) (sizes : Sizes c) (few : i < 8) (lt : i < c.process_count)
@@ -102,6 +120,7 @@ module _ (c : Card) (i j turn : ℕ) (sizes : Sizes c) (few : i < 8) (lt : i < c
       go : (f : Flag) → Chooses (by_flag f F1 P13 P13) j c.gate (local_at c i).gate i
       go Active Chooser.nominating = λ z. absurd (late z)
       go Exit Chooser.nominating = λ z. absurd (late z)
+      go Done c' = elim c' [ ]
 
   -- every place
   pub chooses : (l : Label) (exit : Bool) → (local_at c i).control.place ≡ l → is_idle l ≡ false → Choosing (perform (access_of l exit) c i).card

@@ -21,6 +21,24 @@ at-P13 : (l : Label) (exit : Bool) → Gives (access_of l exit) → l ≡ P13
 unfolding access_of
 at-P13 P5 exit g = absurd (exit_gives_none exit g)
 at-P13 P13 exit Gives.gives = refl
+at-P13 Label.Idle exit g = elim g [ ]
+at-P13 Label.P1 exit g = elim g [ ]
+at-P13 Label.P3 exit g = elim g [ ]
+at-P13 Label.P7 exit g = elim g [ ]
+at-P13 Label.P10 exit g = elim g [ ]
+at-P13 Label.C2 exit g = elim g [ ]
+at-P13 Label.C4 exit g = elim g [ ]
+at-P13 Label.P14 exit g = elim g [ ]
+at-P13 Label.P16 exit g = elim g [ ]
+at-P13 Label.H21 exit g = elim g [ ]
+at-P13 Label.H36 exit g = elim g [ ]
+at-P13 Label.P19 exit g = elim g [ ]
+at-P13 Label.P20 exit g = elim g [ ]
+at-P13 Label.P21 exit g = elim g [ ]
+at-P13 Label.P22 exit g = elim g [ ]
+at-P13 Label.F1 exit g = elim g [ ]
+at-P13 Label.F3 exit g = elim g [ ]
+at-P13 Label.P6 exit g = elim g [ ]
 
 -- a step of process i, after which m holds the gate that nobody held
 module _ (c : Card) (i m : ℕ) (hn : c.gate.holder ≡ Nobody) where

@@ -10,7 +10,7 @@ ghost use Rattle.allowance.specs.Opening.{is_accepted, opened, are_ordered, shar
 use construction::answers::{Answer, Refusal};
 
 // The steps of one machine in a turn: those it is sure of, those it may have at most, and those it has used.
-#[derive(Drop)]
+#[derive(Clone, Copy)]
 pub struct Quota {
     pub share: u64,
     pub ceiling: u64,
@@ -18,7 +18,7 @@ pub struct Quota {
 }
 
 // The steps of the processor in a turn, the number of machines, and the quota of each; past the machines the quotas are empty.
-#[derive(Drop)]
+#[derive(Clone, Copy)]
 pub struct Allowance {
     pub steps: u64,
     pub count: u64,
@@ -26,14 +26,14 @@ pub struct Allowance {
 }
 
 // Whether a step has its allowance, and the allowance after it.
-#[derive(Drop)]
+#[derive(Clone, Copy)]
 pub struct Allowed {
     pub allowance: Allowance,
     pub allowed: bool,
 }
 
 // What opening answers, and the allowance that it leaves.
-#[derive(Drop)]
+#[derive(Clone, Copy)]
 pub struct Opened {
     pub allowance: Allowance,
     pub answer: Answer,

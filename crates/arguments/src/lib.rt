@@ -8,7 +8,7 @@ ghost use Rattle.arguments.specs.Arguments.{fits, begins_wrong, argument_of};
 const LARGEST: u64 = 18_446_744_073_709_551_615;
 
 // A decimal, or none.
-#[derive(Drop)]
+#[derive(Clone, Copy)]
 pub enum Argument {
     Value(u64),
     Wrong,

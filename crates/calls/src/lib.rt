@@ -11,7 +11,7 @@ use construction::cells::Words;
 use executions::Request;
 
 // The table that a text gives, and the number of the first line that is wrong in it, or 0.
-#[derive(Drop)]
+#[derive(Clone, Copy)]
 pub struct Calls {
     pub words: [u32; 40],
     pub line: u64,

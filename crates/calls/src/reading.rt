@@ -14,7 +14,7 @@ use executions::Request;
 use grammar::writing::put_byte;
 
 // The call of a process, or that the line is none.
-#[derive(Drop)]
+#[derive(Clone, Copy)]
 enum Found {
     Call(Request),
     Other,

@@ -10,14 +10,14 @@ pub mod printing; // printing.rt: the printed lines
 use construction::cells::Words;
 
 // A field of a command: its value and the place past its separator.
-#[derive(Drop)]
+#[derive(Clone, Copy)]
 pub enum Word {
     Value { value: u32, next: usize },
     Malformed,
 }
 
 // The verb that a line begins with.
-#[derive(Drop)]
+#[derive(Clone, Copy)]
 pub enum Verb {
     Call,
     Exit,
@@ -29,14 +29,14 @@ pub enum Verb {
 }
 
 // A verb, and the place where what follows it begins.
-#[derive(Drop)]
+#[derive(Clone, Copy)]
 pub struct Found {
     pub verb: Verb,
     pub next: usize,
 }
 
 // A command, with its own fields only.
-#[derive(Drop)]
+#[derive(Clone, Copy)]
 pub enum Command {
     Call {
         process: u32,
@@ -67,7 +67,7 @@ pub enum Command {
 }
 
 // The command at a place, how many lines it takes, and the place past them.
-#[derive(Drop)]
+#[derive(Clone, Copy)]
 pub struct Parsed {
     pub command: Command,
     pub lines: u64,

@@ -4,7 +4,7 @@ use crate::simulations::{Dictionary, Item, Simulation};
 
 // A label of the paper, which is both where a process stands, the access that its next step makes, and what is told of a step, the access made (document 01,
 // 'One step'). Idle is no access. P5 is the top of the loop, a place only: its access is P6 or P10. P6 is an access only, and the place of no process.
-#[derive(Drop)]
+#[derive(Clone, Copy)]
 pub enum Label {
     Idle,
     P1,
@@ -30,7 +30,7 @@ pub enum Label {
 
 // A row of the table of labels: the letter of its procedure and the number of its line, as the paper writes them; whether the variables noted are told there; and
 // the word that stands for it in a block (document 02, order 10).
-#[derive(Drop)]
+#[derive(Clone, Copy)]
 pub struct LabelRow {
     pub letter: u8,
     pub number: u8,
@@ -40,7 +40,7 @@ pub struct LabelRow {
 
 // An access of the gate: a read with the places that follow if the gate is held or free, the last read (F1),
 // a swap that gives the gate to the nominee (P13), or one that releases it (P21, F3).
-#[derive(Drop)]
+#[derive(Clone, Copy)]
 pub enum GateAccess {
     Read { held: Label, free: Label },
     ReadLast,
@@ -50,7 +50,7 @@ pub enum GateAccess {
 
 // An access of an announcement: the announcing write (P3), the exit request (P6), a read of one's own with the places that follow
 // its flag (P7, C4, P22), the read of the one whose turn it is (C2), or a swap to done (P19, P20).
-#[derive(Drop)]
+#[derive(Clone, Copy)]
 pub enum AnnouncementAccess {
     Announce,
     Withdraw,
@@ -68,7 +68,7 @@ pub enum AnnouncementAccess {
 
 // The shared access of a step: none, one of the gate or of an announcement, the read of an announcement that helping begins with (P16),
 // the read of a record that is noted (H21), or the swap of a record (H36).
-#[derive(Drop)]
+#[derive(Clone, Copy)]
 pub enum Access {
     None,
     Gate(GateAccess),
@@ -79,7 +79,7 @@ pub enum Access {
 }
 
 // A shared cell, or none: the gate, the announcement of a process, the record of a variable.
-#[derive(Drop)]
+#[derive(Clone, Copy)]
 pub enum Cell {
     None,
     Gate,
@@ -88,7 +88,7 @@ pub enum Cell {
 }
 
 // Whether a step swapped a cell, and whether the swap won.
-#[derive(Drop)]
+#[derive(Clone, Copy)]
 pub enum Swap {
     None,
     Lost,
@@ -97,14 +97,14 @@ pub enum Swap {
 
 // What a process goes on with: its place, the label of its next access, and its target, the nominee at P13, the variable at H21, the item of
 // the dictionary at H36.
-#[derive(Drop)]
+#[derive(Clone, Copy)]
 pub struct Control {
     pub place: Label,
     pub target: u8,
 }
 
 // The gate after an access, and what the process goes on with: the gate last read, its control; and the swap.
-#[derive(Drop)]
+#[derive(Clone, Copy)]
 pub struct GateAccessed {
     pub cell: Gate,
     pub read: Gate,
@@ -113,7 +113,7 @@ pub struct GateAccessed {
 }
 
 // The same of an announcement.
-#[derive(Drop)]
+#[derive(Clone, Copy)]
 pub struct AnnouncementAccessed {
     pub cell: Announcement,
     pub read: Announcement,
@@ -122,7 +122,7 @@ pub struct AnnouncementAccessed {
 }
 
 // What a process goes on with after the announcement of the gate's holder was read (P16): whether it helps, its control and its simulation.
-#[derive(Drop)]
+#[derive(Clone, Copy)]
 pub struct Began {
     pub helps: bool,
     pub control: Control,
@@ -130,7 +130,7 @@ pub struct Began {
 }
 
 // What a helper goes on with after a record was read (H21).
-#[derive(Drop)]
+#[derive(Clone, Copy)]
 pub struct Helped {
     pub control: Control,
     pub simulation: Simulation,
@@ -139,7 +139,7 @@ pub struct Helped {
 }
 
 // What a helper writes (H36), and its control afterwards.
-#[derive(Drop)]
+#[derive(Clone, Copy)]
 pub struct Writing {
     pub item: Item,
     pub control: Control,

@@ -5,7 +5,7 @@ use crate::cells::Yield;
 
 // Why something is refused: rows 1 to 11 of document 01's table, 12 and 13 of document 02, order 8, 14 of its order 9, 15 and 16 of its order 11,
 // 17 of its order 13, and 18 and 19 of its order 14.
-#[derive(Drop)]
+#[derive(Clone, Copy)]
 pub enum Refusal {
     TooLong,
     Malformed,
@@ -30,7 +30,7 @@ pub enum Refusal {
 
 // The answer to a call, an exit request, a step, a read or a change. Done covers document 02's `fault` (order 6): what it yields tells which. A change is
 // refused with a line of its text (order 11).
-#[derive(Drop)]
+#[derive(Clone, Copy)]
 pub enum Answer {
     Taken,
     Run,
@@ -51,7 +51,7 @@ pub enum Answer {
 }
 
 // The card after an entry, with the answer.
-#[derive(Drop)]
+#[derive(Clone, Copy)]
 pub struct Answered {
     pub card: Card,
     pub answer: Answer,
@@ -59,7 +59,7 @@ pub struct Answered {
 
 // What is told of a step (document 02, order 1): the label of the access made, the cell touched, the swap, the gate number last read in that
 // operation, the variables that its helping has noted so far, bit v for variable v, and how many these are.
-#[derive(Drop)]
+#[derive(Clone, Copy)]
 pub struct Report {
     pub label: Label,
     pub cell: Cell,
@@ -70,7 +70,7 @@ pub struct Report {
 }
 
 // The card after a step that is traced, with its answer and its report.
-#[derive(Drop)]
+#[derive(Clone, Copy)]
 pub struct Traced {
     pub card: Card,
     pub answer: Answer,

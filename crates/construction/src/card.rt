@@ -5,14 +5,14 @@ use crate::programs::Program;
 use crate::simulations::{Dictionary, Simulation};
 
 // What a call asked for.
-#[derive(Drop)]
+#[derive(Clone, Copy)]
 pub struct Operation {
     pub program: u8,
     pub inputs: Words,
 }
 
 // The card: its text, the shared cells, and the local state of each process.
-#[derive(Drop)]
+#[derive(Clone, Copy)]
 pub struct Card {
     // document 01: p, n, s and the step limit
     pub process_count: u8,

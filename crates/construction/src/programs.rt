@@ -2,7 +2,7 @@
 use crate::answers::Refusal;
 
 // One of the fourteen kinds of instruction, with only its own operands.
-#[derive(Drop)]
+#[derive(Clone, Copy)]
 pub enum Instruction {
     Stop,
     Input { register: u8, input: u8 },
@@ -22,7 +22,7 @@ pub enum Instruction {
 
 // What an operand of an instruction is: not used, a register (also an input or an output), a word, a variable, or a number of
 // instructions to skip.
-#[derive(Drop)]
+#[derive(Clone, Copy)]
 pub enum OperandKind {
     Unused,
     Register,
@@ -32,21 +32,21 @@ pub enum OperandKind {
 }
 
 // The format of a code: the kinds of its operands a, b and c, or that there is no such code.
-#[derive(Drop)]
+#[derive(Clone, Copy)]
 pub enum Format {
     Unknown,
     Known(OperandKind, OperandKind, OperandKind),
 }
 
 // An instruction that was decoded, or why there is none.
-#[derive(Drop)]
+#[derive(Clone, Copy)]
 pub enum Decoded {
     Valid(Instruction),
     Refused(Refusal),
 }
 
 // The four numbers of an instruction's line.
-#[derive(Drop)]
+#[derive(Clone, Copy)]
 pub struct Encoded {
     pub code: u64,
     pub a: u64,
@@ -55,13 +55,13 @@ pub struct Encoded {
 }
 
 // A line of a program.
-#[derive(Drop)]
+#[derive(Clone, Copy)]
 pub struct Line {
     pub instruction: Instruction,
 }
 
 // A program (document 01: sheet).
-#[derive(Drop)]
+#[derive(Clone, Copy)]
 pub struct Program {
     pub length: u8,
     pub lines: [Line; 32],
@@ -69,7 +69,7 @@ pub struct Program {
 
 // What one instruction does: a register set, a variable loaded or stored, an output set, instructions skipped, the first free cell taken, a cell
 // given back, the end, or the end as a fault.
-#[derive(Drop)]
+#[derive(Clone, Copy)]
 pub enum Effect {
     Stop,
     Fault,

@@ -2,7 +2,7 @@
 use crate::cells::{Record, Words, Yield};
 
 // An item of a dictionary (document 01: noted record): a variable, its record as read, and its value in the simulation.
-#[derive(Drop)]
+#[derive(Clone, Copy)]
 pub struct Item {
     pub variable: u8,
     pub value: u32,
@@ -10,14 +10,14 @@ pub struct Item {
 }
 
 // The dictionary D of the paper (document 01: book): the first `length` items, in order of first touch.
-#[derive(Drop)]
+#[derive(Clone, Copy)]
 pub struct Dictionary {
     pub length: u8,
     pub items: [Item; 32],
 }
 
 // The state of a running program.
-#[derive(Drop)]
+#[derive(Clone, Copy)]
 pub struct Simulation {
     pub counter: u8,
     pub registers: Words,
@@ -25,7 +25,7 @@ pub struct Simulation {
 }
 
 // Why a simulation stands still: its program ended, or ended as a fault, or its dictionary lacks a variable.
-#[derive(Drop)]
+#[derive(Clone, Copy)]
 pub enum Pause {
     Ended,
     Faulted,
@@ -33,7 +33,7 @@ pub enum Pause {
 }
 
 // A simulation that was taken as far as its dictionary lets it.
-#[derive(Drop)]
+#[derive(Clone, Copy)]
 pub struct Simulated {
     pub pause: Pause,
     pub simulation: Simulation,

@@ -4,7 +4,7 @@ use crate::card::Card;
 use crate::programs::{Instruction, Program};
 
 // What the first line of a card text yields: its fields and the place past it, or why it is refused.
-#[derive(Drop)]
+#[derive(Clone, Copy)]
 pub enum CardLine {
     Fields {
         process_count: u8,
@@ -17,21 +17,21 @@ pub enum CardLine {
 }
 
 // The same of a `var` line.
-#[derive(Drop)]
+#[derive(Clone, Copy)]
 pub enum VarLine {
     Start { value: u32, next: usize },
     Refused(Refusal),
 }
 
 // The same of a `sheet` line.
-#[derive(Drop)]
+#[derive(Clone, Copy)]
 pub enum SheetLine {
     Length { length: u8, next: usize },
     Refused(Refusal),
 }
 
 // The same of an `ins` line.
-#[derive(Drop)]
+#[derive(Clone, Copy)]
 pub enum InsLine {
     Ins {
         instruction: Instruction,
@@ -41,7 +41,7 @@ pub enum InsLine {
 }
 
 // What a card text says.
-#[derive(Drop)]
+#[derive(Clone, Copy)]
 pub struct Contents {
     pub process_count: u8,
     pub variable_count: u8,
@@ -52,14 +52,14 @@ pub struct Contents {
 }
 
 // Whether a text is accepted; if not, why and at which line.
-#[derive(Drop)]
+#[derive(Clone, Copy)]
 pub enum Verdict {
     Accepted,
     Refused { refusal: Refusal, line: u64 },
 }
 
 // A program read so far, the place of the next line and its number.
-#[derive(Drop)]
+#[derive(Clone, Copy)]
 pub struct ProgramReading {
     pub verdict: Verdict,
     pub program: Program,
@@ -68,7 +68,7 @@ pub struct ProgramReading {
 }
 
 // A card text read so far, the place of the next line and its number.
-#[derive(Drop)]
+#[derive(Clone, Copy)]
 pub struct Reading {
     pub verdict: Verdict,
     pub contents: Contents,
@@ -77,14 +77,14 @@ pub struct Reading {
 }
 
 // The card of a text, empty where the text is refused.
-#[derive(Drop)]
+#[derive(Clone, Copy)]
 pub struct Opened {
     pub card: Card,
     pub verdict: Verdict,
 }
 
 // The answer of the writer: how many bytes it wrote.
-#[derive(Drop)]
+#[derive(Clone, Copy)]
 pub enum Written {
     Bytes(usize),
     Refused(Refusal),

@@ -148,7 +148,8 @@ module _ (n told next : ℕ) (values : List ℕ) (size : n ≤ length values) wh
           let x : c.value ≡ d.value =
           sym (head_value c cs values lc oc)
           ∙ same c.time c.variable (from_told c p.0.after) p.0.within
-          ∙ rw (e, f) (head_value d ds values ld od) in
+          ∙ (ap (λ (k : ℕ). get_or (shown_after k values (d ∷ ds)) c.variable 0) e
+          ∙ (ap (λ (v : ℕ). get_or (shown_after d.time values (d ∷ ds)) v 0) f ∙ head_value d ds values ld od)) in
           λ i. record { time = e i; variable = f i; value = x i }
 
       by : Dec (c.time < d.time) → Dec (d.time < c.time) → Dec (c.variable < d.variable) → Dec (d.variable < c.variable) → c ≡ d

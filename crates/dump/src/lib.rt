@@ -5,7 +5,7 @@
 use construction::texts::Verdict;
 
 // A line after the header: a time, a value of a variable, each with the place past the line, or neither.
-#[derive(Drop)]
+#[derive(Clone, Copy)]
 pub enum DumpLine {
     Time {
         time: u64,
@@ -20,7 +20,7 @@ pub enum DumpLine {
 }
 
 // What is read of the header so far: the variables, the place of the next line and its number.
-#[derive(Drop)]
+#[derive(Clone, Copy)]
 pub struct Header {
     pub verdict: Verdict,
     pub count: u8,
@@ -30,7 +30,7 @@ pub struct Header {
 
 // What is read after the header so far: the place of the next line and its number, the time, the variable from which on values may follow within it,
 // the values at this time, and those after the step that was asked for.
-#[derive(Drop)]
+#[derive(Clone, Copy)]
 pub struct Progress {
     pub verdict: Verdict,
     pub at: usize,
@@ -42,7 +42,7 @@ pub struct Progress {
 }
 
 // What the reader gives: how many variables there are, the last time, and the values after the step that was asked for.
-#[derive(Drop)]
+#[derive(Clone, Copy)]
 pub struct Readings {
     pub verdict: Verdict,
     pub count: u8,

@@ -21,7 +21,7 @@ use construction::texts::Verdict;
 use dump::{Header, Progress, Readings};
 
 // A dump that is gone through: the place of the next line, the time, and the values so far.
-#[derive(Drop)]
+#[derive(Clone, Copy)]
 pub struct Scan {
     pub at: usize,
     pub time: u64,
@@ -29,7 +29,7 @@ pub struct Scan {
 }
 
 // What was put of its rows into a buffer: the length, and the scan after it.
-#[derive(Drop)]
+#[derive(Clone, Copy)]
 pub struct Shown {
     pub scan: Scan,
     pub length: usize,

@@ -12,14 +12,14 @@ pub mod running; // running.rt: a session as a dump
 use session::State;
 
 // The place past what was put, and the time last told.
-#[derive(Drop)]
+#[derive(Clone, Copy)]
 pub struct Told {
     pub at: usize,
     pub time: u64,
 }
 
 // A session under way: its state, the number of variables and their values, the accepted steps and the time last told.
-#[derive(Drop)]
+#[derive(Clone, Copy)]
 pub struct Course {
     pub session: State,
     pub count: u8,
@@ -29,7 +29,7 @@ pub struct Course {
 }
 
 // What was put into a buffer, up to a place, and the course after it.
-#[derive(Drop)]
+#[derive(Clone, Copy)]
 pub struct Piece {
     pub course: Course,
     pub at: usize,

@@ -6,7 +6,7 @@
 use construction::cells::Words;
 
 // A call that is to be made: its program, as a request names it, and its inputs.
-#[derive(Drop)]
+#[derive(Clone, Copy)]
 pub struct Request {
     pub program: u32,
     pub inputs: Words,

@@ -7,14 +7,14 @@ pub mod reading; // reading.rt: bytes, words, decimals and fields at a place of 
 pub mod writing; // writing.rt: the same put into a buffer, as far as it reaches
 
 // A decimal, or a field, at a place of a text: its value and the place past it.
-#[derive(Drop)]
+#[derive(Clone, Copy)]
 pub enum Number {
     Value { value: u64, next: usize },
     Malformed,
 }
 
 // The last four numbers of a line, and the place past the line.
-#[derive(Drop)]
+#[derive(Clone, Copy)]
 pub enum Numbers {
     Values {
         a: u64,

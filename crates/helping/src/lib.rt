@@ -17,7 +17,7 @@ use construction::simulations::{Dictionary, Pause, Simulation};
 use dictionary::{insert, item_of, next_write, noted, with_bit};
 
 // The variables and the values of items.
-#[derive(Drop)]
+#[derive(Clone, Copy)]
 struct Numbers {
     pub keys: [u8; 32],
     pub values: [u32; 32],

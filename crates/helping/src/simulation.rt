@@ -8,14 +8,14 @@ use construction::programs::{Effect, Instruction, Program};
 use construction::simulations::{Pause, Simulation};
 
 // Why a program stands still, and its state.
-#[derive(Drop)]
+#[derive(Clone, Copy)]
 pub struct Paused {
     pub pause: Pause,
     pub simulation: Simulation,
 }
 
 // What one instruction leaves: whether the program goes on, why it stands still if not, and its state.
-#[derive(Drop)]
+#[derive(Clone, Copy)]
 pub struct Turned {
     pub going: bool,
     pub pause: Pause,

@@ -13,7 +13,7 @@ use libc::STDOUT_FILENO;
 use report::same::both;
 
 // A row that came back from a loan, and what the swap answered.
-#[derive(Drop)]
+#[derive(Clone, Copy)]
 struct Returned {
     row: [Record; 4],
     answer: RowSwap,

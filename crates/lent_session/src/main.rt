@@ -24,7 +24,7 @@ use loan::dictionaries::loan_words;
 use report::same::both;
 
 // What was put into a buffer: its length, and where the next command stands.
-#[derive(Drop)]
+#[derive(Clone, Copy)]
 struct Begun {
     length: usize,
     at: usize,

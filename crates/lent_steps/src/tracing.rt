@@ -15,7 +15,7 @@ use loan::dictionaries::item;
 use reports::{cell_of, label_of, no_report, report_with};
 
 // The answer to a step, and what is told of it.
-#[derive(Drop)]
+#[derive(Clone, Copy)]
 pub struct Told {
     pub answer: Answer,
     pub report: Report,

@@ -7,7 +7,7 @@ pub mod running; // running.rt: the run over a schedule
 
 // What a run comes to: the accepted steps; of the operations that returned those done, those done as faults, and those exited; and the most own steps
 // that one of them told.
-#[derive(Drop)]
+#[derive(Clone, Copy)]
 pub struct Counts {
     pub accepted: u64,
     pub done: u64,

@@ -11,7 +11,7 @@ use construction::accesses::{Control, Writing};
 use construction::simulations::Item;
 
 // The items that a process has noted: the first of them, and how many these are.
-#[derive(Drop)]
+#[derive(Clone, Copy)]
 pub(crate) struct Span {
     pub base: usize,
     pub end: u8,

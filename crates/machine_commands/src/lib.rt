@@ -9,14 +9,14 @@ pub mod printing; // printing.rt: the printed lines
 use commands::Command;
 
 // A command to a machine, or a new turn. The number of the machine of a malformed command says nothing.
-#[derive(Drop)]
+#[derive(Clone, Copy)]
 pub enum Request {
     To { machine: u32, command: Command },
     Turn,
 }
 
 // The request at a place, how many lines it takes, and the place past them.
-#[derive(Drop)]
+#[derive(Clone, Copy)]
 pub struct Line {
     pub request: Request,
     pub lines: u64,

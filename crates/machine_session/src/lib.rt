@@ -12,7 +12,7 @@ use allowance::Allowance;
 use construction::texts::Verdict;
 
 // A session under way, besides its words: the allowance, the place of the next request and the number of its line.
-#[derive(Drop)]
+#[derive(Clone, Copy)]
 pub struct State {
     pub allowance: Allowance,
     pub at: usize,
@@ -20,14 +20,14 @@ pub struct State {
 }
 
 // What was printed into a buffer: its length, and the session after it.
-#[derive(Drop)]
+#[derive(Clone, Copy)]
 pub struct Printed {
     pub state: State,
     pub length: usize,
 }
 
 // The verdict on the cards: on the first that is refused, which is that of a machine by its number.
-#[derive(Drop)]
+#[derive(Clone, Copy)]
 pub struct CardsOpened {
     pub machine: u32,
     pub verdict: Verdict,

@@ -14,21 +14,21 @@ use grammar::Number;
 use grammar::reading::{field_at, has_word};
 
 // The two numbers of a line, and the place past it.
-#[derive(Drop)]
+#[derive(Clone, Copy)]
 pub enum Pair {
     Values { a: u64, b: u64, next: usize },
     Malformed,
 }
 
 // The quotas that the lines say, and the number of the first line that is malformed or left over, or 0.
-#[derive(Drop)]
+#[derive(Clone, Copy)]
 pub struct QuotasRead {
     pub quotas: [Quota; 4],
     pub line: u64,
 }
 
 // The allowance at opening, of no machines where the text is refused, and the verdict.
-#[derive(Drop)]
+#[derive(Clone, Copy)]
 pub struct Terms {
     pub allowance: Allowance,
     pub verdict: Verdict,

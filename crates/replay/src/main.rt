@@ -20,7 +20,7 @@ use session::running::{put_lines, start};
 use session::{Printed, State};
 
 // What was printed of a session, and whether the card is the same after it.
-#[derive(Drop)]
+#[derive(Clone, Copy)]
 struct Played {
     printed: Printed,
     same: bool,

@@ -14,7 +14,7 @@ use construction::programs::{Instruction, Program};
 use construction::simulations::{Dictionary, Item, Simulation};
 
 // The texts of a program: as it was opened, and as it was changed (document 02, order 11).
-#[derive(Drop)]
+#[derive(Clone, Copy)]
 struct Texts {
     opening: Program,
     from: u64,
@@ -23,7 +23,7 @@ struct Texts {
 }
 
 // What the call of a process asked for and how far it came, and the variables that it noted.
-#[derive(Drop)]
+#[derive(Clone, Copy)]
 struct Work {
     control: Control,
     operation: Operation,
@@ -33,7 +33,7 @@ struct Work {
 }
 
 // The announcement of a process, what it last read and what it simulates.
-#[derive(Drop)]
+#[derive(Clone, Copy)]
 struct Reads {
     announcement: Announcement,
     gate: Gate,

@@ -20,7 +20,7 @@ use listing::judging::{are_callable, is_listable};
 use listing::starting::call_all;
 
 // Whether there is a listing, the card with its calls made, and the length of what is printed instead.
-#[derive(Drop)]
+#[derive(Clone, Copy)]
 pub struct Prepared {
     pub ready: bool,
     pub card: Card,

@@ -11,7 +11,7 @@ use construction::answers::Answer;
 use construction::card::Card;
 
 // A session under way: the card, the place of the next command and the number of its line.
-#[derive(Drop)]
+#[derive(Clone, Copy)]
 pub struct State {
     pub card: Card,
     pub at: usize,
@@ -19,14 +19,14 @@ pub struct State {
 }
 
 // What was printed into a buffer: its length, and the session after it.
-#[derive(Drop)]
+#[derive(Clone, Copy)]
 pub struct Printed {
     pub state: State,
     pub length: usize,
 }
 
 // A command carried out and not printed: the command, its answer, and the session after it.
-#[derive(Drop)]
+#[derive(Clone, Copy)]
 pub struct Advanced {
     pub state: State,
     pub command: Command,

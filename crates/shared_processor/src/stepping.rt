@@ -12,14 +12,14 @@ use construction::answers::{Answer, Refusal, Report};
 use lent_steps::stepping::verdict;
 
 // The answer to a step, and the allowance after it.
-#[derive(Drop)]
+#[derive(Clone, Copy)]
 pub struct Stepped {
     pub allowance: Allowance,
     pub answer: Answer,
 }
 
 // The same with what is told of the step.
-#[derive(Drop)]
+#[derive(Clone, Copy)]
 pub struct Traced {
     pub allowance: Allowance,
     pub answer: Answer,

@@ -10,14 +10,14 @@ pub mod starting; // starting.rt: the files judged, every process called
 use lent_sweep::Counts;
 
 // What the files come to: the length of the line that is printed instead of a sweep, 0 where there is one, and the table of calls.
-#[derive(Drop)]
+#[derive(Clone, Copy)]
 pub struct Started {
     pub length: usize,
     pub table: [u32; 40],
 }
 
 // A sweep on its way: the number drawn last, the steps that are left, and what was counted.
-#[derive(Drop)]
+#[derive(Clone, Copy)]
 pub struct Progress {
     pub x: u64,
     pub left: u64,

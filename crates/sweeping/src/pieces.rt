@@ -63,7 +63,7 @@ fn left_after(left: u64, size: u64, accepted: u64) -> u64
 }
 
 // A schedule drawn into a buffer, and run: the number drawn last, and what was counted.
-#[derive(Drop)]
+#[derive(Clone, Copy)]
 struct Piece {
     x: u64,
     counts: Counts,

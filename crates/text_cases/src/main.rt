@@ -15,21 +15,21 @@ use construction::texts::Written;
 use libc::{STDIN_FILENO, STDOUT_FILENO};
 
 // Where a text stands in the input.
-#[derive(Drop)]
+#[derive(Clone, Copy)]
 enum Case {
     Text { start: usize, end: usize },
     Nothing,
 }
 
 // What the writer answered, and whether its buffer then holds the text that is wanted.
-#[derive(Drop)]
+#[derive(Clone, Copy)]
 struct Outcome {
     written: Written,
     same: bool,
 }
 
 // The same for a buffer of eight bytes more than the text, of its length, of one byte less and of none.
-#[derive(Drop)]
+#[derive(Clone, Copy)]
 struct Outcomes {
     more: Outcome,
     exact: Outcome,

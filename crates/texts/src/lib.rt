@@ -14,7 +14,7 @@ use codes::{byte, instruction_from, instruction_word};
 use construction::programs::{Instruction, Line, Program};
 
 // Which text of a program: the one that the card was opened with, the one below the number of its last change, or the one from that number on.
-#[derive(Drop)]
+#[derive(Clone, Copy)]
 pub enum Text {
     Opening,
     Earlier,

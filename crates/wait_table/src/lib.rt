@@ -14,7 +14,7 @@ use grammar::writing::put_field;
 use programs::weights::heaviest;
 
 // The longest wait, in own steps of the operation and without an exit request, or that the table has none.
-#[derive(Drop)]
+#[derive(Clone, Copy)]
 pub enum Wait {
     Steps(u64),
     Outside,

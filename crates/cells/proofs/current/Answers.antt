@@ -1,0 +1,7 @@
+use Rattle.cells.proofs.current.Goals as goal
+
+pub returns-then-cell : goal.returns-then-cell
+returns-then-cell c = rw c.if-cell.true
+
+pub returns-else-cell : goal.returns-else-cell
+returns-else-cell c = rw c.if-cell.false

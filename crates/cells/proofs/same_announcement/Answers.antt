@@ -26,11 +26,14 @@ returns-else-a-b-3 c =
     )
 
 pub returns-else-same_flag : goal.returns-else-same_flag
+unfolding same_announcement
 returns-else-same_flag c =
     rw (eq-eqb _ _ c.if-a-b.true, eq-eqb _ _ c.if-a-b-2.true, ← c.same_flag.ensures, c.if-same_flag.false)
 
 pub returns-else-a-b-2 : goal.returns-else-a-b-2
+unfolding same_announcement
 returns-else-a-b-2 c = rw (eq-eqb _ _ c.if-a-b.true, ne_eqb _ _ c.if-a-b-2.false)
 
 pub returns-else-a-b : goal.returns-else-a-b
+unfolding same_announcement
 returns-else-a-b c = rw (ne_eqb _ _ c.if-a-b.false)

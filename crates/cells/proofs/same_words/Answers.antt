@@ -1,14 +1,19 @@
 use Rattle.std.proofs.Common.{eq-eqb, ne_eqb}
+use Rattle.construction.specs.Cells.{same_words}
 use Rattle.cells.proofs.same_words.Goals as goal
 
 pub returns-then-a-b-3 : goal.returns-then-a-b-3
+unfolding same_words
 returns-then-a-b-3 c = rw (eq-eqb _ _ c.if-a-b.true, eq-eqb _ _ c.if-a-b-2.true, eq-eqb _ _ c.if-a-b-3.true)
 
 pub returns-else-a-b-3 : goal.returns-else-a-b-3
+unfolding same_words
 returns-else-a-b-3 c = rw (eq-eqb _ _ c.if-a-b.true, eq-eqb _ _ c.if-a-b-2.true, ne_eqb _ _ c.if-a-b-3.false)
 
 pub returns-else-a-b-2 : goal.returns-else-a-b-2
+unfolding same_words
 returns-else-a-b-2 c = rw (eq-eqb _ _ c.if-a-b.true, ne_eqb _ _ c.if-a-b-2.false)
 
 pub returns-else-a-b : goal.returns-else-a-b
+unfolding same_words
 returns-else-a-b c = rw (ne_eqb _ _ c.if-a-b.false)

@@ -1,0 +1,9 @@
+use Rattle.std.proofs.Common.{◌≤◌, ◌≡◌, drop}
+use Rattle.construction.specs.Weight.{heaviest}
+use Rattle.programs.proofs.weights.heaviest.Given as goal
+
+abbrev pub invariant-loop-k : goal.invariant-loop-k
+invariant-loop-k l = (l.most ≡ heaviest (drop l.k l.programs)) × (l.k ≤ 8)
+
+abbrev pub decreases-loop-k : goal.decreases-loop-k
+decreases-loop-k l = l.k

@@ -9,4 +9,4 @@ use Rattle.allowance.specs.contracts.Allowance as allowance-type
 use Rattle.allowance.specs.Types.{Allowance}
 
 pub quotas_four : (a : Allowance) (vs : List Val) → Is (row allowance-type.the_type) a vs → length a.quotas ≡ 4
-quotas_four a vs p = let array = p.1.1.1.1.0 in simp length-map at array.1.0.1
+quotas_four a vs p = p.1.1.1.1.0.1.0.1

@@ -11,7 +11,7 @@ use Rattle.construction.specs.declared.simulations.Dictionary.{Dictionary}
 use Rattle.construction.specs.Dictionary.{noted}
 
 pub items : (d : Dictionary) (vs : List Val) → Is (row dictionary-type.the_type) d vs → length d.items ≡ 32
-items d vs p = let fields = p.1.1 in let array = fields.1.0 in simp length-map at array.1.0.1
+items d vs p = let fields = p.1.1 in let array = fields.1.0 in array.1.0.1
 
 -- how many items are noted
 pub count : (d : Dictionary) (vs : List Val) → Is (row dictionary-type.the_type) d vs → min d.length 32 ≡ length (noted d)

@@ -4,5 +4,5 @@ use Rattle.allowance.proofs.are_ordered.Goals as goal
 pub returns : goal.returns
 returns c =
     cc
-    (ordered_four c.args.t1 start.well-formed.0.1.0.1 c.is_ordered.ensures c.is_ordered-2.ensures
+    (ordered_four c.args.quotas c.well_formed.0.1.0.1 c.is_ordered.ensures c.is_ordered-2.ensures
     c.is_ordered-3.ensures c.is_ordered-4.ensures)

@@ -7,7 +7,7 @@ use Rattle.allowance.proofs.spent.Goals as goal
 
 pub overflow_add-a : goal.overflow_add-a
 overflow_add-a c =
-    let a = c.args in omega (arith, allowed_fits a.t1 a.m 18446744073709551615 c.requires (omega arith) (omega arith))
+    omega (arith, allowed_fits c.args.a c.args.m 18446744073709551615 c.requires (omega arith) (omega arith))
 
 pub returns-then-m-lt4 : goal.returns-then-m-lt4
 unfolding spend
@@ -16,10 +16,10 @@ returns-then-m-lt4 c = refl
 pub returns-else-m-lt4 : goal.returns-else-m-lt4
 unfolding spend
 returns-else-m-lt4 c =
-    let a = c.args.t1 in
+    let a = c.args.a in
     λ i. record {
       steps = a.steps;
       count = a.count;
       quotas = sym (set_out a.quotas c.args.m (with_step (quota_at a
-          c.args.m)) (omega (arith, quotas_four a _ start.well-formed.0, c.if-m-lt4.false))) i;
+          c.args.m)) (omega (arith, quotas_four a _ c.well_formed.0, c.if-m-lt4.false))) i;
     }

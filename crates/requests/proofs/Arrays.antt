@@ -43,17 +43,17 @@ full_arrays c vs p =
     let gates_read = counts.1 in
     let masks = dictionaries.1 in
     record {
-      from = simp length-map at from.0.1.0.1;
-      earlier = simp length-map at earlier.0.1.0.1;
-      later = simp length-map at later.0.1.0.1;
-      announcements = simp length-map at announcements.0.1.0.1;
-      records = simp length-map at records.0.1.0.1;
-      controls = simp length-map at controls.0.1.0.1;
-      counts = simp length-map at counts.0.1.0.1;
-      announcements_read = simp length-map at announcements_read.0.1.0.1;
-      dictionaries = simp length-map at dictionaries.0.1.0.1;
-      gates_read = simp length-map at gates_read.0.1.0.1;
-      masks = simp length-map at masks.0.1.0.1;
+      from = from.0.1.0.1;
+      earlier = earlier.0.1.0.1;
+      later = later.0.1.0.1;
+      announcements = announcements.0.1.0.1;
+      records = records.0.1.0.1;
+      controls = controls.0.1.0.1;
+      counts = counts.0.1.0.1;
+      announcements_read = announcements_read.0.1.0.1;
+      dictionaries = dictionaries.0.1.0.1;
+      gates_read = gates_read.0.1.0.1;
+      masks = masks.0.1.0.1;
     }
 
 module _ {A : Type 0} (l : List A) (n : ℕ) (full : length l ≡ n) (m : ℕ) where

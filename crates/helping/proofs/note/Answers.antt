@@ -16,7 +16,7 @@ numbered c =
       keyed = c.numbers_of-numbers.ensures.0;
       valued = c.numbers_of-numbers.ensures.1;
       count =
-          c.noted-end.ensures ∙ rooms.count after.result _ after.type-inv;
+          c.noted-end.ensures ∙ rooms.count after.result _ after.type_inv;
     }
 
 pub returns-then-number-cell : goal.returns-then-number-cell

@@ -1,3 +1,4 @@
+use Rattle.std.proofs.lemmas.Bool.{not-true, not-false}
 use Rattle.std.proofs.Common.{◌-◌, min, ◌≡◌, refl, sym, ◌∙◌, arith}
 use Rattle.construction.specs.Instructions.{shortened, next_instruction}
 use Rattle.programs.proofs.Laws as programs
@@ -37,7 +38,7 @@ returns-then-not-turned c =
       left = λ d h.
           laws.turn_stands h _ _ _ _ loop.fuel (loop.fuel - 1) _ _ loop.invariant.0 (loop.invariant.1 d h) (omega
           arith) (fetched (goal.at.returns-then-not-turned c).After-remaining_after-remaining) (made
-          (goal.at.returns-then-not-turned c).After-turn-turned) c.if-not-turned.true;
+          (goal.at.returns-then-not-turned c).After-turn-turned) (not-true _ c.if-not-turned.true);
     }
 
 pub loop-fuel-preserved : goal.loop-fuel-preserved
@@ -46,7 +47,7 @@ loop-fuel-preserved c =
       (made (goal.at.loop-fuel-preserved c).After-turn-turned).long ∙ loop.invariant.0,
       λ d h. laws.turn_goes h _ _ _ _ loop.fuel (loop.fuel - 1) _ _ loop.invariant.0 (loop.invariant.1 d h)
           (omega arith) (fetched (goal.at.loop-fuel-preserved c).After-remaining_after-remaining)
-          (made (goal.at.loop-fuel-preserved c).After-turn-turned) c.if-not-turned.false,
+          (made (goal.at.loop-fuel-preserved c).After-turn-turned) (not-false _ c.if-not-turned.false),
     )
 
 pub returns : goal.returns

@@ -1,0 +1,31 @@
+use Rattle.std.proofs.Common.{length-set, add-one, sub-eq-zero_of_le, arith}
+use Rattle.construction.specs.Opening.{ins_from}
+use Rattle.reader.proofs.Laws as laws
+use Rattle.reader.proofs.read_lines.Goals as goal
+
+pub returns-in_default : goal.returns-in_default
+unfolding ins_from
+returns-in_default c =
+    rw (
+      c.program_refused_at.ensures,
+      c.ins_refusal.ensures,
+      c.loop-k.invariant.0,
+      laws.one_less _ _
+          c.loop-k-test.true,
+      ← c.ins_line-line.ensures,
+      c.in_default.is,
+    )
+
+pub loop-k-preserved : goal.loop-k-preserved
+unfolding ins_from
+loop-k-preserved c = (
+  rw (c.loop-k.invariant.0, laws.one_less _ _ c.loop-k-test.true, ← c.ins_line-line.ensures, c.in-Ins.is)
+      (simp add-one),
+  omega arith,
+  omega arith,
+  simp length-set c.loop-k.invariant.3,
+)
+
+pub returns : goal.returns
+unfolding ins_from
+returns c = rw (c.loop-k.invariant.0, sub-eq-zero_of_le c.loop-k-test.false)

@@ -1,0 +1,21 @@
+use Rattle.std.proofs.Common.{add-one, sym, ◌∙◌, arith}
+use Rattle.construction.proofs.Text.Lines.{sheet_read}
+use Rattle.construction.specs.Opening.{read_program}
+use Rattle.reader.proofs.read_program.Goals as goal
+
+pub returns-in_default : goal.returns-in_default
+unfolding read_program
+returns-in_default c =
+    rw (c.program_refused_at.ensures, c.sheet_refusal.ensures, ← c.sheet_line-line.ensures, c.in_default.is)
+
+pub read_lines-read-requires : goal.read_lines-read-requires
+read_lines-read-requires c =
+    omega (
+      arith,
+      (sheet_read c.args.text.now c.args.at c.in-Length.length c.in-Length.next (sym
+          c.sheet_line-line.ensures ∙ c.in-Length.is)).fits,
+    )
+
+pub returns : goal.returns
+unfolding read_program
+returns c = rw (c.weigh.ensures, c.read_lines-read.ensures, ← c.sheet_line-line.ensures, c.in-Length.is, add-one)

@@ -1,8 +1,0 @@
-use borrow.Author.Rules.{rules}
-use Rattle.reader.proofs.refusals.var_refusal.Statement.{statement}
-use Rattle.reader.proofs.refusals.var_refusal.Tie as tie
-
-pub var-refusal-spec : {M : Type 1} → statement M
-var-refusal-spec =
-    tie.close
-    (tie.spec (λ c. search rules) (λ c. search rules) (λ c. rw c.before.line.given.1) (λ c. search rules))

@@ -1,5 +1,7 @@
 use Rattle.std.proofs.Common.{◌≡◌, ◌%◌, cond, ltb, [], get_or, sym, ◌∙◌, ⊎_elim, mod-eq_of_lt, arith, le-ltb, lt-ltb, length}
 use lib.Seq.{set-get_or}
+use Rattle.construction.specs.declared.answers.Answered.{Answered}
+use Rattle.construction.specs.declared.programs.Program.{Program}
 use Rattle.construction.specs.Parts.{local_at, texts_of, program_of}
 use Rattle.construction.specs.Requests.{step}
 use Rattle.requests.proofs.Arrays as arrays
@@ -21,7 +23,7 @@ accepted c = record {
   full_arrays = arrays.full_arrays c.args.card _ c.well_formed.0;
   process = omega arith;
   counted = c.wrapping_add_u64.ensures.value;
-  own = c.wrapping_add_u64-steps.ensures;
+  own = c.wrapping_add_u64-steps.ensures.value;
   chosen = c.access_of-access.ensures;
 }
 
@@ -39,9 +41,9 @@ begun_text c =
     let number = (local_at a.card (a.process % 8)).gate.seq in
     let chosen : c.if-gate-c.stored ≡ cond (ltb number (get_or a.card.from (k % 8) 0))
     (get_or a.card.earlier (k % 8) blank) (get_or a.card.later (k % 8) blank) = ⊎_elim
-    (λ w. rw (lt-ltb _ _ w.0.taken) w.2) (λ w. rw (le-ltb _ _ w.0.left) w.2) c.if-gate-c.branch-raw in
+    (λ w. rw (lt-ltb _ _ w.if-gate-c.true) w.stored-is) (λ w. rw (le-ltb _ _ w.if-gate-c.false) w.stored-is) c.if-gate-c.branch-raw in
     accesses.text_found a.card
-    (accepted c.before.before.before.before.before.before.before.before.before).full_arrays k number blank _ _
+    (arrays.full_arrays c.args.card _ c.well_formed.0) k number blank _ _
     chosen c.program_at.ensures
 
 noted_text :
@@ -53,8 +55,8 @@ noted_text c =
     let number = (local_at a.card (a.process % 8)).gate.seq in
     let chosen : c.if-gate-c-2.held ≡ cond (ltb number (get_or a.card.from (k % 8) 0))
     (get_or a.card.earlier (k % 8) blank) (get_or a.card.later (k % 8) blank) = ⊎_elim
-    (λ w. rw (lt-ltb _ _ w.0.taken) w.2) (λ w. rw (le-ltb _ _ w.0.left) w.2) c.if-gate-c-2.branch-raw in
-    accesses.text_found a.card (accepted c.before.before.before.before.before.before).full_arrays k number blank _ _
+    (λ w. rw (lt-ltb _ _ w.if-gate-c-2.true) w.held-is) (λ w. rw (le-ltb _ _ w.if-gate-c-2.false) w.held-is) c.if-gate-c-2.branch-raw in
+    accesses.text_found a.card (arrays.full_arrays c.args.card _ c.well_formed.0) k number blank _ _
     chosen c.program_at-in-Note.ensures
 
 pub returns-then-is_refused : goal.returns-then-is_refused

@@ -99,6 +99,16 @@ pub fn print(rt: &impl Print, buffer: &[u8], end: usize) -> io::Result<()>
     rt.write_all(&buffer[..end])
 }
 
+// Bytes on standard output, in a test program: whether they were written is not told.
+pub fn show(rt: &impl Print, text: &[u8]) {
+    let _ = rt.write_all(text);
+}
+
+// A number as a decimal, likewise.
+pub fn show_decimal(rt: &impl Print, value: u64) {
+    let _ = rt.print(value);
+}
+
 // The bytes before a place, on standard error, how far a program is. Whether all were written.
 pub fn tell(rt: &impl ErrorOutput, buffer: &[u8], end: usize) -> bool
     ensures { length buffer.now < end → result ≡ false }

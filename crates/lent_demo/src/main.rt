@@ -126,7 +126,14 @@ fn write_verdict(rt: &impl Print, same: bool) {
 }
 
 // Lends the first row for a swap and compares the whole row with the one that is wanted.
-fn row_case(rt: &impl Print, label: &[u8], place: usize, expected: Record, new: Record, wanted: [Record; 4]) {
+fn row_case(
+    rt: &impl Print,
+    label: &[u8],
+    place: usize,
+    expected: Record,
+    new: Record,
+    wanted: [Record; 4],
+) {
     let after = swap_in_four(first_row(), place, expected, new);
     let answer = after.answer;
     let row = after.row;

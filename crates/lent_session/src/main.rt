@@ -48,7 +48,15 @@ fn tell(rt: &impl Eprint, kept: bool, seed: u64, short: bool) {
 }
 
 // Runs the commands from a place on, and prints a line for each.
-fn run(rt: &(impl Print + Eprint + Alloc), calls: &[u8], start: usize, b: &mut [u64], l: &mut [u64], seed: u64, short: bool) {
+fn run(
+    rt: &(impl Print + Eprint + Alloc),
+    calls: &[u8],
+    start: usize,
+    b: &mut [u64],
+    l: &mut [u64],
+    seed: u64,
+    short: bool,
+) {
     let mut at = start;
     let mut line: u64 = 1;
     let mut drawn = seed;
@@ -72,7 +80,13 @@ fn run(rt: &(impl Print + Eprint + Alloc), calls: &[u8], start: usize, b: &mut [
 }
 
 // Runs a session: a refusal, or its lines.
-fn run_session(rt: &(impl Print + Eprint + Alloc), card: &[u8], calls: &[u8], seed: u64, short: bool) {
+fn run_session(
+    rt: &(impl Print + Eprint + Alloc),
+    card: &[u8],
+    calls: &[u8],
+    seed: u64,
+    short: bool,
+) {
     let mut b = [0u64; 1456];
     let mut l = [PATTERN; 800];
     let mut buffer = host::buffer();

@@ -10,7 +10,13 @@ use std::io;
 use std::rt::Files;
 
 // Prints the lines of a session, as many at a time as a large buffer has room for, until no request is left or some cannot be written, which the error tells.
-fn print_lines(rt: &impl Print, first: State, calls: &[u8], blocks: &mut [u64], loans: &mut [u64]) -> io::Result<()> {
+fn print_lines(
+    rt: &impl Print,
+    first: State,
+    calls: &[u8],
+    blocks: &mut [u64],
+    loans: &mut [u64],
+) -> io::Result<()> {
     let mut state = first;
     let mut at = state.at;
     while at < calls.len() {
@@ -84,7 +90,9 @@ fn run(rt: &(impl Files + Print + Eprint + Alloc)) {
 // The arguments are judged before any file: there is none.
 fn main(rt: HostRuntime) {
     if argument_count(&rt) > 1 {
-        let _ = rt.eprintln("usage: machines (reads machines.txt, card0.txt to card3.txt and calls.txt in the current folder)");
+        let _ = rt.eprintln(
+            "usage: machines (reads machines.txt, card0.txt to card3.txt and calls.txt in the current folder)",
+        );
         return;
     }
     run(&rt);

@@ -65,7 +65,13 @@ fn report(rt: &(impl Clock + ErrorOutput), done: u32, pieces: u32, started: u64,
 }
 
 // Prints the pieces of a listing one after the other, until some cannot be written, which the error tells.
-fn print_pieces(rt: &(impl Print + Clock + ErrorOutput), card: Card, first: u8, left: u8, buffer: &mut [u8]) -> io::Result<()>
+fn print_pieces(
+    rt: &(impl Print + Clock + ErrorOutput),
+    card: Card,
+    first: u8,
+    left: u8,
+    buffer: &mut [u8],
+) -> io::Result<()>
     requires { (left ≤ 5) × (524288 ≤ length buffer.old) }
 {
     let pieces = count_pieces(card.process_count, first);
@@ -100,7 +106,12 @@ fn print_listing(rt: &(impl Print + Clock + ErrorOutput), card: Card, length: u3
 }
 
 // Prints what the files come to: one line, or the listing. An error where not all of it was written.
-fn print_files(rt: &(impl Print + Clock + ErrorOutput), card: &[u8], calls: &[u8], length: u32) -> io::Result<()> {
+fn print_files(
+    rt: &(impl Print + Clock + ErrorOutput),
+    card: &[u8],
+    calls: &[u8],
+    length: u32,
+) -> io::Result<()> {
     let mut buffer = host::buffer();
     let prepared = prepare(card, calls, length, &mut buffer);
     if prepared.ready {

@@ -64,7 +64,13 @@ fn tell_progress(rt: &impl ErrorOutput, done: u64, steps: u64, left: u64, elapse
 }
 
 // Tells how far it is where two seconds have passed since that was last told; when it was last told.
-fn report(rt: &(impl Clock + ErrorOutput), q: Progress, steps: u64, started: u64, told: u64) -> u64 {
+fn report(
+    rt: &(impl Clock + ErrorOutput),
+    q: Progress,
+    steps: u64,
+    started: u64,
+    told: u64,
+) -> u64 {
     let now = seconds(rt);
     if !is_due(now, told) {
         return told;
@@ -77,7 +83,13 @@ fn report(rt: &(impl Clock + ErrorOutput), q: Progress, steps: u64, started: u64
 }
 
 // All pieces of a sweep.
-fn sweep_all(rt: &(impl Clock + ErrorOutput), b: &mut [u64], l: &mut [u64], calls: &[u32], first: Progress) -> Progress
+fn sweep_all(
+    rt: &(impl Clock + ErrorOutput),
+    b: &mut [u64],
+    l: &mut [u64],
+    calls: &[u32],
+    first: Progress,
+) -> Progress
     ensures { Finishes calls.now b.old l.old first result b.new l.new }
 {
     let started = seconds(rt);
@@ -99,7 +111,12 @@ fn print_summary(rt: &impl Print, b: &[u64], q: Progress) -> io::Result<()> {
 }
 
 // Prints what the files come to: one line, or a sweep. An error where not all of it was written. Eight processes with 32 items each have 768 words.
-fn print_sweep(rt: &(impl Print + Clock + ErrorOutput), card: &[u8], calls: &[u8], first: Progress) -> io::Result<()> {
+fn print_sweep(
+    rt: &(impl Print + Clock + ErrorOutput),
+    card: &[u8],
+    calls: &[u8],
+    first: Progress,
+) -> io::Result<()> {
     let mut b = [0u64; 1456];
     let mut l = [0u64; 768];
     let mut buffer = host::buffer();
@@ -126,7 +143,9 @@ fn sweep(rt: &(impl Files + Print + Eprint + Alloc + Clock + ErrorOutput), steps
 }
 
 fn tell_usage(rt: &impl Eprint) {
-    let _ = rt.eprintln("usage: sweep STEPS SEED (decimals below 18446744073709551616, SEED not 0)");
+    let _ = rt.eprintln(
+        "usage: sweep STEPS SEED (decimals below 18446744073709551616, SEED not 0)",
+    );
 }
 
 // The arguments are judged before any file: there are two, decimals, the second not 0.

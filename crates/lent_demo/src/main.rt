@@ -9,7 +9,7 @@ ghost use Rattle.lent_demo.specs.Rows.{record_of, first_row, new_record, held_ga
 
 use answers::put_row_swap;
 use construction::cells::{Gate, Holder, Record, RowSwap, SwappedGate};
-use libc::STDOUT_FILENO;
+use host::show;
 use report::same::both;
 
 // A row that came back from a loan, and what the swap answered.
@@ -111,74 +111,82 @@ fn same_row(a: [Record; 4], b: [Record; 4]) -> bool
     )
 }
 
-fn write_answer(answer: RowSwap) {
+fn write_answer(rt: &impl Print, answer: RowSwap) {
     let mut text = [0u8; 29];
     let length = put_row_swap(&mut text, 0, answer);
-    io::write_all(STDOUT_FILENO, &text[..length]);
+    show(rt, &text[..length]);
 }
 
-fn write_verdict(same: bool) {
+fn write_verdict(rt: &impl Print, same: bool) {
     if same {
-        io::write_all(STDOUT_FILENO, b",as wanted\n");
+        show(rt, b",as wanted\n");
     } else {
-        io::write_all(STDOUT_FILENO, b",differs\n");
+        show(rt, b",differs\n");
     }
 }
 
 // Lends the first row for a swap and compares the whole row with the one that is wanted.
-fn row_case(label: &[u8], place: usize, expected: Record, new: Record, wanted: [Record; 4]) {
+fn row_case(
+    rt: &impl Print,
+    label: &[u8],
+    place: usize,
+    expected: Record,
+    new: Record,
+    wanted: [Record; 4],
+) {
     let after = swap_in_four(first_row(), place, expected, new);
     let answer = after.answer;
     let row = after.row;
-    io::write_all(STDOUT_FILENO, label);
-    write_answer(answer);
-    write_verdict(same_row(row, wanted));
+    show(rt, label);
+    write_answer(rt, answer);
+    write_verdict(rt, same_row(row, wanted));
 }
 
 // A swap that is to win: only the named record changes.
-fn won_row(label: &[u8], place: usize) {
+fn won_row(rt: &impl Print, label: &[u8], place: usize) {
     if place < 4 {
         let row = first_row();
         let new = new_record();
         let mut wanted = row;
         wanted[place] = new;
         let expected = row[place];
-        row_case(label, place, expected, new, wanted);
+        row_case(rt, label, place, expected, new, wanted);
     }
 }
 
 // A swap that wins and changes its record, compared with the row as it was: the comparison tells them apart.
-fn changed_row(label: &[u8], place: usize) {
+fn changed_row(rt: &impl Print, label: &[u8], place: usize) {
     if place < 4 {
         let row = first_row();
         let expected = row[place];
-        row_case(label, place, expected, new_record(), row);
+        row_case(rt, label, place, expected, new_record(), row);
     }
 }
 
 // A swap that expects the first record and is to change nothing.
-fn kept_row(label: &[u8], place: usize) {
+fn kept_row(rt: &impl Print, label: &[u8], place: usize) {
     let row = first_row();
     let expected = row[0];
-    row_case(label, place, expected, new_record(), row);
+    row_case(rt, label, place, expected, new_record(), row);
 }
 
-fn gate_case(label: &[u8], expected: Gate, wanted: Gate) {
+fn gate_case(rt: &impl Print, label: &[u8], expected: Gate, wanted: Gate) {
     let after = swap_gate(held_gate(), expected, free_gate());
-    io::write_all(STDOUT_FILENO, label);
+    show(rt, label);
     if after.won {
-        io::write_all(STDOUT_FILENO, b"won");
+        show(rt, b"won");
     } else {
-        io::write_all(STDOUT_FILENO, b"lost");
+        show(rt, b"lost");
     }
-    write_verdict(cells::same_gate(after.cell, wanted));
+    write_verdict(rt, cells::same_gate(after.cell, wanted));
 }
 
-fn gate_cases() {
+fn gate_cases(rt: &impl Print) {
     let held = held_gate();
-    gate_case(b"gate,equal,", held, free_gate());
-    gate_case(b"gate,the gate as it was,", held, held);
+    gate_case(rt, b"gate,equal,", held, free_gate());
+    gate_case(rt, b"gate,the gate as it was,", held, held);
     gate_case(
+        rt,
         b"gate,other seq,",
         Gate {
             holder: Holder::Process(1),
@@ -187,6 +195,7 @@ fn gate_cases() {
         held,
     );
     gate_case(
+        rt,
         b"gate,other process,",
         Gate {
             holder: Holder::Process(0),
@@ -195,6 +204,7 @@ fn gate_cases() {
         held,
     );
     gate_case(
+        rt,
         b"gate,nobody,",
         Gate {
             holder: Holder::Nobody,
@@ -204,18 +214,19 @@ fn gate_cases() {
     );
 }
 
-fn main() {
-    won_row(b"row,0,equal", 0);
-    won_row(b"row,2,equal", 2);
-    won_row(b"row,3,equal", 3);
-    changed_row(b"row,3,the row as it was", 3);
-    kept_row(b"row,1,other toggle", 1);
-    kept_row(b"row,2,other seq", 2);
-    kept_row(b"row,3,other value", 3);
-    kept_row(b"row,4,past the end", 4);
+fn main(rt: HostRuntime) {
+    won_row(&rt, b"row,0,equal", 0);
+    won_row(&rt, b"row,2,equal", 2);
+    won_row(&rt, b"row,3,equal", 3);
+    changed_row(&rt, b"row,3,the row as it was", 3);
+    kept_row(&rt, b"row,1,other toggle", 1);
+    kept_row(&rt, b"row,2,other seq", 2);
+    kept_row(&rt, b"row,3,other value", 3);
+    kept_row(&rt, b"row,4,past the end", 4);
     kept_row(
+        &rt,
         b"row,18446744073709551615,past the end",
         18446744073709551615,
     );
-    gate_cases();
+    gate_cases(&rt);
 }

@@ -18,10 +18,10 @@ use crate::printing::{put_command, put_start};
 use commands::reading::command_at;
 use grammar::Number;
 use grammar::reading::number_at;
-use host::read_file;
-use libc::{STDERR_FILENO, STDOUT_FILENO};
+use host::{argument, argument_count, fail, read_file};
 use loan::dictionaries::loan_words;
 use report::same::both;
+use std::rt::Env;
 
 // What was put into a buffer: its length, and where the next command stands.
 #[derive(Clone, Copy)]
@@ -31,9 +31,9 @@ struct Begun {
 }
 
 // The number of an argument, 0 where it is none.
-fn number_of(argument: usize) -> u64 {
-    let mut text = io::buffer();
-    os::arg(argument, &mut text);
+fn number_of(rt: &impl Env, place: usize) -> u64 {
+    let mut text = host::buffer();
+    argument(rt, place, &mut text);
     let Number::Value { value, next: _ } = number_at(&text, 0) else {
         return 0;
     };
@@ -41,21 +41,22 @@ fn number_of(argument: usize) -> u64 {
 }
 
 // With the arguments as they were taken, so that a run without them is not taken for one with them.
-fn tell(kept: bool, seed: u64, short: bool) {
-    if kept {
-        io::write_all(STDERR_FILENO, b"the loan is kept, seed ");
-    } else {
-        io::write_all(STDERR_FILENO, b"the loan is not kept, seed ");
-    }
-    io::print_decimal(STDERR_FILENO, seed);
-    if short {
-        io::write_all(STDERR_FILENO, b", short first");
-    }
-    io::write_all(STDERR_FILENO, b"\n");
+fn tell(rt: &impl Eprint, kept: bool, seed: u64, short: bool) {
+    let loan = if kept { "kept" } else { "not kept" };
+    let first = if short { ", short first" } else { "" };
+    let _ = eprintln!(rt; "the loan is {loan}, seed {seed}{first}");
 }
 
 // Runs the commands from a place on, and prints a line for each.
-fn run(calls: &[u8], start: usize, b: &mut [u64], l: &mut [u64], seed: u64, short: bool) {
+fn run(
+    rt: &(impl Print + Eprint + Alloc),
+    calls: &[u8],
+    start: usize,
+    b: &mut [u64],
+    l: &mut [u64],
+    seed: u64,
+    short: bool,
+) {
     let mut at = start;
     let mut line: u64 = 1;
     let mut drawn = seed;
@@ -65,44 +66,51 @@ fn run(calls: &[u8], start: usize, b: &mut [u64], l: &mut [u64], seed: u64, shor
         let command = parsed.command;
         drawn = alter(l, loan_words(b), drawn);
         kept = both(kept, refuses_short(short, b, command));
-        let mut buffer = io::buffer();
+        let mut buffer = host::buffer();
         let length = put_command(calls, command, line, b, l, &mut buffer);
         kept = both(kept, is_kept(l, loan_words(b)));
-        if !io::write_all(STDOUT_FILENO, &buffer[..length]) {
-            os::fail(b"lent_session: the session could not be written");
+        if let Err(error) = rt.write_all(&buffer[..length]) {
+            fail(rt, "lent_session: the session could not be written", &error);
             return;
         }
         at = parsed.next;
         line = session::running::next_line(line, parsed.lines);
     }
-    tell(kept, seed, short);
+    tell(rt, kept, seed, short);
 }
 
 // Runs a session: a refusal, or its lines.
-fn run_session(card: &[u8], calls: &[u8], seed: u64, short: bool) {
+fn run_session(
+    rt: &(impl Print + Eprint + Alloc),
+    card: &[u8],
+    calls: &[u8],
+    seed: u64,
+    short: bool,
+) {
     let mut b = [0u64; 1456];
     let mut l = [PATTERN; 800];
-    let mut buffer = io::buffer();
+    let mut buffer = host::buffer();
     let started = put_start(card, calls, &mut b, &mut buffer);
     let length = started.length;
-    if !io::write_all(STDOUT_FILENO, &buffer[..length]) {
-        os::fail(b"lent_session: the session could not be written");
+    if let Err(error) = rt.write_all(&buffer[..length]) {
+        fail(rt, "lent_session: the session could not be written", &error);
         return;
     }
-    run(calls, started.at, &mut b, &mut l, seed, short);
+    run(rt, calls, started.at, &mut b, &mut l, seed, short);
 }
 
 // At most one byte more than its limit is read of each file.
-fn main() {
+fn main(rt: HostRuntime) {
     let mut card = [0u8; 16385];
     let mut calls = [0u8; 65537];
-    let card_length = read_file(b"card.txt", &mut card);
-    let calls_length = read_file(b"calls.txt", &mut calls);
-    let short = 2 < os::arg_count();
+    let card_length = read_file(&rt, b"card.txt", &mut card);
+    let calls_length = read_file(&rt, b"calls.txt", &mut calls);
+    let short = 2 < argument_count(&rt);
     run_session(
+        &rt,
         &card[..card_length],
         &calls[..calls_length],
-        number_of(1),
+        number_of(&rt, 1),
         short,
     );
 }

@@ -8,8 +8,9 @@ use arguments::{Argument, decimal_of};
 use construction::texts::Verdict;
 use dump_reader::rows::{first_scan, put_row, put_rows};
 use grammar::writing::{put_byte, put_decimal, put_word};
-use host::{print, read_file};
-use libc::STDERR_FILENO;
+use host::{argument, argument_count, fail, print, read_file};
+use std::io;
+use std::rt::Files;
 
 // The most bytes of a dump that are read.
 const LIMIT: usize = 4_194_304;
@@ -18,68 +19,63 @@ const LIMIT: usize = 4_194_304;
 const LAST: u64 = 1_000_000_000_000_000_000;
 
 // `dump,refused,number,line`.
-fn print_refusal(number: u64, line: u64) -> bool {
-    let mut buffer = io::buffer();
+fn print_refusal(rt: &impl Print, number: u64, line: u64) -> io::Result<()> {
+    let mut buffer = host::buffer();
     let i = put_word(&mut buffer, 0, b"dump,refused,");
     let j = put_decimal(&mut buffer, i, number);
     let k = put_byte(&mut buffer, j, b',');
     let l = put_decimal(&mut buffer, k, line);
     let end = put_byte(&mut buffer, l, b'\n');
-    print(&buffer, end)
+    print(rt, &buffer, end)
 }
 
 // A step and the values after it.
-fn print_row(count: u8, step: u64, values: [u32; 64]) -> bool {
-    let mut buffer = io::buffer();
+fn print_row(rt: &impl Print, count: u8, step: u64, values: [u32; 64]) -> io::Result<()> {
+    let mut buffer = host::buffer();
     let end = put_row(&mut buffer, 0, count, step, &values);
-    print(&buffer, end)
+    print(rt, &buffer, end)
 }
 
-// A line for each time of a dump that was taken, as many at a time as a large buffer takes. Whether all were written.
-fn print_rows(text: &[u8], count: u8) -> bool {
+// A line for each time of a dump that was taken, as many at a time as a large buffer takes. An error where not all were written.
+fn print_rows(rt: &impl Print, text: &[u8], count: u8) -> io::Result<()> {
     let mut scan = first_scan(text);
     let mut at = scan.at;
     while at < text.len() {
-        let mut buffer = io::large_buffer();
+        let mut buffer = host::large_buffer();
         let shown = put_rows(text, count, scan, &mut buffer);
         let end = shown.length;
-        if !print(&buffer, end) {
-            return false;
-        }
+        print(rt, &buffer, end)?;
         scan = shown.scan;
         let next = scan.at;
         if next <= at {
-            return false;
+            return Err(io::Error::from(io::ErrorKind::InvalidData));
         }
         at = next;
     }
     let values = scan.values;
-    print_row(count, scan.time, values)
+    print_row(rt, count, scan.time, values)
 }
 
-// Judges a dump, and prints what was asked for. Whether all of it was written.
-fn print_readings(text: &[u8], all: bool, step: u64) -> bool {
+// Judges a dump, and prints what was asked for. An error where not all of it was written.
+fn print_readings(rt: &impl Print, text: &[u8], all: bool, step: u64) -> io::Result<()> {
     if LIMIT < text.len() {
-        return print_refusal(1, 0);
+        return print_refusal(rt, 1, 0);
     }
     let readings = dump_reader::read(text, step);
     let verdict = readings.verdict;
     if let Verdict::Refused { refusal: _, line } = verdict {
-        return print_refusal(2, line);
+        return print_refusal(rt, 2, line);
     }
     let count = readings.count;
     if all {
-        return print_rows(text, count);
+        return print_rows(rt, text, count);
     }
     let values = readings.values;
-    print_row(count, step, values)
+    print_row(rt, count, step, values)
 }
 
-fn usage() {
-    io::write_all(
-        STDERR_FILENO,
-        b"usage: readings DUMP [STEP] (a step from 0 to 1000000000000000000)\n",
-    );
+fn usage(rt: &impl Eprint) {
+    let _ = rt.eprintln("usage: readings DUMP [STEP] (a step from 0 to 1000000000000000000)");
 }
 
 // Room for one byte more than the limit. The `ensures` gives only the length, which lending the array as a slice needs.
@@ -90,31 +86,31 @@ fn space() -> [u8; 4194305]
 }
 
 // One byte more than the limit is read. A program has no exit status, so what cannot be written is told on standard error.
-fn run(path: &[u8], all: bool, step: u64) {
+fn run(rt: &(impl Files + Print + Eprint + Alloc), path: &[u8], all: bool, step: u64) {
     let mut text = space();
-    let length = read_file(path, &mut text);
-    if !print_readings(&text[..length], all, step) {
-        os::fail(b"readings: the values could not be written");
+    let length = read_file(rt, path, &mut text);
+    if let Err(error) = print_readings(rt, &text[..length], all, step) {
+        fail(rt, "readings: the values could not be written", &error);
     }
 }
 
-fn main() {
-    let count = os::arg_count();
-    let mut path = io::buffer();
-    let path_length = os::arg(1, &mut path);
-    let mut argument = [0u8; 32];
-    let length = os::arg(2, &mut argument);
+fn main(rt: HostRuntime) {
+    let count = argument_count(&rt);
+    let mut path = host::buffer();
+    let path_length = argument(&rt, 1, &mut path);
+    let mut asked = [0u8; 32];
+    let length = argument(&rt, 2, &mut asked);
     if count == 2 {
-        run(&path[..path_length], true, 0);
+        run(&rt, &path[..path_length], true, 0);
         return;
     }
-    let Argument::Value(step) = decimal_of(&argument[..length]) else {
-        usage();
+    let Argument::Value(step) = decimal_of(&asked[..length]) else {
+        usage(&rt);
         return;
     };
     if count == 3 && step <= LAST {
-        run(&path[..path_length], false, step);
+        run(&rt, &path[..path_length], false, step);
         return;
     }
-    usage();
+    usage(&rt);
 }

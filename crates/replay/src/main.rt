@@ -13,7 +13,7 @@ use commands::Command;
 use commands::reading::command_at;
 use construction::card::Card;
 use grammar::reading::has_byte;
-use libc::{STDIN_FILENO, STDOUT_FILENO};
+use host::{read_input, show};
 use report::same::same_card;
 use report::show_cells;
 use session::running::{put_lines, start};
@@ -53,23 +53,23 @@ fn play(state: State, calls: &[u8], buffer: &mut [u8]) -> Played
     Played { printed, same }
 }
 
-fn show_line(same: bool, line: &[u8]) {
+fn show_line(rt: &impl Print, same: bool, line: &[u8]) {
     if same {
-        io::write_all(STDOUT_FILENO, b"same,");
+        show(rt, b"same,");
     } else {
-        io::write_all(STDOUT_FILENO, b"changed,");
+        show(rt, b"changed,");
     }
-    io::write_all(STDOUT_FILENO, line);
+    show(rt, line);
 }
 
-fn show_looked(command: Command, card: Card) {
+fn show_looked(rt: &impl Print, command: Command, card: Card) {
     if let Command::Read { variable } = command {
-        show_cells(card, variable);
+        show_cells(rt, card, variable);
     }
 }
 
 // Each command is played as the last one of its text, so that the session stops after it.
-fn play_commands(first: Card, calls: &[u8]) {
+fn play_commands(rt: &impl Print, first: Card, calls: &[u8]) {
     let mut state = State {
         card: first,
         at: 0,
@@ -83,30 +83,30 @@ fn play_commands(first: Card, calls: &[u8]) {
         if calls.len() < end {
             return;
         }
-        let mut buffer = io::buffer();
+        let mut buffer = host::buffer();
         let played = play(state, &calls[..end], &mut buffer);
         let printed = played.printed;
         let length = printed.length;
-        show_line(played.same, &buffer[..length]);
+        show_line(rt, played.same, &buffer[..length]);
         state = printed.state;
         let card = state.card;
-        show_looked(command, card);
+        show_looked(rt, command, card);
         at = end;
     }
 }
 
-fn play_schedule(title: &[u8], card: &[u8], calls: &[u8]) {
-    io::write_all(STDOUT_FILENO, title);
-    let mut buffer = io::buffer();
+fn play_schedule(rt: &impl Print, title: &[u8], card: &[u8], calls: &[u8]) {
+    show(rt, title);
+    let mut buffer = host::buffer();
     let started = start(card, calls, &mut buffer);
     let length = started.length;
-    io::write_all(STDOUT_FILENO, &buffer[..length]);
+    show(rt, &buffer[..length]);
     let state = started.state;
     let first = state.card;
-    play_commands(first, calls);
+    play_commands(rt, first, calls);
 }
 
-fn play_all(input: &[u8]) {
+fn play_all(rt: &impl Print, input: &[u8]) {
     let mut card_start: usize = 0;
     let mut card_end: usize = 0;
     let mut at: usize = 0;
@@ -119,6 +119,7 @@ fn play_all(input: &[u8]) {
         let end = find(input, b'#', start);
         if has_byte(input, at + 1, b'#') {
             play_schedule(
+                rt,
                 &input[at..start],
                 &input[card_start..card_end],
                 &input[start..end],
@@ -131,8 +132,8 @@ fn play_all(input: &[u8]) {
     }
 }
 
-fn main() {
+fn main(rt: HostRuntime) {
     let mut input = [0u8; 32768];
-    let length = io::read_full(STDIN_FILENO, &mut input);
-    play_all(&input[..length]);
+    let length = read_input(&rt, &mut input);
+    play_all(&rt, &input[..length]);
 }

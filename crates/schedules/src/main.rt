@@ -10,10 +10,11 @@ ghost use Rattle.schedules.specs.Progress.{progress_text};
 use arguments::{Argument, decimal_of};
 use construction::card::Card;
 use grammar::writing::{put_decimal, put_word};
-use host::{is_due, read_file, seconds, tell};
-use libc::{STDERR_FILENO, STDOUT_FILENO};
+use host::{ErrorOutput, argument, argument_count, fail, is_due, read_file, seconds, tell};
 use listing::pieces::{count_pieces, put_piece};
 use schedule_files::prepare;
+use std::io;
+use std::rt::{Clock, Env, Files};
 
 // The steps of a piece after its first ones: it has at most 243 lines of at most 2,129 bytes, for which a buffer of 524,288 bytes has room.
 const LAST: u8 = 5;
@@ -22,10 +23,10 @@ const LAST: u8 = 5;
 const LARGEST: u64 = 4_294_967_295;
 
 // The one argument.
-fn read_argument() -> Argument {
-    let mut text = io::buffer();
-    let length = os::arg(1, &mut text);
-    if os::arg_count() != 2 {
+fn read_argument(rt: &impl Env) -> Argument {
+    let mut text = host::buffer();
+    let length = argument(rt, 1, &mut text);
+    if argument_count(rt) != 2 {
         return Argument::Wrong;
     }
     decimal_of(&text[..length])
@@ -45,41 +46,45 @@ fn put_progress(buffer: &mut [u8], done: u32, pieces: u32, elapsed: u64) -> usiz
 }
 
 // Tells how many of the pieces are done, and in which time.
-fn tell_progress(done: u32, pieces: u32, elapsed: u64) {
-    let mut text = io::buffer();
+fn tell_progress(rt: &impl ErrorOutput, done: u32, pieces: u32, elapsed: u64) {
+    let mut text = host::buffer();
     let end = put_progress(&mut text, done, pieces, elapsed);
-    tell(&text, end);
+    tell(rt, &text, end);
 }
 
 // Tells how far it is where two seconds have passed since that was last told; when it was last told.
-fn report(done: u32, pieces: u32, started: u64, told: u64) -> u64 {
-    let now = seconds();
+fn report(rt: &(impl Clock + ErrorOutput), done: u32, pieces: u32, started: u64, told: u64) -> u64 {
+    let now = seconds(rt);
     if !is_due(now, told) {
         return told;
     }
     if now >= started {
-        tell_progress(done, pieces, now - started);
+        tell_progress(rt, done, pieces, now - started);
     }
     now
 }
 
-// Prints the pieces of a listing one after the other, until some cannot be written. Whether all were written.
-fn print_pieces(card: Card, first: u8, left: u8, buffer: &mut [u8]) -> bool
+// Prints the pieces of a listing one after the other, until some cannot be written, which the error tells.
+fn print_pieces(
+    rt: &(impl Print + Clock + ErrorOutput),
+    card: Card,
+    first: u8,
+    left: u8,
+    buffer: &mut [u8],
+) -> io::Result<()>
     requires { (left ≤ 5) × (524288 ≤ length buffer.old) }
 {
     let pieces = count_pieces(card.process_count, first);
-    let started = seconds();
+    let started = seconds(rt);
     let mut told = started;
     let mut j: u32 = 0;
     while j < pieces {
         let length = put_piece(card, first, left, j, buffer);
-        if !io::write_all(STDOUT_FILENO, &buffer[..length]) {
-            return false;
-        }
+        rt.write_all(&buffer[..length])?;
         j = j + 1;
-        told = report(j, pieces, started, told);
+        told = report(rt, j, pieces, started, told);
     }
-    true
+    Ok(())
 }
 
 // Room for a piece.
@@ -90,55 +95,57 @@ fn piece_buffer() -> [u8; 524288]
 }
 
 // Prints a listing in pieces: the first steps, and all that go on from there for the last ones.
-fn print_listing(card: Card, length: u32) -> bool
+fn print_listing(rt: &(impl Print + Clock + ErrorOutput), card: Card, length: u32) -> io::Result<()>
     requires { length ≤ 16 }
 {
     let mut buffer = piece_buffer();
     if length <= LAST as u32 {
-        return print_pieces(card, 0, length as u8, &mut buffer);
+        return print_pieces(rt, card, 0, length as u8, &mut buffer);
     }
-    print_pieces(card, length as u8 - LAST, LAST, &mut buffer)
+    print_pieces(rt, card, length as u8 - LAST, LAST, &mut buffer)
 }
 
-// Prints what the files come to: one line, or the listing. Whether all of it was written.
-fn print_files(card: &[u8], calls: &[u8], length: u32) -> bool {
-    let mut buffer = io::buffer();
+// Prints what the files come to: one line, or the listing. An error where not all of it was written.
+fn print_files(
+    rt: &(impl Print + Clock + ErrorOutput),
+    card: &[u8],
+    calls: &[u8],
+    length: u32,
+) -> io::Result<()> {
+    let mut buffer = host::buffer();
     let prepared = prepare(card, calls, length, &mut buffer);
     if prepared.ready {
         let start = prepared.card;
-        return print_listing(start, length);
+        return print_listing(rt, start, length);
     }
     let end = prepared.length;
-    io::write_all(STDOUT_FILENO, &buffer[..end])
+    rt.write_all(&buffer[..end])
 }
 
-fn usage() {
-    io::write_all(
-        STDERR_FILENO,
-        b"usage: schedules L (the number of steps, a decimal below 4294967296)\n",
-    );
+fn usage(rt: &impl Eprint) {
+    let _ = rt.eprintln("usage: schedules L (the number of steps, a decimal below 4294967296)");
 }
 
 // Of each file at most one byte more than its limit is read. A program has no exit status, so what cannot be written is told on standard error.
-fn run(length: u32) {
+fn run(rt: &(impl Files + Print + Eprint + Alloc + Clock + ErrorOutput), length: u32) {
     let mut card = [0u8; 16385];
     let mut calls = [0u8; 65537];
-    let card_length = read_file(b"card.txt", &mut card);
-    let calls_length = read_file(b"calls.txt", &mut calls);
-    if !print_files(&card[..card_length], &calls[..calls_length], length) {
-        os::fail(b"schedules: the listing could not be written");
+    let card_length = read_file(rt, b"card.txt", &mut card);
+    let calls_length = read_file(rt, b"calls.txt", &mut calls);
+    if let Err(error) = print_files(rt, &card[..card_length], &calls[..calls_length], length) {
+        fail(rt, "schedules: the listing could not be written", &error);
     }
 }
 
 // The argument is judged before any file.
-fn main() {
-    let Argument::Value(length) = read_argument() else {
-        usage();
+fn main(rt: HostRuntime) {
+    let Argument::Value(length) = read_argument(&rt) else {
+        usage(&rt);
         return;
     };
     if length > LARGEST {
-        usage();
+        usage(&rt);
         return;
     }
-    run(length as u32);
+    run(&rt, length as u32);
 }

@@ -13,7 +13,7 @@ use construction::card::Card;
 use construction::cells::Words;
 use grammar::Number;
 use grammar::reading::number_at;
-use libc::STDIN_FILENO;
+use host::read_input;
 use xorshift::next;
 
 // The inputs of a call.
@@ -67,9 +67,9 @@ fn run(start: Answered, count: u64) -> Answered
     answered
 }
 
-fn main() {
+fn main(rt: HostRuntime) {
     let mut text = [0u8; 32];
-    io::read_full(STDIN_FILENO, &mut text);
+    read_input(&rt, &mut text);
     let Number::Value { value, next: _ } = number_at(&text, 0) else {
         return;
     };
@@ -79,5 +79,5 @@ fn main() {
     let card = opened.card;
     let last = run(call_all(card), value);
     let after = last.card;
-    report::show_cells(after, 0);
+    report::show_cells(&rt, after, 0);
 }

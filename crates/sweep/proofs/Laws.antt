@@ -1,7 +1,5 @@
 -- The line that tells how far a sweep is, put into a buffer part by part.
-use Prim.Native.Nat.{ℕ}
-use mathlib.Core.Path.{◌≡◌}
-use mathlib.Core.List.{List}
+use Rattle.std.proofs.Common.{◌≡◌, ℕ, List}
 use Rattle.grammar.specs.Writing.{decimal, Put}
 use Rattle.grammar.proofs.Puts.{Room, rest_all, rest_step, rest_last}
 use Rattle.construction.specs.Answers.{bytes}

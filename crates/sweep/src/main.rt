@@ -10,17 +10,18 @@ ghost use Rattle.sweep.specs.Progress.{quotient_of, rate_text, progress_text};
 
 use arguments::{Argument, decimal_of};
 use grammar::writing::{put_decimal, put_word};
-use host::{is_due, print, read_file, seconds, tell};
-use libc::{STDERR_FILENO, STDOUT_FILENO};
+use host::{ErrorOutput, argument, argument_count, fail, is_due, print, read_file, seconds, tell};
+use std::io;
+use std::rt::{Clock, Env, Files};
 use sweeping::Progress;
 use sweeping::pieces::{advance, begin};
 use sweeping::printing::put_summary;
 use sweeping::starting::start;
 
 // An argument by its place.
-fn argument_at(place: usize) -> Argument {
-    let mut text = io::buffer();
-    let length = os::arg(place, &mut text);
+fn argument_at(rt: &impl Env, place: usize) -> Argument {
+    let mut text = host::buffer();
+    let length = argument(rt, place, &mut text);
     decimal_of(&text[..length])
 }
 
@@ -56,100 +57,116 @@ fn put_progress(buffer: &mut [u8], done: u64, steps: u64, left: u64, elapsed: u6
 }
 
 // Tells how many of the steps are done, how many in a second, and how many seconds are left.
-fn tell_progress(done: u64, steps: u64, left: u64, elapsed: u64) {
-    let mut text = io::buffer();
+fn tell_progress(rt: &impl ErrorOutput, done: u64, steps: u64, left: u64, elapsed: u64) {
+    let mut text = host::buffer();
     let end = put_progress(&mut text, done, steps, left, elapsed);
-    tell(&text, end);
+    tell(rt, &text, end);
 }
 
 // Tells how far it is where two seconds have passed since that was last told; when it was last told.
-fn report(q: Progress, steps: u64, started: u64, told: u64) -> u64 {
-    let now = seconds();
+fn report(
+    rt: &(impl Clock + ErrorOutput),
+    q: Progress,
+    steps: u64,
+    started: u64,
+    told: u64,
+) -> u64 {
+    let now = seconds(rt);
     if !is_due(now, told) {
         return told;
     }
     if now >= started {
         let counts = q.counts;
-        tell_progress(counts.accepted, steps, q.left, now - started);
+        tell_progress(rt, counts.accepted, steps, q.left, now - started);
     }
     now
 }
 
 // All pieces of a sweep.
-fn sweep_all(b: &mut [u64], l: &mut [u64], calls: &[u32], first: Progress) -> Progress
+fn sweep_all(
+    rt: &(impl Clock + ErrorOutput),
+    b: &mut [u64],
+    l: &mut [u64],
+    calls: &[u32],
+    first: Progress,
+) -> Progress
     ensures { Finishes calls.now b.old l.old first result b.new l.new }
 {
-    let started = seconds();
+    let started = seconds(rt);
     let mut told = started;
     let mut q = first;
     while q.left > 0 {
         q = advance(b, l, calls, q);
-        told = report(q, first.left, started, told);
+        told = report(rt, q, first.left, started, told);
     }
     q
 }
 
-// Prints what a sweep comes to. Whether all of it was written.
-fn print_summary(b: &[u64], q: Progress) -> bool {
-    let mut buffer = io::large_buffer();
+// Prints what a sweep comes to. An error where not all of it was written.
+fn print_summary(rt: &impl Print, b: &[u64], q: Progress) -> io::Result<()> {
+    let mut buffer = host::large_buffer();
     let counts = q.counts;
     let end = put_summary(&mut buffer, b, counts);
-    print(&buffer, end)
+    print(rt, &buffer, end)
 }
 
-// Prints what the files come to: one line, or a sweep. Whether all of it was written. Eight processes with 32 items each have 768 words.
-fn print_sweep(card: &[u8], calls: &[u8], first: Progress) -> bool {
+// Prints what the files come to: one line, or a sweep. An error where not all of it was written. Eight processes with 32 items each have 768 words.
+fn print_sweep(
+    rt: &(impl Print + Clock + ErrorOutput),
+    card: &[u8],
+    calls: &[u8],
+    first: Progress,
+) -> io::Result<()> {
     let mut b = [0u64; 1456];
     let mut l = [0u64; 768];
-    let mut buffer = io::buffer();
+    let mut buffer = host::buffer();
     let started = start(card, calls, &mut b, &mut buffer);
     let length = started.length;
     if length > 0 {
-        return io::write_all(STDOUT_FILENO, &buffer[..length]);
+        return rt.write_all(&buffer[..length]);
     }
     let calls = started.table;
-    let q = sweep_all(&mut b, &mut l, &calls, first);
-    print_summary(&b, q)
+    let q = sweep_all(rt, &mut b, &mut l, &calls, first);
+    print_summary(rt, &b, q)
 }
 
 // Runs a sweep. At most one byte more than its limit is read of each file. A program has no exit status, so what cannot be written is told on standard error.
-fn sweep(steps: u64, seed: u64) {
+fn sweep(rt: &(impl Files + Print + Eprint + Alloc + Clock + ErrorOutput), steps: u64, seed: u64) {
     let mut card = [0u8; 16385];
     let mut calls = [0u8; 65537];
-    let card_length = read_file(b"card.txt", &mut card);
-    let calls_length = read_file(b"calls.txt", &mut calls);
+    let card_length = read_file(rt, b"card.txt", &mut card);
+    let calls_length = read_file(rt, b"calls.txt", &mut calls);
     let first = begin(steps, seed);
-    if !print_sweep(&card[..card_length], &calls[..calls_length], first) {
-        os::fail(b"sweep: the counts could not be written");
+    if let Err(error) = print_sweep(rt, &card[..card_length], &calls[..calls_length], first) {
+        fail(rt, "sweep: the counts could not be written", &error);
     }
 }
 
-fn tell_usage() {
-    io::write_all(
-        STDERR_FILENO,
-        b"usage: sweep STEPS SEED (decimals below 18446744073709551616, SEED not 0)\n",
+fn tell_usage(rt: &impl Eprint) {
+    let _ = rt.eprintln(
+        "usage: sweep STEPS SEED (decimals below 18446744073709551616, SEED not 0)",
     );
 }
 
 // The arguments are judged before any file: there are two, decimals, the second not 0.
-fn main() {
-    let first = argument_at(1);
-    let second = argument_at(2);
+fn main(rt: HostRuntime) {
+    let first = argument_at(&rt, 1);
+    let second = argument_at(&rt, 2);
     let Argument::Value(steps) = first else {
-        tell_usage();
+        tell_usage(&rt);
         return;
     };
     let Argument::Value(seed) = second else {
-        tell_usage();
+        tell_usage(&rt);
         return;
     };
-    if os::arg_count() != 3 {
-        tell_usage();
+    if argument_count(&rt) != 3 {
+        tell_usage(&rt);
         return;
     }
     if seed == 0 {
-        tell_usage();
+        tell_usage(&rt);
         return;
     }
-    sweep(steps, seed);
+    sweep(&rt, steps, seed);
 }

@@ -13,11 +13,11 @@ use construction::cells::Words;
 use grammar::Numbers;
 use grammar::reading::four_at;
 use grammar::writing::{put_field, put_word};
+use host::{read_input, show_decimal};
 use lent_card::requesting::call;
 use lent_sweep::Counts;
 use lent_sweep::counting::none;
 use lent_sweep::running::run;
-use libc::{STDIN_FILENO, STDOUT_FILENO};
 use report::{show_announcement, show_gate, show_record};
 use sweeping::Progress;
 use sweeping::pieces::{added, advance, begin};
@@ -59,7 +59,7 @@ fn sweep(b: &mut [u64], l: &mut [u64], calls: &[u32], first: Progress) -> Progre
 
 // Opens the card with a step limit.
 fn open(b: &mut [u64], limit: u64) {
-    let mut text = io::buffer();
+    let mut text = host::buffer();
     let i = put_word(&mut text, 0, b"card,8,1,1,");
     let j = put_field(&mut text, i, b'\n', limit);
     let k = put_word(
@@ -86,24 +86,24 @@ fn call_all(b: &mut [u64]) {
 }
 
 // A word and a number on a line.
-fn print_count(word: &[u8], value: u64) {
-    io::write_all(STDOUT_FILENO, word);
-    io::print_decimal(STDOUT_FILENO, value);
-    io::write_all(STDOUT_FILENO, b"\n");
+fn print_count(rt: &impl Print, word: &[u8], value: u64) {
+    host::show(rt, word);
+    show_decimal(rt, value);
+    host::show(rt, b"\n");
 }
 
 // The gate, the announcements, the record of variable 0, and the counts.
-fn show(b: &[u64], counts: Counts) {
-    show_gate(gate(b));
+fn show(rt: &impl Print, b: &[u64], counts: Counts) {
+    show_gate(rt, gate(b));
     for process in 0..8 {
-        show_announcement(process as u64, announcement(b, process));
+        show_announcement(rt, process as u64, announcement(b, process));
     }
-    show_record(0, record(b, 0));
-    print_count(b"accepted,", counts.accepted);
-    print_count(b"done,", counts.done);
-    print_count(b"fault,", counts.faulted);
-    print_count(b"exit,", counts.exited);
-    print_count(b"longest,", counts.longest);
+    show_record(rt, 0, record(b, 0));
+    print_count(rt, b"accepted,", counts.accepted);
+    print_count(rt, b"done,", counts.done);
+    print_count(rt, b"fault,", counts.faulted);
+    print_count(rt, b"exit,", counts.exited);
+    print_count(rt, b"longest,", counts.longest);
 }
 
 // How many words are lent: as many as are asked for, and no more than there are.
@@ -118,7 +118,7 @@ fn lent(asked: u64, most: u64) -> usize
 }
 
 // The steps on a card with a limit, and what they come to.
-fn answer(count: u64, limit: u64, words: usize, loan: usize, schedule: &[u8])
+fn answer(rt: &impl Print, count: u64, limit: u64, words: usize, loan: usize, schedule: &[u8])
     requires { (words ≤ 40) × (loan ≤ 48) }
 {
     let mut b = [0u64; 1456];
@@ -128,21 +128,21 @@ fn answer(count: u64, limit: u64, words: usize, loan: usize, schedule: &[u8])
     call_all(&mut b);
     if schedule.len() == 0 {
         let q = sweep(&mut b, &mut l[..loan], &calls[..words], begin(count, SEED));
-        show(&b, q.counts);
+        show(rt, &b, q.counts);
     } else {
         let counts = repeat(&mut b, &mut l[..loan], &calls[..words], schedule, count);
-        show(&b, counts);
+        show(rt, &b, counts);
     }
 }
 
-fn main() {
+fn main(rt: HostRuntime) {
     let mut text = [0u8; 4200];
-    let length = io::read_full(STDIN_FILENO, &mut text);
+    let length = read_input(&rt, &mut text);
     let numbers = four_at(&text, 0);
     let Numbers::Values { a, b, c, d, next } = numbers else {
         return;
     };
     if next <= length {
-        answer(a, b, lent(c, 40), lent(d, 48), &text[next..length]);
+        answer(&rt, a, b, lent(c, 40), lent(d, 48), &text[next..length]);
     }
 }

@@ -12,7 +12,7 @@ mod lines; // lines.rt: the line of a case
 use crate::cases::case_at;
 use crate::lines::put_case;
 use construction::texts::Written;
-use libc::{STDIN_FILENO, STDOUT_FILENO};
+use host::{read_input, show};
 
 // Where a text stands in the input.
 #[derive(Clone, Copy)]
@@ -37,26 +37,26 @@ struct Outcomes {
     none: Outcome,
 }
 
-fn show_case(number: u64, text: &[u8], wanted: &[u8]) {
+fn show_case(rt: &impl Print, number: u64, text: &[u8], wanted: &[u8]) {
     let mut line = [0u8; 200];
     let length = put_case(&mut line, number, text, wanted);
     if length <= 200 {
-        io::write_all(STDOUT_FILENO, &line[..length]);
+        show(rt, &line[..length]);
     }
 }
 
 // A case that must differ: the first text is compared with itself from its second byte on.
-fn show_other(input: &[u8]) {
+fn show_other(rt: &impl Print, input: &[u8]) {
     let Case::Text { start, end } = case_at(input, 0) else {
         return;
     };
     if start < end && end <= input.len() {
         let second = start + 1;
-        show_case(0, &input[start..end], &input[second..end]);
+        show_case(rt, 0, &input[start..end], &input[second..end]);
     }
 }
 
-fn show_cases(input: &[u8]) {
+fn show_cases(rt: &impl Print, input: &[u8]) {
     let mut at: usize = 0;
     for number in 1..1001 {
         let Case::Text { start, end } = case_at(input, at) else {
@@ -64,19 +64,19 @@ fn show_cases(input: &[u8]) {
         };
         if start <= end && end <= input.len() {
             let text = &input[start..end];
-            show_case(number, text, text);
+            show_case(rt, number, text, text);
         }
         at = end;
     }
 }
 
-fn show_all(input: &[u8]) {
-    show_other(input);
-    show_cases(input);
+fn show_all(rt: &impl Print, input: &[u8]) {
+    show_other(rt, input);
+    show_cases(rt, input);
 }
 
-fn main() {
+fn main(rt: HostRuntime) {
     let mut input = [0u8; 131072];
-    let length = io::read_full(STDIN_FILENO, &mut input);
-    show_all(&input[..length]);
+    let length = read_input(&rt, &mut input);
+    show_all(&rt, &input[..length]);
 }

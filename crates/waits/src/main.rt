@@ -2,13 +2,13 @@
 // crate wait_table; only writing the bytes is left to do here.
 #![tactic(auto)]
 
-use libc::STDOUT_FILENO;
+use host::{buffer, fail, print};
 
 // A program has no exit status, so what cannot be written is told on standard error.
-fn main() {
-    let mut buffer = io::buffer();
-    let length = wait_table::put_table(&mut buffer, 0);
-    if !io::write_all(STDOUT_FILENO, &buffer[..length]) {
-        os::fail(b"waits: the table could not be written");
+fn main(rt: HostRuntime) {
+    let mut text = buffer();
+    let length = wait_table::put_table(&mut text, 0);
+    if let Err(error) = print(&rt, &text, length) {
+        fail(&rt, "waits: the table could not be written", &error);
     }
 }

@@ -1,0 +1,25 @@
+use Rattle.std.proofs.Common.{arith, refl}
+use Rattle.block.proofs.Rooms as rooms
+use Rattle.block.proofs.own.put_operation.Goals as goal
+
+pub put_operation-requires : goal.put_operation-requires
+put_operation-requires c = (
+  omega (
+    arith,
+    (rooms.inside _ _ _ c.is_room.ensures c.if-is_room.true).0,
+    (rooms.inside _ _ _ c.is_room.ensures
+        c.if-is_room.true).1,
+  ),
+  omega (
+    arith,
+    (rooms.inside _ _ _ c.is_room.ensures c.if-is_room.true).0,
+    (rooms.inside _ _ _ c.is_room.ensures
+        c.if-is_room.true).1,
+  ),
+)
+
+pub returns-then-is_room : goal.returns-then-is_room
+returns-then-is_room c = rooms.put_in _ _ _ c.is_room.ensures _ _ _ _ c.if-is_room.true c.put_operation.ensures
+
+pub returns-else-is_room : goal.returns-else-is_room
+returns-else-is_room c = rooms.put_none _ _ _ c.is_room.ensures _ _ _ _ c.if-is_room.false refl

@@ -1,0 +1,21 @@
+use Rattle.std.proofs.Common.{refl, arith}
+use Rattle.block.proofs.Rooms as rooms
+use Rattle.texts.proofs.keep_later.Goals as goal
+
+pub copy-requires : goal.copy-requires
+copy-requires c = (
+  omega (arith, (rooms.inside _ _ _ (c.is_room.ensures) (c.if-is_room.true)).1),
+  omega arith,
+  omega (
+    arith,
+    (rooms.inside _ _ _ (c.is_room.ensures) (c.if-is_room.true)).0,
+    (rooms.inside _ _ _
+        (c.is_room.ensures) (c.if-is_room.true)).1,
+  ),
+)
+
+pub returns-then-is_room : goal.returns-then-is_room
+returns-then-is_room c = rooms.put_in _ _ _ (c.is_room.ensures) _ _ _ _ (c.if-is_room.true) (c.copy.ensures)
+
+pub returns-else-is_room : goal.returns-else-is_room
+returns-else-is_room c = rooms.put_none _ _ _ (c.is_room.ensures) _ _ _ _ (c.if-is_room.false) refl

@@ -1,0 +1,19 @@
+use Rattle.std.proofs.Common.{length-set, [], refl, arith}
+use Rattle.texts.proofs.Lines as lines
+use Rattle.texts.proofs.program_at.Goals as goal
+
+pub loop-k-init : goal.loop-k-init
+loop-k-init c = (lines.lines_start [] (c.args.b.now) (c.args.at), omega arith, refl)
+
+pub loop-k-preserved : goal.loop-k-preserved
+loop-k-preserved c = (
+  lines.lines_turn _ (c.args.b.now) (c.args.at) _ _ (c.loop-k.invariant.0) (omega arith)
+      (c.instruction_from-instruction.ensures),
+  omega arith,
+  simp length-set (c.loop-k.invariant.2),
+)
+
+pub returns : goal.returns
+returns c =
+    lines.lines_done _ (c.args.b.now) (c.args.at) _ _ (c.loop-k.invariant.0) (c.loop-k.invariant.2) (omega arith)
+    (c.byte.ensures)

@@ -6,14 +6,14 @@
 declare -A needs
 crates=()
 
-# Reads crates.txt: `needs` has what stands behind each name, and what is to be built of it (staticlib) before that.
+# Reads crates.txt: `needs` has what stands behind the colon for each name. (A word may stand before the colon too: `NAME staticlib: ..`)
 read_needs() {
-    local line names
+    local line name
     while IFS= read -r line || [ -n "$line" ]; do
         line="${line%%#*}"
         if [[ $line == *:* ]]; then
-            read -r -a names <<<"${line%%:*}"
-            needs[${names[0]}]="${line#*:}"
+            read -r name _ <<<"${line%%:*}"
+            needs[$name]="${line#*:}"
         fi
     done <"$root/crates.txt"
 }

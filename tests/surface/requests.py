@@ -108,7 +108,8 @@ def libraries():
     """The sources of the crates of crates.txt that are libraries."""
     sources = {}
     for line in (ROOT / "crates.txt").read_text().splitlines():
-        crate = line.split("#")[0].split(":")[0].strip()
+        # a name may be followed by what is built of the crate: `NAME staticlib: ..`
+        crate = line.split("#")[0].partition(":")[0].partition(" ")[0]
         folder = ROOT / "crates" / crate / "src"
         if crate and (folder / "lib.rt").is_file():
             for path in sorted(folder.rglob("*.rt")):

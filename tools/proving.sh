@@ -102,7 +102,7 @@ prove() {
         have_rt run "$1" "$log" || grep -q "^rt: running out/$1;" "$log" || ended=1
     fi
     if [ "$ended" -ne 0 ] || [ ! -s "$root/$2" ]; then
-        grep -E '^(rt: (the library .* did not build|mend these first)|fn [^ ]+: (not proved|no proof))|: error' "$log" | head -n 5 >&2 || true
+        grep -E '^(rt: (the library .* did not build|mend these first)|fn [^ ]+: (not proved|no proof))|: error' "$log" | head -n 5 | cut -c 1-240 >&2 || true
         fail "$why; see $log"
     fi
     [ "$(sum_of_sources)" != "$3" ] || note_made "$2" "$3"

@@ -554,6 +554,55 @@ holds "help on the check is no failure" [ "$status" -eq 0 ]
 call "$repository/check" now
 holds "the check takes no argument" [ "$status" -eq 2 ]
 
+# ./check, with stand-ins for rt and for all that it runs: it ends as rt ci does, and fails where an edit is bad
+gate="$work/gate"
+mkdir -p "$work/gate-bin" "$gate/crates/below/src" "$gate/crates/program/src"
+cp -R "$top/tools" "$top/check" "$gate/"
+printf 'below:\nprogram: below\n' >"$gate/crates.txt"
+: >"$gate/crates/program/src/main.rt"
+for script in $(grep -oE 'tests/[a-z_]+/[a-z_]+[.](sh|py)' "$top/check") library ../gate-bin/rustc; do
+    mkdir -p "$gate/$(dirname "$script")"
+    printf '#!/bin/sh\necho "run: %s $*" >>"%s"\n' "$script" "$work/runs" >"$gate/$script"
+    chmod +x "$gate/$script"
+done
+cat >"$work/gate-bin/rt" <<'STANDIN'
+#!/bin/sh
+case "$*" in
+version) echo kit ;;
+ci)
+    mkdir -p crates/program/out
+    echo built >crates/program/out/program
+    cat "$WORK/ci"
+    exit "$ENDS"
+    ;;
+*) exit 2 ;;
+esac
+STANDIN
+chmod +x "$work/gate-bin/rt"
+
+# checked STATUS EDITS: runs the check, where rt ci ends so and says this of the edits
+checked() {
+    printf 'rt: below is kept: an earlier run proved it\nrt: program proved\nrt: program: its tests are proved\n%s\n%s\n' \
+        "rt: ok; handles allowed: none; must-fail edits: $2; every proof was done in this run" '3 passed, 0 failed' >"$work/ci"
+    rm -f "$work/runs"
+    call env PATH="$work/gate-bin:$PATH" WORK="$work" ENDS="$1" "$gate/check"
+}
+checked 0 '2 refused'
+holds "the check ends with what rt ci says" [ "$status: $(tail -n 1 "$work/output")" = "0: 3 passed, 0 failed" ]
+holds "it counts the crates" grep -q '^crates proved: 2$' "$work/output"
+holds "it runs the other tests" [ "$(grep -c '^run: ' "$work/runs")" -ge 20 ]
+holds "it gives them the programs that rt ci has built" grep -q '^run: tests/bench/run.sh crates/bench/out/bench$' "$work/runs"
+holds "these count as built from the files as they are" [ -s "$gate/crates/program/out/program.made_of" ]
+for edits in '2 refused, 1 bad' '2 refused, 1 of them only by a limit, 3 bad'; do
+    checked 0 "$edits"
+    holds "it fails for a bad edit ($edits)" [ "$status: $(tail -n 1 "$SAID" | cut -d ' ' -f 3-)" = "1: must-fail edits cannot be made or read, as rt ci tells above" ]
+done
+checked 0 '2 refused, 1 of them only by a limit'
+holds "an edit that is refused is not bad" [ "$status" -eq 0 ]
+checked 1 '2 refused'
+holds "it fails where rt ci fails" [ "$status: $(tail -n 1 "$work/output")" = "1: 3 passed, 0 failed" ]
+holds "and runs no program then" [ "$(grep -c 'tests/bench' "$work/runs")" -eq 0 ]
+
 # no raw errors of the shell
 program_is 'echo session'
 call sh "$repository/program" "$folder"

@@ -147,7 +147,7 @@ def refusals():
     """Each row's example on card K: lines changed, then commands; or a card that is too long, or a sheet that is too heavy."""
     definitions = (ROOT / "crates/construction/specs/Answers.antt").read_text()
     table = rows("Refusals", "no.")
-    numbers = sorted({int(number) for number in re.findall(r"^numberOf \w+ = (\d+)", definitions, re.M)})
+    numbers = sorted({int(number) for number in re.findall(r"^number_of \w+ = (\d+)", definitions, re.M)})
     holds("a row for each refusal", [int(row[0]) for row in table], numbers)
     for number, _, example, answer, _ in table:
         if not answer:

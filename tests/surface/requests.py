@@ -14,7 +14,7 @@ import sys
 
 ROOT = pathlib.Path(__file__).resolve().parents[2]
 
-# The requests; the session of the bench program and of a dump, whose card is that of `run` on its commands (theorems `session-run`, `left-more`); and the
+# The requests; the session of the bench program and of a dump, whose card is that of `run` on its commands (theorems `session_run`, `left_more`); and the
 # calls of a listing, whose card is that of `run` on one call for each process (its contract).
 REQUESTS = {"card::call", "card::request_exit", "card::step", "tracing::trace", "card::read", "changing::change"}
 SESSIONS = {"session::put_lines", "session::advance", "dump_writer::open", "dump_writer::put_commands"}

@@ -1,5 +1,6 @@
 # shellcheck shell=bash
 # To be sourced. What a user should know of the files that a program reads: the program itself answers on standard output alone, by number and line.
+# `built` is the program.
 
 # look_at FILE: tells what keeps a file from being read as it is meant
 look_at() {
@@ -42,7 +43,7 @@ first_refusal() {
             ln -s "$(readlink -f -- "$folder/$name")" "$room/$name"
         fi
     done
-    (cd "$room" && "$target/bin/$program" "$@" </dev/null | head -n 1) 2>/dev/null || true
+    (cd "$room" && "$built" "$@" </dev/null | head -n 1) 2>/dev/null || true
     rm -rf "$room"
 }
 
@@ -68,7 +69,7 @@ explain() {
 
 # explain_dump DUMP [STEP]: the same of a dump
 explain_dump() {
-    if [[ "$( ("$target/bin/$program" "$@" </dev/null | head -n 1) 2>/dev/null || true)" =~ ^dump,refused,([0-9]+),([0-9]+)$ ]]; then
+    if [[ "$( ("$built" "$@" </dev/null | head -n 1) 2>/dev/null || true)" =~ ^dump,refused,([0-9]+),([0-9]+)$ ]]; then
         tell_refusal "$1" "$1" "${BASH_REMATCH[1]}" "${BASH_REMATCH[2]}"
     fi
 }

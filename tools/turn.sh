@@ -1,8 +1,9 @@
 # shellcheck shell=bash
-# To be sourced. Two runs that prove in one repository at the same time spoil each other's logs and may fail without a reason, so they take turns.
+# To be sourced. Two commands at the top that prove at the same time take turns, so that the second finds what the first has built, and no archive is made
+# anew while it is copied. `rt` itself waits for another `rt`, crate by crate.
 #
-# take_turn NAME: waits until no other run proves in this repository; NAME is who says so. The lock is held by descriptor 9, until it is closed,
-# and by rt and its provers, so that a run that was killed outright still holds it while the last of them works.
+# take_turn NAME: waits until no other command proves in this repository; NAME is who says so. The lock is held by descriptor 9, until it is closed,
+# and by rt, so that a command that was killed outright still holds it while rt works.
 take_turn() {
     exec 9<"$(dirname "${BASH_SOURCE[0]}")/../crates.txt"
     if ! flock --nonblock 9; then

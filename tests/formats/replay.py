@@ -1,5 +1,5 @@
 #!/usr/bin/env python3
-"""Replays docs/FORMATS.md through the proved programs in target/bin and through the commands at the top of the repository, which find nothing to prove.
+"""Replays docs/FORMATS.md through the proved programs in the out/ of their crates and through the commands at the top of the repository, which find nothing to prove.
 
 - A block marked `text FILE` is a file; one marked `text ./COMMAND ..` is what that command prints, with FOLDER for one with the files last shown, and so
   without arguments. Lines that begin with the command's name and a colon are its standard error.
@@ -32,6 +32,11 @@ def holds(what, found, expected):
         print(f"does not hold: {what}: {found!r}, expected {expected!r}")
 
 
+def built(name):
+    """The program that the toolchain has built."""
+    return ROOT / "crates" / name / "out" / name
+
+
 def section(name):
     return PAGE.split(f"\n## {name}\n")[1].split("\n## ")[0]
 
@@ -52,7 +57,7 @@ def ask(card, calls, command="./bench FOLDER"):
     with tempfile.TemporaryDirectory() as room:
         for name, lines in (("card.txt", card), ("calls.txt", calls)):
             (pathlib.Path(room) / name).write_text("".join(line + "\n" for line in lines))
-        call = [ROOT / "target/bin" / program[2:], *arguments]
+        call = [built(program[2:]), *arguments]
         return subprocess.run(call, cwd=room, capture_output=True, text=True).stdout.splitlines()
 
 
@@ -71,7 +76,7 @@ def ask_machines(card, lines):
     with tempfile.TemporaryDirectory() as room:
         for name, text in (("machines.txt", lines[:first]), ("card0.txt", card), ("calls.txt", lines[first:])):
             (pathlib.Path(room) / name).write_text("".join(line + "\n" for line in text))
-        return subprocess.run([ROOT / "target/bin/machines"], cwd=room, capture_output=True, text=True).stdout.splitlines()
+        return subprocess.run([built("machines")], cwd=room, capture_output=True, text=True).stdout.splitlines()
 
 
 def blocks(path):
@@ -142,7 +147,7 @@ def refusals():
     """Each row's example on card K: lines changed, then commands; or a card that is too long, or a sheet that is too heavy."""
     definitions = (ROOT / "crates/construction/specs/Answers.antt").read_text()
     table = rows("Refusals", "no.")
-    numbers = sorted({int(number) for number in re.findall(r"^numberOf \w+ = (\d+)", definitions, re.M)})
+    numbers = sorted({int(number) for number in re.findall(r"^number_of \w+ = (\d+)", definitions, re.M)})
     holds("a row for each refusal", [int(row[0]) for row in table], numbers)
     for number, _, example, answer, _ in table:
         if not answer:
@@ -211,7 +216,7 @@ def refusals_of_dumps():
             lines.append("x" * (size - len(dump)))
         with tempfile.TemporaryDirectory() as room:
             (pathlib.Path(room) / "dump.vcd").write_text("".join(lines))
-            ran = subprocess.run([ROOT / "target/bin/readings", "dump.vcd"], cwd=room, capture_output=True, text=True)
+            ran = subprocess.run([built("readings"), "dump.vcd"], cwd=room, capture_output=True, text=True)
         holds(f"refused dump: {what}", ran.stdout.splitlines(), quoted(answer))
 
 

@@ -35,9 +35,9 @@ launch() {
     call "$repository/program" "$@"
 }
 
-# says TEXT, prints TEXT: standard error, or output, is this text
+# says TEXT, prints TEXT: standard error, where every proof takes a second, or output, is this text
 says() {
-    [ "$(cat "$SAID")" = "$1" ]
+    [ "$(sed '/^proved /s/([0-9]* s)$/(1 s)/' "$SAID")" = "$1" ]
 }
 prints() {
     [ "$(cat "$work/output")" = "$1" ]
@@ -50,7 +50,12 @@ ends() {
 
 # as in a fresh clone
 forget() {
-    rm -rf "$repository/target"
+    rm -rf "$repository"/crates/*/out "$repository/target"
+}
+
+# built NAME: where rt puts a program
+built() {
+    echo "$repository/crates/$1/out/$1"
 }
 
 # written FILE: waits until there is something in a file, half a minute at most
@@ -64,7 +69,7 @@ written() {
 # whether the prover that noted its number has ended, or is only left to be counted off by the system
 prover_ended() {
     local status
-    status="/proc/$(cat "$repository/target/prover")/status"
+    status="/proc/$(cat "$repository/prover")/status"
     [ ! -e "$status" ] || grep -q '^State:.*zombie' "$status"
 }
 
@@ -82,7 +87,7 @@ chmod +x "$repository/program"
 cp "$top/schedules" "$repository/"
 launcher listing 'DIR L [M]' ''
 launcher reading 'DUMP [STEP]' ''
-printf '# layers\nbelow:\nbeside: below  # with a comment\nprogram: beside io\nlisting: below\nreading: below\nschedules: below\nembedding: below\n' >"$repository/crates.txt"
+printf '# layers\nbelow:\nbeside: below  # with a comment\nprogram: beside io\nlisting: below\nreading: below\nschedules: below\nembedding staticlib: below\n' >"$repository/crates.txt"
 for name in below beside program listing reading schedules embedding; do
     mkdir -p "$repository/crates/$name/src"
     echo "$name" >"$repository/crates/$name/src/lib.rt"
@@ -91,63 +96,78 @@ for name in program listing reading schedules; do
     mv "$repository/crates/$name/src/lib.rt" "$repository/crates/$name/src/main.rt"
 done
 
-# rt: 'proves' a crate after the other and stamps it as rt does, each by a process that ignores interrupts, as rt's provers do, and ends once it has
-# been told of, or after half a minute
+# rt: 'proves' a crate after the other, as rt does in a crate's folder, each by a process that ignores interrupts, as rt's provers do, and ends with rt, or
+# once it has been told of, or after half a minute. `rt run` then runs the program there, and speaks on standard error.
 cat >"$work/bin/rt" <<'STANDIN'
 #!/bin/sh
 [ "$1" != version ] || { echo kit; exit; }
+top="$(cd ../.. && pwd)"
+crate="$(basename "$PWD")"
+echo "$* in $crate" >>"$top/asked"
+exec 3>&1
+[ "$1" = lib ] || exec 1>&2
 stamp_of() {
     {
-        printf 'kit\nmachine %s\n' "$(uname -m)"
-        (cd "crates/$1" && find src specs proofs stdin stdout args data -type f -exec sha256sum {} + 2>/dev/null | sort)
-        needs=$(sed -n "s/^$1://p" crates.txt | sed 's/#.*//')
-        echo "deps: $needs"
-        for need in $needs; do
-            if [ -d "crates/$need" ]; then cat "target/stamp/$need"; else echo "kit $need"; fi
+        (cd "$top/crates/$1" && find src specs proofs -type f -exec sha256sum {} + 2>/dev/null | sort)
+        for need in $(sed -n "s/^$1[a-z ]*://p" "$top/crates.txt" | sed 's/#.*//'); do
+            [ ! -d "$top/crates/$need" ] || cat "$top/crates/$need/out/stamp"
         done
-    } | sha256sum | cut -d' ' -f1
+    } | sha256sum
 }
-echo "$*" >>asked
-mkdir -p target/log target/stamp target/bin target/rlib
-for name in below $([ "$2" != program ] || echo beside) "$2"; do
-    : >"target/log/$name.out"
-    if [ "$(cat "target/stamp/$name" 2>/dev/null)" = "$(stamp_of "$name")" ]; then
-        echo "rt: $name proved (unchanged since it was last proved)" >"target/log/$name.out"
-    elif [ -e "refuse-$name" ]; then
-        echo "rt: $name NOT PROVED (exit 1, 1 s)" | tee "target/log/$name.out"
-        exit 1
-    else
-        rm -f "target/stamp/$name"
-        (
-            trap '' INT
-            tenths=300
-            until [ ! -e endless ] && grep -q "^proving $name" "$SAID" || [ "$tenths" -eq 0 ]; do
-                sleep 0.1
-                tenths=$((tenths - 1))
-            done
-        ) &
-        echo $! >target/prover
-        wait
-        echo "rt: $name proved (1 s)" >"target/log/$name.out"
-        if [ -e "crates/$name/src/main.rt" ]; then cp "$name.sh" "target/bin/$name"; else mkdir -p "target/rlib/$name.rlib"; fi
-        stamp_of "$name" >"target/stamp/$name"
+is_there() {
+    [ "$(cat "$top/crates/$1/out/stamp" 2>/dev/null)" = "$(stamp_of "$1")" ] && { [ "$1" != "$crate" ] || [ -e "out/$1" ]; }
+}
+[ ! -e "$top/busy" ] || echo "rt: waiting for another rt to finish in $top/crates/below" >&2
+for name in below $([ "$crate" != program ] || echo beside) "$crate"; do
+    out="$top/crates/$name/out"
+    mkdir -p "$out"
+    if is_there "$name"; then
+        continue
     fi
-    cat "target/log/$name.out"
+    echo "rt: chose --jobs 1 for $name"
+    if [ -e "$top/refuse-$name" ]; then
+        echo "fn $name::first: not proved"
+        echo logic=not-proved
+        echo "rt: the library $name did not build, so nothing above it was checked" >&2
+        exit 1
+    fi
+    rm -f "$out/stamp"
+    (
+        trap '' INT
+        tenths=300
+        until [ ! -e "$top/endless" ] && grep -q "^proving $name" "$SAID" || [ "$tenths" -eq 0 ]; do
+            sleep 0.1
+            tenths=$((tenths - 1))
+        done
+    ) &
+    prover=$!
+    echo "$prover" >"$top/prover"
+    trap 'kill "$prover"; exit 143' TERM
+    wait
+    echo logic=proved functions=1
+    [ ! -e "$top/crates/$name/src/main.rt" ] || cp "$top/$name.sh" "$out/$name"
+    stamp_of "$name" >"$out/stamp"
 done
-if [ "$1" = staticlib ]; then
-    [ ! -e refuse-archive ] || exit 1
-    mkdir -p target/staticlib
-    echo "archive of $(cat "target/stamp/$2")" >"target/staticlib/lib$2.a"
+if [ "$1" = lib ]; then
+    [ ! -e "$top/refuse-archive" ] || exit 1
+    echo "archive of $(cat out/stamp)" >"out/lib$crate.a"
+    exit
 fi
+echo "rt: running out/$crate; to give it other input, run that file yourself"
+exec "out/$crate" >&3
 STANDIN
 chmod +x "$work/bin/rt"
 
-# program_is TEXT [NAME]: the program is this script, in the next build and in the one that is there
+# program_is TEXT [NAME]: the program is this script, in the next build and in the one that is there, as if that had been built so
 program_is() {
-    local name="${2:-program}"
+    local name="${2:-program}" place
+    place="$(built "$name")"
     printf '#!/bin/sh\n%s\n' "$1" >"$repository/$name.sh"
     chmod +x "$repository/$name.sh"
-    [ ! -e "$repository/target/bin/$name" ] || cp "$repository/$name.sh" "$repository/target/bin/$name"
+    if [ -e "$place.made_of" ]; then
+        cp "$repository/$name.sh" "$place"
+        printf '%s %s' "$(cut -d' ' -f1 "$place.made_of")" "$(sha256sum "$place" | cut -d' ' -f1)" >"$place.made_of"
+    fi
 }
 
 # files CARD CALLS: the folder has these two files
@@ -176,6 +196,10 @@ rm "$repository/asked"
 launch "$folder" </dev/null
 holds "with nothing to prove it is quiet" says ""
 holds "with nothing to prove rt is not asked" [ ! -e "$repository/asked" ]
+rm "$(built program).made_of"
+launch "$folder" </dev/null
+holds "where only rt knows that nothing is to be proved, it is asked and nothing said" ends 0 "$(readlink -f "$folder")" ""
+holds "it is asked in the crate's folder" [ "$(cat "$repository/asked")" = "run in program" ]
 echo changed >>"$repository/crates/program/src/main.rt"
 launch "$folder" </dev/null
 holds "only what changed is proved again" says "$opening
@@ -187,14 +211,17 @@ forget
 launch "$folder"
 rm "$repository/refuse-beside"
 holds "a crate that is not proved makes it fail" [ "$status" -eq 1 ]
-holds "a crate that is not proved is named" grep -q '^rt: beside NOT PROVED' "$SAID"
+holds "a crate that is not proved is named" grep -q '^rt: the library beside did not build' "$SAID"
+holds "a function that is not proved is named" grep -q '^fn beside::first: not proved' "$SAID"
+holds "what rt said is kept" grep -q '^logic=not-proved' "$(sed -n 's/^program: .* built; see //p' "$SAID")"
 holds "nothing is run that is not proved" prints ""
 
 # a script's background commands ignore INT, so TERM stands in for Ctrl-C here
 forget
+rm -f "$repository/prover"
 : >"$repository/endless"
 "$repository/program" "$folder" >/dev/null 2>"$SAID" &
-written "$repository/target/prover"
+written "$repository/prover"
 kill -s TERM $!
 wait $! 2>/dev/null || true
 rm "$repository/endless"
@@ -204,14 +231,22 @@ launch "$folder" </dev/null
 holds "the run after an interrupt succeeds" [ "$status" -eq 0 ]
 
 forget
+rm -f "$repository/prover"
 : >"$repository/endless"
 launch "$folder" </dev/null &
-written "$repository/target/prover"
+written "$repository/prover"
 "$repository/program" "$folder" </dev/null >/dev/null 2>"$work/second" &
 written "$work/second"
 rm "$repository/endless"
 wait
 holds "a second run at the same time waits for the first" [ "$(cat "$work/second")" = "program: another run is proving here; waiting for it" ]
+
+forget
+: >"$repository/busy"
+launch "$folder" </dev/null
+rm "$repository/busy"
+holds "a wait for another rt is told once" [ "$(grep -c '^program: another run is proving here; waiting for it$' "$SAID")" -eq 1 ]
+holds "and what rt said of it is not" [ "$(grep -c '^rt: ' "$SAID")" -eq 0 ]
 
 exec 8<"$repository/crates.txt"
 flock 8
@@ -219,6 +254,14 @@ program_is 'echo session'
 call timeout 20 "$repository/program" "$folder"
 holds "a run with nothing to prove waits for nobody" ends 0 session ""
 exec 8<&-
+
+# tools/build, for tests and timings
+rm "$repository/asked"
+call "$repository/tools/build" program
+holds "a program that is built is named" ends 0 "$(built program)" ""
+holds "rt is not asked for it" [ ! -e "$repository/asked" ]
+call "$repository/tools/build" below
+holds "a library is no program" ends 2 "" "tools/build: no program: below"
 
 # what programs say
 program_is 'echo printed; echo "program: it could not be done" >&2'
@@ -233,6 +276,15 @@ holds "how far a program is comes at once, and is no failure" ends 0 printed "ha
 program_is yes
 timeout 20 "$repository/program" "$folder" 2>"$SAID" | head -n 1 >"$work/output" || true
 holds "a closed output ends the program" prints y
+program_is 'echo printed; echo "program: it could not be done" >&2; exit 1'
+launch "$folder"
+holds "a status of its own says nothing beside the complaint" ends 1 printed "program: it could not be done"
+forget
+launch "$folder"
+holds "a program that complains where rt runs it is built" grep -q '^proved 3 of 3: program' "$SAID"
+program_is 'exit 1'
+launch "$folder"
+holds "a status without a complaint is told" ends 1 "" "program: the program ended with status 1"
 program_is 'kill -SEGV $$'
 launch "$folder" </dev/null
 holds "a program that is ended by the system makes it fail" ends 1 "" "program: the program ended with status 139"
@@ -393,10 +445,9 @@ holds "a first library is proved, made and put into its folder" ends 0 "$work/ma
 $work/made/liblace_card.a
 $work/made/lace_card.pc" "$(sed 's/^program: 3/library: 2/; s/^program/library/' <<<"$opening")
 proving embedding
-proved 2 of 2: embedding (1 s)
-library: making liblace_card.a; its crate is proved once more for that"
+proved 2 of 2: embedding (1 s)"
 holds "the header is the repository's" cmp -s "$work/made/lace_card.h" "$repository/include/lace_card.h"
-holds "the archive is rt's" cmp -s "$work/made/liblace_card.a" "$repository/target/staticlib/libembedding.a"
+holds "the archive is rt's" cmp -s "$work/made/liblace_card.a" "$repository/crates/embedding/out/libembedding.a"
 rm "$repository/asked"
 call "$repository/library" "$work/made"
 holds "a library that is made is only put into its folder" ends 0 "$work/made/lace_card.h
@@ -411,7 +462,7 @@ call "$repository/library"
 holds "without a folder it is put into target/library" [ "$status: $(ls "$repository/target/library" | tr '\n' ' ')" = "0: lace_card.h lace_card.pc liblace_card.a " ]
 echo changed >>"$repository/crates/embedding/src/lib.rt"
 call "$repository/library" "$work/made"
-holds "a changed library is made anew" cmp -s "$work/made/liblace_card.a" "$repository/target/staticlib/libembedding.a"
+holds "a changed library is made anew" cmp -s "$work/made/liblace_card.a" "$repository/crates/embedding/out/libembedding.a"
 echo changed >>"$repository/crates/embedding/src/lib.rt"
 : >"$repository/refuse-archive"
 call "$repository/library" "$work/made"
@@ -419,7 +470,9 @@ rm "$repository/refuse-archive"
 holds "an archive that cannot be made is a failure" grep -q '^library: liblace_card.a could not be made; see ' "$SAID"
 holds "and a status of 1" [ "$status" -eq 1 ]
 call "$repository/library" "$folder/card.txt"
-holds "a folder that cannot be made is a failure" ends 1 "" "library: making liblace_card.a; its crate is proved once more for that
+holds "a folder that cannot be made is a failure" ends 1 "" "$(sed 's/^program: 3/library: 2/; s/^program/library/' <<<"$opening")
+proving embedding
+proved 2 of 2: embedding (1 s)
 library: the folder $folder/card.txt cannot be made"
 call "$top/library" --help
 holds "help is given on the library" [ "$status: $(head -n 1 "$work/output")" = "0: usage: ./library [DIR]" ]
@@ -501,6 +554,55 @@ holds "help on the check is no failure" [ "$status" -eq 0 ]
 call "$repository/check" now
 holds "the check takes no argument" [ "$status" -eq 2 ]
 
+# ./check, with stand-ins for rt and for all that it runs: it ends as rt ci does, and fails where an edit is bad
+gate="$work/gate"
+mkdir -p "$work/gate-bin" "$gate/crates/below/src" "$gate/crates/program/src"
+cp -R "$top/tools" "$top/check" "$gate/"
+printf 'below:\nprogram: below\n' >"$gate/crates.txt"
+: >"$gate/crates/program/src/main.rt"
+for script in $(grep -oE 'tests/[a-z_]+/[a-z_]+[.](sh|py)' "$top/check") library ../gate-bin/rustc; do
+    mkdir -p "$gate/$(dirname "$script")"
+    printf '#!/bin/sh\necho "run: %s $*" >>"%s"\n' "$script" "$work/runs" >"$gate/$script"
+    chmod +x "$gate/$script"
+done
+cat >"$work/gate-bin/rt" <<'STANDIN'
+#!/bin/sh
+case "$*" in
+version) echo kit ;;
+ci)
+    mkdir -p crates/program/out
+    echo built >crates/program/out/program
+    cat "$WORK/ci"
+    exit "$ENDS"
+    ;;
+*) exit 2 ;;
+esac
+STANDIN
+chmod +x "$work/gate-bin/rt"
+
+# checked STATUS EDITS: runs the check, where rt ci ends so and says this of the edits
+checked() {
+    printf 'rt: below is kept: an earlier run proved it\nrt: program proved\nrt: program: its tests are proved\n%s\n%s\n' \
+        "rt: ok; handles allowed: none; must-fail edits: $2; every proof was done in this run" '3 passed, 0 failed' >"$work/ci"
+    rm -f "$work/runs"
+    call env PATH="$work/gate-bin:$PATH" WORK="$work" ENDS="$1" "$gate/check"
+}
+checked 0 '2 refused'
+holds "the check ends with what rt ci says" [ "$status: $(tail -n 1 "$work/output")" = "0: 3 passed, 0 failed" ]
+holds "it counts the crates" grep -q '^crates proved: 2$' "$work/output"
+holds "it runs the other tests" [ "$(grep -c '^run: ' "$work/runs")" -ge 20 ]
+holds "it gives them the programs that rt ci has built" grep -q '^run: tests/bench/run.sh crates/bench/out/bench$' "$work/runs"
+holds "these count as built from the files as they are" [ -s "$gate/crates/program/out/program.made_of" ]
+for edits in '2 refused, 1 bad' '2 refused, 1 of them only by a limit, 3 bad'; do
+    checked 0 "$edits"
+    holds "it fails for a bad edit ($edits)" [ "$status: $(tail -n 1 "$SAID" | cut -d ' ' -f 3-)" = "1: must-fail edits cannot be made or read, as rt ci tells above" ]
+done
+checked 0 '2 refused, 1 of them only by a limit'
+holds "an edit that is refused is not bad" [ "$status" -eq 0 ]
+checked 1 '2 refused'
+holds "it fails where rt ci fails" [ "$status: $(tail -n 1 "$work/output")" = "1: 3 passed, 0 failed" ]
+holds "and runs no program then" [ "$(grep -c 'tests/bench' "$work/runs")" -eq 0 ]
+
 # no raw errors of the shell
 program_is 'echo session'
 call sh "$repository/program" "$folder"
@@ -511,9 +613,9 @@ call bash -c "'$repository/program' '$folder' >&-"
 holds "a closed output is told" ends 1 "" "program: standard output is closed, so there is nowhere to print to"
 call bash -c "'$repository/check' >&-"
 holds "a closed output is told by the check" ends 1 "" "check: standard output is closed, so there is nowhere to print to"
-rm "$repository/target/bin/program"
+rm "$(built program)"
 launch "$folder"
-holds "a program that is gone is built again" ends 0 session "program: target/bin/program is gone or damaged, so it is built again
+holds "a program that is gone is built again" ends 0 session "program: crates/program/out/program is gone or damaged, so it is built again
 $opening
 proving program
 proved 3 of 3: program (1 s)"
@@ -537,13 +639,13 @@ if "${guest[@]}" test -x "$repository/program" 2>/dev/null; then
     holds "a repository that may not be written runs what is proved" ends 0 session ""
     call "${guest[@]}" "$repository/check"
     holds "the check tells that it has to write" ends 1 "" \
-        "check: $repository cannot be written, and all is proved anew in its folder target; run ./check in a copy of the repository that is your own"
+        "check: $repository cannot be written, and rt ci builds in the folders of its crates; run ./check in a copy of the repository that is your own"
     chmod -R u+w "$repository"
     forget
     chmod -R a-w "$repository"
     call "${guest[@]}" "$repository/program" "$folder"
     holds "a fresh one tells what it needs" ends 1 "" \
-        "program: it has to be proved first, and $repository/target cannot be written; make it writable, or run ./program in a copy of the repository that is your own"
+        "program: it has to be proved first, and $repository/crates/below cannot be written; make it writable, or run ./program in a copy of the repository that is your own"
 else
     echo "skipped: what a user may not read or write (root needs setpriv to be nobody)"
 fi

@@ -1,13 +1,15 @@
 #!/usr/bin/env python3
 """Why the prover refused a change: at a fact, or only for names and shape, which shows nothing of a contract.
 
-    tests/must_fail/reasons.py [CRATE..]      reads the logs that `rt must-fail` or `rt ci` left of the must-fail edits, of every crate or of those named
-    tests/must_fail/reasons.py --self-test    reads the stored logs in samples/, whose names begin with what is to be found
-    tests/must_fail/reasons.py --form         reads the edits alone: whether `rt must-fail` can make each of them
+    tests/must_fail/reasons.py OUTPUT [CRATE..]   reads what `rt ci` or `rt must-fail` printed of the must-fail edits, of every crate or of those named
+    tests/must_fail/reasons.py --self-test        reads the stored logs in samples/, whose names begin with what is to be found
+    tests/must_fail/reasons.py --form             reads the edits alone: whether `rt` can make each of them
 
-Reading logs, it prints a line for each edit that shows nothing and then a count, and fails if there is such an edit. `reason` is the rule;
-tests/mutation/mutate.py uses it too. An edit has a line each for `file:`, `old:` and `new:`, and what stands after `old:` stands once in that file;
-`rt must-fail` says so too, after half an hour, and passes over lines of other forms.
+Reading an output, it prints a line for each edit that shows nothing and then a count, and fails if there is such an edit. `rt` keeps no log of an edit. It
+prints one line for it, and says there where the edit was refused only because a proof file names what is gone, or at a limit of the prover, which gave no
+verdict. `told` goes by that line. `reason` is the rule for the whole log of a check, which tests/mutation/mutate.py has; it is stricter than `rt`, as it
+takes a goal that a proof file names by another name for one that was renamed. An edit has a line each for `file:`, `old:` and `new:`, and what stands
+after `old:` stands once in that file.
 """
 import pathlib
 import re
@@ -19,7 +21,7 @@ SAMPLES = pathlib.Path(__file__).resolve().parent / "samples"
 WIDE = pathlib.Path(__file__).resolve().parent / "wide"
 
 # What follows from another error says nothing by itself.
-CONSEQUENCE = re.compile(r"\b(was|were) not admitted\b")
+CONSEQUENCE = re.compile(r"\b(was|were) not (admitted|checked)\b")
 # The proof names what the changed code lacks, or is handed what it has no place for.
 LACKS = re.compile(r" has no (`|field|member|module|function|constructor|clause|case|implicit argument)")
 NAMES = re.compile(
@@ -29,12 +31,17 @@ NAMES = re.compile(
 )
 # A definition or a contract that is not well formed: no proof stands in these folders, so that an error there is about a fact only where the prover
 # searched for a proof by itself.
-DEFINITIONS = re.compile(r"(must-fail/[^/]+/[^/]+|crates/[^/]+)/(src|specs)/")
+DEFINITIONS = re.compile(r"(\./)?(src|specs)/")
 SOUGHT = re.compile(r"`(search|omega)`: ")
-ERROR = re.compile(r"^(?!note:|\s)(?P<file>.+?)(:\d+:\d+)?: error: (?P<text>.*)")
-# A function without a proof file, whose needs the prover searches for by itself.
-UNPROVED = re.compile(r"^fn (?P<file>\S+): (?P<text>no proof: .*)")
-SEARCHED = "`search` does not close"
+ERROR = re.compile(r"^(?!note:|\s)(?P<file>\S+?)(:\d+:\d+)?: error: (?P<text>.*)")
+# A goal that the prover found no proof of, and where it found values at which it is false.
+GOAL = re.compile(r"^note: (?P<file>\S+?):\d+:\d+: (?P<text>it is not proved that .*)")
+FALSE = "allow values at which this goal is false"
+# What the goals of a loop are taken from.
+INVARIANTS = "Invariants.antt"
+# A line of an edit in what `rt` prints.
+EDIT = re.compile(r"^rt: must-fail (?P<crate>\w+)/(?P<name>[\w.-]+)\.edit: (?P<text>.*)")
+REFUSED = "refused, as it must be"
 
 
 def messages(log):
@@ -49,40 +56,49 @@ def messages(log):
 
 
 def errors(log):
-    """The errors of a log in order: the file or function, 'fact' or 'form', and the text. Consequences of other errors are left out."""
+    """The errors of a log in order: the file, 'fact' or 'form', and the text. Consequences of other errors are left out."""
     for line, whole in messages(log):
         match = ERROR.match(line)
         if match and not CONSEQUENCE.search(match["text"]):
-            definition = DEFINITIONS.search(match["file"]) and not SOUGHT.search(match["text"])
+            definition = DEFINITIONS.match(match["file"]) and not SOUGHT.search(match["text"])
             form = definition or NAMES.search(match["text"]) or LACKS.search(whole)
             yield match["file"], "form" if form else "fact", match["text"]
-        match = UNPROVED.match(line)
+        match = GOAL.match(line)
         if match:
-            yield match["file"], "fact" if SEARCHED in match["text"] else "form", match["text"]
+            yield match["file"], "fact", match["text"]
 
 
 def reason(log):
-    """Why a change was refused: 'fact' if its first error is about a fact, in a file without an error about names or shape, else 'form'. And the error."""
+    """Why a change was refused: 'fact' if its first error is about a fact, in a file without an error about names or shape, or if a goal is false, whose
+    invariants are not lost; else 'form'. And the error."""
     found = list(errors(log))
     if not found:
         return "form", "no error but those that follow from others"
-    for file, kind, text in found:
-        if kind == "form" and file == found[0][0]:
+    shapes = [(file, text) for file, kind, text in found if kind == "form"]
+    false = [text for _, _, text in found if FALSE in text]
+    if false and not any(file.endswith(INVARIANTS) for file, _ in shapes):
+        return "fact", false[0]
+    for file, text in shapes:
+        if file == found[0][0]:
             return "form", text
     return found[0][1], found[0][2]
 
 
-def judge_edits(crates):
+def told(text):
+    """What a line of `rt` says of an edit: 'fact' or 'form', and why."""
+    if not text.startswith(f"{REFUSED}: "):
+        return "form", text.removeprefix(f"{REFUSED} ")
+    return reason(text.removeprefix(f"{REFUSED}: "))
+
+
+def judge_edits(output, crates):
     """Prints each must-fail edit that shows nothing, and the count; true if there is none."""
+    said = {(match["crate"], match["name"]): match["text"] for match in map(EDIT.match, output.read_text(errors="replace").splitlines()) if match}
     edits = sorted(path for path in ROOT.glob("crates/*/must-fail/*.edit") if not crates or path.parts[-3] in crates)
     failures = 0
     for edit in edits:
         crate, name = edit.parts[-3], edit.stem
-        log = ROOT / "target" / "must-fail" / crate / name / ".log"
-        if not log.is_file():
-            kind, text = "form", f"no log at {log.relative_to(ROOT)}"
-        else:
-            kind, text = reason(log.read_text(errors="replace"))
+        kind, text = told(said.get((crate, name), "nothing is told of it"))
         if kind != "fact":
             failures += 1
             print(f"must-fail {crate}/{name}: refused for names or shape, not at a fact: {text[:300]}")
@@ -126,16 +142,24 @@ def form_test():
 
 
 def self_test():
-    """Judges the stored logs; true if each has what its name begins with."""
+    """Judges the stored logs, of checks and of single lines of `rt`; true if each has what its name begins with."""
     samples = sorted(SAMPLES.glob("*.log"))
-    wrong = [path.name for path in samples if reason(path.read_text())[0] != path.name.split("-")[0]]
-    for name in wrong:
-        print(f"samples/{name}: not what its name says: {reason((SAMPLES / name).read_text())}")
+    wrong = []
+    for path in samples:
+        log = path.read_text()
+        line = EDIT.match(log)
+        found = told(line["text"]) if line else reason(log)
+        if found[0] != path.name.split("-")[0]:
+            wrong.append(path.name)
+            print(f"samples/{path.name}: not what its name says: {found}")
     print(f"{len(samples)} stored logs, {len(wrong)} judged wrongly")
     return bool(samples) and not wrong
 
 
 if __name__ == "__main__":
     tests = {"--self-test": self_test, "--form": form_test}
-    fine = tests[sys.argv[1]]() if sys.argv[1:2] and sys.argv[1] in tests else judge_edits(sys.argv[1:])
+    arguments = sys.argv[1:]
+    if not arguments:
+        sys.exit(__doc__)
+    fine = tests[arguments[0]]() if arguments[0] in tests else judge_edits(pathlib.Path(arguments[0]), arguments[1:])
     sys.exit(0 if fine else 1)

@@ -1,6 +1,6 @@
 #!/usr/bin/env bash
 # Tries the must-fail edits that the gate leaves out, those of tests/must_fail/wide, in a copy of the repository. Each must be refused at a fact, as the gate's
-# own. An edit costs its crate's whole check again: all of them take about half an hour. What is proved already in target/ is not proved again.
+# own. What `rt` has proved of the same files on this machine it begins with, and the crates below are built first where that is missing.
 # Usage: tests/must_fail/wide.sh [CRATE..]
 set -euo pipefail
 root="$(cd "$(dirname "$0")/../.." && pwd)"
@@ -9,13 +9,13 @@ copy=$(mktemp -d)
 trap 'rm -rf "$copy"' EXIT
 [ $# -gt 0 ] || set -- $(ls "$wide")
 
-cp -R "$root/crates" "$root/crates.txt" "$root/tests" "$copy/"
-[ ! -d "$root/target" ] || cp -a "$root/target" "$copy/"
-rm -rf "$copy"/crates/*/must-fail
+# without what was built here
+(cd "$root" && tar -c --exclude='crates/*/out' --exclude='crates/*/must-fail' crates crates.txt tests) | tar -x -C "$copy"
 for crate in "$@"; do
     [ -d "$wide/$crate" ] || { echo "no edits of $crate in tests/must_fail/wide" >&2; exit 2; }
     cp -R "$wide/$crate" "$copy/crates/$crate/must-fail"
 done
 cd "$copy"
-rt must-fail "$@" | grep '^rt: '
-tests/must_fail/reasons.py "$@"
+# it fails for an edit that cannot be tried too, of which reasons.py tells
+rt must-fail "$@" | tee "$copy/told" | grep '^rt: ' || true
+tests/must_fail/reasons.py "$copy/told" "$@"

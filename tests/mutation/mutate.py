@@ -12,8 +12,8 @@ arguments swapped; never a contract, a comment or a type) in a copy of the repos
     caught         a program is still proved, as no contract says what is read or written, and its stored output or its cases tell the change
     still proved   the change has no effect, or the contract leaves something open: printed for a person to judge
 
-With MOST, an even sample of that many changes is tried. The edit loop (`rt dev`) asks first; what it still proves is checked again from
-the crate's start (`rt check`). Not part of the gate.
+With MOST, an even sample of that many changes is tried. The prover is asked by `rt check`, which begins with what it has kept of the crate as it stands; a
+program that is still proved is built and run. Not part of the gate.
 """
 import os
 import pathlib
@@ -32,16 +32,16 @@ from reasons import reason  # noqa: E402
 WORKERS = os.cpu_count() or 1
 VERDICTS = ("refused", "reshaped", "invalid", "caught", "still proved")
 
-# The stored cases of a program, tried where it is still proved and writes what its file 'stdout' has.
+# The stored cases of a program, tried where it is still proved and writes what its file 'stdout' has; a program is named by {}.
 CASES = {
-    "bench": ["tests/bench/run.sh", "target/bin/bench"],
-    "lent_session": ["tests/lent/run.sh", "target/bin/lent_session"],
-    "machines": ["tests/machines/run.sh", "target/bin/machines"],
-    "readings": ["tests/waves/run.sh", "target/bin/waves", "target/bin/readings"],
-    "schedules": ["tests/schedules/run.sh", "target/bin/schedules"],
-    "sweep": ["tests/sweep/run.sh", "target/bin/sweep"],
-    "sweep_speed": ["tests/speed/sweep.py", "check", "target/bin"],
-    "waves": ["tests/waves/run.sh", "target/bin/waves", "target/bin/readings"],
+    "bench": ["tests/bench/run.sh", "{bench}"],
+    "lent_session": ["tests/lent/run.sh", "{lent_session}"],
+    "machines": ["tests/machines/run.sh", "{machines}"],
+    "readings": ["tests/waves/run.sh", "{waves}", "{readings}"],
+    "schedules": ["tests/schedules/run.sh", "{schedules}"],
+    "sweep": ["tests/sweep/run.sh", "{sweep}"],
+    "sweep_speed": ["tests/speed/sweep.py", "check", "{sweep_speed}"],
+    "waves": ["tests/waves/run.sh", "{waves}", "{readings}"],
 }
 
 SWAPS = {"<": "<=", "<=": "<", "==": "!=", "!=": "==", "+": "-", "-": "+", "&&": "||", "||": "&&", "true": "false", "false": "true"}
@@ -51,15 +51,18 @@ VARIANT = r"\b([A-Z]\w*)::([A-Z]\w*)\b(?!\s*[({])"
 
 def code_lines(text):
     """The lines of function bodies, with their numbers: no contracts, types, comments or imports."""
-    depth, inside = 0, False
+    depth, clause, inside = 0, 0, False
     for number, line in enumerate(text.splitlines()):
         stripped = line.strip()
-        if depth == 0:
-            inside = bool(re.match(r"(pub )?(pub\(crate\) )?fn ", stripped)) or (inside and stripped != "")
-        body = inside and depth > 0 and not stripped.startswith(("//", "requires", "ensures", "⌜"))
-        if body:
+        braces = line.count("{") - line.count("}")
+        if depth == 0 and clause == 0:
+            inside = bool(re.match(r"(pub(\(crate\))? )?((const|unsafe|extern \"C\") )*fn ", stripped)) or (inside and stripped != "")
+        if inside and (clause > 0 or stripped.startswith(("requires", "ensures", "ghost", "prove!"))):
+            clause = max(0, clause + braces)
+            continue
+        if inside and depth > 0 and not stripped.startswith("//"):
             yield number, line
-        depth += line.count("{") - line.count("}") if inside and not stripped.startswith(("requires", "ensures")) else 0
+        depth += braces if inside else 0
 
 
 def variants(text):
@@ -113,15 +116,51 @@ def all_changes(crate):
                 yield path.relative_to(ROOT), number, line, line[: match.start()] + new + line[match.end():]
 
 
-def ask(copy, command, crate):
-    """The verdict of one command of the toolchain."""
-    answer = subprocess.run(["rt", command, crate], cwd=copy, capture_output=True, text=True)
+def ask(copy, crate):
+    """The verdict of the toolchain."""
+    answer = subprocess.run(["rt", "check"], cwd=copy / "crates" / crate, capture_output=True, text=True)
     output = answer.stdout + answer.stderr
     if answer.returncode == 0:
         return "still proved"
     if "logic=not-proved" not in output:
-        return "caught" if f"rt: {crate} proved" in output else "invalid"
+        return "invalid"
     return "refused" if reason(output)[0] == "fact" else "reshaped"
+
+
+def is_program(crate):
+    return (ROOT / "crates" / crate / "src" / "main.rt").is_file()
+
+
+def built(copy, crate):
+    """The program, proved and built."""
+    return subprocess.run([copy / "tools/build", crate], check=True, stdout=subprocess.PIPE, stderr=subprocess.DEVNULL, text=True).stdout.rstrip("\n")
+
+
+def writes_as_stored(copy, crate):
+    """Whether a program writes what its crate's file 'stdout' has, on the files stdin, args and data/ beside it."""
+    place = copy / "crates" / crate
+
+    def stored(name):
+        return (place / name).read_bytes() if (place / name).is_file() else b""
+
+    program = built(copy, crate)
+    with tempfile.TemporaryDirectory() as room:
+        if (place / "data").is_dir():
+            shutil.copytree(place / "data", room, dirs_exist_ok=True)
+        call = [program, *stored("args").decode().splitlines()]
+        try:
+            ran = subprocess.run(call, cwd=room, input=stored("stdin"), stdout=subprocess.PIPE, stderr=subprocess.DEVNULL, timeout=120)
+        except subprocess.TimeoutExpired:
+            return False
+    return ran.stdout == stored("stdout") and ran.returncode == int(stored("status") or 0)
+
+
+def passes(copy, crate):
+    """Whether a program that is still proved writes what is stored, and passes its cases."""
+    if not writes_as_stored(copy, crate):
+        return False
+    words = [built(copy, word[1:-1]) if word.startswith("{") else word for word in CASES.get(crate, ["true"])]
+    return subprocess.run(words, cwd=copy, capture_output=True).returncode == 0
 
 
 def judge(copy, crate, change):
@@ -133,25 +172,21 @@ def judge(copy, crate, change):
     assert lines[number] == before
     lines[number] = after
     target.write_text("\n".join(lines))
-    verdict = ask(copy, "dev", crate)
-    if verdict == "still proved":
-        verdict = ask(copy, "check", crate)
-    if verdict == "still proved" and crate in CASES and subprocess.run(CASES[crate], cwd=copy, capture_output=True).returncode != 0:
+    verdict = ask(copy, crate)
+    if verdict == "still proved" and is_program(crate) and not passes(copy, crate):
         verdict = "caught"
     target.write_text(text)
     return verdict
 
 
 def copies(scratch, crate):
-    """One copy of the repository for each worker, with the crate as it stands proved in the edit loop."""
-    first = pathlib.Path(scratch) / "0"
-    shutil.copytree(ROOT, first, ignore=shutil.ignore_patterns(".git"))
-    if ask(first, "dev", crate) != "still proved":
-        sys.exit(f"{crate} is not proved as it stands")
-    others = [pathlib.Path(scratch) / str(worker) for worker in range(1, WORKERS)]
-    for other in others:
-        shutil.copytree(first, other)
-    return [first, *others]
+    """One copy of the repository for each worker, with the crate as it stands proved; `rt` begins there with what it has kept of the same files."""
+    every = [pathlib.Path(scratch) / str(worker) for worker in range(WORKERS)]
+    for copy in every:
+        shutil.copytree(ROOT, copy, ignore=shutil.ignore_patterns(".git", "out", "target"))
+        if ask(copy, crate) != "still proved" or (is_program(crate) and not passes(copy, crate)):
+            sys.exit(f"{crate} is not proved as it stands, or fails its cases")
+    return every
 
 
 def work(copy, crate, jobs, verdicts):

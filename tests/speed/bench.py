@@ -13,7 +13,7 @@ ROUND = "call,0,0,9,0,0,0\n" + 14 * "step,0\n"
 
 
 def main():
-    subprocess.run(["rt", "check", "bench"], cwd=ROOT, check=True, stdout=subprocess.DEVNULL)
+    [bench] = subprocess.run([ROOT / "tools/build", "bench"], check=True, stdout=subprocess.PIPE, text=True).stdout.split("\n")[:-1]
     with tempfile.TemporaryDirectory() as folder:
         card = (ROOT / "examples/card-k/card.txt").read_text().replace(",100\n", ",1000000\n", 1)
         (pathlib.Path(folder) / "card.txt").write_text(card)
@@ -21,7 +21,7 @@ def main():
         seconds = []
         for _ in range(5):
             start = time.perf_counter()
-            output = subprocess.run([ROOT / "target/bin/bench"], cwd=folder, check=True, capture_output=True).stdout
+            output = subprocess.run([bench], cwd=folder, check=True, capture_output=True).stdout
             seconds.append(time.perf_counter() - start)
     print(f"{output.count(10)} lines, {min(seconds):.3f} s")
 

@@ -3,11 +3,13 @@
 
     tests/speed/prover.py CRATE [MOST]       the MOST dearest (default 12)
 
-The crate is checked from nothing by the edit loop (`rt dev`), which writes a file for each module as soon as it is checked: a module's seconds are
-those since the file before it. Not the verdict, and not part of the gate.
+The crate is checked from nothing by `rt check`, by one process, which writes a file for each module as soon as it is checked: a module's seconds are those
+since the file before it. What was kept of it here goes; `rt` takes over what another copy of the repository on this machine has kept, if one has, and
+then nothing is told. Not the verdict, and not part of the gate.
 """
 import collections
 import pathlib
+import re
 import shutil
 import subprocess
 import sys
@@ -17,7 +19,7 @@ ROOT = pathlib.Path(__file__).resolve().parents[2]
 
 def modules(folder):
     """The checked modules in order of time, with their seconds."""
-    files = [path for path in folder.rglob("*.oantt") if path.parent.name != "records"]
+    files = [path for path in folder.rglob("*.oantt") if path.parent.name != "records" and not path.parent.name.endswith("-offers")]
     times = sorted((path.stat().st_mtime_ns, path.name.removesuffix(".oantt")) for path in files)
     return [((later - earlier) / 1e9, name) for (earlier, _), (later, name) in zip(times, times[1:])]
 
@@ -34,13 +36,20 @@ def main(arguments):
         print(__doc__)
         return False
     crate, most = arguments[0], int(arguments[1]) if len(arguments) == 2 else 12
-    folder = ROOT / "target" / "inc" / crate
+    place = ROOT / "crates" / crate
+    folder = place / "out" / "incremental"
     shutil.rmtree(folder, ignore_errors=True)
-    checked = subprocess.run(["rt", "dev", crate], cwd=ROOT, capture_output=True, text=True)
+    # an empty folder, so that rt takes over no other copy's work
+    folder.mkdir(parents=True)
+    checked = subprocess.run(["rt", "check", "--jobs", "1"], cwd=place, capture_output=True, text=True)
     if checked.returncode != 0:
         print(f"prover.py: {crate} is not proved")
         return False
-    found = [(seconds, name.removeprefix(f"Rattle·{crate}·proofs.proofs.").split(".")) for seconds, name in modules(folder)]
+    taken = re.search(rf"^rt: {crate}: begins with what a check kept in (.*)", checked.stdout, re.M)
+    if taken:
+        print(f"prover.py: rt took over what {taken[1]} has kept of the same crate; remove its out/incremental and try again")
+        return False
+    found = [(seconds, name.removeprefix(f"Rattle-{crate}-proofs.").split(".")) for seconds, name in modules(folder)]
     kinds = summed((seconds, path[-1] if path[-1][:1].isupper() else "contract") for seconds, path in found)
     functions = summed((seconds, ".".join(word for word in path if not word[:1].isupper())) for seconds, path in found)
     print(f"{crate}: {sum(seconds for seconds, _ in found):.1f} s")

@@ -17,10 +17,7 @@ done
 build=$(mktemp -d)
 trap 'rm -rf "$build"' EXIT
 rustc --edition 2021 -O -o "$build/steps" "$here/steps/steps.rs"
-if ! (cd "$root" && rt check steps_speed) >"$build/log" 2>&1; then
-    tail -n 5 "$build/log" >&2
-    exit 1
-fi
+proved=$("$root/tools/build" steps_speed)
 
 # timed CELLS INPUT COMMAND..: milliseconds of processor time of a command that is given an input and writes its cells to a file
 timed() {
@@ -29,17 +26,17 @@ timed() {
     { time "$@" <<<"$input" >"$build/$cells"; } 2>&1 | tr -d . | sed 's/^0*\(.\)/\1/'
 }
 
-# compare NAME PROGRAM INPUT WORD..: a program by turns with the Rust program, which is called with those words
+# compare NAME INPUT WORD..: the proved program by turns with the Rust program, which is called with those words
 compare() {
-    local name=$1 program=$2 input=$3
-    shift 3
+    local name=$1 input=$2
+    shift 2
     : >"$build/rust"
     : >"$build/rattle"
     for ((round = 0; round < rounds; round++)); do
         timed rust.cells '' "$build/steps" "$steps" "$@" >>"$build/rust"
-        timed rattle.cells "$input" "$root/target/bin/$program" >>"$build/rattle"
+        timed rattle.cells "$input" "$proved" >>"$build/rattle"
         if ! cmp -s "$build/rust.cells" "$build/rattle.cells"; then
-            echo "run.sh: $program and the Rust program end with other cells" >&2
+            echo "run.sh: steps_speed and the Rust program end with other cells" >&2
             diff "$build/rust.cells" "$build/rattle.cells" >&2 || true
             exit 1
         fi
@@ -53,4 +50,4 @@ compare() {
 }
 
 echo "$steps steps, $rounds rounds"
-compare 'by value, pseudo-random' steps_speed "$steps"
+compare 'by value, pseudo-random' "$steps"

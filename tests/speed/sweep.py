@@ -3,8 +3,8 @@
 which makes the same run over a schedule and prints the shared cells and the counts at its end. The processes step by pseudo-random numbers, and in
 `sweep_speed` also one after the other. What is printed, every field of gate, announcements and record among it, must be the same.
 
-usage: sweep.py [STEPS [ROUNDS [FOLDER]]]   (default 10,000,000, 5 and target/bin, whose programs `rt check` proves and builds first)
-       sweep.py check [FOLDER]               (times nothing: the cells and counts of many short runs, with limits that are reached in the middle of a schedule,
+usage: sweep.py [STEPS [ROUNDS [SWEEP SWEEP_SPEED]]]   (default 10,000,000, 5 and the programs, which are proved and built first)
+       sweep.py check [SWEEP_SPEED]          (times nothing: the cells and counts of many short runs, with limits that are reached in the middle of a schedule,
                                               processes that the card has not, tables of calls and loans that are too short)
 
 It prints milliseconds of processor time in user mode, the least and the median of all rounds, the ratio of each, and steps a second.
@@ -94,17 +94,18 @@ def main():
     is_check = arguments[:1] == ["check"]
     numbers = [] if is_check else arguments[:2]
     steps, rounds = (int(word) for word in (numbers + ["10000000", "5"][len(numbers) :]))
-    folders = arguments[1:] if is_check else arguments[2:]
-    if folders:
-        folder = pathlib.Path(folders[0]).resolve()
-    else:
-        folder = ROOT / "target/bin"
-        subprocess.run(["rt", "check", *PROGRAMS], cwd=ROOT, check=True, stdout=subprocess.DEVNULL)
+    wanted = PROGRAMS[1:] if is_check else PROGRAMS
+    given = arguments[1:] if is_check else arguments[2:]
+    if not given:
+        built = subprocess.run([ROOT / "tools/build", *wanted], check=True, stdout=subprocess.PIPE, text=True)
+        given = built.stdout.splitlines()
+    if len(given) != len(wanted):
+        sys.exit(__doc__)
+    *sweep, test = (pathlib.Path(path).resolve() for path in given)
     with tempfile.TemporaryDirectory() as name:
         room = pathlib.Path(name)
         rust = str(room / "steps")
         subprocess.run(["rustc", "--edition", "2021", "-O", "-o", rust, HERE / "steps/steps.rs"], check=True)
-        test = folder / "sweep_speed"
         if is_check:
             check(test, rust, room)
             return
@@ -114,7 +115,7 @@ def main():
         print(f"{steps} steps, {rounds} rounds")
         given, words = asked(steps, FOREVER, 40, 48, 0)
         call = [rust, *map(str, words)]
-        race("sweep, pseudo-random", [folder / "sweep", str(steps), str(SEED)], b"", call, lines, steps, rounds, room)
+        race("sweep, pseudo-random", [*sweep, str(steps), str(SEED)], b"", call, lines, steps, rounds, room)
         race("run, pseudo-random", [test], given, call, cells, steps, rounds, room)
         given, words = asked(steps // LENGTH, FOREVER, 40, 48, 7)
         call = [rust, *map(str, words)]

@@ -5,7 +5,8 @@
     tests/surface/requests.py --self-test    tries the rule on small sources, some of which it must find
 
 A type holds a card if it is `Card` or if it is declared with a part that holds one. A function gives a card back if its result holds one, or if it is lent
-one to alter. Functions that are `pub(crate)` or not public, and programs (src/main.rt), are left out: nobody outside can call them.
+one to alter. A method's `self` and `Self` are the type that it is written for, and a method of a trait is public. Functions that are `pub(crate)` or not
+public, and programs (src/main.rt), are left out: nobody outside can call them. What a function's clauses say (`ensures { b.new ≡ .. }`) is not looked at.
 """
 import pathlib
 import re
@@ -13,30 +14,47 @@ import sys
 
 ROOT = pathlib.Path(__file__).resolve().parents[2]
 
-# The requests; the session of the bench program and of a dump, whose card is that of `run` on its commands (theorems `session-run`, `left-more`); and the
+# The requests; the session of the bench program and of a dump, whose card is that of `run` on its commands (theorems `session_run`, `left_more`); and the
 # calls of a listing, whose card is that of `run` on one call for each process (its contract).
 REQUESTS = {"card::call", "card::request_exit", "card::step", "tracing::trace", "card::read", "changing::change"}
 SESSIONS = {"session::put_lines", "session::advance", "dump_writer::open", "dump_writer::put_commands"}
 ALLOWED = REQUESTS | SESSIONS | {"listing::call_all"}
 
 COMMENT = re.compile(r"//[^\n]*")
-TYPE = re.compile(r"\b(?:struct|enum)\s+(\w+)[^{;]*\{")
-FUNCTION = re.compile(r"\bpub\s+fn\s+(\w+)[^(]*\(")
+TYPE = re.compile(r"\b(?:struct|enum)\s+(\w+)[^{(;]*([{(])")
+ALIAS = re.compile(r"\btype\s+(\w+)[^=;]*=([^;]*);")
+FUNCTION = re.compile(r"(\bpub\s+)?(?:\b(?:const|unsafe|extern\s+\"C\")\s+)*\bfn\s+(\w+)\s*(?=[<(])")
+IMPL = re.compile(r"\bimpl\b\s*(?=[<\w:])")
+OF = re.compile(r"(?P<head>[^{]*)\{")
 RESULT = re.compile(r"\s*->\s*(.*?)(?=\{|\bensures\b|\brequires\b|\bwhere\b|\Z)", re.DOTALL)
-CLOSING = {"(": ")", "{": "}"}
+CLOSING = {"(": ")", "{": "}", "<": ">"}
 
 
 def inside(text, start):
-    """The text between the bracket at `start` and its closing one."""
+    """The text between the bracket at `start` and its closing one. The end of an arrow closes nothing."""
     opening, depth = text[start], 0
     for at in range(start, len(text)):
         if text[at] == opening:
             depth += 1
-        elif text[at] == CLOSING[opening]:
+        elif text[at] == CLOSING[opening] and text[at - 1 : at + 1] not in ("->", "=>"):
             depth -= 1
             if depth == 0:
                 return text[start + 1 : at]
     return text[start + 1 :]
+
+
+def after_generics(text, at):
+    """The place after the type parameters that stand at a place, if any do."""
+    return at + len(inside(text, at)) + 2 if text[at] == "<" else at
+
+
+def impls(text):
+    """Each block of methods: where it begins and ends, the text that names its type, and whether a trait's methods stand in it."""
+    for match in IMPL.finditer(text):
+        head = OF.match(text, after_generics(text, match.end()))
+        if head:
+            trait, _, type_of = head["head"].rpartition(" for ")
+            yield match.start(), head.end() + len(inside(text, head.end() - 1)), type_of.split(" where ")[0], bool(trait)
 
 
 def holders(sources):
@@ -46,6 +64,8 @@ def holders(sources):
         own = parts.setdefault(crate, {})
         for match in TYPE.finditer(text):
             own.setdefault(match[1], set()).update(re.findall(r"\w+", inside(text, match.end() - 1)))
+        for match in ALIAS.finditer(text):
+            own.setdefault(match[1], set()).update(re.findall(r"\w+", match[2]))
     held = {crate: {"Card"} for crate in parts}
     while True:
         anywhere = {name for crate in parts for name in held[crate] if name in parts[crate]} | {"Card"}
@@ -65,13 +85,22 @@ def found(sources):
     names = holders(sources)
     functions = set()
     for (crate, _), text in sources.items():
+        blocks = list(impls(text))
         for match in FUNCTION.finditer(text):
-            parameters = inside(text, match.end() - 1)
-            result = RESULT.match(text, match.end() + len(parameters) + 1)
-            returned = result is not None and names_any(result[1], names[crate])
+            # the innermost block, since a function may have blocks of its own
+            block = max((it for it in blocks if it[0] < match.start() < it[1]), default=None)
+            if not match[1] and not (block and block[3]):
+                continue
+            opening = after_generics(text, match.end())
+            parameters = inside(text, opening)
+            result = RESULT.match(text, opening + len(parameters) + 2)
+            given = result[1] if result else ""
+            if block:
+                parameters, given = (re.sub(r"\b[sS]elf\b", lambda _: block[2], part) for part in (parameters, given))
+            returned = names_any(given, names[crate])
             lent = any(names_any(part, names[crate]) for part in re.findall(r"&\s*(?:'\w+\s+)?mut\b([^,]*)", parameters))
             if lent or (returned and names_any(parameters, names[crate])):
-                functions.add(f"{crate}::{match[1]}")
+                functions.add(f"{crate}::{match[2]}")
     return functions
 
 
@@ -79,7 +108,8 @@ def libraries():
     """The sources of the crates of crates.txt that are libraries."""
     sources = {}
     for line in (ROOT / "crates.txt").read_text().splitlines():
-        crate = line.split("#")[0].split(":")[0].strip()
+        # a name may be followed by what is built of the crate: `NAME staticlib: ..`
+        crate = line.split("#")[0].partition(":")[0].partition(" ")[0]
         folder = ROOT / "crates" / crate / "src"
         if crate and (folder / "lib.rt").is_file():
             for path in sorted(folder.rglob("*.rt")):
@@ -110,6 +140,30 @@ SAMPLES = [
     ("pub(crate) fn forge(card: Card) -> Card { card }", False),
     ("fn forge(card: Card) -> Card { card }", False),
     ("// pub fn forge(card: Card) -> Card\nfn f() { }", False),
+    # clauses that name a card before and after, and clauses with names
+    ("pub fn forge(card: &mut Card, n: u8) -> bool\n    ensures told { result ≡ true }\n    ensures { card.new ≡ changed card.old n }\n{ true }", True),
+    ("pub fn forge(card: Card) -> Answer\n    ensures { result ≡ (forge card : Card) }\n{ 0 }", False),
+    ("pub fn look(card: &Card) -> u32\n    requires { IsOpened card.now }\n    ensures { result ≡ value_of card.now }\n{ 0 }", False),
+    # what allocates answers a result
+    ("pub fn forge(alloc: Global, card: Card) -> Result<Card, AllocError>\n    ensures { OnOk result (Is card) }\n{ Ok(card) }", True),
+    ("pub fn forge(cards: &mut Vec<Card>) -> Result<(), AllocError> { Ok(()) }", True),
+    ("pub fn told(alloc: Global, card: &Card) -> Result<String, AllocError> { card.text(alloc) }", False),
+    # type parameters
+    ("pub fn forge<F: Fn(u8) -> u8>(rule: F, card: Card) -> Card { card }", True),
+    ("pub fn forge<const N: usize>(cards: [Card; N]) -> [Card; N] { cards }", True),
+    ("pub fn rule<F: Fn(Card) -> Card>(rule: F) -> u8 { 0 }", False),
+    ("pub unsafe fn forge(card: Card) -> Card { card }", True),
+    ("pub extern \"C\" fn forge(card: &mut Card) { }", True),
+    # methods, and types of other forms
+    ("impl State {\n    pub fn forge(&mut self, n: u8) { }\n}", True),
+    ("impl State {\n    pub fn forge(self) -> Self { self }\n}", True),
+    ("impl<'a> State {\n    pub fn forge(mut self, n: u8) -> Answered\n        ensures { x }\n    { 0 }\n}", True),
+    ("impl State {\n    fn forge(self) -> Self { self }\n    pub fn show(&self) -> u32 { 0 }\n}", False),
+    ("impl Other {\n    pub fn next(&mut self) -> Self { 0 }\n}", False),
+    ("impl Iterator for State {\n    fn next(&mut self) -> Option<u8> { None }\n}", True),
+    ("impl fmt::Display for State {\n    fn fmt<W: fmt::Write>(&self, f: &mut fmt::Formatter<W>) -> fmt::Result { Ok(()) }\n}", False),
+    ("pub struct Held(Card);\npub fn forge(held: Held) -> Held { held }", True),
+    ("pub type Held = (Card, u8);\npub fn forge(held: Held) -> Held { held }", True),
 ]
 
 

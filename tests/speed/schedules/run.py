@@ -2,7 +2,7 @@
 """Times the program `schedules` against tests/speed/schedules/schedules.rs, by turns: three processes, 11 and 12 steps, on card K and on a card of
 weight 8. Both must print the same.
 
-usage: run.py [ROUNDS [PROGRAM]]   (default 5, and target/bin/schedules, which `rt check` proves and builds first)
+usage: run.py [ROUNDS [PROGRAM]]   (default 5, and schedules, which is proved and built first)
 
 It prints seconds of processor time in user mode, the least and the median of all rounds, and the ratio of each.
 """
@@ -61,11 +61,11 @@ def race(name, card, length, programs, rounds, room):
 
 def main():
     rounds = int(sys.argv[1]) if len(sys.argv) > 1 else 5
-    program = ROOT / "target/bin/schedules"
     if len(sys.argv) > 2:
         program = pathlib.Path(sys.argv[2]).resolve()
     else:
-        subprocess.run(["rt", "check", "schedules"], cwd=ROOT, check=True, stdout=subprocess.DEVNULL)
+        built = subprocess.run([ROOT / "tools/build", "schedules"], check=True, stdout=subprocess.PIPE, text=True)
+        program = pathlib.Path(built.stdout.removesuffix("\n"))
     with tempfile.TemporaryDirectory() as folder:
         room = pathlib.Path(folder)
         rust = room / "schedules_rust"

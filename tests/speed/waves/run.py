@@ -1,8 +1,8 @@
 #!/usr/bin/env python3
-"""Times the proved programs `waves` and `readings` beside straightforward Rust on the same files, by turns: run.py [ROUNDS [FOLDER]]
+"""Times the proved programs `waves` and `readings` beside straightforward Rust on the same files, by turns: run.py [ROUNDS [WAVES READINGS]]
 
-The Rust programs are waves.rs and readings.rs of this folder, optimised. Without FOLDER the proved ones are built first (which proves them); FOLDER is one that
-has them already. Both must print the same. Printed for each case: milliseconds of user time, the least and the median of all rounds, and the ratio."""
+The Rust programs are waves.rs and readings.rs of this folder, optimised. The proved ones are built first (which proves them)
+where they are not given. Both must print the same. Printed for each case: milliseconds of user time, the least and the median of all rounds, and the ratio."""
 import os
 import pathlib
 import statistics
@@ -12,6 +12,7 @@ import tempfile
 
 HERE = pathlib.Path(__file__).resolve().parent
 ROOT = HERE.parents[2]
+PROGRAMS = ("waves", "readings")
 MOST_CALLS = 65_536
 MOST_DUMP = 4_194_304
 GREATEST = (1 << 32) - 1
@@ -83,17 +84,21 @@ def user_time(program, arguments, folder, times):
 
 def main():
     rounds = int(sys.argv[1]) if len(sys.argv) > 1 else 5
-    proved = pathlib.Path(sys.argv[2]).resolve() if len(sys.argv) > 2 else ROOT / "target/bin"
-    if len(sys.argv) <= 2:
-        subprocess.run(["rt", "check", "waves", "readings"], cwd=ROOT, check=True, stdout=subprocess.DEVNULL)
+    given = sys.argv[2:]
+    if not given:
+        built = subprocess.run([ROOT / "tools/build", *PROGRAMS], check=True, stdout=subprocess.PIPE, text=True)
+        given = built.stdout.splitlines()
+    if len(given) != len(PROGRAMS):
+        sys.exit(__doc__)
+    proved = {name: pathlib.Path(path).resolve() for name, path in zip(PROGRAMS, given)}
     with tempfile.TemporaryDirectory() as folder:
         room = pathlib.Path(folder)
-        for name in ("waves", "readings"):
+        for name in PROGRAMS:
             subprocess.run(["rustc", "--edition", "2021", "-O", "-o", room / f"rust-{name}", HERE / f"{name}.rs"], check=True)
         for what, program, arguments, place, times in cases(room):
             spent = {"Rattle": [], "Rust": []}
             for _ in range(rounds):
-                ours, printed = user_time(proved / program, arguments, place, times)
+                ours, printed = user_time(proved[program], arguments, place, times)
                 plain, expected = user_time(room / f"rust-{program}", arguments, place, times)
                 if printed != expected:
                     sys.exit(f"run.py: {what}: the two programs print other bytes")

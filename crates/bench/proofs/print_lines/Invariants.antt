@@ -1,9 +1,9 @@
+use Rattle.std.proofs.Common.{◌≡◌, length, ◌-◌}
 use Rattle.bench.proofs.print_lines.Given as goal
 
--- not turned
--- abbrev invariant-loop : tie.invariant-loop
--- invariant-loop calls state₀ at₀ state at = at ≡ state.at
+-- The place is that of the state.
+abbrev pub invariant-loop-at : goal.invariant-loop-at
+invariant-loop-at g l = l.at ≡ l.state.at
 
--- not turned
--- abbrev decreases-loop : tie.decreases-loop
--- decreases-loop calls state₀ at₀ state at = length calls - at
+abbrev pub decreases-loop-at : goal.decreases-loop-at
+decreases-loop-at g l = length l.calls - l.at

@@ -1,0 +1,27 @@
+use Rattle.loan.proofs.Held as loans
+use Rattle.dictionary.proofs.Laws as laws
+use Rattle.loan.proofs.items.next_write.Goals as goal
+
+pub returns-then-altered : goal.returns-then-altered
+returns-then-altered c =
+    laws.write_here _ _ _ _ c.loop-k.invariant (rw (← loans.noted_length _ _ _ c.requires.1) c.loop-k-test.true)
+    (rw (
+      loans.item_is c.args.l.now c.args.base c.args.end c.loop-k.k c.loop-k-test.true,
+      ←
+          c.item_at-item.ensures,
+      ← c.altered.ensures,
+    ) c.if-altered.true)
+
+pub loop-k-preserved : goal.loop-k-preserved
+loop-k-preserved c =
+    laws.write_more _ _ _ _ c.loop-k.invariant (rw (← loans.noted_length _ _ _ c.requires.1) c.loop-k-test.true)
+    (rw (
+      loans.item_is c.args.l.now c.args.base c.args.end c.loop-k.k c.loop-k-test.true,
+      ←
+          c.item_at-item.ensures,
+      ← c.altered.ensures,
+    ) c.if-altered.false)
+
+pub returns : goal.returns
+returns c =
+    laws.write_end _ _ _ _ c.loop-k.invariant (rw (← loans.noted_length _ _ _ c.requires.1) c.loop-k-test.false)

@@ -1,0 +1,10 @@
+use Rattle.construction.specs.Machine.{access_gate}
+use Rattle.lent_machine.specs.Accesses.{gate_step}
+use Rattle.lent_machine.proofs.gate.step_release.Goals as goal
+
+pub returns : goal.returns
+unfolding gate_step access_gate
+returns c = (
+  rw (c.release-x.ensures, c.control.ensures, c.last_gate.ensures, c.gate.ensures) at c.put_swapped.ensures.0,
+  rw (c.release-x.ensures, c.last_gate.ensures, c.gate.ensures) at c.put_swapped.ensures.1,
+)

@@ -1,11 +1,9 @@
-use contract.Running.{tables_of}
-use Rattle.lent.proofs.swap_in_row.Code as code
+use Rattle.lent.proofs.Laws as laws
 use Rattle.lent.proofs.swap_in_row.Goals as goal
 
--- src/lib.rt:35:9
 pub returns-then-row-place : goal.returns-then-row-place
-returns-then-row-place c = ?
+returns-then-row-place c = laws.refused c.args.row.now c.args.place c.args.expected c.args.new c.if-row-place.true
 
 pub returns : goal.returns
-unfolding code.routine tables_of
-returns c = (𝓡.run) c
+returns c =
+    laws.swapped c.args.row.now c.args.place c.args.expected c.args.new _ _ c.if-row-place.false c.swap_record-after.ensures c.answer_of.ensures

@@ -100,6 +100,7 @@ fn same_records(a: [Record; 64], b: [Record; 64]) -> bool
     same
 }
 
+#[tactic(auto, unfolding(crate::specs::Same::same_item))]
 fn same_item(a: Item, b: Item) -> bool
     ensures { result ≡ same_item a b }
 {
@@ -122,6 +123,7 @@ fn same_dictionary(a: Dictionary, b: Dictionary) -> bool
     both(same_number(a.length as u64, b.length as u64), same)
 }
 
+#[tactic(auto, unfolding(crate::specs::Same::same_control))]
 fn same_control(a: Control, b: Control) -> bool
     ensures { result ≡ same_control a b }
 {
@@ -133,6 +135,7 @@ fn same_control(a: Control, b: Control) -> bool
     )
 }
 
+#[tactic(auto, unfolding(crate::specs::Same::same_operation))]
 fn same_operation(a: Operation, b: Operation) -> bool
     ensures { result ≡ same_operation a b }
 {
@@ -142,6 +145,7 @@ fn same_operation(a: Operation, b: Operation) -> bool
     )
 }
 
+#[tactic(auto, unfolding(crate::specs::Same::same_yield))]
 fn same_yield(a: Yield, b: Yield) -> bool
     ensures { result ≡ same_yield a b }
 {
@@ -151,6 +155,7 @@ fn same_yield(a: Yield, b: Yield) -> bool
     )
 }
 
+#[tactic(auto, unfolding(crate::specs::Same::same_simulation))]
 fn same_simulation(a: Simulation, b: Simulation) -> bool
     ensures { result ≡ same_simulation a b }
 {
@@ -179,6 +184,7 @@ fn texts_at(card: Card, i: usize) -> Texts
     }
 }
 
+#[tactic(auto, unfolding(crate::specs::Same::same_texts))]
 fn same_texts(a: Texts, b: Texts) -> bool
     ensures { result ≡ same_texts a b }
 {
@@ -212,6 +218,7 @@ fn work_at(card: Card, i: usize) -> Work
     }
 }
 
+#[tactic(auto, unfolding(crate::specs::Same::same_work))]
 fn same_work(a: Work, b: Work) -> bool
     ensures { result ≡ same_work a b }
 {
@@ -245,6 +252,7 @@ fn reads_at(card: Card, i: usize) -> Reads
     }
 }
 
+#[tactic(auto, unfolding(crate::specs::Same::same_reads))]
 fn same_reads(a: Reads, b: Reads) -> bool
     ensures { result ≡ same_reads a b }
 {
@@ -263,6 +271,7 @@ fn same_reads(a: Reads, b: Reads) -> bool
     )
 }
 
+#[tactic(auto, unfolding(crate::specs::Same::same_at))]
 fn same_at(a: Card, b: Card, i: usize) -> bool
     requires { i < 8 }
     ensures { result ≡ same_at a b i }
@@ -273,6 +282,7 @@ fn same_at(a: Card, b: Card, i: usize) -> bool
     both(texts, both(work, reads))
 }
 
+#[tactic(auto, unfolding(crate::specs::Same::same_numbers))]
 fn same_numbers(a: Card, b: Card) -> bool
     ensures { result ≡ same_numbers a b }
 {

@@ -1,9 +1,8 @@
 -- One turn more of each loop, and its end.
 use Prim.Native.Nat.{ℕ, zero, suc, ◌+◌, ◌-◌, ◌%◌, ◌<◌, ◌≤◌}
-use mathlib.Core.Bool.{Bool, true, false, not}
+use mathlib.Core.Bool.{Bool, true, false}
 use mathlib.Core.Path.{◌≡◌}
 use native.Mathlib.Omega.{arith}
-use borrow.Author.Tests.{not-true, not-false}
 use Rattle.construction.specs.declared.{cells.Words.Words, answers.Answered.Answered}
 use Rattle.construction.specs.Requests.{call, step}
 use Rattle.construction.specs.Answers.{is_run}
@@ -35,8 +34,8 @@ runs_whole n x a = let e : n - 0 ≡ n = omega arith in rw e
 
 -- after a step: the next call where the operation returned, and none where it goes on
 module _ (b : Answered) (t : Bool) (told : t ≡ is_run b.answer) (p j : ℕ) (d : Answered) where
-  pub called_again_lem : not t ≡ true → (w : Words) → w ≡ inputs_of j → d ≡ call b.card p 0 w → d ≡ again b p j
-  called_again_lem h w ew ed = rw (← told, not-true t h, ← ew) ed
+  pub called_again_lem : t ≡ false → (w : Words) → w ≡ inputs_of j → d ≡ call b.card p 0 w → d ≡ again b p j
+  called_again_lem h w ew ed = rw (← told, h, ← ew) ed
 
-  pub goes_on : not t ≡ false → d ≡ b → d ≡ again b p j
-  goes_on h ed = rw (← told, not-false t h) ed
+  pub goes_on : t ≡ true → d ≡ b → d ≡ again b p j
+  goes_on h ed = rw (← told, h) ed

@@ -7,10 +7,10 @@
 
 mod cases; // cases.rt: the texts of the input
 mod comparing; // comparing.rt: what the writer does in a buffer, and whether the buffer then holds what it must
-mod lines; // lines.rt: the line of a case
+mod case_lines; // case_lines.rt: the line of a case
 
+use crate::case_lines::put_case;
 use crate::cases::case_at;
-use crate::lines::put_case;
 use construction::texts::Written;
 use host::{read_input, show};
 

@@ -1,2 +1,0 @@
--- A rule for walks
-pub mod LendArray

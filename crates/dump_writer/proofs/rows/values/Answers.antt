@@ -6,7 +6,7 @@ pub loop-v-preserved : goal.loop-v-preserved
 loop-v-preserved c =
     let a = c.args in
     let l = c.loop-v in (
-      l.invariant.0 ∙ laws.shown_turn a.gate a.announcement a.t3 a.count l.v l.row
+      l.invariant.0 ∙ laws.shown_turn a.gate a.announcement a.records a.count l.v l.row
           (omega (arith, c.at_most-all.ensures, c.loop-v-test.true)) c.value_of.ensures,
       simp length-set l.invariant.1,
       omega arith,
@@ -17,5 +17,5 @@ returns c =
     let a = c.args in
     let l = c.loop-v in
     sym
-    (l.invariant.0 ∙ laws.shown_end a.gate a.announcement a.t3 a.count l.v l.row l.invariant.1
+    (l.invariant.0 ∙ laws.shown_end a.gate a.announcement a.records a.count l.v l.row l.invariant.1
     (omega (arith, c.at_most-all.ensures, c.loop-v-test.false)))

@@ -8,7 +8,7 @@ pub returns-then-length-buffer : goal.returns-then-length-buffer
 returns-then-length-buffer c =
     let told = c.put_dump-length in
     let a = c.args in
-    let same = no_front told.new.buffer.1.0 a.buffer.now told.auto.buffer.1.0 in
+    let same = no_front told.new.buffer a.buffer.now told.auto.buffer in
     record {
       answer = laws.written_bytes (dump_text a.card.now a.calls.now) a.buffer.now same told.ensures (omega arith)
           (omega arith);
@@ -20,7 +20,7 @@ pub returns-else-length-buffer : goal.returns-else-length-buffer
 returns-else-length-buffer c =
     let told = c.put_dump-length in
     let a = c.args in
-    let same = no_front told.new.buffer.1.0 a.buffer.now told.auto.buffer.1.0 in
+    let same = no_front told.new.buffer a.buffer.now told.auto.buffer in
     record {
       answer = laws.written_short (dump_text a.card.now a.calls.now) a.buffer.now same told.ensures (omega arith)
           (omega arith);

@@ -87,6 +87,21 @@ step (Answer.Refused r) Answer.Run _ _ e f = absurd (clash cc)
 step (Answer.Refused r) (Answer.Done n y t) _ _ e f = absurd (clash cc)
 step (Answer.Refused r) (Answer.Exited t) _ _ e f = absurd (clash cc)
 step (Answer.Refused r) (Answer.Refused s) _ _ e f = ap Answer.Refused ((known_by_fields.refusal r s).0 e)
+step Answer.Taken b p _ e f = elim p [ ]
+step Answer.Run Answer.Taken _ p e f = elim p [ ]
+step Answer.Run (Answer.Value _) _ p e f = elim p [ ]
+step Answer.Run (Answer.RefusedAt _ _) _ p e f = elim p [ ]
+step (Answer.Done n y t) Answer.Taken _ p e f = elim p [ ]
+step (Answer.Done n y t) (Answer.Value _) _ p e f = elim p [ ]
+step (Answer.Done n y t) (Answer.RefusedAt _ _) _ p e f = elim p [ ]
+step (Answer.Exited s) Answer.Taken _ p e f = elim p [ ]
+step (Answer.Exited s) (Answer.Value _) _ p e f = elim p [ ]
+step (Answer.Exited s) (Answer.RefusedAt _ _) _ p e f = elim p [ ]
+step (Answer.Value _) b p _ e f = elim p [ ]
+step (Answer.Refused r) Answer.Taken _ p e f = elim p [ ]
+step (Answer.Refused r) (Answer.Value _) _ p e f = elim p [ ]
+step (Answer.Refused r) (Answer.RefusedAt _ _) _ p e f = elim p [ ]
+step (Answer.RefusedAt _ _) b p _ e f = elim p [ ]
 
 pub known_by_numbers : KnownByNumbers
 known_by_numbers = record { taken = taken; refused = refused; step = step; whole = whole }

@@ -1,20 +1,15 @@
-use Rattle.std.proofs.Common.{◌+◌, ◌*◌, ◌<◌, ◌≤◌, arith, length}
+use Rattle.std.proofs.Common.{arith}
 use Rattle.loan.proofs.Spans as spans
 use Rattle.loan.proofs.dictionaries.insert.Goals as goal
-use Rattle.loan.proofs.dictionaries.insert.Goals.{After-put_item-arg-1}
 
 -- the place of one item more lies in the loan
-fits :
-    (c : After-put_item-arg-1) → let a = c.args in let w = c.room-w.result in let n = c.noted-end.result in
-    (w * a.i < 10000) × ((w * a.i + n) * 3 + 3 ≤ length a.l.now) × (n < 32)
-fits c =
-    let a = c.args in
-    spans.insert_fits a.b.now a.l.now a.i _ _ _ c.room-w.ensures c.has_items.ensures c.if-has_items.true
-    (omega arith) c.if-end-w.true
-
 pub put_item-requires : goal.put_item-requires
 put_item-requires c =
-    let h = fits (goal.at.put_item-requires c).After-put_item-arg-1 in (omega (arith, h.0, h.2), h.1)
+    let a = c.args in
+    let h =
+    spans.insert_fits a.b.now a.l.now a.i _ _ _ c.room-w.ensures c.has_items.ensures c.if-has_items.true
+    (omega arith) c.if-end-w.true in
+    (omega (arith, h.0, h.2), h.1)
 
 pub returns-then-end-w : goal.returns-then-end-w
 returns-then-end-w c =

@@ -1,4 +1,0 @@
-use Rattle.dump_writer.proofs.lines.+put_binary.Given as goal
-
-abbrev pub decreases-put_binary : goal.decreases-put_binary
-decreases-put_binary l = l.value

@@ -1,4 +1,4 @@
-use Rattle.std.proofs.Common.{◌≡◌, ◌-◌}
+use Rattle.std.proofs.Common.{◌-◌}
 use lib.ListN as list
 use Rattle.machine_session.specs.Session.{stage}
 use Rattle.machine_session.proofs.Lines as laws
@@ -6,9 +6,7 @@ use Rattle.machine_session.proofs.running.put_lines.Given as goal
 
 abbrev pub invariant-loop-state : goal.invariant-loop-state
 invariant-loop-state l =
-    (laws.PrintLoop l.calls (stage l.initial.state l.initial.blocks l.initial.loans) l.initial.buffer
-    (stage l.state l.blocks l.loans) l.length l.buffer) × (list.length l.blocks ≡ list.length l.initial.blocks)
-    × (list.length l.loans ≡ list.length l.initial.loans)
+    laws.PrintLoop l.calls (stage l.initial.state l.initial.blocks l.initial.loans) l.initial.buffer (stage l.state l.blocks l.loans) l.length l.buffer
 
 abbrev pub decreases-loop-state : goal.decreases-loop-state
 decreases-loop-state l = list.length l.calls - l.state.at

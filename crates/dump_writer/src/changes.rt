@@ -4,7 +4,7 @@ ghost use Rattle.dump.specs.Dump.{changes_at};
 ghost use Rattle.dump_writer.specs.Courses.{Tells, change_of};
 
 use crate::Told;
-use crate::lines::{put_above, put_value, value_at};
+use crate::dump_lines::{put_above, put_value, value_at};
 
 // One variable: nothing where its value stays.
 fn put_change(

@@ -5,7 +5,7 @@
 #![tactic(auto)]
 
 mod changes; // changes.rt: the changes between two rows
-mod lines; // lines.rt: the lines of a dump
+mod dump_lines; // dump_lines.rt: the lines of a dump
 pub mod rows; // rows.rt: what a read shows of every variable of a card
 pub mod running; // running.rt: a session as a dump
 

@@ -5,7 +5,7 @@ ghost use Rattle.dump.specs.Dump.{time_above};
 ghost use Rattle.dump_writer.specs.Courses.{steps_in, counts_in, left_text, dump_text, PutsCommand, Opens, PutsPiece, Writes};
 
 use crate::changes::put_changes;
-use crate::lines::{put_above, put_opening};
+use crate::dump_lines::{put_above, put_opening};
 use crate::rows::row_of;
 use crate::{Course, Piece};
 use answers::kinds::is_refused;

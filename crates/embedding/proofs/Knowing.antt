@@ -87,21 +87,21 @@ step (Answer.Refused r) Answer.Run _ _ e f = absurd (clash cc)
 step (Answer.Refused r) (Answer.Done n y t) _ _ e f = absurd (clash cc)
 step (Answer.Refused r) (Answer.Exited t) _ _ e f = absurd (clash cc)
 step (Answer.Refused r) (Answer.Refused s) _ _ e f = ap Answer.Refused ((known_by_fields.refusal r s).0 e)
-step Answer.Taken b x4 _ e f = elim x4 [ ]
-step Answer.Run Answer.Taken _ x10 e f = elim x10 [ ]
-step Answer.Run (Answer.Value _) _ x12 e f = elim x12 [ ]
-step Answer.Run (Answer.RefusedAt _ _) _ x14 e f = elim x14 [ ]
-step (Answer.Done n y t) Answer.Taken _ x11 e f = elim x11 [ ]
-step (Answer.Done n y t) (Answer.Value _) _ x13 e f = elim x13 [ ]
-step (Answer.Done n y t) (Answer.RefusedAt _ _) _ x15 e f = elim x15 [ ]
-step (Answer.Exited s) Answer.Taken _ x12 e f = elim x12 [ ]
-step (Answer.Exited s) (Answer.Value _) _ x14 e f = elim x14 [ ]
-step (Answer.Exited s) (Answer.RefusedAt _ _) _ x16 e f = elim x16 [ ]
-step (Answer.Value _) b x9 _ e f = elim x9 [ ]
-step (Answer.Refused r) Answer.Taken _ x14 e f = elim x14 [ ]
-step (Answer.Refused r) (Answer.Value _) _ x16 e f = elim x16 [ ]
-step (Answer.Refused r) (Answer.RefusedAt _ _) _ x18 e f = elim x18 [ ]
-step (Answer.RefusedAt _ _) b x12 _ e f = elim x12 [ ]
+step Answer.Taken b p _ e f = elim p [ ]
+step Answer.Run Answer.Taken _ p e f = elim p [ ]
+step Answer.Run (Answer.Value _) _ p e f = elim p [ ]
+step Answer.Run (Answer.RefusedAt _ _) _ p e f = elim p [ ]
+step (Answer.Done n y t) Answer.Taken _ p e f = elim p [ ]
+step (Answer.Done n y t) (Answer.Value _) _ p e f = elim p [ ]
+step (Answer.Done n y t) (Answer.RefusedAt _ _) _ p e f = elim p [ ]
+step (Answer.Exited s) Answer.Taken _ p e f = elim p [ ]
+step (Answer.Exited s) (Answer.Value _) _ p e f = elim p [ ]
+step (Answer.Exited s) (Answer.RefusedAt _ _) _ p e f = elim p [ ]
+step (Answer.Value _) b p _ e f = elim p [ ]
+step (Answer.Refused r) Answer.Taken _ p e f = elim p [ ]
+step (Answer.Refused r) (Answer.Value _) _ p e f = elim p [ ]
+step (Answer.Refused r) (Answer.RefusedAt _ _) _ p e f = elim p [ ]
+step (Answer.RefusedAt _ _) b p _ e f = elim p [ ]
 
 pub known_by_numbers : KnownByNumbers
 known_by_numbers = record { taken = taken; refused = refused; step = step; whole = whole }

@@ -7,6 +7,6 @@
 
 mod machines; // machines.rt: requests to machines that share one processor
 mod numbers; // numbers.rt: an answer as a status, and its numbers into a lent array
-mod requests; // requests.rt: open, call, exit request, step, trace, read, change, write
+mod requesting; // requesting.rt: open, call, exit request, step, trace, read, change, write
 mod running; // running.rt: the run over a schedule
 mod sizes; // sizes.rt: words to lend, and the longest wait

@@ -1,6 +1,6 @@
 use Rattle.std.proofs.Common.{arith}
 use Rattle.dump_writer.proofs.LineLaws as laws
-use Rattle.dump_writer.proofs.lines.put_value.Goals as goal
+use Rattle.dump_writer.proofs.dump_lines.put_value.Goals as goal
 
 pub returns : goal.returns
 returns c =

@@ -2,7 +2,7 @@ use Rattle.std.proofs.Common.{ap, arith}
 use Rattle.dump.specs.Dump.{value_text}
 use Rattle.construction.proofs.Text.Writing as series
 use Rattle.dump_writer.proofs.LineLaws as laws
-use Rattle.dump_writer.proofs.lines.put_values.Goals as goal
+use Rattle.dump_writer.proofs.dump_lines.put_values.Goals as goal
 
 pub loop-v-preserved : goal.loop-v-preserved
 loop-v-preserved c =

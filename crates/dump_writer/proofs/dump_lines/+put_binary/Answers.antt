@@ -1,6 +1,6 @@
 use Rattle.std.proofs.Common.{arith}
 use Rattle.dump_writer.proofs.LineLaws as laws
-use Rattle.dump_writer.proofs.lines.+put_binary.Goals as goal
+use Rattle.dump_writer.proofs.dump_lines.+put_binary.Goals as goal
 
 pub returns-then-value-lt2 : goal.returns-then-value-lt2
 returns-then-value-lt2 t c = laws.put_bit c.if-value-lt2.true c.put_byte.ensures

@@ -1,7 +1,7 @@
 use Rattle.std.proofs.Common.{refl, arith}
 use Rattle.construction.proofs.Text.Writing as series
 use Rattle.dump_writer.proofs.LineLaws as laws
-use Rattle.dump_writer.proofs.lines.put_vars.Goals as goal
+use Rattle.dump_writer.proofs.dump_lines.put_vars.Goals as goal
 
 pub loop-v-preserved : goal.loop-v-preserved
 loop-v-preserved c = (

@@ -276,6 +276,9 @@ holds "how far a program is comes at once, and is no failure" ends 0 printed "ha
 program_is yes
 timeout 20 "$repository/program" "$folder" 2>"$SAID" | head -n 1 >"$work/output" || true
 holds "a closed output ends the program" prints y
+program_is 'echo "program: the session could not be written: Broken pipe" >&2'
+launch "$folder"
+holds "a program that tells of a closed output fails in silence" ends 1 "" ""
 program_is 'echo printed; echo "program: it could not be done" >&2; exit 1'
 launch "$folder"
 holds "a status of its own says nothing beside the complaint" ends 1 printed "program: it could not be done"

@@ -1,0 +1,2 @@
+-- A rule for walks
+pub mod LendArray

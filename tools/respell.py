@@ -23,6 +23,7 @@ USE = re.compile(r"(?m)^(?:pub )?(?:ghost )?use (\S+?)\.?(\{[^}]*\})?(?: as (\S+
 MADE = re.compile(r"(tie|goal)\.|\{M : Type 1\} → statement|statement")
 OF_FUNCTIONS = ("Proof.antt", "Invariants.antt", "Answers.antt")
 SPAN = re.compile(r"(`+)[^`\n]*?\1")
+SPANNED = re.compile(r"[^\s(){}.;,@\"«»`/]+")
 RUST = re.compile(r'//[^\n]*|b?"(?:\\.|[^"\\])*"|[^/"]+|.', re.S)
 CAMEL = re.compile(r"[a-z][A-Za-z0-9']*[A-Z][A-Za-z0-9']*")
 # A constructor and a field may share a spelling: each is named behind its own type or value.
@@ -128,7 +129,7 @@ class Names:
         return "".join(out + [code(text[at:], at)])
 
     def comment(self, text):
-        text = SPAN.sub(lambda m: WORD.sub(lambda w: self.word(w[0]), m[0]), text)
+        text = SPAN.sub(lambda m: SPANNED.sub(lambda w: self.word(w[0]), m[0]), text)
         return WORD.sub(lambda m: self.word(m[0]) if CAMEL.fullmatch(m[0]) else m[0], text)
 
     def rt(self, text):
@@ -154,7 +155,7 @@ class Names:
                 return self.word(word)
             return self.lemmas.get(new, new)
 
-        turned = lambda s: s[0] if ".edit" in s[0] else re.sub(r"[^\s(){}.;,@\"«»`/]+", one, s[0])
+        turned = lambda s: s[0] if ".edit" in s[0] else SPANNED.sub(one, s[0])
         return SPAN.sub(turned, text)
 
 

@@ -24,10 +24,10 @@ four d (x ∷ y ∷ z ∷ w ∷ []) e = refl
 four d (x ∷ y ∷ z ∷ w ∷ v ∷ l) e = absurd (omega arith)
 
 -- past the end
-pub get_d_past : {A : Type 0} (l : List A) (m : ℕ) (d : A) → length l ≤ m → get_or l m d ≡ d
-get_d_past [] m d h = refl
-get_d_past (x ∷ l) zero d h = absurd (omega arith)
-get_d_past (x ∷ l) (suc m) d h = get_d_past l m d (omega arith)
+pub get_or_past : {A : Type 0} (l : List A) (m : ℕ) (d : A) → length l ≤ m → get_or l m d ≡ d
+get_or_past [] m d h = refl
+get_or_past (x ∷ l) zero d h = absurd (omega arith)
+get_or_past (x ∷ l) (suc m) d h = get_or_past l m d (omega arith)
 
 -- sums of four
 pub exceeds_no : (steps sum : ℕ) → steps ≤ sum → false ≡ ltb sum steps

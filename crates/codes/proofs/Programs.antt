@@ -31,7 +31,7 @@ FitsInstruction (Instruction.Output a b) = (a < 256) × (b < 256)
 FitsInstruction (Instruction.Allocate a) = a < 256
 FitsInstruction (Instruction.Free a) = a < 256
 
--- the instruction of a code and its operands, as `instructionFrom` has it
+-- the instruction of a code and its operands, as `instruction_from` has it
 abbrev chosen : ℕ → ℕ → ℕ → ℕ → ℕ → Instruction
 chosen code a x b c =
     cond (eqb code 1) (Instruction.Input a b)

@@ -1,4 +1,4 @@
--- A line taken, part by part (document 02, order 7): `nextStart` and `nextLine` of the crate dump ask these of a line, and leave this of what was read.
+-- A line taken, part by part (document 02, order 7): `next_start` and `next_line` of the crate dump ask these of a line, and leave this of what was read.
 use Rattle.std.specs.Prelude.{ℕ, ◌+◌, ◌<◌, min, Bool, false, cond, not, ◌&&◌, List, get_or, set, eqb, leb, ltb}
 use Rattle.dump.specs.declared.DumpLine.{DumpLine}
 

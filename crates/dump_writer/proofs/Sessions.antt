@@ -28,6 +28,6 @@ session_fits t =
     commands_induction t (λ (ms : List Parsed). FitEntries (entries t ms)) tt
     (λ at ms h. fit_more t (command t at).command (entries t ms) (command_fits t at) h) 0
 
--- of every card text and every calls text: the dump that the writer writes (`dumpText`) is that of this run
+-- of every card text and every calls text: the dump that the writer writes (`dump_text`) is that of this run
 pub session_reads_back : (card calls : List ℕ) → ReadsBack (opened card).card (entries calls (commands calls 0))
 session_reads_back card calls = reads_back card (entries calls (commands calls 0)) (session_fits calls)

@@ -54,7 +54,7 @@ goes s = record { going = true; pause = Ended; simulation = s }
 abbrev pub stands : Pause → Simulation → Turned
 stands p s = record { going = false; pause = p; simulation = s }
 
--- lines H7 and H20 to H30: one turn of `simulateFrom`, and the dictionary that it leaves
+-- lines H7 and H20 to H30: one turn of `simulate_from`, and the dictionary that it leaves
 unfoldable pub turned : ℕ → Simulation → Dictionary → Effect → Turned × Dictionary
 turned n s d e =
     on_lacking d (touched n (note_of d) e)

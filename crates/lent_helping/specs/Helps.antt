@@ -1,4 +1,4 @@
--- The accesses of a helper (construction's specs/Machine: `stepHelp`, `stepNote`, `stepWrite`) on a block and a loan (document 02, order 10): what the access
+-- The accesses of a helper (construction's specs/Machine: `step_help`, `step_note`, `step_write`) on a block and a loan (document 02, order 10): what the access
 -- needs is taken out, and what it changes is put back. A read leaves its cell as it is; a swap stores its cell only where it won. Only line H21 changes
 -- the loan.
 use Rattle.std.specs.Prelude.{ℕ, cond, List, ltb}
@@ -43,7 +43,7 @@ lacked_in b i = record_in b (control_in b i).target
 abbrev pub put_marked : List ℕ → ℕ → ℕ → List ℕ
 put_marked b i v = put_mask b i (with_bit (mask_in b i) v)
 
--- lines H20 to H30: the simulation goes on, and leaves its values in the loan (`simulatedLoan`)
+-- lines H20 to H30: the simulation goes on, and leaves its values in the loan (`simulated_loan`)
 abbrev pub gone_on : List ℕ → List ℕ → ℕ → ℕ → List ℕ
 gone_on b l i number =
     let x = simulated_in b l i number in

@@ -1,6 +1,6 @@
 -- Step, and step with its report (document 02, order 1), on a card that stands in a block and a loan (order 10): the answer, the block and the loan after it.
--- A refused step leaves both as they were. `accessBlock` and `accessLoan` (crate lent_helping) say what an access makes of them,
--- `accessSwap` its swap.
+-- A refused step leaves both as they were. `access_block` and `access_loan` (crate lent_helping) say what an access makes of them,
+-- `access_swap` its swap.
 use Rattle.std.specs.Prelude.{ℕ, Bool, cond, List, ltb, length, get_or}
 use Rattle.construction.specs.declared.{accesses.Access.Access, answers.Answer.Answer, accesses.Cell.Cell, simulations.Item.Item, answers.Report.Report}
 use Rattle.construction.specs.declared.{accesses.Swap.Swap}

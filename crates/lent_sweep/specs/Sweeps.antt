@@ -1,5 +1,5 @@
 -- Steps by a schedule on a card in lent words, a process called again as soon as its operation returns (document 02, order 12: 'eight processes called again and
--- again'): the fold of the single requests (`answerTo`, `stepBlock`, `stepLoan` of lent_steps, `callBlock` of lent_card) over the schedule, a process each.
+-- again'): the fold of the single requests (`answer_to`, `step_block`, `step_loan` of lent_steps, `call_block` of lent_card) over the schedule, a process each.
 -- A step that is refused alters and counts nothing; a call that is refused leaves its process idle, and so does a table that has not all five words of it.
 use Rattle.std.specs.Prelude.{ℕ, ◌+◌, ◌<◌, max, ◌≡◌, Bool, true, false, cond, not, ◌&&◌, List, [], ◌∷◌, ltb}
 use Rattle.construction.specs.declared.answers.Answer.{Answer}

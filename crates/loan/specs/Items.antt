@@ -1,4 +1,4 @@
--- Items of a loan, three words each, from item `base` on (`item_at`, `dictionaryAt` of block): their numbers, and other values for them.
+-- Items of a loan, three words each, from item `base` on (`item_at`, `dictionary_at` of block): their numbers, and other values for them.
 use Rattle.std.specs.Prelude.{ℕ, zero, suc, ◌+◌, ◌-◌, ◌*◌, List, ◌++◌, get_or, set, replicate}
 use Rattle.codes.specs.Parts.{word_at, table}
 use Rattle.codes.specs.Codes.{pair, upper}

@@ -15,7 +15,7 @@ unfoldable pub all_below : ℕ → (ℕ → Bool) → Bool
 all_below zero test = true
 all_below (suc n) test = all_below n test && test n
 
--- an instruction is known by its word (`instruction-back`, crates/codes/proofs/Programs)
+-- an instruction is known by its word (`instruction_back`, crates/codes/proofs/Programs)
 abbrev pub same_instruction : Instruction → Instruction → Bool
 same_instruction a b = eqb (instruction_word a) (instruction_word b)
 
@@ -46,7 +46,7 @@ same_item_at a b k = same_item (get_or a.items k no_item) (get_or b.items k no_i
 unfoldable pub same_dictionary : Dictionary → Dictionary → Bool
 same_dictionary a b = eqb a.length b.length && all_below 32 (same_item_at a b)
 
--- a place is known by its word (`place-back`, crates/codes/proofs/Values)
+-- a place is known by its word (`place_back`, crates/codes/proofs/Values)
 unfoldable pub same_control : Control → Control → Bool
 same_control a b = eqb (place_word a.place) (place_word b.place) && eqb a.target b.target
 

@@ -18,7 +18,7 @@ record_in (Cell.Announcement m) = 0
 record_in (Cell.Record v) = v
 
 -- whether the swap of an access won: the gate, the announcement of process m and the record as they stand, and what process i goes by. It is
--- `swapOf` of construction, which gives the swap together with the card that the access leaves, told without a card: the function that tells it has
+-- `swap_of` of construction, which gives the swap together with the card that the access leaves, told without a card: the function that tells it has
 -- none. `swap_is` (proofs/Swaps) says that the two are the same on every card.
 abbrev pub swap_by :
     Access → ℕ → ℕ → Gate → Announcement → Record → Gate → Announcement → Operation → Yield → Control → Item → Swap

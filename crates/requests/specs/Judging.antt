@@ -1,5 +1,5 @@
 -- Whether a request is taken, by numbers and the place of its process: refusals 5 to 8, 10, 15 and 16 in their order. These are the tests of `call`,
--- `requestExit`, `step` and `change` of construction without the card that those give: the functions that judge have none. `call-refused`, `call-taken`
+-- `request_exit`, `step` and `change` of construction without the card that those give: the functions that judge have none. `call_refused`, `call_taken`
 -- and their like for the others (card/proofs/Requests, changing/proofs/Laws) say that the two agree.
 use Rattle.std.specs.Prelude.{ℕ, Bool, cond, not, ◌&&◌, ◌||◌, ltb}
 use Rattle.construction.specs.declared.{accesses.Label.Label, answers.Refusal.Refusal, answers.Answer.Answer, texts.Verdict.Verdict}

@@ -5,6 +5,7 @@ use mathlib.Core.List.{List}
 use Prim.Native.Nat.{ℕ, ◌+◌, ◌<◌, ◌≤◌}
 use lib.Dec.{ltb, leb}
 use borrow.Author.Tests.{lt-ltb, le-ltb, ltb-true, leb-true}
+use Rattle.std.specs.Prelude.{Ok, Err}
 use Rattle.grammar.specs.declared.Number.{Number}
 use Rattle.grammar.specs.declared.Numbers.{Numbers}
 use Rattle.grammar.specs.Reading.{field, four, has_word}
@@ -166,7 +167,7 @@ pub record InsRead (n : ℕ) (t : List ℕ) (at : ℕ) (x : Instruction) (i : �
   pub numbers : Encoded
   pub word_there : has_word t at ins_word ≡ true
   pub numbers_there : four t (at + 4) ≡ Numbers.Values numbers.code numbers.a numbers.b numbers.c i
-  pub fits : decode n numbers ≡ Decoded.Valid x
+  pub fits : decode n numbers ≡ Ok x
 
 pub ins_read : (n : ℕ) (t : List ℕ) (at : ℕ) (x : Instruction) (i : ℕ) → ins_line n t at ≡ InsLine.Ins x i → InsRead n t at x i
 unfolding ins_line judge_ins
@@ -176,8 +177,8 @@ ins_read n t at x i =
     good :
         has_word t at ins_word ≡ true → (k a b c j : ℕ) → four t (at + 4) ≡ Numbers.Values k a b c j → (d : Decoded) → decode n (encoded k a b c) ≡ d →
         ins_of d j ≡ InsLine.Ins x i → InsRead n t at x i
-    good h k a b c j q (Decoded.Valid y) f e = record { numbers = encoded k a b c; word_there = h; numbers_there = cc; fits = cc }
-    good h k a b c j q (Decoded.Refused y) f e = clash (cc)
+    good h k a b c j q (Ok y) f e = record { numbers = encoded k a b c; word_there = h; numbers_there = cc; fits = cc }
+    good h k a b c j q (Err y) f e = clash (cc)
 
     go : has_word t at ins_word ≡ true → (f : Numbers) → four t (at + 4) ≡ f → judge_ins n f ≡ InsLine.Ins x i → InsRead n t at x i
     go h (Numbers.Values k a b c j) q e = good h k a b c j q (decode n (encoded k a b c)) refl e

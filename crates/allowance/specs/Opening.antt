@@ -1,8 +1,8 @@
 -- What is accepted at opening (document 02, order 14); all else is refused with 18
-use Rattle.std.specs.Prelude.{ℕ, zero, suc, ◌+◌, ◌<◌, ◌≤◌, Bool, true, cond, ◌&&◌, List, [], ◌∷◌, get_or, take, leb}
-use Rattle.construction.specs.declared.answers.Answer.{Answer}
+use Rattle.std.specs.Prelude.{Result, Ok, Err, ℕ, zero, suc, ◌+◌, ◌<◌, ◌≤◌, Bool, true, cond, ◌&&◌, List, [], ◌∷◌, get_or, take, leb}
+use Rattle.construction.specs.declared.{answers.Answer.Answer, answers.Refusal.Refusal}
 use Rattle.construction.specs.declared.answers.Refusal.TheVariants.{BadTerms}
-use Rattle.allowance.specs.Types.{Quota, Allowance, Opened}
+use Rattle.allowance.specs.Types.{Quota, Allowance}
 use Rattle.allowance.specs.Allowing.{empty, unused}
 
 -- the quotas of the first machines, `count` of them, with nothing used, and empty ones after them
@@ -45,5 +45,6 @@ allowance_from count steps qs = cond (is_accepted count steps qs) (allowance cou
 abbrev pub open_answer : ℕ → ℕ → List Quota → Answer
 open_answer count steps qs = cond (is_accepted count steps qs) Answer.Taken (Answer.Refused BadTerms)
 
-abbrev pub opened_as : ℕ → ℕ → List Quota → Opened
-opened_as count steps qs = record { allowance = allowance_from count steps qs; answer = open_answer count steps qs }
+-- as code gives it: what a refusal leaves is `no_machines`, the allowance of none (`no_machines_left`, proofs/Opening)
+abbrev pub opened_as : ℕ → ℕ → List Quota → Result Allowance Refusal
+opened_as count steps qs = cond (is_accepted count steps qs) (Ok (allowance count steps qs)) (Err BadTerms)

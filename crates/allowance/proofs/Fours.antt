@@ -3,7 +3,7 @@ use Prim.Native.Nat.{ℕ, zero, suc, ◌+◌, ◌-◌, ◌<◌, ◌≤◌}
 use mathlib.Core.Path.{◌≡◌, refl, sym, ap, ◌∙◌}
 use mathlib.Core.Bool.{Bool, true, false, cond, ◌&&◌}
 use mathlib.Core.List.{List, [], ◌∷◌, map}
-use Rattle.std.specs.Prelude.{Some, None}
+use Rattle.std.specs.Prelude.{Some, None, Ok, Err}
 use Rattle.std.specs.Option.{is_some}
 use native.Mathlib.Omega.{arith}
 use lib.ListN.{length, get_or, take, drop}
@@ -11,8 +11,10 @@ use native.Mathlib.Numerals.{add-one}
 use lib.Dec.{ltb, leb}
 use borrow.Author.Tests.{ltb-true, ltb-false, lt-ltb, le-ltb, leb-true, leb-false, le-leb, lt-leb}
 use Rattle.allowance.specs.Types.{Quota, Allowance}
-use Rattle.allowance.specs.Allowing.{empty, quota_at, unused, larger, reserved, has_allowance, total}
-use Rattle.allowance.specs.Opening.{opened, are_ordered, shares}
+use Rattle.allowance.specs.Allowing.{empty, no_machines, quota_at, unused, larger, reserved, has_allowance, total}
+use Rattle.construction.specs.declared.answers.Answer.{Answer}
+use Rattle.construction.specs.declared.answers.Refusal.TheVariants.{BadTerms}
+use Rattle.allowance.specs.Opening.{opened, are_ordered, shares, is_accepted, allowance, allowance_from, open_answer, opened_as, answer_of_opened, left_by}
 use Rattle.allowance.proofs.Allowing.{Rule, allowed_rule}
 
 -- a list of four
@@ -62,6 +64,26 @@ module _ (l : List Quota) (e : length l ≡ 4) where
   opened_four n p q r s =
       (λ i. p i ∷ q i ∷ r i ∷ s i ∷ []) ∙
       sym (ap (opened n) (four empty l e) ∙ opened_elements n (get_or l 0 empty) (get_or l 1 empty) (get_or l 2 empty) (get_or l 3 empty))
+
+-- what opening answers and leaves, from what code gives
+pub answers_opening : (count steps : ℕ) (l : List Quota) → answer_of_opened (opened_as count steps l) ≡ open_answer count steps l
+answers_opening count steps l = go (is_accepted count steps l)
+  where
+    go : (t : Bool) → answer_of_opened (cond t (Ok (allowance count steps l)) (Err BadTerms)) ≡ cond t Answer.Taken (Answer.Refused BadTerms)
+    go true = refl
+    go false = refl
+
+none_opened : (l : List Quota) → length l ≡ 4 → allowance 0 0 l ≡ no_machines
+unfolding opened
+none_opened l e = ap (allowance 0 0) (four empty l e)
+
+pub leaves_opening : (count steps : ℕ) (l : List Quota) → length l ≡ 4 → left_by (opened_as count steps l) ≡ allowance_from count steps l
+unfolding allowance_from
+leaves_opening count steps l e = go (is_accepted count steps l)
+  where
+    go : (t : Bool) → left_by (cond t (Ok (allowance count steps l)) (Err BadTerms)) ≡ cond t (allowance count steps l) (allowance 0 0 l)
+    go true = refl
+    go false = sym (none_opened l e)
 
 -- what code sums up is what the definitions do
 pub reserved_sum : (l : List Quota) → total (map larger l) ≡ reserved l

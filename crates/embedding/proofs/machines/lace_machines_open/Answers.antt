@@ -6,4 +6,4 @@ pub returns : goal.returns
 returns c =
     let a = c.args in
     opens a.allowance.now a.count a.steps a.terms.now (le-ltb _ _ c.if-allowance-lt14.false)
-    (le-ltb _ _ c.if-terms.false) c.open.ensures ?
+    (le-ltb _ _ c.if-terms-count.false) (rw c.terms_in.ensures at c.open.ensures) c.keep_opened.ensures

@@ -1,6 +1,6 @@
 -- Every answer by its fields: the word of its case and its numbers, as document 01 gives them. 'If an answer is an enum, a definition gives this
 -- paper's number and values for every case of the enum, and the promises use that definition.'
-use Rattle.std.specs.Prelude.{ℕ, ◌≡◌, Bool, true, false, List, [], ◌∷◌, ◌++◌}
+use Rattle.std.specs.Prelude.{ℕ, ◌≡◌, Bool, true, false, List, [], ◌∷◌, ◌++◌, Ok, Err}
 use Prim.Native.Char.{code}
 use Prim.Native.String.{String}
 use Rattle.grammar.specs.Writing.{decimal}
@@ -94,14 +94,14 @@ verdict_fields (Verdict.Refused r line) = fields "refused" (number_of r ∷ line
 
 -- the writer 'tells the length', or is refused
 unfoldable pub written_fields : Written → Fields
-written_fields (Written.Bytes n) = fields "" (n ∷ [])
-written_fields (Written.Refused r) = refused_with (number_of r)
+written_fields (Ok n) = fields "" (n ∷ [])
+written_fields (Err r) = refused_with (number_of r)
 
 -- a swap on a lent row 'tells which', or is refused
 unfoldable pub row_fields : RowSwap → Fields
-row_fields RowSwap.Won = fields "won" []
-row_fields RowSwap.Lost = fields "lost" []
-row_fields (RowSwap.Refused r) = refused_with (number_of r)
+row_fields (Ok true) = fields "won" []
+row_fields (Ok false) = fields "lost" []
+row_fields (Err r) = refused_with (number_of r)
 
 -- 'each line yields either its fields or a refusal number'; the place past the line is none of the paper's numbers
 unfoldable pub card_line_fields : CardLine → Fields

@@ -1,4 +1,5 @@
 -- The types of this crate, which src/ declares, and the variants that stand under their own names, for one `use` line a file
+use Rattle.std.specs.Prelude.{ℕ, Bool, Result}
 pub use Rattle.construction.specs.declared.cells.Holder.{Holder}
 pub use Rattle.construction.specs.declared.cells.Holder.TheVariants.{Nobody, Process}
 pub use Rattle.construction.specs.declared.cells.Gate.{Gate}
@@ -52,7 +53,6 @@ pub use Rattle.construction.specs.declared.answers.Traced.{Traced}
 pub use Rattle.construction.specs.declared.cells.SwappedGate.{SwappedGate}
 pub use Rattle.construction.specs.declared.cells.SwappedAnnouncement.{SwappedAnnouncement}
 pub use Rattle.construction.specs.declared.cells.SwappedRecord.{SwappedRecord}
-pub use Rattle.construction.specs.declared.cells.RowSwap.{RowSwap}
 pub use Rattle.construction.specs.declared.texts.CardLine.{CardLine}
 pub use Rattle.construction.specs.declared.texts.VarLine.{VarLine}
 pub use Rattle.construction.specs.declared.texts.SheetLine.{SheetLine}
@@ -62,4 +62,11 @@ pub use Rattle.construction.specs.declared.texts.Verdict.{Verdict}
 pub use Rattle.construction.specs.declared.texts.ProgramReading.{ProgramReading}
 pub use Rattle.construction.specs.declared.texts.Reading.{Reading}
 pub use Rattle.construction.specs.declared.texts.Opened.{Opened}
-pub use Rattle.construction.specs.declared.texts.Written.{Written}
+
+-- the answer of the writer: how many bytes it wrote, or why it is refused
+abbrev pub Written : Type 0
+Written = Result ℕ Refusal
+
+-- the answer to a swap on a lent row: whether it won, or why it is refused
+abbrev pub RowSwap : Type 0
+RowSwap = Result Bool Refusal

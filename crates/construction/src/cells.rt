@@ -1,5 +1,4 @@
 // The shared cells, and what a swap of one gives back.
-use crate::answers::Refusal;
 
 // Who holds the gate.
 #[derive(Clone, Copy)]
@@ -78,12 +77,4 @@ pub struct SwappedAnnouncement {
 pub struct SwappedRecord {
     pub cell: Record,
     pub won: bool,
-}
-
-// The answer to a swap on a lent row.
-#[derive(Clone, Copy)]
-pub enum RowSwap {
-    Won,
-    Lost,
-    Refused(Refusal),
 }

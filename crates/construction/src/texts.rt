@@ -82,10 +82,3 @@ pub struct Opened {
     pub card: Card,
     pub verdict: Verdict,
 }
-
-// The answer of the writer: how many bytes it wrote.
-#[derive(Clone, Copy)]
-pub enum Written {
-    Bytes(usize),
-    Refused(Refusal),
-}

@@ -20,7 +20,7 @@ use block::texts::{put_start, start};
 use construction::answers::Refusal;
 use construction::cells::{Gate, Holder};
 use construction::programs::Program;
-use construction::texts::{Contents, Verdict, Written};
+use construction::texts::{Contents, Verdict};
 use programs::weights::heaviest;
 use texts::Text;
 
@@ -182,7 +182,7 @@ pub fn contents_of(b: &[u64]) -> Contents
 }
 
 // The text of the card in a block.
-pub fn write(b: &[u64], buffer: &mut [u8]) -> Written
+pub fn write(b: &[u64], buffer: &mut [u8]) -> Result<usize, Refusal>
     ensures { Writes (card_of b.now []) buffer.old result buffer.new }
 {
     let contents = contents_of(b);

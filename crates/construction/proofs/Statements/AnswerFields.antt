@@ -1,5 +1,6 @@
 -- An answer is known by its fields (specs/Answers, KnownAnswers): two answers with the same word and numbers are the same, so no value, length or count of
 -- steps can pass for a refusal.
+use Rattle.std.specs.Prelude.{Ok, Err}
 use Prim.Native.Nat.{ℕ}
 use Prim.Native.String.{String}
 use mathlib.Core.Path.{◌≡◌, refl, sym, ap, ◌∙◌}
@@ -84,10 +85,10 @@ module _ (f : Fields) where
   verdict_from = cond is_refusal (Verdict.Refused why (number 1)) Verdict.Accepted
 
   abbrev written_from : Written
-  written_from = cond is_refusal (Written.Refused why) (Written.Bytes (number 0))
+  written_from = cond is_refusal (Err why) (Ok (number 0))
 
   abbrev row_from : RowSwap
-  row_from = cond (says "won") RowSwap.Won (cond (says "lost") RowSwap.Lost (RowSwap.Refused why))
+  row_from = cond (says "won") (Ok true) (cond (says "lost") (Ok false) (Err why))
 
   abbrev instruction_from : Instruction
   instruction_from = instruction_of (encoded (number 0) (number 1) (number 2) (number 3))
@@ -132,14 +133,14 @@ verdict_back (Verdict.Refused r line) = ap (λ (x : Refusal). Verdict.Refused x 
 
 written_back : (w : Written) → written_from (written_fields w) ≡ w
 unfolding written_fields has_word
-written_back (Written.Bytes n) = refl
-written_back (Written.Refused r) = ap Written.Refused (refusal_back r)
+written_back (Ok n) = refl
+written_back (Err r) = ap Err (refusal_back r)
 
 row_back : (a : RowSwap) → row_from (row_fields a) ≡ a
 unfolding row_fields has_word
-row_back RowSwap.Won = refl
-row_back RowSwap.Lost = refl
-row_back (RowSwap.Refused r) = ap RowSwap.Refused (refusal_back r)
+row_back (Ok true) = refl
+row_back (Ok false) = refl
+row_back (Err r) = ap Err (refusal_back r)
 
 instruction_back : (x : Instruction) → instruction_of (encode x) ≡ x
 unfolding encode

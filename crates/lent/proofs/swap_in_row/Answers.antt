@@ -6,4 +6,4 @@ returns-then-row-place c = laws.refused c.args.row.now c.args.place c.args.expec
 
 pub returns : goal.returns
 returns c =
-    laws.swapped c.args.row.now c.args.place c.args.expected c.args.new _ _ c.if-row-place.false c.swap_record-after.ensures c.answer_of.ensures
+    laws.swapped c.args.row.now c.args.place c.args.expected c.args.new _ c.if-row-place.false c.swap_record-after.ensures

@@ -13,7 +13,7 @@ ghost use Rattle.construction.specs.Answers.{number_of, refused_with, fields, by
 
 use construction::answers::{Answer, Refusal};
 use construction::cells::{Words, Yield};
-use construction::texts::Verdict;
+use construction::texts::RefusedAt;
 use grammar::writing::{put_decimal, put_word};
 
 // The number of a refusal.
@@ -117,12 +117,12 @@ pub fn put_answer(buffer: &mut [u8], at: usize, answer: Answer) -> usize
 }
 
 // The verdict on a card text.
-pub fn put_verdict(buffer: &mut [u8], at: usize, verdict: Verdict) -> usize
+pub fn put_verdict(buffer: &mut [u8], at: usize, verdict: Result<(), RefusedAt>) -> usize
     ensures { Put buffer.old at (fields_text (verdict_fields verdict)) result buffer.new × (result ≤ at + 50) }
 {
     match verdict {
-        Verdict::Accepted => put_word(buffer, at, b",accepted"),
-        Verdict::Refused { refusal, line } => put_refused_at(buffer, at, refusal, line),
+        Ok(()) => put_word(buffer, at, b",accepted"),
+        Err(RefusedAt { refusal, line }) => put_refused_at(buffer, at, refusal, line),
     }
 }
 

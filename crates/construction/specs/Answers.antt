@@ -89,8 +89,8 @@ is_refused (Answer.RefusedAt r line) = true
 
 -- a card text: accepted, or '`card,refused,number,line`'
 unfoldable pub verdict_fields : Verdict → Fields
-verdict_fields Verdict.Accepted = fields "accepted" []
-verdict_fields (Verdict.Refused r line) = fields "refused" (number_of r ∷ line ∷ [])
+verdict_fields (Ok _) = fields "accepted" []
+verdict_fields (Err e) = fields "refused" (number_of e.refusal ∷ e.line ∷ [])
 
 -- the writer 'tells the length', or is refused
 unfoldable pub written_fields : Written → Fields

@@ -58,7 +58,7 @@ pub use Rattle.construction.specs.declared.texts.VarLine.{VarLine}
 pub use Rattle.construction.specs.declared.texts.SheetLine.{SheetLine}
 pub use Rattle.construction.specs.declared.texts.InsLine.{InsLine}
 pub use Rattle.construction.specs.declared.texts.Contents.{Contents}
-pub use Rattle.construction.specs.declared.texts.Verdict.{Verdict}
+pub use Rattle.construction.specs.declared.texts.RefusedAt.{RefusedAt}
 pub use Rattle.construction.specs.declared.texts.ProgramReading.{ProgramReading}
 pub use Rattle.construction.specs.declared.texts.Reading.{Reading}
 pub use Rattle.construction.specs.declared.texts.Opened.{Opened}
@@ -70,3 +70,10 @@ Written = Result ℕ Refusal
 -- the answer to a swap on a lent row: whether it won, or why it is refused
 abbrev pub RowSwap : Type 0
 RowSwap = Result Bool Refusal
+
+-- the verdict on a text: it is accepted, or why and at which line it is refused
+abbrev pub Verdict : Type 0
+Verdict = Result (Unit {0}) RefusedAt
+
+abbrev pub at_line : Refusal → ℕ → RefusedAt
+at_line why line = record { refusal = why; line = line }

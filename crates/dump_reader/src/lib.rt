@@ -10,14 +10,14 @@ pub mod rows; // rows.rt: the values in decimal, a line for each time
 mod taking; // taking.rt: whether a line may follow, and what is left once it is taken
 
 ghost use Rattle.std.specs.Prelude.{◌≡◌, ◌≤◌, length};
-ghost use Rattle.construction.specs.declared.texts.Verdict.{Verdict};
+ghost use Rattle.construction.specs.Types.{at_line};
 ghost use Rattle.dump.specs.Reading.{no_values, progress_refused, begun as begun_as, starts_from, lines_from, readings};
 
 use crate::header::read_header;
 use crate::lines::line_at;
 use crate::taking::{next_after, past, put_value, show_value, starts, takes, time_after};
 use construction::answers::Refusal;
-use construction::texts::Verdict;
+use construction::texts::RefusedAt;
 use dump::{Header, Progress, Readings};
 
 // A dump that is gone through: the place of the next line, the time, and the values so far.
@@ -41,10 +41,10 @@ fn progress_refused(line: u64) -> Progress
     let values = [0u32; 64];
     let shown = [0u32; 64];
     Progress {
-        verdict: Verdict::Refused {
+        verdict: Err(RefusedAt {
             refusal: Refusal::Malformed,
             line,
-        },
+        }),
         at: 0,
         line,
         time: 0,
@@ -74,7 +74,7 @@ fn begun(header: Header) -> Progress
 
 // The values at time 0, as many as there are variables.
 fn read_starts(text: &[u8], count: u8, step: u64, start: Progress) -> Progress
-    requires { (count ≤ 64) × (start.line ≤ 200) × (start.next ≡ 0) × (start.verdict ≡ Verdict.Accepted) }
+    requires { (count ≤ 64) × (start.line ≤ 200) × (start.next ≡ 0) × (start.verdict ≡ Ok tt) }
     ensures { result ≡ starts_from step text.now count start }
 {
     let time = start.time;
@@ -95,7 +95,7 @@ fn read_starts(text: &[u8], count: u8, step: u64, start: Progress) -> Progress
         next = next + 1;
     }
     Progress {
-        verdict: Verdict::Accepted,
+        verdict: Ok(()),
         at,
         line: number,
         time,
@@ -107,7 +107,7 @@ fn read_starts(text: &[u8], count: u8, step: u64, start: Progress) -> Progress
 
 // The lines that are left.
 fn read_lines(text: &[u8], count: u8, step: u64, start: Progress) -> Progress
-    requires { (count ≤ 64) × (start.line ≤ start.at) × (start.verdict ≡ Verdict.Accepted) }
+    requires { (count ≤ 64) × (start.line ≤ start.at) × (start.verdict ≡ Ok tt) }
     ensures { result ≡ lines_from step text.now count (length text.now) start }
 {
     let mut values = start.values;
@@ -129,7 +129,7 @@ fn read_lines(text: &[u8], count: u8, step: u64, start: Progress) -> Progress
         next = next_after(line);
     }
     Progress {
-        verdict: Verdict::Accepted,
+        verdict: Ok(()),
         at,
         line: number,
         time,
@@ -140,11 +140,11 @@ fn read_lines(text: &[u8], count: u8, step: u64, start: Progress) -> Progress
 }
 
 fn refused_readings(refusal: Refusal, line: u64) -> Readings
-    ensures { result ≡ record { verdict = Verdict.Refused refusal line; count = 0; last = 0; values = no_values } }
+    ensures { result ≡ record { verdict = Err (at_line refusal line); count = 0; last = 0; values = no_values } }
 {
     let values = [0u32; 64];
     Readings {
-        verdict: Verdict::Refused { refusal, line },
+        verdict: Err(RefusedAt { refusal, line }),
         count: 0,
         last: 0,
         values,
@@ -157,19 +157,19 @@ pub fn read(text: &[u8], step: u64) -> Readings
 {
     let header = read_header(text);
     let verdict = header.verdict;
-    if let Verdict::Refused { refusal, line } = verdict {
+    if let Err(RefusedAt { refusal, line }) = verdict {
         return refused_readings(refusal, line);
     }
     let count = header.count;
     let first = begun(header);
     let started = read_starts(text, count, step, first);
     let verdict = started.verdict;
-    if let Verdict::Refused { refusal, line } = verdict {
+    if let Err(RefusedAt { refusal, line }) = verdict {
         return refused_readings(refusal, line);
     }
     let whole = read_lines(text, count, step, started);
     let verdict = whole.verdict;
-    if let Verdict::Refused { refusal, line } = verdict {
+    if let Err(RefusedAt { refusal, line }) = verdict {
         return refused_readings(refusal, line);
     }
     let values = whole.shown;

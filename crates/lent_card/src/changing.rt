@@ -12,7 +12,7 @@ use block::own::{control, last_gate};
 use block::texts::put_from;
 use construction::answers::Answer;
 use construction::programs::Program;
-use construction::texts::Verdict;
+use construction::texts::RefusedAt;
 use reader::changes::read_change;
 use requests::behind::is_behind;
 use requests::judging::judge_change;
@@ -43,7 +43,7 @@ fn some_behind(b: &[u64], number: u64) -> bool
 }
 
 // Whether a change is taken, by the verdict on its text.
-fn answer_change(b: &[u64], program: u32, from: u64, verdict: Verdict) -> Answer
+fn answer_change(b: &[u64], program: u32, from: u64, verdict: Result<(), RefusedAt>) -> Answer
     ensures { result ≡ change_judged program (program_count_in b.now) verdict (gate_in b.now).seq from (from_in b.now program) (behind_in b.now (from_in b.now program) 8) }
 {
     let gate = gate(b);

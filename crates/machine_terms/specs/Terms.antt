@@ -2,12 +2,13 @@
 -- line 1 by its form, then 18 where K is not 1 to 4, 'as K says how many lines follow'; then each further line by its form, missing and left over as in a card
 -- text; then 18 for T, shares and ceilings. Numbers have any length and count as at most 1,000,000,000,000,000,001 (crate grammar): a larger share is above T
 -- as it is, and a larger ceiling is as good as no ceiling (proofs/Ceilings).
-use Rattle.std.specs.Prelude.{ℕ, zero, suc, ◌+◌, cond, ◌||◌, List, [], ◌∷◌, length, set, replicate, ltb}
+use Rattle.std.specs.Prelude.{ℕ, zero, suc, ◌+◌, cond, ◌||◌, List, [], ◌∷◌, length, set, replicate, ltb, Ok, Err}
 use Rattle.grammar.specs.declared.Number.{Number}
 use Rattle.grammar.specs.Reading.{field, has_word}
-use Rattle.construction.specs.declared.{answers.Refusal.Refusal, texts.Verdict.Verdict}
+use Rattle.construction.specs.declared.{answers.Refusal.Refusal}
 use Rattle.construction.specs.declared.answers.Refusal.TheVariants as refusals
 use Rattle.construction.specs.Answers.{is_refused}
+use Rattle.construction.specs.Types.{at_line}
 use Rattle.allowance.specs.declared.{Quota.Quota, Opened.Opened}
 use Rattle.allowance.specs.Opening.{allowance_from, opened_as}
 use Rattle.machine_terms.specs.declared.{Pair.Pair, QuotasRead.QuotasRead, Terms.Terms}
@@ -54,11 +55,11 @@ quotas_read t at count = quotas_from t count 0 at (replicate 4 (quota_of 0 0))
 
 -- 'which leaves no machines'
 unfoldable pub refused : Refusal → ℕ → Terms
-refused why n = record { allowance = allowance_from 0 0 (replicate 4 (quota_of 0 0)); verdict = Verdict.Refused why n }
+refused why n = record { allowance = allowance_from 0 0 (replicate 4 (quota_of 0 0)); verdict = Err (at_line why n) }
 
 -- what opening answers
 unfoldable pub judged_as : Opened → Terms
-judged_as o = cond (is_refused o.answer) (refused refusals.BadTerms 0) (record { allowance = o.allowance; verdict = Verdict.Accepted })
+judged_as o = cond (is_refused o.answer) (refused refusals.BadTerms 0) (record { allowance = o.allowance; verdict = Ok tt })
 
 abbrev pub with_quotas : ℕ → ℕ → QuotasRead → Terms
 with_quotas count steps r = cond (ltb 0 r.line) (refused refusals.Malformed r.line) (judged_as (opened_as count steps r.quotas))

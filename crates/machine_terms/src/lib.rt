@@ -9,7 +9,7 @@ ghost use Rattle.machine_terms.specs.Terms.{pair, line, quota_of, quotas_read, r
 use allowance::{Allowance, Opened, Quota, open};
 use answers::kinds::is_refused;
 use construction::answers::Refusal;
-use construction::texts::Verdict;
+use construction::texts::RefusedAt;
 use grammar::Number;
 use grammar::reading::{field_at, has_word};
 
@@ -31,7 +31,7 @@ pub struct QuotasRead {
 #[derive(Clone, Copy)]
 pub struct Terms {
     pub allowance: Allowance,
-    pub verdict: Verdict,
+    pub verdict: Result<(), RefusedAt>,
 }
 
 // The most bytes of the text.
@@ -120,7 +120,7 @@ fn refused_with(refusal: Refusal, line: u64) -> Terms
     let none = quota_of(0, 0);
     let opened = open(0, 0, [none; 4]);
     let allowance = opened.allowance;
-    let verdict = Verdict::Refused { refusal, line };
+    let verdict = Err(RefusedAt { refusal, line });
     Terms { allowance, verdict }
 }
 
@@ -135,7 +135,7 @@ fn judged(opened: Opened) -> Terms
     let allowance = opened.allowance;
     Terms {
         allowance,
-        verdict: Verdict::Accepted,
+        verdict: Ok(()),
     }
 }
 

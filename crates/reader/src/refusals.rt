@@ -6,14 +6,14 @@ ghost use Rattle.reader.specs.Refusals.{card_refusal, var_refusal, sheet_refusal
 use crate::begun_contents;
 use construction::answers::Refusal;
 use construction::texts::{
-    CardLine, InsLine, ProgramReading, Reading, SheetLine, VarLine, Verdict,
+    CardLine, InsLine, ProgramReading, Reading, SheetLine, VarLine, RefusedAt,
 };
 
 pub(crate) fn refused_at(refusal: Refusal, line: u64) -> Reading
     ensures { result ≡ refused_at refusal line }
 {
     let contents = begun_contents(0, 0, 0, 0);
-    let verdict = Verdict::Refused { refusal, line };
+    let verdict = Err(RefusedAt { refusal, line });
     Reading {
         verdict,
         contents,
@@ -26,7 +26,7 @@ pub(crate) fn program_refused_at(refusal: Refusal, line: u64) -> ProgramReading
     ensures { result ≡ program_refused_at refusal line }
 {
     let program = opening::no_program();
-    let verdict = Verdict::Refused { refusal, line };
+    let verdict = Err(RefusedAt { refusal, line });
     ProgramReading {
         verdict,
         program,

@@ -1,10 +1,11 @@
 -- Whether a request is taken, by numbers and the place of its process: refusals 5 to 8, 10, 15 and 16 in their order. These are the tests of `call`,
 -- `request_exit`, `step` and `change` of construction without the card that those give: the functions that judge have none. `call_refused`, `call_taken`
 -- and their like for the others (card/proofs/Requests, changing/proofs/Laws) say that the two agree.
-use Rattle.std.specs.Prelude.{ℕ, Bool, cond, not, ◌&&◌, ◌||◌, ltb}
-use Rattle.construction.specs.declared.{accesses.Label.Label, answers.Refusal.Refusal, answers.Answer.Answer, texts.Verdict.Verdict}
+use Rattle.std.specs.Prelude.{ℕ, Bool, cond, not, ◌&&◌, ◌||◌, ltb, Ok, Err}
+use Rattle.construction.specs.declared.{accesses.Label.Label, answers.Refusal.Refusal, answers.Answer.Answer}
 use Rattle.construction.specs.declared.answers.Refusal.TheVariants.{NoProcess, NoProgram, Busy, NotBusy, LimitReached, NotAhead, Unsettled}
 use Rattle.construction.specs.Requests.{is_idle}
+use Rattle.construction.specs.Types.{Verdict}
 
 -- the first of three tests that fails gives its refusal
 abbrev pub judged : Bool → Refusal → Bool → Refusal → Bool → Refusal → Answer
@@ -26,8 +27,8 @@ step_judged i p place steps limit =
 -- a change of program k (document 02, order 11): a text that is refused gives the refusal with its line; the gate has this number, the program's last
 -- change holds from `last`, and an operation under way may be behind that
 abbrev pub if_text_accepted : Verdict → Answer → Answer
-if_text_accepted Verdict.Accepted x = x
-if_text_accepted (Verdict.Refused why line) x = Answer.RefusedAt why line
+if_text_accepted (Ok _) x = x
+if_text_accepted (Err e) x = Answer.RefusedAt e.refusal e.line
 
 abbrev pub change_judged : ℕ → ℕ → Verdict → ℕ → ℕ → ℕ → Bool → Answer
 change_judged k s verdict number from last behind =

@@ -7,7 +7,7 @@ ghost use Rattle.requests.specs.Judging.{call_judged, exit_judged, step_judged, 
 use construction::accesses::{Control, Label};
 use construction::answers::{Answer, Refusal};
 use construction::cells::Announcement;
-use construction::texts::Verdict;
+use construction::texts::RefusedAt;
 use machine::announcement::returned;
 use machine::places::is_idle;
 
@@ -74,7 +74,7 @@ pub fn judge_step(process: u32, process_count: u8, place: Label, steps: u64, lim
 pub fn judge_change(
     program: u32,
     program_count: u8,
-    verdict: Verdict,
+    verdict: Result<(), RefusedAt>,
     number: u64,
     from: u64,
     last: u64,
@@ -88,7 +88,7 @@ pub fn judge_change(
             line: 0,
         };
     }
-    if let Verdict::Refused { refusal, line } = verdict {
+    if let Err(RefusedAt { refusal, line }) = verdict {
         return Answer::RefusedAt { refusal, line };
     }
     if from <= number {

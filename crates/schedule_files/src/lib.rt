@@ -14,7 +14,7 @@ use calls::requests_in;
 use commands::printing::{put_calls_refusal, put_card_refusal};
 use construction::answers::Refusal;
 use construction::card::Card;
-use construction::texts::Verdict;
+use construction::texts::RefusedAt;
 use grammar::writing::{put_byte, put_word};
 use listing::judging::{are_callable, is_listable};
 use listing::starting::call_all;
@@ -56,7 +56,7 @@ pub fn prepare(card: &[u8], calls: &[u8], length: u32, buffer: &mut [u8]) -> Pre
     let opened = reader::open(card);
     let first = opened.card;
     let verdict = opened.verdict;
-    if let Verdict::Refused { refusal, line } = verdict {
+    if let Err(RefusedAt { refusal, line }) = verdict {
         let end = put_card_refusal(buffer, refusal, line);
         return over(first, end);
     }

@@ -2,7 +2,7 @@
 // the text all the same. The fields of answers are those of the crate answers.
 ghost use Rattle.std.specs.Prelude.{◌≡◌, ◌+◌, ◌≤◌};
 ghost use Rattle.grammar.specs.Writing.{Put};
-ghost use Rattle.construction.specs.Types.{at_line};
+ghost use Rattle.construction.specs.Types.{told_at};
 ghost use Rattle.commands.specs.Printing.{is_malformed, verb_of, first_of, head_text, line_text, longest, card_refusal, calls_refusal};
 
 use crate::Command;
@@ -114,7 +114,7 @@ pub fn put_line(
 
 // The line of a refused card.
 pub fn put_card_refusal(buffer: &mut [u8], refusal: Refusal, line: u64) -> usize
-    ensures { Put buffer.old 0 (card_refusal (Err (at_line refusal line))) result buffer.new × (result ≤ longest) }
+    ensures { Put buffer.old 0 (card_refusal (Err (told_at refusal line))) result buffer.new × (result ≤ longest) }
 {
     let next = put_word(buffer, 0, b"card");
     let verdict = Err(RefusedAt { refusal, line });

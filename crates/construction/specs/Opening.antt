@@ -1,7 +1,7 @@
 -- What a card text opens to (document 01, 'The card text' and 'Turned back'): judged by its length, then line by line.
 use Rattle.std.specs.Prelude.{ℕ, zero, suc, ◌+◌, false, cond, List, map, length, set, replicate, eqb, ltb, Ok, Err}
 use Rattle.construction.specs.Types.{Instruction, Line, Program, Card, Refusal, TooLong, Malformed, TooHeavy, CardLine, VarLine, SheetLine, InsLine}
-use Rattle.construction.specs.Types.{Contents, Verdict, ProgramReading, Reading, Opened, at_line}
+use Rattle.construction.specs.Types.{Contents, Verdict, ProgramReading, Reading, Opened, told_at}
 use Rattle.construction.specs.Cells.{open_gate, open_announcement, open_record}
 use Rattle.construction.specs.Instructions.{no_line, no_program, started}
 use Rattle.construction.specs.Weight.{weight}
@@ -67,10 +67,10 @@ fresh x =
 
 -- 'A refused text gives its line, counted from 1 (0 for refusal 1)'
 abbrev pub refused_at : Refusal → ℕ → Reading
-refused_at why line = record { verdict = Err (at_line why line); contents = no_contents; at = 0; line = line }
+refused_at why line = record { verdict = Err (told_at why line); contents = no_contents; at = 0; line = line }
 
 abbrev pub program_refused_at : Refusal → ℕ → ProgramReading
-program_refused_at why line = record { verdict = Err (at_line why line); program = no_program; at = 0; line = line }
+program_refused_at why line = record { verdict = Err (told_at why line); program = no_program; at = 0; line = line }
 
 -- what has been read so far of a program and of a card, the place of the next line and its number
 abbrev pub program_so_far : ℕ → List Line → ℕ → ℕ → ProgramReading

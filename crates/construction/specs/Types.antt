@@ -75,5 +75,5 @@ RowSwap = Result Bool Refusal
 abbrev pub Verdict : Type 0
 Verdict = Result (Unit {0}) RefusedAt
 
-abbrev pub at_line : Refusal → ℕ → RefusedAt
-at_line why line = record { refusal = why; line = line }
+abbrev pub told_at : Refusal → ℕ → RefusedAt
+told_at why line = record { refusal = why; line = line }

@@ -15,7 +15,7 @@ use Rattle.grammar.proofs.Bytes.{word_text_lem}
 use Rattle.construction.specs.declared.answers.Refusal.TheVariants.{Malformed}
 use Rattle.construction.specs.Answers.{Fields, fields, verdict_fields}
 use Rattle.construction.specs.TextJudging.{refused_in}
-use Rattle.construction.specs.Types.{Verdict, at_line}
+use Rattle.construction.specs.Types.{Verdict, told_at}
 use Rattle.construction.proofs.Basics.{cond_true}
 use Rattle.dump.specs.declared.{DumpLine.DumpLine, Header.Header, Progress.Progress}
 use Rattle.dump.specs.Dump.{timescale_line, scope_line, var_line, upscope_line, definitions_line, time_text}
@@ -161,7 +161,7 @@ module _ (step : ℕ) (t : List ℕ) where
       )
 
   -- ---- what the verdict says
-  refused_at_lem : {p : Progress} (line : ℕ) → progress step t ≡ p → p.verdict ≡ Err (at_line Malformed line) →
+  refused_at_lem : {p : Progress} (line : ℕ) → progress step t ≡ p → p.verdict ≡ Err (told_at Malformed line) →
       verdict_fields (readings t step).verdict ≡ refused_in line 2
   unfolding readings verdict_fields
   refused_at_lem {p} line e f =

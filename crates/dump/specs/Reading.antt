@@ -4,7 +4,7 @@ use Rattle.std.specs.Prelude.{ℕ, zero, suc, ◌+◌, ◌-◌, Bool, cond, not,
 use Rattle.grammar.specs.declared.Number.{Number}
 use Rattle.grammar.specs.Reading.{has_byte, has_word, field}
 use Rattle.construction.specs.declared.answers.Refusal.TheVariants.{Malformed}
-use Rattle.construction.specs.Types.{Verdict, at_line}
+use Rattle.construction.specs.Types.{Verdict, told_at}
 use Rattle.dump.specs.declared.{DumpLine.DumpLine, Header.Header, Progress.Progress, Readings.Readings}
 use Rattle.dump.specs.Binary.{over, bits_at}
 use Rattle.dump.specs.Dump.{timescale_line, scope_line, var_line, upscope_line, definitions_line, time_text}
@@ -34,7 +34,7 @@ abbrev pub header_start : Header
 header_start = record { verdict = Ok tt; count = 0; at = 0; line = 1 }
 
 abbrev pub header_refused : ℕ → Header
-header_refused line = record { verdict = Err (at_line Malformed line); count = 0; at = 0; line = line }
+header_refused line = record { verdict = Err (told_at Malformed line); count = 0; at = 0; line = line }
 
 abbrev pub on_header : Verdict → Header → Header → Header
 on_header (Ok _) h next = next
@@ -71,7 +71,7 @@ no_values = replicate 64 0
 
 abbrev pub progress_refused : ℕ → Progress
 progress_refused line =
-    record { verdict = Err (at_line Malformed line); at = 0; line = line; time = 0; next = 0; values = no_values; shown = no_values }
+    record { verdict = Err (told_at Malformed line); at = 0; line = line; time = 0; next = 0; values = no_values; shown = no_values }
 
 -- after `#0`, or refused with the header
 abbrev pub begun : Header → Progress

@@ -2,7 +2,7 @@
 ghost use Rattle.std.specs.Prelude.{◌≡◌, ◌≤◌, ◌<◌, ◌+◌, length};
 ghost use Rattle.grammar.specs.Reading.{has_word};
 ghost use Rattle.grammar.specs.Writing.{decimal};
-ghost use Rattle.construction.specs.Types.{at_line};
+ghost use Rattle.construction.specs.Types.{told_at};
 ghost use Rattle.dump.specs.Dump.{var_line};
 ghost use Rattle.dump.specs.Reading.{header_refused, then_word, then_vars, read_header};
 

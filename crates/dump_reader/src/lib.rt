@@ -10,7 +10,7 @@ pub mod rows; // rows.rt: the values in decimal, a line for each time
 mod taking; // taking.rt: whether a line may follow, and what is left once it is taken
 
 ghost use Rattle.std.specs.Prelude.{◌≡◌, ◌≤◌, length};
-ghost use Rattle.construction.specs.Types.{at_line};
+ghost use Rattle.construction.specs.Types.{told_at};
 ghost use Rattle.dump.specs.Reading.{no_values, progress_refused, begun as begun_as, starts_from, lines_from, readings};
 
 use crate::header::read_header;
@@ -140,7 +140,7 @@ fn read_lines(text: &[u8], count: u8, step: u64, start: Progress) -> Progress
 }
 
 fn refused_readings(refusal: Refusal, line: u64) -> Readings
-    ensures { result ≡ record { verdict = Err (at_line refusal line); count = 0; last = 0; values = no_values } }
+    ensures { result ≡ record { verdict = Err (told_at refusal line); count = 0; last = 0; values = no_values } }
 {
     let values = [0u32; 64];
     Readings {

@@ -10,7 +10,7 @@ use Rattle.construction.specs.declared.{programs.Program.Program, texts.Reading.
 use Rattle.construction.specs.declared.answers.Refusal.TheVariants.{ShortBuffer}
 use Rattle.construction.specs.Instructions.{no_program}
 use Rattle.construction.specs.Opening.{read_card}
-use Rattle.construction.specs.Types.{Verdict, at_line}
+use Rattle.construction.specs.Types.{Verdict, told_at}
 use Rattle.opening.proofs.Laws.{inside}
 use Rattle.lent_text.specs.Opened.{put_value, put_values, put_texts, put_programs, contents_block, opened_block, judged, Opens}
 
@@ -43,7 +43,7 @@ module _ (b : List ℕ) (v : Verdict) (e : v ≡ Ok tt) where
   pub judged_long : 1456 ≤ length b → (Ok tt) ≡ judged v b
   judged_long h = sym (rw (e, le-leb 1456 (length b) h))
 
-  pub judged_short : length b < 1456 → Err (at_line ShortBuffer 0) ≡ judged v b
+  pub judged_short : length b < 1456 → Err (told_at ShortBuffer 0) ≡ judged v b
   judged_short h = sym (rw (e, lt-leb 1456 (length b) h))
 
 pub opens : (t b z : List ℕ) (r : Verdict) (x : Reading) → x ≡ read_card t → r ≡ judged x.verdict b → z ≡ contents_block b x.contents → Opens t b r z

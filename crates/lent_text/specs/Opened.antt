@@ -6,7 +6,7 @@ use Rattle.construction.specs.Cells.{open_gate, open_record}
 use Rattle.construction.specs.Instructions.{no_program}
 use Rattle.construction.specs.Opening.{read_card}
 use Rattle.construction.specs.Weight.{card_weight}
-use Rattle.construction.specs.Types.{Verdict, at_line}
+use Rattle.construction.specs.Types.{Verdict, told_at}
 use Rattle.block.specs.Layout.{put_room, put_process_count, put_variable_count, put_program_count, put_limit, put_gate, put_start, put_record, put_opening, put_earlier}
 use Rattle.block.specs.Layout.{put_later}
 
@@ -53,7 +53,7 @@ opened_block t b = contents_block b (read_card t).contents
 
 -- a text's own refusals come first; then a block that is too short is refused with 11, at line 0
 abbrev pub judged : Verdict → List ℕ → Verdict
-judged (Ok _) b = cond (leb 1456 (length b)) (Ok tt) (Err (at_line ShortBuffer 0))
+judged (Ok _) b = cond (leb 1456 (length b)) (Ok tt) (Err (told_at ShortBuffer 0))
 judged (Err e) b = Err e
 
 -- the answer r, and the words z that a block of the words b has then

@@ -8,7 +8,7 @@ use Rattle.grammar.specs.Reading.{field, has_word}
 use Rattle.construction.specs.declared.{answers.Refusal.Refusal}
 use Rattle.construction.specs.declared.answers.Refusal.TheVariants as refusals
 use Rattle.construction.specs.Answers.{is_refused}
-use Rattle.construction.specs.Types.{at_line}
+use Rattle.construction.specs.Types.{told_at}
 use Rattle.allowance.specs.declared.{Quota.Quota, Opened.Opened}
 use Rattle.allowance.specs.Opening.{allowance_from, opened_as}
 use Rattle.machine_terms.specs.declared.{Pair.Pair, QuotasRead.QuotasRead, Terms.Terms}
@@ -55,7 +55,7 @@ quotas_read t at count = quotas_from t count 0 at (replicate 4 (quota_of 0 0))
 
 -- 'which leaves no machines'
 unfoldable pub refused : Refusal → ℕ → Terms
-refused why n = record { allowance = allowance_from 0 0 (replicate 4 (quota_of 0 0)); verdict = Err (at_line why n) }
+refused why n = record { allowance = allowance_from 0 0 (replicate 4 (quota_of 0 0)); verdict = Err (told_at why n) }
 
 -- what opening answers
 unfoldable pub judged_as : Opened → Terms

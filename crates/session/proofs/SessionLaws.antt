@@ -13,7 +13,7 @@ use Rattle.grammar.proofs.Pieces as pieces
 use Rattle.construction.specs.declared.{card.Card.Card, answers.Refusal.Refusal, answers.Traced.Traced, texts.Opened.Opened}
 use Rattle.construction.specs.Opening.{opened}
 use Rattle.construction.specs.Answers.{answer_fields}
-use Rattle.construction.specs.Types.{at_line}
+use Rattle.construction.specs.Types.{told_at}
 use Rattle.commands.specs.declared.{Command.Command, Parsed.Parsed}
 use Rattle.commands.specs.Commands.{Inside, command, commands}
 use Rattle.commands.specs.CommandFields.{command_fields}
@@ -144,9 +144,9 @@ module _ (card calls : List ℕ) where
   over c = rw (commands_end calls (length calls) (omega arith))
 
   pub only_card_refusal :
-      {why : Refusal} {line : ℕ} → (opened card).verdict ≡ Err (at_line why line) → session card calls ≡ card_refusal (Err (at_line why line))
+      {why : Refusal} {line : ℕ} → (opened card).verdict ≡ Err (told_at why line) → session card calls ≡ card_refusal (Err (told_at why line))
   unfolding session beginning
-  only_card_refusal {why} {line} e = rw (e, over) (append-nil (card_refusal (Err (at_line why line))))
+  only_card_refusal {why} {line} e = rw (e, over) (append-nil (card_refusal (Err (told_at why line))))
 
   pub only_calls_refusal : (opened card).verdict ≡ Ok tt → 65536 < length calls → session card calls ≡ calls_refusal
   unfolding session beginning

@@ -6,7 +6,7 @@ use mathlib.Core.Bool.{Bool, true, false, cond, not}
 use lib.Dec.{ltb}
 use borrow.Author.Tests.{ltb-true, ltb-false, not-true, not-false}
 use Rattle.construction.specs.Types.{Words, Card, Refusal, NoProcess, NoProgram, Busy, NotBusy, NoPlace, LimitReached, Answer, Answered, NotAhead}
-use Rattle.construction.specs.Types.{Unsettled, Verdict, at_line}
+use Rattle.construction.specs.Types.{Unsettled, Verdict, told_at}
 use Rattle.construction.specs.Machine.{advance}
 use Rattle.construction.specs.Requests.{is_process, is_program, is_variable, is_busy, refused, call, request_exit, answer_of, step, value_of, read, invoked}
 use Rattle.construction.specs.Requests.{exiting}
@@ -27,7 +27,7 @@ inside c i e = ltb-true i c.process_count (and_true (ltb i c.process_count) _ e)
 pub on_change_why {κ} :
     (P : Answered → Type κ) (c : Card) (k from : ℕ) (t : List ℕ) →
     (is_program c k ≡ false → P (unchanged c NoProgram 0)) →
-    (is_program c k ≡ true → (why : Refusal) (line : ℕ) → (change_read (contents_of c) t).verdict ≡ Err (at_line why line) → P (unchanged c why line)) →
+    (is_program c k ≡ true → (why : Refusal) (line : ℕ) → (change_read (contents_of c) t).verdict ≡ Err (told_at why line) → P (unchanged c why line)) →
     (is_program c k ≡ true → (change_read (contents_of c) t).verdict ≡ Ok tt → from ≤ c.gate.seq → P (unchanged c NotAhead 0)) →
     (is_program c k ≡ true → (change_read (contents_of c) t).verdict ≡ Ok tt → c.gate.seq < from → is_unsettled c k ≡ true →
     P (unchanged c Unsettled 0))

@@ -10,7 +10,7 @@ use lib.ListN.{get_or, length}
 use Rattle.grammar.specs.Reading.{has_word}
 use Rattle.construction.specs.Types.{Yield, Instruction, Decoded, Refusal, TooLong, Malformed, OutOfRange, UnknownCode, NoProcess, NoProgram, Busy}
 use Rattle.construction.specs.Types.{NotBusy, NoPlace, LimitReached, ShortBuffer, OperandOutOfRange, UnusedOperand, TooHeavy, Answer, RowSwap, CardLine}
-use Rattle.construction.specs.Types.{VarLine, SheetLine, InsLine, Verdict, Written, NotAhead, Unsettled, TooLarge, BadTerms, NoAllowance, at_line}
+use Rattle.construction.specs.Types.{VarLine, SheetLine, InsLine, Verdict, Written, NotAhead, Unsettled, TooLarge, BadTerms, NoAllowance, told_at}
 use Rattle.construction.specs.Answers.{bytes, Fields, fields, number_of, output_numbers, done_word, answer_fields, verdict_fields, written_fields, row_fields}
 use Rattle.construction.specs.Answers.{decoded_fields, card_line_fields, var_line_fields, sheet_line_fields, ins_line_fields}
 use Rattle.construction.specs.KnownAnswers.{card_line_end, var_line_end, sheet_line_end, ins_line_end, KnownBy, KnownByFields}
@@ -82,7 +82,7 @@ module _ (f : Fields) where
       (cond is_refusal (cond (eqb (length f.numbers) 2) (Answer.RefusedAt why (number 1)) (Answer.Refused why)) (Answer.Value (number 0)))))))
 
   abbrev verdict_from : Verdict
-  verdict_from = cond is_refusal (Err (at_line why (number 1))) (Ok tt)
+  verdict_from = cond is_refusal (Err (told_at why (number 1))) (Ok tt)
 
   abbrev written_from : Written
   written_from = cond is_refusal (Err why) (Ok (number 0))
@@ -129,7 +129,7 @@ answer_back (Answer.RefusedAt r line) = ap (λ (x : Refusal). Answer.RefusedAt x
 verdict_back : (v : Verdict) → verdict_from (verdict_fields v) ≡ v
 unfolding verdict_fields has_word
 verdict_back (Ok _) = refl
-verdict_back (Err e) = ap (λ (x : Refusal). Err (at_line x e.line)) (refusal_back e.refusal)
+verdict_back (Err e) = ap (λ (x : Refusal). Err (told_at x e.line)) (refusal_back e.refusal)
 
 written_back : (w : Written) → written_from (written_fields w) ≡ w
 unfolding written_fields has_word

@@ -18,7 +18,7 @@ use Rattle.construction.specs.Requests.{is_program}
 use Rattle.construction.specs.Changes.{change_read, has_read, is_behind, some_behind, is_unsettled, unchanged, changed, change}
 use Rattle.construction.specs.TextJudging.{refused_in, ChangeJudged}
 use Rattle.construction.specs.Texts.{Overweight, UnsettledBy}
-use Rattle.construction.specs.Types.{at_line}
+use Rattle.construction.specs.Types.{told_at}
 use Rattle.construction.proofs.Basics.{clash, and_true, true_or_false}
 use Rattle.construction.proofs.Text.Changes.{Says, refused_says, overweight_judged}
 use Rattle.construction.proofs.Observing.Entries.{on_change, on_change_why}
@@ -35,9 +35,9 @@ unfolding answer_fields
 refused_at_lem {c} {r} why line h = answer_known r.answer (Answer.RefusedAt why line) h.refusal
 
 text_says :
-    (x : Contents) (t : List ℕ) (why : Refusal) (line : ℕ) {other : Refusal} {at : ℕ} → (change_read x t).verdict ≡ Err (at_line other at) →
+    (x : Contents) (t : List ℕ) (why : Refusal) (line : ℕ) {other : Refusal} {at : ℕ} → (change_read x t).verdict ≡ Err (told_at other at) →
     Answer.RefusedAt other at ≡ Answer.RefusedAt why line → Says x t why line
-text_says x t why line v e = let z : (change_read x t).verdict ≡ Err (at_line why line) = cc in refused_says x t z
+text_says x t why line v e = let z : (change_read x t).verdict ≡ Err (told_at why line) = cc in refused_says x t z
 
 -- 16: what is unsettled, both ways
 or_either : (a b : Bool) → a || b ≡ true → (a ≡ true) ⊎ (b ≡ true)
@@ -108,7 +108,7 @@ module _ (c : Card) (k from : ℕ) (t : List ℕ) where
 
   -- those of the text, with its line: 1 at line 0; 14 at the last instruction
   pub change_text_lem :
-      (why : Refusal) (line : ℕ) → is_program c k ≡ true → (change_read x t).verdict ≡ Err (at_line why line) → RefusesAt c r (number_of why) line
+      (why : Refusal) (line : ℕ) → is_program c k ≡ true → (change_read x t).verdict ≡ Err (told_at why line) → RefusesAt c r (number_of why) line
   unfolding change
   change_text_lem why line p v = refuses_at c r why line (rw (p, v))
 

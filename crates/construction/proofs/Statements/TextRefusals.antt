@@ -19,7 +19,7 @@ use Rattle.construction.specs.Opening.{next_program, with_program, programs_from
 use Rattle.construction.specs.Opening.{after_card, read_card, opened}
 use Rattle.construction.specs.Changes.{if_program_accepted, program_then_end, program_text}
 use Rattle.construction.specs.TextJudging.{NextLine, GoodUntil, refused_in, Judged, GoodLines, ChangeJudged}
-use Rattle.construction.specs.Types.{at_line}
+use Rattle.construction.specs.Types.{told_at}
 use Rattle.construction.proofs.Basics.{on_test, true_false}
 use Rattle.construction.proofs.Text.Reading.{after_fields, after_length}
 use Rattle.construction.proofs.Observing.Histories.{on_equal}
@@ -87,7 +87,7 @@ unfolding has_word
 unlike h e = true_false _ (ap is_refusal e) h
 
 told : (why : Refusal) (line : ℕ) {number : ℕ} → refused_with (number_of why) ≡ refused_with number →
-    verdict_fields (Err (at_line why line)) ≡ refused_in line number
+    verdict_fields (Err (told_at why line)) ≡ refused_in line number
 unfolding verdict_fields
 told why line e = ap (λ (f : Fields). refused_in line (get_or f.numbers 0 0)) e
 

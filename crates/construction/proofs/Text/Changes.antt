@@ -23,7 +23,7 @@ use Rattle.construction.specs.Lines.{sheet_word, ins_word, judge_sheet, sheet_li
 use Rattle.construction.specs.Opening.{program_refused_at, with_line, next_ins, ins_from, judge_weight, weighed, program_after, read_program}
 use Rattle.construction.specs.Changes.{if_program_accepted, program_then_end, change_read}
 use Rattle.construction.specs.Texts.{instructions_read, Overweight}
-use Rattle.construction.specs.Types.{at_line}
+use Rattle.construction.specs.Types.{told_at}
 use Rattle.construction.proofs.Basics.{on_test}
 use Rattle.construction.proofs.Text.Reading.{after_length}
 
@@ -180,15 +180,15 @@ module _ (x : Contents) (t : List ℕ) where
   judged_says (Judged.too_heavy_lem line l h) = (l, h)
   judged_says (Judged.accepted h) = subst VerdictSays (sym h) tt
 
-  pub refused_says : {why : Refusal} {line : ℕ} → (change_read x t).verdict ≡ Err (at_line why line) → Says why line
+  pub refused_says : {why : Refusal} {line : ℕ} → (change_read x t).verdict ≡ Err (told_at why line) → Says why line
   refused_says e = subst VerdictSays e (judged_says (judged x t))
 
 -- a text that counts too much is refused so
 pub overweight_judged :
-    (x : Contents) (t : List ℕ) (line : ℕ) → length t ≤ 16384 → Overweight x t line → (change_read x t).verdict ≡ Err (at_line TooHeavy line)
+    (x : Contents) (t : List ℕ) (line : ℕ) → length t ≤ 16384 → Overweight x t line → (change_read x t).verdict ≡ Err (told_at TooHeavy line)
 unfolding change_read read_program
 overweight_judged x t line short W =
     let n = weight (instructions_read x t W.m W.i).program in
     let more : min 32 (card_weight x) < n =
     ⊎_elim (λ h. omega (arith, min-le_left 32 (card_weight x))) (λ h. omega (arith, min-le_right 32 (card_weight x))) W.heavy in
-    rw (le-ltb 16384 (length t) short, W.sheet, W.good, lt-ltb (min 32 (card_weight x)) n more) (ap (λ (l : ℕ). Err (at_line TooHeavy l)) (omega (arith, W.last)))
+    rw (le-ltb 16384 (length t) short, W.sheet, W.good, lt-ltb (min 32 (card_weight x)) n more) (ap (λ (l : ℕ). Err (told_at TooHeavy l)) (omega (arith, W.last)))

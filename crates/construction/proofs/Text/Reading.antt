@@ -12,7 +12,7 @@ use Rattle.construction.specs.Weight.{weight}
 use Rattle.construction.specs.Opening.{refused_at, program_refused_at, with_line, next_ins, ins_from, judge_weight, weighed, program_after, with_program}
 use Rattle.construction.specs.Opening.{next_program, with_start, next_var, vars_from, begun, program_so_far, so_far, if_accepted, then_end, then_programs}
 use Rattle.construction.specs.Opening.{after_card}
-use Rattle.construction.specs.Types.{at_line}
+use Rattle.construction.specs.Types.{told_at}
 use Rattle.construction.proofs.Basics.{on_test, clash}
 
 -- ---- what is read after the `card` line and after a `sheet` line
@@ -62,7 +62,7 @@ on_var P (VarLine.Refused why) r k go f g = g why
 
 pub on_accepted :
     (P : Reading → Type 0) (r : Reading) (go : Reading → Reading) →
-    (r.verdict ≡ Ok tt → P (go r)) → ((why : Refusal) (line : ℕ) → r.verdict ≡ Err (at_line why line) → P r) →
+    (r.verdict ≡ Ok tt → P (go r)) → ((why : Refusal) (line : ℕ) → r.verdict ≡ Err (told_at why line) → P r) →
     P (if_accepted r.verdict r go)
 on_accepted P r go f g = by r.verdict refl
   where

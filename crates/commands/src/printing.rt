@@ -2,7 +2,6 @@
 // the text all the same. The fields of answers are those of the crate answers.
 ghost use Rattle.std.specs.Prelude.{◌≡◌, ◌+◌, ◌≤◌};
 ghost use Rattle.grammar.specs.Writing.{Put};
-ghost use Rattle.construction.specs.Types.{told_at};
 ghost use Rattle.commands.specs.Printing.{is_malformed, verb_of, first_of, head_text, line_text, longest, card_refusal, calls_refusal};
 
 use crate::Command;
@@ -113,12 +112,11 @@ pub fn put_line(
 }
 
 // The line of a refused card.
-pub fn put_card_refusal(buffer: &mut [u8], refusal: Refusal, line: u64) -> usize
-    ensures { Put buffer.old 0 (card_refusal (Err (told_at refusal line))) result buffer.new × (result ≤ longest) }
+pub fn put_card_refusal(buffer: &mut [u8], refused: RefusedAt) -> usize
+    ensures { Put buffer.old 0 (card_refusal (Err refused)) result buffer.new × (result ≤ longest) }
 {
     let next = put_word(buffer, 0, b"card");
-    let verdict = Err(RefusedAt { refusal, line });
-    let end = put_verdict(buffer, next, verdict);
+    let end = put_verdict(buffer, next, Err(refused));
     put_byte(buffer, end, b'\n')
 }
 

@@ -19,8 +19,7 @@ use Rattle.grammar.proofs.Decimals.{decimal_one, decimal_more}
 use Rattle.grammar.proofs.Bytes.{byte_true, word_within}
 use Rattle.grammar.proofs.Cases.{on_test, and_true}
 use Rattle.construction.specs.Answers.{bytes}
-use Rattle.construction.specs.declared.answers.Refusal.{Refusal}
-use Rattle.construction.specs.Types.{Verdict, told_at}
+use Rattle.construction.specs.Types.{Verdict, RefusedAt}
 use Rattle.dump.specs.declared.{DumpLine.DumpLine, Header.Header}
 use Rattle.dump.specs.Binary.{over, is_bit, bits_at}
 use Rattle.dump.specs.Dump.{line_of, timescale_line, scope_line, upscope_line, definitions_line, code_of, var_line, time_text}
@@ -115,7 +114,7 @@ module _ (t : List ℕ) (at : ℕ) {b : Bool} (e : b ≡ has_byte t at 35) where
 
 -- ---- the header
 module _ (t w : List ℕ) (h : Header) where
-  pub word_refused : {why : Refusal} {line : ℕ} → h.verdict ≡ Err (told_at why line) → h ≡ then_word t w h
+  pub word_refused : {refused : RefusedAt} → h.verdict ≡ Err refused → h ≡ then_word t w h
   unfolding then_word
   word_refused e = rw e
 
@@ -261,7 +260,7 @@ pub vars_end : (t : List ℕ) (n : ℕ) (h : Header) → 64 ≤ n → vars_from 
 unfolding vars_from
 vars_end t n h l = let k : 64 - n ≡ 0 = omega arith in rw k
 
-pub vars_refused : (t : List ℕ) (h : Header) {why : Refusal} {line : ℕ} → h.verdict ≡ Err (told_at why line) → h ≡ then_vars t h
+pub vars_refused : (t : List ℕ) (h : Header) {refused : RefusedAt} → h.verdict ≡ Err refused → h ≡ then_vars t h
 unfolding then_vars
 vars_refused t h e = rw e
 

@@ -7,8 +7,7 @@ use lib.Dec.{eqb}
 use lib.ListN.{length, length-append}
 use native.Mathlib.Omega.{arith}
 use Rattle.grammar.proofs.Cases.{on_test, clash}
-use Rattle.construction.specs.declared.answers.Refusal.{Refusal}
-use Rattle.construction.specs.Types.{told_at}
+use Rattle.construction.specs.Types.{RefusedAt}
 use Rattle.dump.specs.declared.{DumpLine.DumpLine, Header.Header, Progress.Progress, Readings.Readings}
 use Rattle.dump.specs.Dump.{timescale_line, scope_line, upscope_line, definitions_line, var_line, vars_text, header_text, time_text}
 use Rattle.dump.specs.Reading.{line_at, no_values, begun, with_value, next_start, starts_from, lines_from, on_progress, then_starts, then_lines, progress, read_header}
@@ -51,17 +50,17 @@ starts_order step t (suc m) s h = by (line_at t s.at) refl (λ x l. starts_order
     by (DumpLine.Time k i) e more = λ a. clash (cc)
     by DumpLine.Malformed e more = λ a. clash (cc)
 
-abbrev pub refused_readings : Refusal → ℕ → Readings
-refused_readings why line = record { verdict = Err (told_at why line); count = 0; last = 0; values = no_values }
+abbrev pub refused_readings : RefusedAt → Readings
+refused_readings refused = record { verdict = Err refused; count = 0; last = 0; values = no_values }
 
 goes : (s next : Progress) → s.verdict ≡ Ok tt → on_progress s.verdict s next ≡ next
 goes s next e = rw e
 
-stops : (s next : Progress) {why : Refusal} {line : ℕ} → s.verdict ≡ Err (told_at why line) → on_progress s.verdict s next ≡ s
+stops : (s next : Progress) {refused : RefusedAt} → s.verdict ≡ Err refused → on_progress s.verdict s next ≡ s
 stops s next e = rw e
 
-refused_given : (n : ℕ) (s : Progress) {why : Refusal} {line : ℕ} → s.verdict ≡ Err (told_at why line) →
-    readings_of s.verdict n s ≡ refused_readings why line
+refused_given : (n : ℕ) (s : Progress) {refused : RefusedAt} → s.verdict ≡ Err refused →
+    readings_of s.verdict n s ≡ refused_readings refused
 refused_given n s e = rw e
 
 accepted_given : (n : ℕ) (s : Progress) → s.verdict ≡ Ok tt →
@@ -77,7 +76,7 @@ module _ (t : List ℕ) (step : ℕ) {h : Header} (eh : h ≡ read_header t) whe
   unfolding readings
   gives {s} e = ap (λ (x : Progress). readings_of x.verdict (read_header t).count x) e ∙ ap (λ (x : Header). readings_of s.verdict x.count s) (sym eh)
 
-  pub no_header : {why : Refusal} {line : ℕ} {r : Readings} → h.verdict ≡ Err (told_at why line) → r ≡ refused_readings why line → r ≡ readings t step
+  pub no_header : {refused : RefusedAt} {r : Readings} → h.verdict ≡ Err refused → r ≡ refused_readings refused → r ≡ readings t step
   no_header e q =
       let s₁ = stops (begun h) (starts_from step t h.count (begun h)) e in
       let all : progress step t ≡ begun h = is ∙ ap (λ (x : Progress). then_lines step t h.count x) s₁ ∙ stops (begun h) _ e in
@@ -107,7 +106,7 @@ module _ (t : List ℕ) (step : ℕ) {h : Header} (eh : h ≡ read_header t) whe
             ∙ ap (λ (x : Progress). then_lines step t h.count x)
             (ap (λ (x : Progress). then_starts step t h.count x) (sym ef) ∙ goes first (starts_from step t h.count first) starts_need.3 ∙ sym es)
 
-        pub no_starts : {why : Refusal} {line : ℕ} {r : Readings} → s.verdict ≡ Err (told_at why line) → r ≡ refused_readings why line → r ≡ readings t step
+        pub no_starts : {refused : RefusedAt} {r : Readings} → s.verdict ≡ Err refused → r ≡ refused_readings refused → r ≡ readings t step
         no_starts e q = q ∙ sym (gives (started ∙ stops s _ e) ∙ refused_given h.count s e)
 
         module _ (b : s.verdict ≡ Ok tt) where
@@ -120,7 +119,7 @@ module _ (t : List ℕ) (step : ℕ) {h : Header} (eh : h ≡ read_header t) whe
             whole : progress step t ≡ w
             whole = started ∙ goes s (lines_from step t h.count (length t) s) b ∙ sym ew
 
-            pub no_lines : {why : Refusal} {line : ℕ} {r : Readings} → w.verdict ≡ Err (told_at why line) → r ≡ refused_readings why line →
+            pub no_lines : {refused : RefusedAt} {r : Readings} → w.verdict ≡ Err refused → r ≡ refused_readings refused →
                 r ≡ readings t step
             no_lines e q = q ∙ sym (gives whole ∙ refused_given h.count w e)
 

@@ -2,7 +2,6 @@
 ghost use Rattle.std.specs.Prelude.{◌≡◌, ◌≤◌, ◌<◌, ◌+◌, length};
 ghost use Rattle.grammar.specs.Reading.{has_word};
 ghost use Rattle.grammar.specs.Writing.{decimal};
-ghost use Rattle.construction.specs.Types.{told_at};
 ghost use Rattle.dump.specs.Dump.{var_line};
 ghost use Rattle.dump.specs.Reading.{header_refused, then_word, then_vars, read_header};
 
@@ -30,10 +29,9 @@ fn then_word(text: &[u8], word: &[u8], header: Header) -> Header
     requires { (0 < length word.now) × (header.line ≤ 100) }
     ensures { result ≡ then_word text.now word.now header }
 {
-    let verdict = header.verdict;
-    let Ok(()) = verdict else {
+    if header.verdict.is_err() {
         return header;
-    };
+    }
     let at = header.at;
     let line = header.line;
     if !has_word(text, at, word) {
@@ -94,10 +92,9 @@ fn then_vars(text: &[u8], header: Header) -> Header
     requires { (header.count ≡ 0) × (header.line ≤ 10) }
     ensures { result ≡ then_vars text.now header }
 {
-    let verdict = header.verdict;
-    let Ok(()) = verdict else {
+    if header.verdict.is_err() {
         return header;
-    };
+    }
     let mut count: u8 = 0;
     let mut at = header.at;
     let mut line = header.line;

@@ -10,7 +10,6 @@ pub mod rows; // rows.rt: the values in decimal, a line for each time
 mod taking; // taking.rt: whether a line may follow, and what is left once it is taken
 
 ghost use Rattle.std.specs.Prelude.{◌≡◌, ◌≤◌, length};
-ghost use Rattle.construction.specs.Types.{told_at};
 ghost use Rattle.dump.specs.Reading.{no_values, progress_refused, begun as begun_as, starts_from, lines_from, readings};
 
 use crate::header::read_header;
@@ -58,11 +57,10 @@ fn progress_refused(line: u64) -> Progress
 fn begun(header: Header) -> Progress
     ensures { result ≡ begun_as header }
 {
-    let verdict = header.verdict;
     let values = [0u32; 64];
     let shown = [0u32; 64];
     Progress {
-        verdict,
+        verdict: header.verdict,
         at: header.at,
         line: header.line,
         time: 0,
@@ -139,12 +137,12 @@ fn read_lines(text: &[u8], count: u8, step: u64, start: Progress) -> Progress
     }
 }
 
-fn refused_readings(refusal: Refusal, line: u64) -> Readings
-    ensures { result ≡ record { verdict = Err (told_at refusal line); count = 0; last = 0; values = no_values } }
+fn refused_readings(refused: RefusedAt) -> Readings
+    ensures { result ≡ record { verdict = Err refused; count = 0; last = 0; values = no_values } }
 {
     let values = [0u32; 64];
     Readings {
-        verdict: Err(RefusedAt { refusal, line }),
+        verdict: Err(refused),
         count: 0,
         last: 0,
         values,
@@ -156,25 +154,22 @@ pub fn read(text: &[u8], step: u64) -> Readings
     ensures { result ≡ readings text.now step }
 {
     let header = read_header(text);
-    let verdict = header.verdict;
-    if let Err(RefusedAt { refusal, line }) = verdict {
-        return refused_readings(refusal, line);
+    if let Err(refused) = header.verdict {
+        return refused_readings(refused);
     }
     let count = header.count;
     let first = begun(header);
     let started = read_starts(text, count, step, first);
-    let verdict = started.verdict;
-    if let Err(RefusedAt { refusal, line }) = verdict {
-        return refused_readings(refusal, line);
+    if let Err(refused) = started.verdict {
+        return refused_readings(refused);
     }
     let whole = read_lines(text, count, step, started);
-    let verdict = whole.verdict;
-    if let Err(RefusedAt { refusal, line }) = verdict {
-        return refused_readings(refusal, line);
+    if let Err(refused) = whole.verdict {
+        return refused_readings(refused);
     }
     let values = whole.shown;
     Readings {
-        verdict,
+        verdict: whole.verdict,
         count,
         last: whole.time,
         values,

@@ -10,7 +10,7 @@ use lib.Seq.{length-take-le, length-sets}
 use Rattle.grammar.specs.Writing.{Put}
 use Rattle.grammar.specs.Pieces.{Gathered}
 use Rattle.construction.specs.declared.{card.Card.Card, answers.Refusal.Refusal}
-use Rattle.construction.specs.Types.{Verdict, told_at}
+use Rattle.construction.specs.Types.{Verdict, RefusedAt}
 use Rattle.commands.specs.declared.Command.{Command}
 use Rattle.commands.specs.Printing.{line_text, longest, card_refusal, calls_refusal}
 use Rattle.session.specs.declared.State.{State}
@@ -24,8 +24,8 @@ use Rattle.lent_session.specs.Printing.{lent_beginning, Starts, Prints}
 -- what is printed before any command
 module _ (calls : List ℕ) (x : Card) {w : Verdict} where
   after_refusal :
-      {why : Refusal} {line : ℕ} → w ≡ Err (told_at why line) →
-      verdict_beginning calls x w ≡ record { text = card_refusal (Err (told_at why line)); state = over_state calls x }
+      {refused : RefusedAt} → w ≡ Err refused →
+      verdict_beginning calls x w ≡ record { text = card_refusal (Err refused); state = over_state calls x }
   after_refusal e = rw e
 
   after_long : w ≡ Ok tt → 65536 < length calls → verdict_beginning calls x w ≡ record { text = calls_refusal; state = over_state calls x }
@@ -47,7 +47,7 @@ module _ (card calls b u : List ℕ) {v : Verdict} {c : List ℕ} (o : Opens car
       }
 
   pub starts_refused :
-      {why : Refusal} {line n : ℕ} {z : List ℕ} → v ≡ Err (told_at why line) → Put u 0 (card_refusal (Err (told_at why line))) n z × (n ≤ longest) →
+      {why : Refusal} {line n : ℕ} {z : List ℕ} → v ≡ Err refused → Put u 0 (card_refusal (Err refused)) n z × (n ≤ longest) →
       Starts card calls b u (record { length = n; at = length calls }) c z
   starts_refused e p = starts_with (after_refusal calls (card_of (opened_block card b) []) (sym o.answer ∙ e)) p.0 p.1 refl
 

@@ -116,16 +116,14 @@ fn put_contents(b: &mut [u64], contents: Contents)
 fn judge(verdict: Result<(), RefusedAt>, b: &[u64]) -> Result<(), RefusedAt>
     ensures { result ≡ judged verdict b.now }
 {
-    let Ok(()) = verdict else {
-        return verdict;
-    };
-    if SIZE <= b.len() {
-        return Ok(());
+    verdict?;
+    if b.len() < SIZE {
+        return Err(RefusedAt {
+            refusal: Refusal::ShortBuffer,
+            line: 0,
+        });
     }
-    Err(RefusedAt {
-        refusal: Refusal::ShortBuffer,
-        line: 0,
-    })
+    Ok(())
 }
 
 // The card that a text opens to, in a block: a refused text leaves the empty card, and a block that is too short is left as it was.

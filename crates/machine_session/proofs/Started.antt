@@ -9,7 +9,7 @@ use lib.ListN.{length, take}
 use lib.Seq.{length-take-le, length-sets}
 use Rattle.grammar.specs.Writing.{Put}
 use Rattle.construction.specs.declared.{answers.Refusal.Refusal}
-use Rattle.construction.specs.Types.{Verdict, told_at}
+use Rattle.construction.specs.Types.{Verdict, RefusedAt}
 use Rattle.commands.specs.Printing.{calls_refusal}
 use Rattle.shared_processor.specs.Opening.{card_verdict, with_card}
 use Rattle.machine_commands.specs.Printing.{longest, terms_refusal, card_refusal}
@@ -32,7 +32,7 @@ module _ (count m : ℕ) (text bs : List ℕ) where
 module _ (count m : ℕ) (text : List ℕ) (texts : List (List ℕ)) (bs : List ℕ) {v : Verdict} {z : List ℕ}
     (o : (v ≡ one_verdict count m text bs) × (z ≡ one_blocks count m text bs)) where
   pub refused_card :
-      {why : Refusal} {line : ℕ} → v ≡ Err (told_at why line) →
+      {refused : RefusedAt} → v ≡ Err refused →
       opened_cards count m (text ∷ texts) bs ≡ record { opened = record { machine = m; verdict = v }; blocks = z }
   unfolding opened_cards
   refused_card e = rw (← o.0, ← o.1, e)
@@ -69,8 +69,8 @@ module _ (text : List ℕ) (cards : List (List ℕ)) (calls bs : List ℕ) {w : 
       })
 
   pub terms_refused :
-      {why : Refusal} {line : ℕ} → w.verdict ≡ Err (told_at why line) → {b : List ℕ} {r : Printed} {n : ℕ} {z : List ℕ} →
-      Put b 0 (terms_refusal (Err (told_at why line))) n z × (n ≤ longest) →
+      {refused : RefusedAt} → w.verdict ≡ Err refused → {b : List ℕ} {r : Printed} {n : ℕ} {z : List ℕ} →
+      Put b 0 (terms_refusal (Err refused)) n z × (n ≤ longest) →
       r ≡ record { state = record { allowance = w.allowance; at = length calls; line = 1 }; length = n } → Starts text cards calls bs b r bs z
   terms_refused e p f = starts_with (begins ∙ rw e) p.0 p.1 f
 
@@ -80,8 +80,8 @@ module _ (text : List ℕ) (cards : List (List ℕ)) (calls bs : List ℕ) {w : 
     opens = begins ∙ rw (v, ← x.0, ← x.1)
 
     pub card_refused :
-        {why : Refusal} {line : ℕ} → o.verdict ≡ Err (told_at why line) → {b : List ℕ} {r : Printed} {n : ℕ} {z : List ℕ} →
-        Put b 0 (card_refusal o.machine (Err (told_at why line))) n z × (n ≤ longest) →
+        {refused : RefusedAt} → o.verdict ≡ Err refused → {b : List ℕ} {r : Printed} {n : ℕ} {z : List ℕ} →
+        Put b 0 (card_refusal o.machine (Err refused)) n z × (n ≤ longest) →
         r ≡ record { state = record { allowance = w.allowance; at = length calls; line = 1 }; length = n } → Starts text cards calls bs b r bs' z
     card_refused e p f = starts_with (opens ∙ rw e) p.0 p.1 f
 

@@ -35,44 +35,28 @@ fn open_cards(
     ensures { (result ≡ (opened_cards count 0 (card0.now ∷ card1.now ∷ card2.now ∷ card3.now ∷ []) blocks.old).opened) × (blocks.new ≡ (opened_cards count 0 (card0.now ∷ card1.now ∷ card2.now ∷ card3.now ∷ []) blocks.old).blocks) }
 {
     let first = open_one(blocks, count, 0, card0);
-    if let Err(RefusedAt {
-        refusal: _,
-        line: _,
-    }) = first
-    {
+    if first.is_err() {
         return CardsOpened {
             machine: 0,
             verdict: first,
         };
     }
     let second = open_one(blocks, count, 1, card1);
-    if let Err(RefusedAt {
-        refusal: _,
-        line: _,
-    }) = second
-    {
+    if second.is_err() {
         return CardsOpened {
             machine: 1,
             verdict: second,
         };
     }
     let third = open_one(blocks, count, 2, card2);
-    if let Err(RefusedAt {
-        refusal: _,
-        line: _,
-    }) = third
-    {
+    if third.is_err() {
         return CardsOpened {
             machine: 2,
             verdict: third,
         };
     }
     let fourth = open_one(blocks, count, 3, card3);
-    if let Err(RefusedAt {
-        refusal: _,
-        line: _,
-    }) = fourth
-    {
+    if fourth.is_err() {
         return CardsOpened {
             machine: 3,
             verdict: fourth,
@@ -111,15 +95,13 @@ pub fn start(
 {
     let read = read_terms(terms);
     let allowance = read.allowance;
-    let verdict = read.verdict;
-    if let Err(RefusedAt { refusal, line }) = verdict {
-        let length = put_terms_refusal(buffer, refusal, line);
+    if let Err(refused) = read.verdict {
+        let length = put_terms_refusal(buffer, refused);
         return begun(allowance, calls.len(), length);
     }
     let opened = open_cards(blocks, allowance.count, card0, card1, card2, card3);
-    let verdict = opened.verdict;
-    if let Err(RefusedAt { refusal, line }) = verdict {
-        let length = put_card_refusal(buffer, opened.machine, refusal, line);
+    if let Err(refused) = opened.verdict {
+        let length = put_card_refusal(buffer, opened.machine, refused);
         return begun(allowance, calls.len(), length);
     }
     if LIMIT < calls.len() {

@@ -13,7 +13,7 @@ use Rattle.construction.specs.Lines.{var_line, sheet_line, ins_line}
 use Rattle.construction.specs.Opening.{refused_at, program_refused_at, weighed, with_line, ins_from, read_program, programs_from, with_start, vars_from, if_accepted}
 use Rattle.construction.specs.Opening.{at_end, then_end, then_programs}
 use Rattle.construction.specs.Changes.{program_then_end}
-use Rattle.construction.specs.Types.{Verdict, told_at}
+use Rattle.construction.specs.Types.{Verdict, RefusedAt}
 use Rattle.construction.proofs.Text.Lines.{sheet_read}
 use Rattle.construction.proofs.Text.Reading.{after_length, on_ins, on_sheet, on_weighed, on_var}
 
@@ -57,11 +57,11 @@ module _ {v : Verdict} (r : Reading) (go : Reading → Reading) where
   goes_on : v ≡ Ok tt → if_accepted v r go ≡ go r
   goes_on p = rw p
 
-  stops : {why : Refusal} {line : ℕ} → v ≡ Err (told_at why line) → if_accepted v r go ≡ r
+  stops : {refused : RefusedAt} → v ≡ Err refused → if_accepted v r go ≡ r
   stops p = rw p
 
 module _ (t : List ℕ) (s : ℕ) (a : Reading) where
-  pub body_no_vars : {why : Refusal} {line : ℕ} → a.verdict ≡ Err (told_at why line) → a ≡ then_end t (then_programs t s a)
+  pub body_no_vars : {refused : RefusedAt} → a.verdict ≡ Err refused → a ≡ then_end t (then_programs t s a)
   body_no_vars p = sym (ap (λ (x : Reading). then_end t x) (stops a (λ x. programs_from t s 0 x) p) ∙ stops a (λ x. at_end t x) p)
 
   module _
@@ -73,7 +73,7 @@ module _ (t : List ℕ) (s : ℕ) (a : Reading) where
     body : then_end t b ≡ then_end t (then_programs t s a)
     body = ap (λ (x : Reading). then_end t x) (e ∙ ap (λ (x : Reading). programs_from t s 0 x) whole ∙ sym (goes_on a (λ x. programs_from t s 0 x) p))
 
-    pub body_no_programs : {why : Refusal} {line : ℕ} → b.verdict ≡ Err (told_at why line) → b ≡ then_end t (then_programs t s a)
+    pub body_no_programs : {refused : RefusedAt} → b.verdict ≡ Err refused → b ≡ then_end t (then_programs t s a)
     body_no_programs q = sym (stops b (λ x. at_end t x) q) ∙ body
 
     module _ (q : b.verdict ≡ Ok tt) where

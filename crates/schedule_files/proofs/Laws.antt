@@ -9,11 +9,11 @@ use lib.ListN.{length}
 use borrow.Author.Tests.{lt-ltb, le-ltb}
 use Rattle.grammar.specs.Writing.{Put}
 use Rattle.grammar.proofs.Puts.{Room, rest_all, rest_step, rest_last}
-use Rattle.construction.specs.declared.{card.Card.Card, texts.Opened.Opened, answers.Refusal.Refusal}
+use Rattle.construction.specs.declared.{card.Card.Card, texts.Opened.Opened}
 use Rattle.construction.specs.Answers.{bytes, refused_with, fields_text}
 use Rattle.construction.specs.Opening.{opened}
 use Rattle.construction.specs.History.{run}
-use Rattle.construction.specs.Types.{Verdict, told_at}
+use Rattle.construction.specs.Types.{Verdict, RefusedAt}
 use Rattle.commands.specs.Printing.{card_refusal, calls_refusal}
 use Rattle.executions.specs.Schedules.{calls_of}
 use Rattle.executions.specs.Listings.{is_callable, is_listable}
@@ -46,8 +46,8 @@ module _ (card calls : List ℕ) (L : ℕ) {o : Opened} (opens : o ≡ opened ca
       subst (λ (q : Prepared). PreparedAs (refused_by t o.card) b q z) (sym e) (record { put = p; short = h; ready = refl; card = refl })
 
   pub card_refused :
-      {e : RefusedAt} → o.verdict ≡ Err e → {b : List ℕ} {n : ℕ} {z : List ℕ} {r : Prepared} →
-      Put b 0 (card_refusal (Err e)) n z → n ≤ 269 → r ≡ record { ready = false; card = o.card; length = n } →
+      {refused : RefusedAt} → o.verdict ≡ Err refused → {b : List ℕ} {n : ℕ} {z : List ℕ} {r : Prepared} →
+      Put b 0 (card_refusal (Err refused)) n z → n ≤ 269 → r ≡ record { ready = false; card = o.card; length = n } →
       PreparedAs (preparation card calls L) b r z
   card_refused v p h e = judged_as_lem (ap (λ (x : Verdict). judged_card x o.card calls L) v) (refused_with_lem p h e)
 

@@ -7,7 +7,7 @@ use lib.ListN.{length}
 use borrow.Author.Tests.{lt-ltb, le-ltb}
 use Rattle.grammar.specs.Writing.{Put}
 use Rattle.construction.specs.declared.{answers.Refusal.Refusal}
-use Rattle.construction.specs.Types.{Verdict, told_at}
+use Rattle.construction.specs.Types.{Verdict, RefusedAt}
 use Rattle.calls.specs.declared.Calls.{Calls as CallsOf}
 use Rattle.calls.specs.Texts.{calls_of, line_refusal}
 use Rattle.commands.specs.Printing.{longest, card_refusal, calls_refusal}
@@ -26,10 +26,10 @@ stops :
 stops text e p er = rw er (record { put = rw e p.0; short = p.1; block = rw e refl; table = rw e refl })
 
 module _ {card b buffer b₁ z : List ℕ} (calls : List ℕ) {v : Verdict} {n : ℕ} (o : Opens card b v b₁) where
-  pub card_refused : {why : Refusal} {line : ℕ} {r : Started} → v ≡ Err (told_at why line) → Line buffer (card_refusal (Err (told_at why line))) n z →
+  pub card_refused : {refused : RefusedAt} {r : Started} → v ≡ Err refused → Line buffer (card_refusal (Err refused)) n z →
       r ≡ over n → Starts card calls b buffer r b₁ z
   unfolding starting
-  card_refused {why} {line} e p er = stops (card_refusal (Err (told_at why line))) (rw (← o.answer, e, ← o.words) refl) p er
+  card_refused {refused} e p er = stops (card_refusal (Err refused)) (rw (← o.answer, e, ← o.words) refl) p er
 
   pub calls_long : {r : Started} → v ≡ Ok tt → 65536 < length calls → Line buffer calls_refusal n z → r ≡ over n → Starts card calls b buffer r b₁ z
   unfolding starting

@@ -19,7 +19,8 @@ use Rattle.grammar.proofs.Decimals.{decimal_one, decimal_more}
 use Rattle.grammar.proofs.Bytes.{byte_true, word_within}
 use Rattle.grammar.proofs.Cases.{on_test, and_true}
 use Rattle.construction.specs.Answers.{bytes}
-use Rattle.construction.specs.Types.{Verdict, RefusedAt}
+use Rattle.construction.specs.Types.{Verdict}
+use Rattle.construction.specs.declared.texts.RefusedAt.{RefusedAt}
 use Rattle.dump.specs.declared.{DumpLine.DumpLine, Header.Header}
 use Rattle.dump.specs.Binary.{over, is_bit, bits_at}
 use Rattle.dump.specs.Dump.{line_of, timescale_line, scope_line, upscope_line, definitions_line, code_of, var_line, time_text}

@@ -7,7 +7,7 @@ use lib.Dec.{eqb}
 use lib.ListN.{length, length-append}
 use native.Mathlib.Omega.{arith}
 use Rattle.grammar.proofs.Cases.{on_test, clash}
-use Rattle.construction.specs.Types.{RefusedAt}
+use Rattle.construction.specs.declared.texts.RefusedAt.{RefusedAt}
 use Rattle.dump.specs.declared.{DumpLine.DumpLine, Header.Header, Progress.Progress, Readings.Readings}
 use Rattle.dump.specs.Dump.{timescale_line, scope_line, upscope_line, definitions_line, var_line, vars_text, header_text, time_text}
 use Rattle.dump.specs.Reading.{line_at, no_values, begun, with_value, next_start, starts_from, lines_from, on_progress, then_starts, then_lines, progress, read_header}

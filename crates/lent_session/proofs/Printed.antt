@@ -10,7 +10,8 @@ use lib.Seq.{length-take-le, length-sets}
 use Rattle.grammar.specs.Writing.{Put}
 use Rattle.grammar.specs.Pieces.{Gathered}
 use Rattle.construction.specs.declared.{card.Card.Card, answers.Refusal.Refusal}
-use Rattle.construction.specs.Types.{Verdict, RefusedAt}
+use Rattle.construction.specs.Types.{Verdict}
+use Rattle.construction.specs.declared.texts.RefusedAt.{RefusedAt}
 use Rattle.commands.specs.declared.Command.{Command}
 use Rattle.commands.specs.Printing.{line_text, longest, card_refusal, calls_refusal}
 use Rattle.session.specs.declared.State.{State}

@@ -9,7 +9,8 @@ use lib.ListN.{length, take}
 use lib.Seq.{length-take-le, length-sets}
 use Rattle.grammar.specs.Writing.{Put}
 use Rattle.construction.specs.declared.{answers.Refusal.Refusal}
-use Rattle.construction.specs.Types.{Verdict, RefusedAt}
+use Rattle.construction.specs.Types.{Verdict}
+use Rattle.construction.specs.declared.texts.RefusedAt.{RefusedAt}
 use Rattle.commands.specs.Printing.{calls_refusal}
 use Rattle.shared_processor.specs.Opening.{card_verdict, with_card}
 use Rattle.machine_commands.specs.Printing.{longest, terms_refusal, card_refusal}

@@ -13,7 +13,8 @@ use Rattle.construction.specs.Lines.{var_line, sheet_line, ins_line}
 use Rattle.construction.specs.Opening.{refused_at, program_refused_at, weighed, with_line, ins_from, read_program, programs_from, with_start, vars_from, if_accepted}
 use Rattle.construction.specs.Opening.{at_end, then_end, then_programs}
 use Rattle.construction.specs.Changes.{program_then_end}
-use Rattle.construction.specs.Types.{Verdict, RefusedAt}
+use Rattle.construction.specs.Types.{Verdict}
+use Rattle.construction.specs.declared.texts.RefusedAt.{RefusedAt}
 use Rattle.construction.proofs.Text.Lines.{sheet_read}
 use Rattle.construction.proofs.Text.Reading.{after_length, on_ins, on_sheet, on_weighed, on_var}
 

@@ -13,7 +13,8 @@ use Rattle.construction.specs.declared.{card.Card.Card, texts.Opened.Opened}
 use Rattle.construction.specs.Answers.{bytes, refused_with, fields_text}
 use Rattle.construction.specs.Opening.{opened}
 use Rattle.construction.specs.History.{run}
-use Rattle.construction.specs.Types.{Verdict, RefusedAt}
+use Rattle.construction.specs.Types.{Verdict}
+use Rattle.construction.specs.declared.texts.RefusedAt.{RefusedAt}
 use Rattle.commands.specs.Printing.{card_refusal, calls_refusal}
 use Rattle.executions.specs.Schedules.{calls_of}
 use Rattle.executions.specs.Listings.{is_callable, is_listable}

@@ -7,7 +7,8 @@ use lib.ListN.{length}
 use borrow.Author.Tests.{lt-ltb, le-ltb}
 use Rattle.grammar.specs.Writing.{Put}
 use Rattle.construction.specs.declared.{answers.Refusal.Refusal}
-use Rattle.construction.specs.Types.{Verdict, RefusedAt}
+use Rattle.construction.specs.Types.{Verdict}
+use Rattle.construction.specs.declared.texts.RefusedAt.{RefusedAt}
 use Rattle.calls.specs.declared.Calls.{Calls as CallsOf}
 use Rattle.calls.specs.Texts.{calls_of, line_refusal}
 use Rattle.commands.specs.Printing.{longest, card_refusal, calls_refusal}

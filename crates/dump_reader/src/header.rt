@@ -29,9 +29,9 @@ fn then_word(text: &[u8], word: &[u8], header: Header) -> Header
     requires { (0 < length word.now) × (header.line ≤ 100) }
     ensures { result ≡ then_word text.now word.now header }
 {
-    if header.verdict.is_err() {
+    let Ok(()) = header.verdict else {
         return header;
-    }
+    };
     let at = header.at;
     let line = header.line;
     if !has_word(text, at, word) {
@@ -92,9 +92,9 @@ fn then_vars(text: &[u8], header: Header) -> Header
     requires { (header.count ≡ 0) × (header.line ≤ 10) }
     ensures { result ≡ then_vars text.now header }
 {
-    if header.verdict.is_err() {
+    let Ok(()) = header.verdict else {
         return header;
-    }
+    };
     let mut count: u8 = 0;
     let mut at = header.at;
     let mut line = header.line;

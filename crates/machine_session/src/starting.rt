@@ -35,28 +35,28 @@ fn open_cards(
     ensures { (result ≡ (opened_cards count 0 (card0.now ∷ card1.now ∷ card2.now ∷ card3.now ∷ []) blocks.old).opened) × (blocks.new ≡ (opened_cards count 0 (card0.now ∷ card1.now ∷ card2.now ∷ card3.now ∷ []) blocks.old).blocks) }
 {
     let first = open_one(blocks, count, 0, card0);
-    if first.is_err() {
+    if let Err(_) = first {
         return CardsOpened {
             machine: 0,
             verdict: first,
         };
     }
     let second = open_one(blocks, count, 1, card1);
-    if second.is_err() {
+    if let Err(_) = second {
         return CardsOpened {
             machine: 1,
             verdict: second,
         };
     }
     let third = open_one(blocks, count, 2, card2);
-    if third.is_err() {
+    if let Err(_) = third {
         return CardsOpened {
             machine: 2,
             verdict: third,
         };
     }
     let fourth = open_one(blocks, count, 3, card3);
-    if fourth.is_err() {
+    if let Err(_) = fourth {
         return CardsOpened {
             machine: 3,
             verdict: fourth,

@@ -13,8 +13,6 @@ pub use Rattle.construction.specs.declared.programs.Instruction.{Instruction}
 pub use Rattle.construction.specs.declared.programs.OperandKind.{OperandKind}
 pub use Rattle.construction.specs.declared.programs.OperandKind.TheVariants.{Unused, Register, Word, Variable, Skip}
 pub use Rattle.construction.specs.declared.programs.Format.{Format}
-pub use Rattle.construction.specs.declared.programs.Format.TheVariants.{Unknown, Known}
-pub use Rattle.construction.specs.declared.programs.Decoded.{Decoded}
 pub use Rattle.construction.specs.declared.programs.Encoded.{Encoded}
 pub use Rattle.construction.specs.declared.programs.Line.{Line}
 pub use Rattle.construction.specs.declared.programs.Program.{Program}
@@ -62,6 +60,10 @@ pub use Rattle.construction.specs.declared.texts.RefusedAt.{RefusedAt}
 pub use Rattle.construction.specs.declared.texts.ProgramReading.{ProgramReading}
 pub use Rattle.construction.specs.declared.texts.Reading.{Reading}
 pub use Rattle.construction.specs.declared.texts.Opened.{Opened}
+
+-- an instruction that was decoded, or why there is none
+abbrev pub Decoded : Type 0
+Decoded = Result Instruction Refusal
 
 -- the answer of the writer: how many bytes it wrote, or why it is refused
 abbrev pub Written : Type 0

@@ -14,7 +14,8 @@ const LIMIT: usize = 65_536;
 pub(crate) fn put_start(card: &[u8], calls: &[u8], b: &mut [u64], buffer: &mut [u8]) -> Begun
     ensures { Starts card.now calls.now b.old buffer.old result b.new buffer.new }
 {
-    if let Err(refused) = lent_text::open(card, b) {
+    let verdict = lent_text::open(card, b);
+    if let Err(refused) = verdict {
         return Begun {
             length: put_card_refusal(buffer, refused),
             at: calls.len(),

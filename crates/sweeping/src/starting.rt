@@ -53,7 +53,8 @@ fn call_all(b: &mut [u64], calls: &[u32], buffer: &mut [u8]) -> usize
 pub fn start(card: &[u8], calls: &[u8], b: &mut [u64], buffer: &mut [u8]) -> Started
     ensures { Starts card.now calls.now b.old buffer.old result b.new buffer.new }
 {
-    if let Err(refused) = lent_text::open(card, b) {
+    let verdict = lent_text::open(card, b);
+    if let Err(refused) = verdict {
         return over(put_card_refusal(buffer, refused));
     }
     if LIMIT < calls.len() {

@@ -5,7 +5,7 @@ ghost use Rattle.construction.specs.Changes.{program_then_end, program_text};
 use crate::read_program;
 use crate::refusals::program_refused_at;
 use construction::answers::Refusal;
-use construction::texts::{ProgramReading, RefusedAt};
+use construction::texts::ProgramReading;
 
 // Nothing follows a program that was read.
 fn ended(text: &[u8], read: ProgramReading) -> ProgramReading

@@ -8,7 +8,7 @@ ghost use Rattle.lent.specs.Row.{row_answer, row_after};
 ghost use Rattle.lent_demo.specs.Rows.{record_of, first_row, new_record, held_gate, free_gate, same_row};
 
 use answers::put_row_swap;
-use construction::cells::{Gate, Holder, Record, RowSwap, SwappedGate};
+use construction::cells::{Gate, Holder, Record, RowSwap, SwappedCell};
 use host::show;
 use report::same::both;
 
@@ -33,14 +33,14 @@ fn swap_in_four(mut row: [Record; 4], place: usize, expected: Record, new: Recor
     row_and_answer(row, answer)
 }
 
-fn gate_and_outcome(cell: Gate, won: bool) -> SwappedGate
+fn gate_and_outcome(cell: Gate, won: bool) -> SwappedCell<Gate>
     ensures { (result.cell ≡ cell) × (result.won ≡ won) }
 {
-    SwappedGate { cell, won }
+    SwappedCell { cell, won }
 }
 
 // The gate is lent for one swap.
-fn swap_gate(mut gate: Gate, expected: Gate, new: Gate) -> SwappedGate
+fn swap_gate(mut gate: Gate, expected: Gate, new: Gate) -> SwappedCell<Gate>
     ensures { (result.cell ≡ (swap_gate gate expected new).cell) × (result.won ≡ (swap_gate gate expected new).won) }
 {
     let won = lent::swap_lent_gate(&mut gate, expected, new);

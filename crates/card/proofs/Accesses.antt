@@ -8,7 +8,7 @@ use Rattle.construction.specs.declared.{simulations.Dictionary.Dictionary, simul
 use Rattle.construction.specs.declared.{accesses.AnnouncementAccess.AnnouncementAccess, accesses.Access.Access, accesses.Control.Control}
 use Rattle.construction.specs.declared.{accesses.AccessedCell.AccessedCell, accesses.Began.Began}
 use Rattle.construction.specs.declared.{accesses.Helped.Helped, accesses.Writing.Writing, card.Card.Card, answers.Answer.Answer}
-use Rattle.construction.specs.declared.{cells.SwappedCell.SwappedCell}
+use Rattle.construction.specs.declared.cells.SwappedCell.{SwappedCell}
 use Rattle.construction.specs.declared.accesses.Label.TheVariants.{P1}
 use Rattle.construction.specs.Cells.{open_announcement, open_record}
 use Rattle.construction.specs.Instructions.{no_program}

@@ -10,7 +10,6 @@ ghost use Rattle.lent_demo.specs.Rows.{record_of, first_row, new_record, held_ga
 use answers::put_row_swap;
 use construction::cells::{Gate, Holder, Record, RowSwap, SwappedCell};
 use host::show;
-use report::same::both;
 
 // A row that came back from a loan, and what the swap answered.
 #[derive(Clone, Copy)]
@@ -99,16 +98,7 @@ fn free_gate() -> Gate
 fn same_row(a: [Record; 4], b: [Record; 4]) -> bool
     ensures { result ≡ same_row a b }
 {
-    both(
-        cells::same_record(a[0], b[0]),
-        both(
-            cells::same_record(a[1], b[1]),
-            both(
-                cells::same_record(a[2], b[2]),
-                cells::same_record(a[3], b[3]),
-            ),
-        ),
-    )
+    a[0] == b[0] && a[1] == b[1] && a[2] == b[2] && a[3] == b[3]
 }
 
 fn write_answer(rt: &impl Print, answer: RowSwap) {
@@ -178,7 +168,7 @@ fn gate_case(rt: &impl Print, label: &[u8], expected: Gate, wanted: Gate) {
     } else {
         show(rt, b"lost");
     }
-    write_verdict(rt, cells::same_gate(after.cell, wanted));
+    write_verdict(rt, after.cell == wanted);
 }
 
 fn gate_cases(rt: &impl Print) {

@@ -5,7 +5,7 @@ use mathlib.Core.Bool.{Bool, true, false, cond}
 use mathlib.Core.List.{List}
 use native.Mathlib.Omega.{arith}
 use lib.ListN.{length}
-use Rattle.construction.specs.declared.cells.SwappedCell.{SwappedCell}
+use Rattle.construction.specs.declared.{cells.Record.Record, cells.SwappedCell.SwappedCell}
 use Rattle.construction.specs.declared.accesses.Writing.{Writing}
 use Rattle.construction.specs.Cells.{same_record, swap_record, rewritten}
 use Rattle.construction.specs.Parts.{local_at, record_at, with_record, with_steps}

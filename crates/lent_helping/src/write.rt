@@ -6,7 +6,7 @@ ghost use Rattle.lent_helping.specs.Helps.{written_in, record_swapped, write_ste
 use block::cells::{put_record, record};
 use block::own::{control, last_gate, put_control};
 use construction::accesses::Swap;
-use construction::cells::SwappedCell;
+use construction::cells::{Record, SwappedCell};
 use loan::dictionaries::writing;
 use machine::outcome;
 use machine::record::write;

@@ -4,7 +4,7 @@ use Rattle.std.specs.Prelude.{ℕ, ◌+◌, ◌%◌, List}
 use Rattle.construction.specs.declared.accesses.Swap.{Swap}
 use Rattle.construction.specs.Machine.{first_choice, holder_of, read_holder, read_last, nominate, release, access_gate, whose, announce, withdraw, read_flag, finish}
 use Rattle.construction.specs.Machine.{access_announcement}
-use Rattle.codes.specs.Types.{Flag, Label, GateAccess, AccessedCell, AnnouncementAccess, C4, P13}
+use Rattle.codes.specs.Types.{Gate, Announcement, Flag, Label, GateAccess, AccessedCell, AnnouncementAccess, C4, P13}
 use Rattle.block.specs.Layout.{process_count_in, steps_in, put_steps, gate_in, put_gate, announcement_in, put_announcement, control_in, put_control, operation_in, count_in}
 use Rattle.block.specs.Layout.{put_count, last_gate_in, put_last_gate, last_in, put_last, simulation_in}
 

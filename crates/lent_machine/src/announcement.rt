@@ -6,7 +6,7 @@ ghost use Rattle.lent_machine.specs.Accesses.{announcement_accessed, if_won, ann
 
 use block::cells::{announcement, process_count, put_announcement};
 use block::own::{control, last, last_gate, operation, put_control, put_last, simulation};
-use construction::accesses::{AnnouncementAccess, AccessedCell, Label, Swap};
+use construction::accesses::{AccessedCell, AnnouncementAccess, Label, Swap};
 use construction::cells::{Announcement, Flag};
 use machine::announcement::{announce, finish, read_flag, withdraw};
 use machine::places::{first_choice, holder_of};

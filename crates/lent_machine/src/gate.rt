@@ -6,7 +6,7 @@ ghost use Rattle.lent_machine.specs.Accesses.{gate_accessed, if_won, gate_read, 
 
 use block::cells::{gate, put_gate};
 use block::own::{control, last_gate, put_control, put_last_gate};
-use construction::accesses::{GateAccess, AccessedCell, Label, Swap};
+use construction::accesses::{AccessedCell, GateAccess, Label, Swap};
 use construction::cells::Gate;
 use machine::gate::{nominate, read_holder, read_last, release};
 

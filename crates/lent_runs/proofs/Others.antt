@@ -14,7 +14,7 @@ use Rattle.construction.specs.Answers.{is_refused}
 use Rattle.construction.specs.Marks.{with_bit}
 use Rattle.construction.specs.Machine.{access_of, go_to, holder_of, first_choice, helps, after_pause, outcome, read_holder, read_last, nominate, release, announce}
 use Rattle.construction.specs.Machine.{withdraw, read_flag, finish}
-use Rattle.codes.specs.Types.{Item, Access, GateAccess, AccessedCell, AnnouncementAccess, Control, Announcement, Simulation, C4, H21, P13}
+use Rattle.codes.specs.Types.{Gate, Item, Access, GateAccess, AccessedCell, AnnouncementAccess, Control, Announcement, Simulation, C4, H21, P13}
 use Rattle.codes.specs.Types.{P19, P21}
 use Rattle.codes.specs.Parts.{word_at}
 use Rattle.codes.specs.Codes.{byte, gate_words, control_words, announcement_words, record_words, simulation_words}

@@ -8,7 +8,8 @@ use lib.ListN.{length, drop, get_or, length-drop, drop_of_length-le}
 use lib.Seq.{drop-cons}
 use native.Mathlib.Omega.{arith}
 use borrow.Author.Tests.{ltb-true}
-use Rattle.grammar.specs.declared.Number.{Number}
+use Rattle.std.specs.Prelude.{Option, Some, None}
+use Rattle.grammar.specs.declared.Found.{Found as Read}
 use Rattle.grammar.specs.Reading.{field, has_word}
 use Rattle.grammar.proofs.Cases.{clash, on_test}
 use Rattle.grammar.proofs.Fields.{field_within}
@@ -65,24 +66,24 @@ pub on_word :
 unfolding word
 on_word P t {m} p s at {go} f = by (field t s at) refl
   where
-    by : (n : Number) → field t s at ≡ n → P (with_word (limited n) m go)
-    by (Number.Value v i) e =
-        on_test (λ w. P (with_word w m go)) (ltb v 4294967296)
-        (λ h. let l = field_within t s at v i e in f v i l.0 l.1 (ltb-true v 4294967296 h)) (λ _. p)
-    by Number.Malformed e = p
+    by : (n : Option (Read ℕ)) → field t s at ≡ n → P (with_word (limited n) m go)
+    by (Some x) e =
+        on_test (λ w. P (with_word w m go)) (ltb x.value 4294967296)
+        (λ h. let l = field_within t s at x.value x.next e in f x.value x.next l.0 l.1 (ltb-true x.value 4294967296 h)) (λ _. p)
+    by None e = p
 
 -- a field of 32 bits ends past its place
 pub word_past : (t : List ℕ) (s at : ℕ) {v i : ℕ} → word t s at ≡ Word.Value v i → at < i
 unfolding word
 word_past t s at {v} {i} e = by (field t s at) refl e
   where
-    by : (n : Number) → field t s at ≡ n → limited n ≡ Word.Value v i → at < i
-    by (Number.Value w j) f h = on_limit (ltb w 4294967296) h
+    by : (n : Option (Read ℕ)) → field t s at ≡ n → limited n ≡ Word.Value v i → at < i
+    by (Some x) f h = on_limit (ltb x.value 4294967296) h
       where
-        on_limit : (b : Bool) → cond b (Word.Value w j) Word.Malformed ≡ Word.Value v i → at < i
-        on_limit true k = rw (← ap next_of k) (field_within t s at w j f).0
+        on_limit : (b : Bool) → cond b (Word.Value x.value x.next) Word.Malformed ≡ Word.Value v i → at < i
+        on_limit true k = rw (← ap next_of k) (field_within t s at x.value x.next f).0
         on_limit false k = clash (cc)
-    by Number.Malformed f h = clash (cc)
+    by None f h = clash (cc)
 
 -- the fields of a command end past the place of its line
 pub fields_past : (t : List ℕ) (v : Verb) (line at : ℕ) → line < length t → line ≤ at → line < (fields_at t v line at).next

@@ -1,8 +1,8 @@
 -- The commands of a calls text (document 01, 'The bench program'): `call,process,sheet,i0,i1,i2,i3`, `wish,process`, `step,process`,
 -- `look,variable`, 'with fields and line ends as in the card text'; `trace,process` (document 02, order 1); `change,sheet,number,lines` and the
 -- lines of its text (order 11).
-use Rattle.std.specs.Prelude.{ℕ, zero, suc, ◌+◌, ◌-◌, ◌≤◌, cond, List, [], ◌∷◌, length, take, drop, eqb, ltb}
-use Rattle.grammar.specs.declared.Number.{Number}
+use Rattle.std.specs.Prelude.{ℕ, zero, suc, ◌+◌, ◌-◌, ◌≤◌, cond, List, [], ◌∷◌, length, take, drop, eqb, ltb, Option, Some, None}
+use Rattle.grammar.specs.declared.Found.{Found as Read}
 use Rattle.grammar.specs.Reading.{field, has_word}
 use Rattle.grammar.specs.Items.{items}
 use Rattle.commands.specs.declared.{Word.Word, Verb.Verb, Found.Found, Command.Command, Parsed.Parsed}
@@ -47,9 +47,9 @@ abbrev pub malformed : List ℕ → ℕ → Parsed
 malformed t at = one_line Command.Malformed (line_end at (drop at t))
 
 -- a field of 32 bits with its separator s, and what follows it
-abbrev pub limited : Number → Word
-limited (Number.Value v i) = cond (ltb v 4294967296) (Word.Value v i) Word.Malformed
-limited Number.Malformed = Word.Malformed
+abbrev pub limited : Option (Read ℕ) → Word
+limited (Some x) = cond (ltb x.value 4294967296) (Word.Value x.value x.next) Word.Malformed
+limited None = Word.Malformed
 
 unfoldable pub word : List ℕ → ℕ → ℕ → Word
 word t s at = limited (field t s at)

@@ -4,14 +4,14 @@ ghost use Rattle.commands.specs.Commands.{line_end, lines_end, word, one_line, m
 
 use crate::{Command, Found, Parsed, Verb, Word};
 use construction::cells::Words;
-use grammar::Number;
+use grammar::Found as Read;
 use grammar::reading::{field_at, has_word};
 
 // A field that has 32 bits, ended by a separator that belongs to it.
 pub fn word_at(calls: &[u8], separator: u8, at: usize) -> Word
     ensures { result ≡ word calls.now separator at }
 {
-    let Number::Value { value, next } = field_at(calls, separator, at) else {
+    let Some(Read { value, next }) = field_at(calls, separator, at) else {
         return Word::Malformed;
     };
     if value < 4_294_967_296 {

@@ -10,8 +10,10 @@ use native.Mathlib.Omega.{arith}
 use native.Mathlib.Decide.{dec_lt}
 use native.Mathlib.Numerals.{add-one}
 use borrow.Author.Tests.{lt-ltb, le-ltb, ltb-true, ltb-false, eq-eqb, ne_eqb, eqb-true, le-leb, leb-true}
-use Rattle.grammar.specs.declared.Number.{Number}
-use Rattle.grammar.specs.declared.Number.TheVariants.{Value}
+use Rattle.std.specs.Prelude.{Option, Some, None}
+use Rattle.grammar.specs.declared.Found.{Found}
+use Rattle.grammar.specs.Reading.{found}
+use Rattle.grammar.proofs.Places.{same_value, same_next, same_found}
 use Rattle.grammar.proofs.Cases.{on_test, and_true, clash}
 use Rattle.grammar.proofs.Bytes.{inside, drop_head}
 use Rattle.dump.specs.Binary.{binaries, binary, over, is_bit, grow_bit, bits, bits_at}
@@ -84,7 +86,7 @@ bit_in x p q = rw (le-leb 48 x p, le-leb x 49 q)
 
 -- ---- digits, one by one
 module _ (t : List ℕ) (i v : ℕ) where
-  bits_step : i < length t → bits i v (drop i t) ≡ cond (is_bit (get_or t i 0)) (bits (suc i) (grow_bit v (get_or t i 0)) (drop (suc i) t)) (Value v i)
+  bits_step : i < length t → bits i v (drop i t) ≡ cond (is_bit (get_or t i 0)) (bits (suc i) (grow_bit v (get_or t i 0)) (drop (suc i) t)) (found v i)
   unfolding bits
   bits_step h = rw (drop-cons t i 0 h)
 
@@ -92,51 +94,51 @@ module _ (t : List ℕ) (i v : ℕ) where
       bits i v (drop i t) ≡ bits (i + 1) w (drop (i + 1) t)
   bits_more h d p e = bits_step h ∙ rw (← d, p, ← e, add-one)
 
-  pub bits_stop : {b : Bool} → i < length t → b ≡ is_bit (get_or t i 0) → b ≡ false → bits i v (drop i t) ≡ Value v i
+  pub bits_stop : {b : Bool} → i < length t → b ≡ is_bit (get_or t i 0) → b ≡ false → bits i v (drop i t) ≡ found v i
   bits_stop h d p = bits_step h ∙ rw (← d, p)
 
-  pub bits_end : length t ≤ i → bits i v (drop i t) ≡ Value v i
+  pub bits_end : length t ≤ i → bits i v (drop i t) ≡ found v i
   unfolding bits
   bits_end h = rw (drop_of_length-le t {i = i} h)
 
 -- ---- a number by its first byte
 module _ (t : List ℕ) (at first : ℕ) (e : first ≡ get_or t at 0) where
-  pub at_zero : first ≡ 48 → Value 0 (at + 1) ≡ bits_at t at
+  pub at_zero : first ≡ 48 → Some (found 0 (at + 1)) ≡ bits_at t at
   unfolding bits_at
   at_zero p = rw (← e, eq-eqb _ _ p, add-one)
 
-  pub at_one : {n : Number} → (first ≡ 48 → ⊥) → first ≡ 49 → n ≡ bits at 0 (drop at t) → n ≡ bits_at t at
+  pub at_one : {n : Found ℕ} → (first ≡ 48 → ⊥) → first ≡ 49 → n ≡ bits at 0 (drop at t) → Some n ≡ bits_at t at
   unfolding bits_at
-  at_one p q m = m ∙ rw (← e, ne_eqb _ _ p, eq-eqb _ _ q)
+  at_one p q m = ap Some m ∙ rw (← e, ne_eqb _ _ p, eq-eqb _ _ q)
 
-  pub at_other : (first ≡ 48 → ⊥) → (first ≡ 49 → ⊥) → Number.Malformed ≡ bits_at t at
+  pub at_other : (first ≡ 48 → ⊥) → (first ≡ 49 → ⊥) → None ≡ bits_at t at
   unfolding bits_at
   at_other p q = rw (← e, ne_eqb _ _ p, ne_eqb _ _ q)
 
 -- ---- a number ends within the text
-bits_within : (l : List ℕ) (at v w j : ℕ) → bits at v l ≡ Value w j → (at ≤ j) × (j ≤ at + length l)
+bits_within : (l : List ℕ) (at v w j : ℕ) → bits at v l ≡ found w j → (at ≤ j) × (j ≤ at + length l)
 unfolding bits
-bits_within [] at v w j = λ e. let z : at ≡ j = cc in omega arith
+bits_within [] at v w j = λ e. let z = same_next e in omega arith
 bits_within (x ∷ xs) at v w j =
-    on_test (λ (z : Number). z ≡ Value w j → (at ≤ j) × (j ≤ at + length (x ∷ xs))) (is_bit x)
+    on_test (λ (z : Found ℕ). z ≡ found w j → (at ≤ j) × (j ≤ at + length (x ∷ xs))) (is_bit x)
     (λ h e. let r = bits_within xs (suc at) (grow_bit v x) w j e in omega arith)
-    (λ h e. let z : at ≡ j = cc in omega arith)
+    (λ h e. let z = same_next e in omega arith)
 
-pub bits_at-within : (t : List ℕ) (at v i : ℕ) → bits_at t at ≡ Value v i → (at < i) × (i ≤ length t)
+pub bits_at-within : (t : List ℕ) (at v i : ℕ) → bits_at t at ≡ Some (found v i) → (at < i) × (i ≤ length t)
 unfolding bits_at
 bits_at-within t at v i =
-    on_test (λ (z : Number). z ≡ Value v i → (at < i) × (i ≤ length t)) (eqb (get_or t at 0) 48)
-    (λ h e. let z : suc at ≡ i = cc in
+    on_test (λ (z : Option (Found ℕ)). z ≡ Some (found v i) → (at < i) × (i ≤ length t)) (eqb (get_or t at 0) 48)
+    (λ h e. let z = same_next (same_found e) in
     let l = inside t at _ refl (let q = eqb-true (get_or t at 0) 48 h in omega arith) in omega arith)
-    (λ _. on_test (λ (z : Number). z ≡ Value v i → (at < i) × (i ≤ length t)) (eqb (get_or t at 0) 49)
+    (λ _. on_test (λ (z : Option (Found ℕ)). z ≡ Some (found v i) → (at < i) × (i ≤ length t)) (eqb (get_or t at 0) 49)
     (λ h e. one_case (eqb-true (get_or t at 0) 49 h) e)
     (λ h e. clash (cc)))
   where
-    one_case : get_or t at 0 ≡ 49 → bits at 0 (drop at t) ≡ Value v i → (at < i) × (i ≤ length t)
+    one_case : get_or t at 0 ≡ 49 → Some (bits at 0 (drop at t)) ≡ Some (found v i) → (at < i) × (i ≤ length t)
     one_case q e =
         let l : at < length t = inside t at _ refl (omega arith) in
         let h : is_bit (get_or t at 0) ≡ true = rw q in
-        let d : bits (suc at) (grow_bit 0 (get_or t at 0)) (drop (suc at) t) ≡ Value v i = sym (bits_step t at 0 l ∙ rw h) ∙ e in
+        let d : bits (suc at) (grow_bit 0 (get_or t at 0)) (drop (suc at) t) ≡ found v i = sym (bits_step t at 0 l ∙ rw h) ∙ same_found e in
         let r = bits_within (drop (suc at) t) (suc at) (grow_bit 0 (get_or t at 0)) v i d in
         omega (arith, length-drop (suc at) t)
 
@@ -145,7 +147,7 @@ bits_cons : (at v w x : ℕ) (xs : List ℕ) → is_bit x ≡ true → w ≡ gro
 unfolding bits
 bits_cons at v w x xs d e = rw (d, e)
 
-bits_none : (at v : ℕ) (r : List ℕ) → is_bit (get_or r 0 0) ≡ false → bits at v r ≡ Value v at
+bits_none : (at v : ℕ) (r : List ℕ) → is_bit (get_or r 0 0) ≡ false → bits at v r ≡ found v at
 unfolding bits
 bits_none at v [] e = refl
 bits_none at v (x ∷ xs) e = rw e
@@ -192,17 +194,17 @@ leading = binary_induction (λ n. 0 < n → Leading n) one more
         }
 
 pub bits_at-reads : (t : List ℕ) (at v : ℕ) (r : List ℕ) → is_bit (get_or r 0 0) ≡ false → drop at t ≡ binary v ++ r →
-    bits_at t at ≡ Value (min over v) (at + length (binary v))
+    bits_at t at ≡ Some (found (min over v) (at + length (binary v)))
 unfolding bits_at
 bits_at-reads t at v r d e = go (dec_lt 0 v)
   where
-    go : Dec (0 < v) → bits_at t at ≡ Value (min over v) (at + length (binary v))
+    go : Dec (0 < v) → bits_at t at ≡ Some (found (min over v) (at + length (binary v)))
     go (yes p) =
         let l = leading v p in
         let f = drop_head t at 49 (l.others ++ r) (e ∙ ap (λ (x : List ℕ). x ++ r) l.shape) in
         let b : get_or t at 0 ≡ 49 = f.byte in
         rw b
-        (ap (λ (x : List ℕ). bits at 0 x) e ∙ bits_reads at v r ∙ bits_none (at + length (binary v)) (min over v) r d)
+        (ap Some (ap (λ (x : List ℕ). bits at 0 x) e ∙ bits_reads at v r ∙ bits_none (at + length (binary v)) (min over v) r d))
     go (no p) =
         let z : v ≡ 0 = omega arith in
         let o : binary v ≡ 48 ∷ [] = ap binary z ∙ binary_one 0 (omega arith) in
@@ -217,15 +219,15 @@ record BitsStanding (u : ℕ) (l : List ℕ) (at w j : ℕ) : Type 0 where
   kept : w ≡ min over value
   there : binary u ++ l ≡ binary value ++ drop (j - at) l
 
-bits_text : (l : List ℕ) (at v w j u : ℕ) → 0 < u → v ≡ min over u → bits at v l ≡ Value w j → BitsStanding u l at w j
+bits_text : (l : List ℕ) (at v w j u : ℕ) → 0 < u → v ≡ min over u → bits at v l ≡ found w j → BitsStanding u l at w j
 unfolding bits
-bits_text [] at v w j u p q = λ e. let z : v ≡ w = cc in record { value = u; kept = omega arith; there = rw (drop-nil (j - at)) }
+bits_text [] at v w j u p q = λ e. let z = same_value e in record { value = u; kept = omega arith; there = rw (drop-nil (j - at)) }
 bits_text (x ∷ xs) at v w j u p q =
-    on_test (λ (z : Number). z ≡ Value w j → BitsStanding u (x ∷ xs) at w j) (is_bit x)
+    on_test (λ (z : Found ℕ). z ≡ found w j → BitsStanding u (x ∷ xs) at w j) (is_bit x)
     (λ h e. one_more (bit_true x h) (bits_within xs (suc at) (grow_bit v x) w j e).0
     (bits_text xs (suc at) (grow_bit v x) w j (u * 2 + (x - 48)) (omega arith) (omega arith) e))
-    (λ h e. let z : v ≡ w = cc in
-    let y : at ≡ j = cc in
+    (λ h e. let z = same_value e in
+    let y = same_next e in
     let k : j - at ≡ 0 = omega arith in
     record { value = u; kept = omega arith; there = rw k })
   where
@@ -241,19 +243,19 @@ bits_text (x ∷ xs) at v w j u p q =
         }
 
 -- a value that was not kept down stands there itself
-pub bits_at-text : (t : List ℕ) (at v i : ℕ) → v < over → bits_at t at ≡ Value v i → drop at t ≡ binary v ++ drop i t
+pub bits_at-text : (t : List ℕ) (at v i : ℕ) → v < over → bits_at t at ≡ Some (found v i) → drop at t ≡ binary v ++ drop i t
 unfolding bits_at
 bits_at-text t at v i small =
-    on_test (λ (z : Number). z ≡ Value v i → drop at t ≡ binary v ++ drop i t) (eqb (get_or t at 0) 48)
+    on_test (λ (z : Option (Found ℕ)). z ≡ Some (found v i) → drop at t ≡ binary v ++ drop i t) (eqb (get_or t at 0) 48)
     (λ h e. zero_case (eqb-true (get_or t at 0) 48 h) e)
-    (λ n. on_test (λ (z : Number). z ≡ Value v i → drop at t ≡ binary v ++ drop i t) (eqb (get_or t at 0) 49)
+    (λ n. on_test (λ (z : Option (Found ℕ)). z ≡ Some (found v i) → drop at t ≡ binary v ++ drop i t) (eqb (get_or t at 0) 49)
     (λ h e. one_case (eqb-true (get_or t at 0) 49 h) e)
     (λ h e. clash (cc)))
   where
-    zero_case : get_or t at 0 ≡ 48 → Value 0 (suc at) ≡ Value v i → drop at t ≡ binary v ++ drop i t
+    zero_case : get_or t at 0 ≡ 48 → Some (found 0 (suc at)) ≡ Some (found v i) → drop at t ≡ binary v ++ drop i t
     zero_case b e =
-        let x : 0 ≡ v = cc in
-        let y : suc at ≡ i = cc in
+        let x = same_value (same_found e) in
+        let y = same_next (same_found e) in
         let n : at < length t = inside t at (get_or t at 0) refl (omega arith) in
         drop-cons t at 0 n ∙ rw (b, ← y, ← x, binary_one 0 (omega arith))
 
@@ -268,10 +270,10 @@ bits_at-text t at v i small =
         ∙ ap (λ (x : List ℕ). binary s.value ++ x) (drop-drop (i - suc at) (suc at) t ∙ ap (λ (x : ℕ). drop x t) k)
         ∙ ap (λ (x : ℕ). binary x ++ drop i t) q
 
-    one_case : get_or t at 0 ≡ 49 → bits at 0 (drop at t) ≡ Value v i → drop at t ≡ binary v ++ drop i t
+    one_case : get_or t at 0 ≡ 49 → Some (bits at 0 (drop at t)) ≡ Some (found v i) → drop at t ≡ binary v ++ drop i t
     one_case b e =
         let l : at < length t = inside t at (get_or t at 0) refl (omega arith) in
         let h : is_bit (get_or t at 0) ≡ true = rw b in
         let g : grow_bit 0 (get_or t at 0) ≡ 1 = rw b in
-        let e₁ : bits (suc at) 1 (drop (suc at) t) ≡ Value v i = sym (bits_step t at 0 l ∙ rw (h, g)) ∙ e in
+        let e₁ : bits (suc at) 1 (drop (suc at) t) ≡ found v i = sym (bits_step t at 0 l ∙ rw (h, g)) ∙ same_found e in
         from_bits l b (bits_within (drop (suc at) t) (suc at) 1 v i e₁).0 (bits_text (drop (suc at) t) (suc at) 1 v i 1 (omega arith) (omega arith) e₁)

@@ -9,9 +9,10 @@ use lib.Seq.{drop-cons}
 use native.Mathlib.Omega.{arith}
 use native.Mathlib.Numerals.{add-one}
 use borrow.Author.Tests.{lt-ltb, ltb-true, le-leb, leb-true}
-use Rattle.grammar.specs.declared.Number.{Number}
-use Rattle.grammar.specs.declared.Number.TheVariants.{Value, Malformed}
-use Rattle.grammar.specs.Reading.{most, has_byte, field}
+use Rattle.std.specs.Prelude.{Option, Some, None}
+use Rattle.grammar.specs.declared.Found.{Found}
+use Rattle.grammar.specs.Reading.{found, most, has_byte, field}
+use Rattle.grammar.proofs.Places.{same_parts}
 use Rattle.grammar.specs.Writing.{field_text}
 use Rattle.grammar.proofs.Cases.{on_test, and_true, clash}
 use Rattle.grammar.proofs.Bytes.{drop_head, drop_past, byte_reads, byte_text, byte_true}
@@ -54,7 +55,7 @@ module _ (t : List ℕ) (at : ℕ) where
       let m : min over x ≡ x = omega arith in
       let a₁ : i + 1 ≡ suc i = omega arith in
       let a₂ : i + 2 ≡ suc (suc i) = omega arith in
-      let read : bits_at t (suc at) ≡ Value (min over x) i = bits_at-reads t (suc at) x (32 ∷ code_of v ∷ 10 ∷ r) refl h.rest in
+      let read : bits_at t (suc at) ≡ Some (found (min over x) i) = bits_at-reads t (suc at) x (32 ∷ code_of v ∷ 10 ∷ r) refl h.rest in
       let c₁ : has_byte t i 32 ≡ true = byte_reads t i 32 _ p in
       let c₂ : get_or t (suc i) 0 ≡ code_of v = (drop_head t (suc i) (code_of v) _ q).byte in
       let c₃ : has_byte t (suc (suc i)) 10 ≡ true = byte_reads t (suc (suc i)) 10 r w in
@@ -80,31 +81,29 @@ module _ (t : List ℕ) (at : ℕ) where
   unfolding time_text
   time_there_of k i b = by (field t 10 (at + 1)) refl
     where
-      by : (n : Number) → field t 10 (at + 1) ≡ n → time_of n ≡ DumpLine.Time k i → TimeThere t at k i
-      by (Value w j) f e =
-          let a : w ≡ k = cc in
-          let c : j ≡ i = cc in
-          let g : field t 10 (suc at) ≡ Value k i = rw (← add-one at) (f ∙ rw (a, c)) in
+      by : (n : Option (Found ℕ)) → field t 10 (at + 1) ≡ n → time_of n ≡ DumpLine.Time k i → TimeThere t at k i
+      by (Some x) f e =
+          let g : field t 10 (suc at) ≡ Some (found k i) = rw (← add-one at) (f ∙ same_parts (cc) (cc)) in
           let l = field_within t 10 (suc at) k i g in
           record {
             text = λ small. byte_text t at 35 b ∙ ap (λ (r : List ℕ). 35 ∷ r) (field_text_lem t 10 (suc at) k i small g);
             later = omega arith;
             within = l.1;
           }
-      by Malformed f e = clash (cc)
+      by None f e = clash (cc)
 
   -- the parts of a value line
   value_there_of : (v x i : ℕ) → has_byte t at 98 ≡ true → value_of t (bits_at t (at + 1)) ≡ DumpLine.Value v x i → ValueThere t at v x i
   unfolding value_text
   value_there_of v x i b = by (bits_at t (at + 1)) refl
     where
-      parts : (w j : ℕ) → bits_at t (at + 1) ≡ Value w j → (ltb w over && has_code t j) ≡ true → ValueThere t at (get_or t (j + 1) 0 - 33) w (j + 3)
+      parts : (w j : ℕ) → bits_at t (at + 1) ≡ Some (found w j) → (ltb w over && has_code t j) ≡ true → ValueThere t at (get_or t (j + 1) 0 - 33) w (j + 3)
       parts w j f c =
           let h = and_true (ltb w over) (has_code t j) c in
           let small : w < over = ltb-true w over h.0 in
           let c₁ = and_true (has_byte t j 32) (leb 33 (get_or t (j + 1) 0) && has_byte t (j + 2) 10) h.1 in
           let c₂ = and_true (leb 33 (get_or t (j + 1) 0)) (has_byte t (j + 2) 10) c₁.1 in
-          let g : bits_at t (suc at) ≡ Value w j = rw (← add-one at) f in
+          let g : bits_at t (suc at) ≡ Some (found w j) = rw (← add-one at) f in
           let l = bits_at-within t (suc at) w j g in
           let low : 33 ≤ get_or t (j + 1) 0 = leb-true 33 (get_or t (j + 1) 0) c₂.0 in
           let e₁ : has_byte t (suc (suc j)) 10 ≡ true = rw (let k : suc (suc j) ≡ j + 2 = omega arith in k) c₂.1 in
@@ -131,25 +130,25 @@ module _ (t : List ℕ) (at : ℕ) where
             within = omega (arith, last.within);
           }
 
-      by : (n : Number) → bits_at t (at + 1) ≡ n → value_of t n ≡ DumpLine.Value v x i → ValueThere t at v x i
-      by (Value w j) f =
-          on_test (λ (z : DumpLine). z ≡ DumpLine.Value v x i → ValueThere t at v x i) (ltb w over && has_code t j)
-          (λ c e. let r = parts w j f c in
-          let ev : get_or t (j + 1) 0 - 33 ≡ v = cc in
-          let ex : w ≡ x = cc in
-          let ei : j + 3 ≡ i = cc in
+      by : (n : Option (Found ℕ)) → bits_at t (at + 1) ≡ n → value_of t n ≡ DumpLine.Value v x i → ValueThere t at v x i
+      by (Some y) f =
+          on_test (λ (z : DumpLine). z ≡ DumpLine.Value v x i → ValueThere t at v x i) (ltb y.value over && has_code t y.next)
+          (λ c e. let r = parts y.value y.next f c in
+          let ev : get_or t (y.next + 1) 0 - 33 ≡ v = cc in
+          let ex : y.value ≡ x = cc in
+          let ei : y.next + 3 ≡ i = cc in
           rw (← ev, ← ex, ← ei) r)
           (λ c e. clash (cc))
-      by Malformed f = λ e. clash (cc)
+      by None f = λ e. clash (cc)
 
   -- no time is a value, no value a time
-  no_value : {v x i : ℕ} (n : Number) → time_of n ≡ DumpLine.Value v x i → ⊥
-  no_value (Value w j) e = clash (cc)
-  no_value Malformed e = clash (cc)
+  no_value : {v x i : ℕ} (n : Option (Found ℕ)) → time_of n ≡ DumpLine.Value v x i → ⊥
+  no_value (Some y) e = clash (cc)
+  no_value None e = clash (cc)
 
-  no_time : {k i : ℕ} (n : Number) → value_of t n ≡ DumpLine.Time k i → ⊥
-  no_time {k} {i} (Value w j) = on_test (λ (z : DumpLine). z ≡ DumpLine.Time k i → ⊥) (ltb w over && has_code t j) (λ _ e. clash (cc)) (λ _ e. clash (cc))
-  no_time Malformed = λ e. clash (cc)
+  no_time : {k i : ℕ} (n : Option (Found ℕ)) → value_of t n ≡ DumpLine.Time k i → ⊥
+  no_time {k} {i} (Some y) = on_test (λ (z : DumpLine). z ≡ DumpLine.Time k i → ⊥) (ltb y.value over && has_code t y.next) (λ _ e. clash (cc)) (λ _ e. clash (cc))
+  no_time None = λ e. clash (cc)
 
   pub time_there : (k i : ℕ) → line_at t at ≡ DumpLine.Time k i → TimeThere t at k i
   unfolding line_at

@@ -1,6 +1,7 @@
 -- Binary numbers of a dump (document 02, order 7): 'binary without leading zeros (0 itself is `0`)', written, and read at a place.
-use Rattle.std.specs.Prelude.{ℕ, zero, suc, ◌+◌, ◌-◌, ◌*◌, ◌/◌, ◌%◌, min, Bool, cond, ◌&&◌, List, [], ◌∷◌, ◌++◌, get_or, drop, eqb, leb, ltb}
-use Rattle.grammar.specs.declared.Number.{Number}
+use Rattle.std.specs.Prelude.{ℕ, zero, suc, ◌+◌, ◌-◌, ◌*◌, ◌/◌, ◌%◌, min, Bool, cond, ◌&&◌, List, [], ◌∷◌, ◌++◌, get_or, drop, eqb, leb, ltb, Option, Some, None}
+use Rattle.grammar.specs.declared.Found.{Found}
+use Rattle.grammar.specs.Reading.{found}
 
 -- the last f digits of n, or all of them where there are fewer
 unfoldable pub binaries : ℕ → ℕ → List ℕ
@@ -25,13 +26,13 @@ abbrev pub grow_bit : ℕ → ℕ → ℕ
 grow_bit v x = min over (v * 2 + (x - 48))
 
 -- the digits that a list begins with, where v is the number so far and `at` the place of the list's first byte
-unfoldable pub bits : ℕ → ℕ → List ℕ → Number
-bits at v [] = Number.Value v at
-bits at v (x ∷ xs) = cond (is_bit x) (bits (suc at) (grow_bit v x) xs) (Number.Value v at)
+unfoldable pub bits : ℕ → ℕ → List ℕ → Found ℕ
+bits at v [] = found v at
+bits at v (x ∷ xs) = cond (is_bit x) (bits (suc at) (grow_bit v x) xs) (found v at)
 
 -- a binary number at a place: `0` by itself, or digits that begin with `1`
-unfoldable pub bits_at : List ℕ → ℕ → Number
+unfoldable pub bits_at : List ℕ → ℕ → Option (Found ℕ)
 bits_at t at =
     cond (eqb (get_or t at 0) 48)
-    (Number.Value 0 (suc at))
-    (cond (eqb (get_or t at 0) 49) (bits at 0 (drop at t)) Number.Malformed)
+    (Some (found 0 (suc at)))
+    (cond (eqb (get_or t at 0) 49) (Some (bits at 0 (drop at t))) None)

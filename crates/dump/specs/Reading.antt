@@ -1,7 +1,7 @@
 -- The reader of a dump (document 02, order 7): from the bytes to the number of variables, the last time and the values after a step, or refusal 2 with
 -- the line of the first line that breaks the forms or their order. It goes through the text once.
-use Rattle.std.specs.Prelude.{ℕ, zero, suc, ◌+◌, ◌-◌, Bool, cond, not, ◌&&◌, List, length, get_or, set, replicate, eqb, leb, ltb}
-use Rattle.grammar.specs.declared.Number.{Number}
+use Rattle.std.specs.Prelude.{ℕ, zero, suc, ◌+◌, ◌-◌, Bool, cond, not, ◌&&◌, List, length, get_or, set, replicate, eqb, leb, ltb, Option, Some, None}
+use Rattle.grammar.specs.declared.Found.{Found}
 use Rattle.grammar.specs.Reading.{has_byte, has_word, field}
 use Rattle.construction.specs.declared.texts.Verdict.{Verdict}
 use Rattle.construction.specs.declared.answers.Refusal.TheVariants.{Malformed}
@@ -11,18 +11,18 @@ use Rattle.dump.specs.Dump.{timescale_line, scope_line, var_line, upscope_line, 
 
 -- ---- lines after the header
 -- `#` and a decimal, as in a card text
-abbrev pub time_of : Number → DumpLine
-time_of (Number.Value k i) = DumpLine.Time k i
-time_of Number.Malformed = DumpLine.Malformed
+abbrev pub time_of : Option (Found ℕ) → DumpLine
+time_of (Some x) = DumpLine.Time x.value x.next
+time_of None = DumpLine.Malformed
 
 -- `b`, a binary number of at most 32 bits, a space, a code and the line's end: i is the place past the number
 abbrev pub has_code : List ℕ → ℕ → Bool
 has_code t i = has_byte t i 32 && (leb 33 (get_or t (i + 1) 0) && has_byte t (i + 2) 10)
 
-abbrev pub value_of : List ℕ → Number → DumpLine
-value_of t (Number.Value x i) =
-    cond (ltb x over && has_code t i) (DumpLine.Value (get_or t (i + 1) 0 - 33) x (i + 3)) DumpLine.Malformed
-value_of t Number.Malformed = DumpLine.Malformed
+abbrev pub value_of : List ℕ → Option (Found ℕ) → DumpLine
+value_of t (Some x) =
+    cond (ltb x.value over && has_code t x.next) (DumpLine.Value (get_or t (x.next + 1) 0 - 33) x.value (x.next + 3)) DumpLine.Malformed
+value_of t None = DumpLine.Malformed
 
 unfoldable pub line_at : List ℕ → ℕ → DumpLine
 line_at t at =

@@ -10,8 +10,8 @@ use native.Mathlib.Numerals.{add-one}
 use native.Mathlib.Decide.{dec_lt}
 use native.Mathlib.Nat.{add-zero}
 use borrow.Author.Tests.{lt-ltb, le-ltb, le-leb, lt-leb, leb-true, eq-eqb, ne_eqb, not-true, not-false}
-use Rattle.grammar.specs.declared.Number.{Number}
-use Rattle.grammar.specs.declared.Number.TheVariants.{Value}
+use Rattle.std.specs.Prelude.{Option, Some, None}
+use Rattle.grammar.specs.declared.Found.{Found}
 use Rattle.grammar.specs.Reading.{has_byte, has_word, field}
 use Rattle.grammar.specs.Writing.{decimal}
 use Rattle.grammar.proofs.Decimals.{decimal_one, decimal_more}
@@ -68,35 +68,35 @@ module _ (t : List ℕ) (at : ℕ) {b : Bool} (e : b ≡ has_byte t at 32) where
     code_there {d} l g = rw (← e, not-false b h, ← f, le-leb 33 x l) g
 
 -- ---- the lines
-module _ (t : List ℕ) {m : Number} where
-  pub time_malformed : (at : ℕ) → m ≡ field t 10 at → m ≡ Number.Malformed → DumpLine.Malformed ≡ time_of (field t 10 at)
+module _ (t : List ℕ) {m : Option (Found ℕ)} where
+  pub time_malformed : (at : ℕ) → m ≡ field t 10 at → m ≡ None → DumpLine.Malformed ≡ time_of (field t 10 at)
   time_malformed at e f = rw (← e, f)
 
-  pub time_value : {k i : ℕ} (at : ℕ) → m ≡ field t 10 at → m ≡ Value k i → DumpLine.Time k i ≡ time_of (field t 10 at)
+  pub time_value : {n : Found ℕ} (at : ℕ) → m ≡ field t 10 at → m ≡ Some n → DumpLine.Time n.value n.next ≡ time_of (field t 10 at)
   time_value at e f = rw (← e, f)
 
   module _ (at : ℕ) (e : m ≡ bits_at t at) where
-    pub value_malformed : m ≡ Number.Malformed → DumpLine.Malformed ≡ value_of t (bits_at t at)
+    pub value_malformed : m ≡ None → DumpLine.Malformed ≡ value_of t (bits_at t at)
     value_malformed f = rw (← e, f)
 
-    module _ {x i : ℕ} (f : m ≡ Value x i) where
-      pub value_long : over ≤ x → DumpLine.Malformed ≡ value_of t (bits_at t at)
-      value_long h = rw (← e, f, le-ltb x over h)
+    module _ {n : Found ℕ} (f : m ≡ Some n) where
+      pub value_long : over ≤ n.value → DumpLine.Malformed ≡ value_of t (bits_at t at)
+      value_long h = rw (← e, f, le-ltb n.value over h)
 
-      module _ (small : x < over) {b : Bool} (g : b ≡ has_code t i) where
+      module _ (small : n.value < over) {b : Bool} (g : b ≡ has_code t n.next) where
         pub value_uncoded : not b ≡ true → DumpLine.Malformed ≡ value_of t (bits_at t at)
-        value_uncoded h = rw (← e, f, lt-ltb x over small, ← g, not-true b h)
+        value_uncoded h = rw (← e, f, lt-ltb n.value over small, ← g, not-true b h)
 
         -- the code of a value is a byte from 33 on, and its line ends within the text
-        pub coded : not b ≡ false → (33 ≤ get_or t (i + 1) 0) × (i + 2 < length t)
+        pub coded : not b ≡ false → (33 ≤ get_or t (n.next + 1) 0) × (n.next + 2 < length t)
         coded h =
-            let c = and_true (has_byte t i 32) _ (sym g ∙ not-false b h) in
-            let d = and_true (leb 33 (get_or t (i + 1) 0)) _ c.1 in
-            let w = byte_true t (i + 2) 10 d.1 in
-            (leb-true 33 (get_or t (i + 1) 0) d.0, w.within)
+            let c = and_true (has_byte t n.next 32) _ (sym g ∙ not-false b h) in
+            let d = and_true (leb 33 (get_or t (n.next + 1) 0)) _ c.1 in
+            let w = byte_true t (n.next + 2) 10 d.1 in
+            (leb-true 33 (get_or t (n.next + 1) 0) d.0, w.within)
 
-        pub value_coded : {y : ℕ} → not b ≡ false → y ≡ get_or t (i + 1) 0 → DumpLine.Value (y - 33) x (i + 3) ≡ value_of t (bits_at t at)
-        value_coded h k = rw (← e, f, lt-ltb x over small, ← g, not-false b h, ← k)
+        pub value_coded : {y : ℕ} → not b ≡ false → y ≡ get_or t (n.next + 1) 0 → DumpLine.Value (y - 33) n.value (n.next + 3) ≡ value_of t (bits_at t at)
+        value_coded h k = rw (← e, f, lt-ltb n.value over small, ← g, not-false b h, ← k)
 
 module _ (t : List ℕ) (at : ℕ) {b : Bool} (e : b ≡ has_byte t at 35) where
   pub line_time : {r : DumpLine} → b ≡ true → r ≡ time_of (field t 10 (at + 1)) → r ≡ line_at t at

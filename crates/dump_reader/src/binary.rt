@@ -2,7 +2,7 @@
 ghost use Rattle.std.specs.Prelude.{◌≡◌, true, ◌≤◌, drop};
 ghost use Rattle.dump.specs.Binary.{over, is_bit, grow_bit, bits, bits_at};
 
-use grammar::Number;
+use grammar::Found;
 use grammar::reading::byte_at;
 
 // One more than the largest number of 32 bits.
@@ -11,7 +11,7 @@ const OVER: u64 = 4_294_967_296;
 fn is_bit(byte: u8) -> bool
     ensures { result ≡ is_bit byte }
 {
-    if byte < b'0' { false } else { byte <= b'1' }
+    matches!(byte, b'0' | b'1')
 }
 
 fn wide(byte: u8) -> u64
@@ -30,37 +30,34 @@ fn grown(value: u64, digit: u8) -> u64
 }
 
 // The number that the digits from a place on make, 0 where there are none.
-fn bits_from(text: &[u8], at: usize) -> Number
+fn bits_from(text: &[u8], at: usize) -> Found<u64>
     ensures { result ≡ bits at 0 (drop at text.now) }
 {
     let mut value: u64 = 0;
-    let mut i = at;
-    while i < text.len() {
+    for i in at..text.len() {
         let byte = text[i];
-        if is_bit(byte) {
-            value = grown(value, byte);
-            i = i + 1;
-        } else {
-            return Number::Value { value, next: i };
+        if !is_bit(byte) {
+            return Found { value, next: i };
         }
+        value = grown(value, byte);
     }
-    Number::Value { value, next: i }
+    Found {
+        value,
+        next: at.max(text.len()),
+    }
 }
 
 // The binary number at a place.
-pub(crate) fn bits_at(text: &[u8], at: usize) -> Number
+#[tactic(auto, unfolding(dump::specs::Binary::bits_at))]
+pub(crate) fn bits_at(text: &[u8], at: usize) -> Option<Found<u64>>
     ensures { result ≡ bits_at text.now at }
 {
-    let first = byte_at(text, at);
-    if first == b'0' {
-        return Number::Value {
+    match byte_at(text, at) {
+        b'0' => Some(Found {
             value: 0,
             next: at + 1,
-        };
-    }
-    if first == b'1' {
-        bits_from(text, at)
-    } else {
-        Number::Malformed
+        }),
+        b'1' => Some(bits_from(text, at)),
+        _ => None,
     }
 }

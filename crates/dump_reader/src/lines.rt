@@ -6,7 +6,7 @@ ghost use Rattle.dump.specs.Reading.{time_of, has_code, value_of, line_at};
 
 use crate::binary::bits_at;
 use dump::DumpLine;
-use grammar::Number;
+use grammar::Found;
 use grammar::reading::{byte_at, field_at, has_byte};
 
 const OVER: u64 = 4_294_967_296;
@@ -29,7 +29,7 @@ fn has_code(text: &[u8], at: usize) -> bool
 fn value_line(text: &[u8], at: usize) -> DumpLine
     ensures { result ≡ value_of text.now (bits_at text.now at) }
 {
-    let Number::Value { value, next } = bits_at(text, at) else {
+    let Some(Found { value, next }) = bits_at(text, at) else {
         return DumpLine::Malformed;
     };
     if OVER <= value {
@@ -49,7 +49,7 @@ fn value_line(text: &[u8], at: usize) -> DumpLine
 fn time_line(text: &[u8], at: usize) -> DumpLine
     ensures { result ≡ time_of (field text.now 10 at) }
 {
-    let Number::Value { value, next } = field_at(text, b'\n', at) else {
+    let Some(Found { value, next }) = field_at(text, b'\n', at) else {
         return DumpLine::Malformed;
     };
     DumpLine::Time { time: value, next }

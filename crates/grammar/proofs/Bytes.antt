@@ -2,8 +2,8 @@
 use mathlib.Core.Bool.{Bool, true, false, ◌&&◌}
 use mathlib.Core.Path.{◌≡◌, refl, sym, ◌∙◌, ap}
 use mathlib.Core.List.{List, [], ◌∷◌, ◌++◌}
-use Prim.Native.Nat.{ℕ, suc, ◌+◌, ◌<◌, ◌≤◌}
-use lib.Dec.{eqb, ltb}
+use Prim.Native.Nat.{ℕ, suc, ◌+◌, ◌-◌, ◌<◌, ◌≤◌}
+use lib.Dec.{eqb, ltb, eqb-suc-zero}
 use lib.ListN.{get_or, drop, length, get_or-eq_default, drop_of_length-le, length-drop, length-append}
 use lib.Seq.{drop-cons, drop-drop, drop-append_seam}
 use native.Mathlib.Omega.{arith}
@@ -11,6 +11,10 @@ use native.Mathlib.Numerals.{add-one}
 use native.Mathlib.Nat.{add-zero}
 use native.Mathlib.Decide.{dec_lt}
 use borrow.Author.Tests.{eq-eqb, lt-ltb, le-ltb, ltb-true, eqb-true}
+use Rattle.std.specs.List.{starts_with, slice_range}
+use Rattle.std.proofs.lemmas.List.{take_all}
+use Rattle.std.proofs.lemmas.Slice.Eq.{starts_is}
+use Rattle.std.proofs.lemmas.Bool.Decides.{Decides-eqb}
 use Rattle.grammar.specs.Reading.{has_byte, has_word}
 use Rattle.grammar.proofs.Cases.{and_true, clash}
 
@@ -59,22 +63,6 @@ module _ (t : List ℕ) (at x : ℕ) where
   pub byte_reads : (r : List ℕ) → drop at t ≡ x ∷ r → has_byte t at x ≡ true
   byte_reads r e = let h = drop_head t at x r e in rw (lt-ltb at (length t) h.within, eq-eqb (get_or t at 0) x h.byte)
 
--- ---- a word, byte by byte
-module _ (t w : List ℕ) (i k : ℕ) where
-  word_step : k < length w → has_word t i (drop k w) ≡ (has_byte t i (get_or w k 0) && has_word t (i + 1) (drop (k + 1) w))
-  unfolding has_word
-  word_step h = rw (drop-cons w k 0 h, add-one k, add-one i)
-
-  pub word_more : k < length w → {b : Bool} → b ≡ has_byte t i (get_or w k 0) → b ≡ true → has_word t i (drop k w) ≡ has_word t (i + 1) (drop (k + 1) w)
-  word_more h e p = word_step h ∙ rw (← e, p)
-
-  pub word_other : k < length w → {b : Bool} → b ≡ has_byte t i (get_or w k 0) → b ≡ false → has_word t i (drop k w) ≡ false
-  word_other h e p = word_step h ∙ rw (← e, p)
-
-  pub word_end : length w ≤ k → has_word t i (drop k w) ≡ true
-  unfolding has_word
-  word_end h = rw (drop_of_length-le w {i = k} h)
-
 -- ---- a word that was read stands there, and one that stands there is read
 pub word_text_lem : (t w : List ℕ) (at : ℕ) → has_word t at w ≡ true → drop at t ≡ w ++ drop (at + length w) t
 unfolding has_word
@@ -91,6 +79,26 @@ word_reads t (x ∷ xs) r at e =
     let b : has_byte t at x ≡ true = byte_reads t at x (xs ++ r) e in
     let m : has_word t (suc at) xs ≡ true = word_reads t xs r (suc at) (drop_head t at x (xs ++ r) e).rest in
     rw (b, m)
+
+-- a test that holds exactly where another does is that one
+same_test : (a b : Bool) → (a ≡ true → b ≡ true) → (b ≡ true → a ≡ true) → a ≡ b
+same_test true b p q = sym (p refl)
+same_test false true p q = q refl
+same_test false false p q = refl
+
+-- a word stands at a place exactly where the text from there on starts with it
+pub word_starts :
+    (t w : List ℕ) {at : ℕ} {r : Bool} {rest : List ℕ} → at ≤ length t → rest ≡ slice_range t at (length t) → r ≡ starts_with eqb rest w → r ≡ has_word t at w
+word_starts t w {at} {r} {rest} l d e =
+    let z : rest ≡ drop at t = d ∙ take_all (length t - at) (drop at t) (omega (arith, length-drop at t)) in
+    let s = starts_is Decides-eqb (drop at t) w r (rw (← z) e) in
+    same_test r (has_word t at w) (λ h. word_reads t w _ at (s.0 h)) (λ h. s.1 _ (word_text_lem t w at h))
+
+-- past the end there stands the empty word alone
+pub word_past : (t w : List ℕ) (at : ℕ) → length t < at → eqb (length w) 0 ≡ has_word t at w
+unfolding has_word
+word_past t [] at h = refl
+word_past t (x ∷ xs) at h = rw (le-ltb at (length t) (omega arith)) (eqb-suc-zero (length xs))
 
 -- a word that was read ends within the text
 pub word_within : (t w : List ℕ) (at : ℕ) → 0 < length w → has_word t at w ≡ true → at + length w ≤ length t

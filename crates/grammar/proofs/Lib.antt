@@ -1,4 +1,5 @@
 pub mod Cases
+pub mod Places
 pub mod Bytes
 pub mod Digits
 pub mod Fields

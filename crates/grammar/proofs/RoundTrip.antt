@@ -10,14 +10,14 @@ use lib.Seq.{drop-cons, drop-nil, drop-drop, append_snoc}
 use native.Mathlib.Omega.{arith}
 use native.Mathlib.Decide.{dec_lt}
 use borrow.Author.Tests.{eq-eqb, ne_eqb, eqb-true, eqb-false}
-use Rattle.grammar.specs.declared.Number.{Number}
-use Rattle.grammar.specs.declared.Number.TheVariants.{Value}
-use Rattle.grammar.specs.declared.Numbers.TheVariants.{Values}
-use Rattle.grammar.specs.Reading.{most, is_digit, grow, digits, number, field, four}
+use Rattle.std.specs.Prelude.{Option, Some, None}
+use Rattle.grammar.specs.declared.Found.{Found}
+use Rattle.grammar.specs.Reading.{found, four_of, most, is_digit, grow, digits, number, field, four}
 use Rattle.grammar.specs.Writing.{decimal, field_text, four_text}
 use Rattle.grammar.proofs.Cases.{on_test, clash}
 use Rattle.grammar.proofs.Bytes.{inside, drop_head, drop_past, byte_text, byte_reads}
 use Rattle.grammar.proofs.Digits.{digit_in, digit_true, digits_step, digits_within}
+use Rattle.grammar.proofs.Places.{same_value, same_next, same_found}
 use Rattle.grammar.proofs.Decimals.{decimal_one, decimal_more, decimal_step, decimal_induction}
 use Rattle.grammar.proofs.Fields.{field_parts, field_joined, four_parts, four_values}
 
@@ -33,7 +33,7 @@ digits_cons : (at v w x : ℕ) (xs : List ℕ) → is_digit x ≡ true → w ≡
 unfolding digits
 digits_cons at v w x xs d e = rw (d, e)
 
-digits_none : (at v : ℕ) (r : List ℕ) → is_digit (get_or r 0 0) ≡ false → digits at v r ≡ Value v at
+digits_none : (at v : ℕ) (r : List ℕ) → is_digit (get_or r 0 0) ≡ false → digits at v r ≡ found v at
 unfolding digits
 digits_none at v [] e = refl
 digits_none at v (x ∷ xs) e = rw e
@@ -87,11 +87,11 @@ leading = decimal_induction (λ n. 0 < n → Leading n) one more
         }
 
 pub number_reads : (t : List ℕ) (at v : ℕ) (r : List ℕ) → is_digit (get_or r 0 0) ≡ false → drop at t ≡ decimal v ++ r →
-    number t at ≡ Value (min most v) (at + length (decimal v))
+    number t at ≡ Some (found (min most v) (at + length (decimal v)))
 unfolding number
 number_reads t at v r d e = go (dec_lt 0 v)
   where
-    go : Dec (0 < v) → number t at ≡ Value (min most v) (at + length (decimal v))
+    go : Dec (0 < v) → number t at ≡ Some (found (min most v) (at + length (decimal v)))
     go (yes p) =
         let l = leading v p in
         let f = drop_head t at l.digit (l.others ++ r) (e ∙ ap (λ (x : List ℕ). x ++ r) l.shape) in
@@ -99,7 +99,7 @@ number_reads t at v r d e = go (dec_lt 0 v)
         let lo = l.low in
         let hi = l.high in
         rw (b, ne_eqb l.digit 48 (λ (q : l.digit ≡ 48). omega arith), digit_in l.digit (omega arith) (omega arith))
-        (ap (λ (x : List ℕ). digits at 0 x) e ∙ digits_reads at v r ∙ digits_none (at + length (decimal v)) (min most v) r d)
+        (ap Some (ap (λ (x : List ℕ). digits at 0 x) e ∙ digits_reads at v r ∙ digits_none (at + length (decimal v)) (min most v) r d))
     go (no p) =
         let z : v ≡ 0 = omega arith in
         let o : decimal v ≡ 48 ∷ [] = ap decimal z ∙ decimal_one 0 (omega arith) in
@@ -108,16 +108,16 @@ number_reads t at v r d e = go (dec_lt 0 v)
         rw (eq-eqb (get_or t at 0) 48 f.byte, o, z, k)
 
 pub field_reads : (t : List ℕ) (s at v : ℕ) (r : List ℕ) → is_digit s ≡ false → drop at t ≡ field_text s v ++ r →
-    field t s at ≡ Value (min most v) (at + length (field_text s v))
+    field t s at ≡ Some (found (min most v) (at + length (field_text s v)))
 field_reads t s at v r d e =
     let f : drop at t ≡ decimal v ++ (s ∷ r) = e ∙ append_assoc (decimal v) (s ∷ []) r in
     let b = byte_reads t (at + length (decimal v)) s r (drop_past t at (decimal v) (s ∷ r) f) in
     let k : suc (at + length (decimal v)) ≡ at + length (field_text s v) = omega (arith, length-append (decimal v) (s ∷ [])) in
-    field_joined t s at (min most v) (at + length (decimal v)) (number_reads t at v (s ∷ r) d f) b ∙ ap (λ (n : ℕ). Value (min most v) n) k
+    field_joined t s at (min most v) (at + length (decimal v)) (number_reads t at v (s ∷ r) d f) b ∙ ap (λ (n : ℕ). Some (found (min most v) n)) k
 
 module _ (t : List ℕ) (at a b c d : ℕ) (r : List ℕ) where
   pub four_reads :
-      drop at t ≡ four_text a b c d ++ r → four t at ≡ Values (min most a) (min most b) (min most c) (min most d) (at + length (four_text a b c d))
+      drop at t ≡ four_text a b c d ++ r → four t at ≡ Some (found (four_of (min most a) (min most b) (min most c) (min most d)) (at + length (four_text a b c d)))
   four_reads e =
       let xa : List ℕ = field_text 44 a in
       let xb : List ℕ = field_text 44 b in
@@ -135,7 +135,7 @@ module _ (t : List ℕ) (at a b c d : ℕ) (r : List ℕ) where
       (sym (field_reads t 44 (at + length xa) b _ refl eb))
       (sym (field_reads t 44 (at + length xa + length xb) c _ refl ec))
       (sym (field_reads t 10 (at + length xa + length xb + length xc) d _ refl ed)))
-      ∙ ap (λ (n : ℕ). Values (min most a) (min most b) (min most c) (min most d) n) k
+      ∙ ap (λ (n : ℕ). Some (found (four_of (min most a) (min most b) (min most c) (min most d)) n)) k
 
 -- ---- what was read stands there as it is written: a number of any length, which was kept at `most` if it is larger
 pub record Standing (t : List ℕ) (at : ℕ) (text : ℕ → List ℕ) (v i : ℕ) : Type 0 where
@@ -149,15 +149,15 @@ record DigitsStanding (u : ℕ) (l : List ℕ) (at w j : ℕ) : Type 0 where
   kept : w ≡ min most value
   there : decimal u ++ l ≡ decimal value ++ drop (j - at) l
 
-digits_text : (l : List ℕ) (at v w j u : ℕ) → 0 < u → v ≡ min most u → digits at v l ≡ Value w j → DigitsStanding u l at w j
+digits_text : (l : List ℕ) (at v w j u : ℕ) → 0 < u → v ≡ min most u → digits at v l ≡ found w j → DigitsStanding u l at w j
 unfolding digits
-digits_text [] at v w j u p q = λ e. let z : v ≡ w = cc in record { value = u; kept = omega arith; there = rw (drop-nil (j - at)) }
+digits_text [] at v w j u p q = λ e. let z = same_value e in record { value = u; kept = omega arith; there = rw (drop-nil (j - at)) }
 digits_text (x ∷ xs) at v w j u p q =
-    on_test (λ (z : Number). z ≡ Value w j → DigitsStanding u (x ∷ xs) at w j) (is_digit x)
+    on_test (λ (z : Found ℕ). z ≡ found w j → DigitsStanding u (x ∷ xs) at w j) (is_digit x)
     (λ h e. one_more (digit_true x h) (digits_within xs (suc at) (grow v x) w j e).0
     (digits_text xs (suc at) (grow v x) w j (u * 10 + (x - 48)) (omega arith) (omega arith) e))
-    (λ h e. let z : v ≡ w = cc in
-    let y : at ≡ j = cc in
+    (λ h e. let z = same_value e in
+    let y = same_next e in
     let k : j - at ≡ 0 = omega arith in
     record { value = u; kept = omega arith; there = rw k })
   where
@@ -175,19 +175,19 @@ digits_text (x ∷ xs) at v w j u p q =
 above : (x : ℕ) → 48 ≤ x → (x ≡ 48 → ⊥) → 48 < x
 above x p q = omega arith
 
-pub number_standing : (t : List ℕ) (at v i : ℕ) → number t at ≡ Value v i → Standing t at decimal v i
+pub number_standing : (t : List ℕ) (at v i : ℕ) → number t at ≡ Some (found v i) → Standing t at decimal v i
 unfolding number
 number_standing t at v i =
-    on_test (λ (z : Number). z ≡ Value v i → Standing t at decimal v i) (eqb (get_or t at 0) 48)
+    on_test (λ (z : Option (Found ℕ)). z ≡ Some (found v i) → Standing t at decimal v i) (eqb (get_or t at 0) 48)
     (λ h e. zero_case (eqb-true (get_or t at 0) 48 h) e)
-    (λ n. on_test (λ (z : Number). z ≡ Value v i → Standing t at decimal v i) (is_digit (get_or t at 0))
+    (λ n. on_test (λ (z : Option (Found ℕ)). z ≡ Some (found v i) → Standing t at decimal v i) (is_digit (get_or t at 0))
     (λ h e. digit_case (eqb-false (get_or t at 0) 48 n) h e)
     (λ h e. clash (cc)))
   where
-    zero_case : get_or t at 0 ≡ 48 → Value 0 (suc at) ≡ Value v i → Standing t at decimal v i
+    zero_case : get_or t at 0 ≡ 48 → Some (found 0 (suc at)) ≡ Some (found v i) → Standing t at decimal v i
     zero_case b e =
-        let x : 0 ≡ v = cc in
-        let y : suc at ≡ i = cc in
+        let x = same_value (same_found e) in
+        let y = same_next (same_found e) in
         let n : at < length t = inside t at (get_or t at 0) refl (omega arith) in
         record { value = 0; kept = omega arith; there = drop-cons t at 0 n ∙ rw (b, ← y, decimal_one 0 (omega arith)) }
 
@@ -207,16 +207,16 @@ number_standing t at v i =
               ∙ ap (λ (x : List ℕ). decimal s.value ++ x) (drop-drop (i - suc at) (suc at) t ∙ ap (λ (x : ℕ). drop x t) k);
         }
 
-    digit_case : (get_or t at 0 ≡ 48 → ⊥) → is_digit (get_or t at 0) ≡ true → digits at 0 (drop at t) ≡ Value v i → Standing t at decimal v i
+    digit_case : (get_or t at 0 ≡ 48 → ⊥) → is_digit (get_or t at 0) ≡ true → Some (digits at 0 (drop at t)) ≡ Some (found v i) → Standing t at decimal v i
     digit_case n h e =
         let d = digit_true (get_or t at 0) h in
         let l : at < length t = inside t at (get_or t at 0) refl (omega arith) in
         let b : 48 < get_or t at 0 = above (get_or t at 0) d.0 n in
-        let e₁ : digits (suc at) (grow 0 (get_or t at 0)) (drop (suc at) t) ≡ Value v i = sym (digits_step t at 0 l ∙ rw h) ∙ e in
+        let e₁ : digits (suc at) (grow 0 (get_or t at 0)) (drop (suc at) t) ≡ found v i = sym (digits_step t at 0 l ∙ rw h) ∙ same_found e in
         from_digits (get_or t at 0 - 48) l (omega arith) (omega arith) (digits_within (drop (suc at) t) (suc at) (grow 0 (get_or t at 0)) v i e₁).0
         (digits_text (drop (suc at) t) (suc at) (grow 0 (get_or t at 0)) v i (get_or t at 0 - 48) (omega arith) (omega arith) e₁)
 
-pub field_standing : (t : List ℕ) (s at v i : ℕ) → field t s at ≡ Value v i → Standing t at (field_text s) v i
+pub field_standing : (t : List ℕ) (s at v i : ℕ) → field t s at ≡ Some (found v i) → Standing t at (field_text s) v i
 field_standing t s at v i e =
     let p = field_parts t s at v i e in
     let n = number_standing t at v p.end p.number_there in
@@ -241,7 +241,7 @@ pub record FourStanding (t : List ℕ) (at a b c d i : ℕ) : Type 0 where
   pub kept_d : d ≡ min most d'
   pub there : drop at t ≡ four_text a' b' c' d' ++ drop i t
 
-pub four_standing : (t : List ℕ) (at a b c d i : ℕ) → four t at ≡ Values a b c d i → FourStanding t at a b c d i
+pub four_standing : (t : List ℕ) (at a b c d i : ℕ) → four t at ≡ Some (found (four_of a b c d) i) → FourStanding t at a b c d i
 four_standing t at a b c d i e =
     let p = four_parts t at a b c d i e in
     let x = field_standing t 44 at a p.at_b p.field_a in
@@ -266,13 +266,13 @@ four_standing t at a b c d i e =
     }
 
 -- numbers that no reading has kept down stand there themselves
-pub field_text_lem : (t : List ℕ) (s at v i : ℕ) → v < most → field t s at ≡ Value v i → drop at t ≡ field_text s v ++ drop i t
+pub field_text_lem : (t : List ℕ) (s at v i : ℕ) → v < most → field t s at ≡ Some (found v i) → drop at t ≡ field_text s v ++ drop i t
 field_text_lem t s at v i h e =
     let x = field_standing t s at v i e in
     let q : x.value ≡ v = omega (arith, x.kept) in
     x.there ∙ ap (λ (n : ℕ). field_text s n ++ drop i t) q
 
-pub four_text_lem : (t : List ℕ) (at a b c d i : ℕ) → Small a b c d → four t at ≡ Values a b c d i → drop at t ≡ four_text a b c d ++ drop i t
+pub four_text_lem : (t : List ℕ) (at a b c d i : ℕ) → Small a b c d → four t at ≡ Some (found (four_of a b c d) i) → drop at t ≡ four_text a b c d ++ drop i t
 four_text_lem t at a b c d i s e =
     let x = four_standing t at a b c d i e in
     let qa : x.a' ≡ a = omega (arith, x.kept_a, s.small_a) in

@@ -1,8 +1,18 @@
 -- Bytes, words, decimals and fields at a place of a text.
-use Rattle.std.specs.Prelude.{ℕ, suc, ◌+◌, ◌-◌, ◌*◌, min, Bool, true, cond, ◌&&◌, List, [], ◌∷◌, length, get_or, drop, eqb, leb, ltb}
-use Rattle.grammar.specs.declared.{Number.Number, Numbers.Numbers}
-use Rattle.grammar.specs.declared.Number.TheVariants.{Value, Malformed}
-use Rattle.grammar.specs.declared.Numbers.TheVariants.{Values, Malformed as Malformed-four}
+use Rattle.std.specs.Prelude.{ℕ, suc, ◌+◌, ◌-◌, ◌*◌, min, Bool, true, cond, ◌&&◌, List, [], ◌∷◌, length, get_or, drop, eqb, leb, ltb, Option, Some, None}
+use Rattle.std.specs.Option.{option_and_then}
+use Rattle.grammar.specs.declared.{Found.Found, Four.Four}
+
+-- What stands at a place, and the place past it ("The card text": one line after another, one field after another).
+abbrev pub found : {A : Type 0} → A → ℕ → Found A
+found v i = record { value = v; next = i }
+
+-- What follows from a thing that is there: nothing where it is not ("The card text": a text of another form is refused).
+abbrev pub with_found : {A B : Type 0} → Option A → (A → Option B) → Option B
+with_found o f = option_and_then f o
+
+abbrev pub four_of : ℕ → ℕ → ℕ → ℕ → Four
+four_of a b c d = record { a = a; b = b; c = c; d = d }
 
 -- One more than the largest number of document 01 ("The card and its edges": a step limit of at most
 -- 1,000,000,000,000,000,000). Every larger number counts as this one, so no range lets it through.
@@ -28,49 +38,33 @@ has_word t at (x ∷ xs) = has_byte t at x && has_word t (suc at) xs
 
 -- The digits that a list begins with ("The card text": decimal), where v is the number so far and `at` the place of
 -- the list's first byte; the place told is past the last digit.
-unfoldable pub digits : ℕ → ℕ → List ℕ → Number
-digits at v [] = Value v at
-digits at v (x ∷ xs) = cond (is_digit x) (digits (suc at) (grow v x) xs) (Value v at)
+unfoldable pub digits : ℕ → ℕ → List ℕ → Found ℕ
+digits at v [] = found v at
+digits at v (x ∷ xs) = cond (is_digit x) (digits (suc at) (grow v x) xs) (found v at)
 
 -- A decimal at a place ("The card text": without sign or leading zero, 0 itself is `0`): `0` by itself, or digits
 -- that begin with another. So `07` is the number 0 and one byte more, which is no separator.
-unfoldable pub number : List ℕ → ℕ → Number
+unfoldable pub number : List ℕ → ℕ → Option (Found ℕ)
 number t at =
     cond (eqb (get_or t at 0) 48)
-    (Value 0 (suc at))
-    (cond (is_digit (get_or t at 0)) (digits at 0 (drop at t)) Malformed)
+    (Some (found 0 (suc at)))
+    (cond (is_digit (get_or t at 0)) (Some (digits at 0 (drop at t))) None)
 
 -- A number that the byte s ends ("The card text": fields parted by commas); the place told is past that byte.
-abbrev pub ended : List ℕ → ℕ → Number → Number
-ended t s (Value v i) = cond (has_byte t i s) (Value v (suc i)) Malformed
-ended t s Malformed = Malformed
+abbrev pub ended : List ℕ → ℕ → Found ℕ → Option (Found ℕ)
+ended t s n = cond (has_byte t n.next s) (Some (found n.value (suc n.next))) None
 
 -- A field with its separator s, a comma or the line's end ("The card text": fields parted by commas, each line ended
 -- by byte 10).
-unfoldable pub field : List ℕ → ℕ → ℕ → Number
-field t s at = ended t s (number t at)
-
--- The four numbers, given what the last field yields ("The card text": byte 10 ends the line).
-abbrev pub with_last : ℕ → ℕ → ℕ → Number → Numbers
-with_last a b c (Value d i) = Values a b c d i
-with_last a b c Malformed = Malformed-four
-
--- The same, given what the third yields; the last is ended by byte 10.
-abbrev pub with_third : List ℕ → ℕ → ℕ → Number → Numbers
-with_third t a b (Value c i) = with_last a b c (field t 10 i)
-with_third t a b Malformed = Malformed-four
-
--- The same, given what the second yields; the third is ended by a comma.
-abbrev pub with_second : List ℕ → ℕ → Number → Numbers
-with_second t a (Value b i) = with_third t a b (field t 44 i)
-with_second t a Malformed = Malformed-four
-
--- The same, given what the first yields; the second is ended by a comma.
-abbrev pub with_first : List ℕ → Number → Numbers
-with_first t (Value a i) = with_second t a (field t 44 i)
-with_first t Malformed = Malformed-four
+unfoldable pub field : List ℕ → ℕ → ℕ → Option (Found ℕ)
+field t s at = with_found (number t at) (ended t s)
 
 -- The last four numbers of a line, parted by commas and ended by byte 10 ("The card text": `card,p,n,s,limit` and
 -- `ins,code,a,b,c`; "The bench program": the inputs of `call`).
-unfoldable pub four : List ℕ → ℕ → Numbers
-four t at = with_first t (field t 44 at)
+unfoldable pub four : List ℕ → ℕ → Option (Found Four)
+four t at =
+    with_found (field t 44 at) (λ a.
+    with_found (field t 44 a.next) (λ b.
+    with_found (field t 44 b.next) (λ c.
+    with_found (field t 10 c.next) (λ d.
+    Some (found (four_of a.value b.value c.value d.value) d.next)))))

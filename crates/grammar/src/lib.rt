@@ -6,22 +6,18 @@
 pub mod reading; // reading.rt: bytes, words, decimals and fields at a place of a text
 pub mod writing; // writing.rt: the same put into a buffer, as far as it reaches
 
-// A decimal, or a field, at a place of a text: its value and the place past it.
+// What stands at a place of a text, and the place past it.
 #[derive(Clone, Copy)]
-pub enum Number {
-    Value { value: u64, next: usize },
-    Malformed,
+pub struct Found<T> {
+    pub value: T,
+    pub next: usize,
 }
 
-// The last four numbers of a line, and the place past the line.
+// The last four numbers of a line.
 #[derive(Clone, Copy)]
-pub enum Numbers {
-    Values {
-        a: u64,
-        b: u64,
-        c: u64,
-        d: u64,
-        next: usize,
-    },
-    Malformed,
+pub struct Four {
+    pub a: u64,
+    pub b: u64,
+    pub c: u64,
+    pub d: u64,
 }

@@ -3,7 +3,7 @@
 ghost use Rattle.std.specs.Prelude.{◌≡◌, true, ◌≤◌, get_or, drop};
 ghost use Rattle.grammar.specs.Reading.{most, is_digit, grow, has_byte, has_word, digits, number, field, four};
 
-use crate::{Number, Numbers};
+use crate::{Found, Four};
 
 // One more than the largest number that a range of document 01 lets through.
 const MOST: u64 = 1_000_000_000_000_000_001;
@@ -19,34 +19,23 @@ pub fn byte_at(text: &[u8], at: usize) -> u8
 pub fn has_byte(text: &[u8], at: usize, byte: u8) -> bool
     ensures { result ≡ has_byte text.now at byte }
 {
-    if at < text.len() {
-        text[at] == byte
-    } else {
-        false
-    }
+    at < text.len() && text[at] == byte
 }
 
 // Whether the bytes of a word stand at a place.
 pub fn has_word(text: &[u8], at: usize, word: &[u8]) -> bool
     ensures { result ≡ has_word text.now at word.now }
 {
-    let mut i = at;
-    let mut k: usize = 0;
-    while k < word.len() {
-        if has_byte(text, i, word[k]) {
-            i = i + 1;
-            k = k + 1;
-        } else {
-            return false;
-        }
+    match text.get(at..) {
+        Some(rest) => rest.starts_with(word),
+        None => word.is_empty(),
     }
-    true
 }
 
 fn is_digit(byte: u8) -> bool
     ensures { result ≡ is_digit byte }
 {
-    if byte < b'0' { false } else { byte <= b'9' }
+    byte.is_ascii_digit()
 }
 
 fn wide(byte: u8) -> u64
@@ -65,73 +54,65 @@ fn grown(value: u64, digit: u8) -> u64
 }
 
 // The number that the digits from a place on make, 0 where there are none.
-fn digits_at(text: &[u8], at: usize) -> Number
+fn digits_at(text: &[u8], at: usize) -> Found<u64>
     ensures { result ≡ digits at 0 (drop at text.now) }
 {
     let mut value: u64 = 0;
-    let mut i = at;
-    while i < text.len() {
+    for i in at..text.len() {
         let byte = text[i];
-        if is_digit(byte) {
-            value = grown(value, byte);
-            i = i + 1;
-        } else {
-            return Number::Value { value, next: i };
+        if !is_digit(byte) {
+            return Found { value, next: i };
         }
+        value = grown(value, byte);
     }
-    Number::Value { value, next: i }
+    Found { value, next: at.max(text.len()) }
 }
 
 // The decimal at a place.
-pub fn number_at(text: &[u8], at: usize) -> Number
+#[tactic(auto, unfolding(crate::specs::Reading::number))]
+pub fn number_at(text: &[u8], at: usize) -> Option<Found<u64>>
     ensures { result ≡ number text.now at }
 {
     let first = byte_at(text, at);
     if first == b'0' {
-        return Number::Value {
-            value: 0,
-            next: at + 1,
-        };
+        return Some(Found { value: 0, next: at + 1 });
     }
     if is_digit(first) {
-        digits_at(text, at)
+        Some(digits_at(text, at))
     } else {
-        Number::Malformed
+        None
     }
 }
 
 // The decimal at a place, ended by a separator that belongs to it.
-pub fn field_at(text: &[u8], separator: u8, at: usize) -> Number
+#[tactic(auto, unfolding(crate::specs::Reading::field))]
+pub fn field_at(text: &[u8], separator: u8, at: usize) -> Option<Found<u64>>
     ensures { result ≡ field text.now separator at }
 {
-    let Number::Value { value, next } = number_at(text, at) else {
-        return Number::Malformed;
-    };
+    let Found { value, next } = number_at(text, at)?;
     if has_byte(text, next, separator) {
-        Number::Value {
-            value,
-            next: next + 1,
-        }
+        Some(Found { value, next: next + 1 })
     } else {
-        Number::Malformed
+        None
     }
 }
 
 // The last four numbers of a line.
-pub fn four_at(text: &[u8], at: usize) -> Numbers
+#[tactic(auto, unfolding(crate::specs::Reading::four))]
+pub fn four_at(text: &[u8], at: usize) -> Option<Found<Four>>
     ensures { result ≡ four text.now at }
 {
-    let Number::Value { value: a, next: i } = field_at(text, b',', at) else {
-        return Numbers::Malformed;
-    };
-    let Number::Value { value: b, next: j } = field_at(text, b',', i) else {
-        return Numbers::Malformed;
-    };
-    let Number::Value { value: c, next: k } = field_at(text, b',', j) else {
-        return Numbers::Malformed;
-    };
-    let Number::Value { value: d, next } = field_at(text, b'\n', k) else {
-        return Numbers::Malformed;
-    };
-    Numbers::Values { a, b, c, d, next }
+    let a = field_at(text, b',', at)?;
+    let b = field_at(text, b',', a.next)?;
+    let c = field_at(text, b',', b.next)?;
+    let d = field_at(text, b'\n', c.next)?;
+    Some(Found {
+        value: Four {
+            a: a.value,
+            b: b.value,
+            c: c.value,
+            d: d.value,
+        },
+        next: d.next,
+    })
 }

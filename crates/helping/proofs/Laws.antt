@@ -8,8 +8,15 @@ use native.Mathlib.Omega.{arith}
 use native.Mathlib.Numerals.{add-one}
 use lib.Dec.{eqb, leb, ltb}
 use lib.ListN.{length, get_or, set, take, drop, length-take, length-set, length-map, drop_of_length-le}
-use lib.Seq.{set-get_or, drop-cons, get_or-take, map-set_same, length-take-le, take-set-lt}
-use borrow.Author.Tests.{eq-eqb, ne_eqb, lt-ltb, le-ltb, eqb-true, leb-true, leb-false, not-true}
+use lib.Seq.{set-get_or, get_or-take, map-set_same, length-take-le, take-set-lt}
+use Rattle.std.specs.List.{position_or_len}
+use Rattle.std.specs.Prelude.{Option, Some, None, Result, Ok, Err}
+use Rattle.std.proofs.lemmas.List.Quantifiers.{position-Some}
+use Rattle.std.proofs.lemmas.List.Recursion.{is_position_or_len}
+use Rattle.std.proofs.lemmas.List.Sums.{position_or_len_is}
+use Rattle.std.proofs.lemmas.Result.{err_from_is_err_and}
+use Rattle.std.specs.Result.{IsErrAnd}
+use borrow.Author.Tests.{eq-eqb, ne_eqb, lt-ltb, le-ltb, eqb-true, ltb-false, leb-true, leb-false, not-true}
 use Rattle.construction.specs.declared.{cells.Words.Words, programs.Instruction.Instruction, programs.Program.Program, programs.Effect.Effect}
 use Rattle.construction.specs.declared.{simulations.Item.Item, simulations.Dictionary.Dictionary, simulations.Simulation.Simulation}
 use Rattle.construction.specs.declared.{simulations.Simulated.Simulated}
@@ -18,9 +25,10 @@ use Rattle.construction.specs.Instructions.{is_cell, effect_of, next_instruction
 use Rattle.programs.specs.Cells.{is_astray}
 use Rattle.construction.specs.Effects.{Executed, touched, allocated, execute, on_executed}
 use Rattle.construction.proofs.Basics.{and_true, true_or_false}
-use Rattle.construction.specs.Dictionary.{no_item, noted, position, find, has, value_at, with_value, assign}
-use Rattle.helping.specs.Numbers.{keys, place_of, revalued, with_values, Numbered, goes, stands, turned, Turns}
-use Rattle.helping.specs.declared.simulation.Turned.{Turned}
+use Rattle.construction.specs.Dictionary.{no_item, noted, find, has, value_at, with_value, assign}
+use Rattle.construction.specs.Dictionary as dictionaries
+use Rattle.helping.specs.Numbers.{keys, place_of, revalued, with_values, Numbered, standing, ending, faulting, lacking, turned, Turns}
+use Rattle.helping.specs.declared.simulation.Paused.{Paused}
 use Rattle.construction.specs.Helping.{ended, faults, lacks, note_of, with_notes, on_lacking, simulate_from, simulate}
 
 -- a value assigned
@@ -33,25 +41,28 @@ module _ (d : Dictionary) where
   unfolding assign
   assign_noted k x = simp (length-take, length-set)
 
--- how many of the first keys stand before a variable's
-module _ (ks : List ℕ) (end v k total : ℕ) (long : end ≤ length ks) (sought : total ≡ k + place_of (drop k (take end ks)) v) where
-  pub key_here : k < end → get_or ks k 0 ≡ v → k ≡ total
-  unfolding place_of
-  key_here p h =
-      let q : k < length (take end ks) = rw (length-take-le end ks long) p in
-      sym (sought ∙ rw (drop-cons (take end ks) k 0 q, get_or-take end ks k 0 p, eq-eqb _ _ h) (omega arith))
+-- the place of a variable among keys; the number of keys if it is not there
+index_of : List ℕ → ℕ → ℕ
+index_of [] v = 0
+index_of (x ∷ xs) v = cond (eqb x v) 0 (suc (index_of xs v))
 
-  pub key_more : k < end → (get_or ks k 0 ≡ v → ⊥) → total ≡ k + 1 + place_of (drop (k + 1) (take end ks)) v
-  unfolding place_of
-  key_more p h =
-      let q : k < length (take end ks) = rw (length-take-le end ks long) p in
-      sought ∙ rw (add-one k, drop-cons (take end ks) k 0 q, get_or-take end ks k 0 p, ne_eqb _ _ h) (omega arith)
+index_is : (v : ℕ) (xs : List ℕ) → index_of xs v ≡ position_or_len (λ k. eqb k v) xs
+unfolding index_of
+index_is v xs = is_position_or_len (λ ys. index_of ys v) (λ k. eqb k v) refl (λ y ys. ap (cond (eqb y v) 0) (omega arith)) xs
 
-  pub key_end : end ≤ k → k ≡ total
-  unfolding place_of
-  key_end p =
-      let q : length (take end ks) ≤ k = rw (length-take-le end ks long) p in
-      sym (sought ∙ rw (drop_of_length-le (take end ks) q) (omega arith))
+place_some : (xs : List ℕ) (v k : ℕ) → place_of xs v ≡ Some k → (k ≡ index_of xs v) × (k < length xs)
+place_some xs v k e =
+    let q = position-Some (λ x. eqb x v) xs k 0 e in
+    (sym (index_is v xs ∙ position_or_len_is (λ x. eqb x v) xs k 0 (omega arith) q.2 (λ _. q.1)), q.0)
+
+none_of : (b : Bool) (k : ℕ) → cond b (Some k) None ≡ None → b ≡ false
+none_of true k e = cc
+none_of false k e = refl
+
+place_none : (xs : List ℕ) (v : ℕ) → place_of xs v ≡ None → length xs ≤ index_of xs v
+place_none xs v e =
+    let none = ltb-false (position_or_len (λ k. eqb k v) xs) (length xs) (none_of _ (position_or_len (λ k. eqb k v) xs) e) in
+    rw (index_is v xs) none
 
 -- the numbers of the first items
 pub mapped_take : (f : Item → ℕ) (n : ℕ) (es : List Item) → map f (take n es) ≡ take n (map f es)
@@ -65,8 +76,8 @@ take_again zero l = refl
 take_again (suc n) [] = refl
 take_again (suc n) (x ∷ l) = rw (take_again n l)
 
-position_is : (v n : ℕ) (es : List Item) → place_of (take n (map (λ (e : Item). e.variable) es)) v ≡ position (take n es) v
-unfolding position place_of
+position_is : (v n : ℕ) (es : List Item) → index_of (take n (map (λ (e : Item). e.variable) es)) v ≡ dictionaries.position (take n es) v
+unfolding dictionaries.position index_of
 position_is v zero es = refl
 position_is v (suc n) [] = refl
 position_is v (suc n) (e ∷ es) = rw (position_is v n es)
@@ -80,7 +91,7 @@ long_enough : (d : Dictionary) (f : Item → ℕ) (xs : List ℕ) (end : ℕ) �
 long_enough d f xs end h e =
     omega (arith, length-take end xs, ap length e, length-take end (map f d.items), length-map d.items f, length-take d.length d.items)
 
-find_by_keys : (d : Dictionary) (ks : List ℕ) (v end k : ℕ) → Keyed d ks end → k ≡ place_of (take end ks) v → k ≡ find d v
+find_by_keys : (d : Dictionary) (ks : List ℕ) (v end k : ℕ) → Keyed d ks end → k ≡ index_of (take end ks) v → k ≡ find d v
 find_by_keys d ks v end k h q =
     q ∙ rw (h.1, h.0) (position_is v (length (noted d)) d.items ∙ rw (take_again d.length d.items))
 
@@ -230,117 +241,138 @@ keyed_assign : (ks : List ℕ) (end : ℕ) (d : Dictionary) (k x : ℕ) → Keye
 keyed_assign ks end d k x q = (q.0 ∙ sym (assign_noted d k x), rw (assign_keys d k x) q.1)
 
 -- a turn whose result is `total` is made from s and d at the effect e
-pub record Here (n : ℕ) (total : Turned × Dictionary) (ks : List ℕ) (end : ℕ) (s : Simulation) (d : Dictionary) (e : Effect) : Type 0 where
+pub record Here (n : ℕ) (total : Result Simulation Paused × Dictionary) (ks : List ℕ) (end : ℕ) (s : Simulation) (d : Dictionary) (e : Effect) : Type 0 where
   pub going : total ≡ turned n s d e
   pub keyed : Keyed d ks end
 
-module _ {n : ℕ} {total : Turned × Dictionary} {ks : List ℕ} {end : ℕ} {s : Simulation} {d : Dictionary} {e : Effect} (h : Here n total ks end s d e) where
-  pub stops : e ≡ Effect.Stop → (stands Ended s, d) ≡ total
+module _ {n : ℕ} {total : Result Simulation Paused × Dictionary} {ks : List ℕ} {end : ℕ} {s : Simulation} {d : Dictionary} {e : Effect} (h : Here n total ks end s d e) where
+  pub stops : e ≡ Effect.Stop → (Err (ending s), d) ≡ total
   unfolding turned
   stops p = sym (h.going ∙ rw (p))
 
-  pub faulted_at : e ≡ Effect.Fault → (stands Faulted (faulted s), d) ≡ total
+  pub faulted_at : e ≡ Effect.Fault → (Err (faulting s), d) ≡ total
   unfolding turned
   faulted_at p = sym (h.going ∙ rw (p))
 
-  pub sets : (a x : ℕ) (t : Simulation) → e ≡ Effect.Set a x → t ≡ with_register s a x → total ≡ (goes t, d)
+  pub sets : (a x : ℕ) (t : Simulation) → e ≡ Effect.Set a x → t ≡ with_register s a x → total ≡ (Ok t, d)
   unfolding turned
   sets a x t p q = h.going ∙ rw (p, q)
 
-  pub outputs : (a x : ℕ) (t : Simulation) → e ≡ Effect.Output a x → t ≡ with_output s a x → total ≡ (goes t, d)
+  pub outputs : (a x : ℕ) (t : Simulation) → e ≡ Effect.Output a x → t ≡ with_output s a x → total ≡ (Ok t, d)
   unfolding turned
   outputs a x t p q = h.going ∙ rw (p, q)
 
-  pub skips : (c : ℕ) (t : Simulation) → e ≡ Effect.Skip c → t ≡ skipped s c → total ≡ (goes t, d)
+  pub skips : (c : ℕ) (t : Simulation) → e ≡ Effect.Skip c → t ≡ skipped s c → total ≡ (Ok t, d)
   unfolding turned
   skips c t p q = h.going ∙ rw (p, q)
 
-  module _ (v k : ℕ) (place : k ≡ place_of (take end ks) v) where
+  -- the variable v is lacking
+  module _ (v : ℕ) (gone : place_of (take end ks) v ≡ None) where
+    past : end ≤ index_of (take end ks) v
+    past =
+        omega (
+          arith,
+          place_none (take end ks) v gone,
+          length-take end ks,
+          long_enough d (λ (e : Item). e.variable) ks end h.keyed.0 h.keyed.1,
+        )
+
+    absent : ltb (find d v) (length (noted d)) ≡ false
+    absent = let p = past in le-ltb _ _ (rw (← find_by_keys d ks v end (index_of (take end ks) v) h.keyed refl, ← h.keyed.0) p)
+
+    pub load_lacks : (a : ℕ) → e ≡ Effect.Load a v → (Err (lacking v s), d) ≡ total
+    unfolding turned
+    load_lacks a p = sym (h.going ∙ rw (p, absent))
+
+    pub store_lacks : (x : ℕ) → e ≡ Effect.Store v x → (Err (lacking v s), d) ≡ total
+    unfolding turned
+    store_lacks x p = sym (h.going ∙ rw (p, absent))
+
+  -- codes 13 and 14: variable 0 is
+  module _ (gone : place_of (take end ks) 0 ≡ None) where
+    pub allocate_lacks : (a : ℕ) → e ≡ Effect.Allocate a → (Err (lacking 0 s), d) ≡ total
+    unfolding turned
+    allocate_lacks a p = sym (h.going ∙ rw (p, absent 0 gone))
+
+    pub free_lacks : (c : ℕ) → e ≡ Effect.Free c → (Err (lacking 0 s), d) ≡ total
+    unfolding turned
+    free_lacks c p = sym (h.going ∙ rw (p, absent 0 gone))
+
+  -- it stands at k
+  module _ (v k : ℕ) (place : place_of (take end ks) v ≡ Some k) where
+    index : k ≡ index_of (take end ks) v
+    index = (place_some (take end ks) v k place).0
+
+    below : k < end
+    below = omega (arith, (place_some (take end ks) v k place).1, length-take end ks)
+
     found : k ≡ find d v
-    found = find_by_keys d ks v end k h.keyed place
+    found = find_by_keys d ks v end k h.keyed index
 
-    there : k < end → ltb k (length (noted d)) ≡ true
-    there q = lt-ltb _ _ (rw h.keyed.0 at q)
-
-    absent : end ≤ k → ltb k (length (noted d)) ≡ false
-    absent q = le-ltb _ _ (rw h.keyed.0 at q)
+    there : ltb k (length (noted d)) ≡ true
+    there = let q = below in lt-ltb _ _ (rw h.keyed.0 at q)
 
     -- a value assigned moves no variable
     found_after : (j w : ℕ) → k ≡ find (assign d j w) v
-    found_after j w = find_by_keys (assign d j w) ks v end k (keyed_assign ks end d j w h.keyed) place
+    found_after j w = find_by_keys (assign d j w) ks v end k (keyed_assign ks end d j w h.keyed) index
 
     pub loads :
-        (a x : ℕ) (t : Simulation) → e ≡ Effect.Load a v → k < end → x ≡ value_at d k → t ≡ with_register s a x →
-        total ≡ (goes t, d)
+        (a x : ℕ) (t : Simulation) → e ≡ Effect.Load a v → x ≡ value_at d k → t ≡ with_register s a x →
+        total ≡ (Ok t, d)
     unfolding turned
-    loads a x t p q y z = h.going ∙ rw (p, ← found, there q, z, y)
-
-    pub load_lacks : (a : ℕ) → e ≡ Effect.Load a v → end ≤ k → (stands (Lacks v) s, d) ≡ total
-    unfolding turned
-    load_lacks a p q = sym (h.going ∙ rw (p, ← found, absent q))
+    loads a x t p y z = h.going ∙ rw (p, ← found, there, z, y)
 
     pub stores :
-        (x : ℕ) (t : Simulation) (b : Dictionary) → e ≡ Effect.Store v x → k < end → b ≡ assign d k x → t ≡ skipped s 0 →
-        total ≡ (goes t, b)
+        (x : ℕ) (t : Simulation) (b : Dictionary) → e ≡ Effect.Store v x → b ≡ assign d k x → t ≡ skipped s 0 →
+        total ≡ (Ok t, b)
     unfolding turned
-    stores x t b p q y z = h.going ∙ rw (p, ← found, there q, z, y)
-
-    pub store_lacks : (x : ℕ) → e ≡ Effect.Store v x → end ≤ k → (stands (Lacks v) s, d) ≡ total
-    unfolding turned
-    store_lacks x p q = sym (h.going ∙ rw (p, ← found, absent q))
+    stores x t b p y z = h.going ∙ rw (p, ← found, there, z, y)
 
   -- codes 13 and 14: variable 0 stands at k
-  module _ (k : ℕ) (first : k ≡ place_of (take end ks) 0) where
-    pub allocate_lacks : (a : ℕ) → e ≡ Effect.Allocate a → end ≤ k → (stands (Lacks 0) s, d) ≡ total
-    unfolding turned
-    allocate_lacks a p q = sym (h.going ∙ rw (p, ← found 0 k first, absent 0 k first q))
-
-    pub free_lacks : (c : ℕ) → e ≡ Effect.Free c → end ≤ k → (stands (Lacks 0) s, d) ≡ total
-    unfolding turned
-    free_lacks c p q = sym (h.going ∙ rw (p, ← found 0 k first, absent 0 k first q))
-
-    module _ (here : k < end) (x : ℕ) (y : x ≡ value_at d k) {b : Bool} (t : b ≡ is_astray n x) where
-      pub allocate_faults : (a : ℕ) → e ≡ Effect.Allocate a → b ≡ true → (stands Faulted (faulted s), d) ≡ total
+  module _ (k : ℕ) (first : place_of (take end ks) 0 ≡ Some k) where
+    module _ (x : ℕ) (y : x ≡ value_at d k) {b : Bool} (t : b ≡ is_astray n x) where
+      pub allocate_faults : (a : ℕ) → e ≡ Effect.Allocate a → b ≡ true → (Err (faulting s), d) ≡ total
       unfolding turned allocated
       allocate_faults a p q =
           let z = astray_true n x (sym t ∙ q) in
-          sym (h.going ∙ rw (p, ← found 0 k first, there 0 k first here, ← y, z.0, z.1))
+          sym (h.going ∙ rw (p, ← found 0 k first, there 0 k first, ← y, z.0, z.1))
 
-      -- the cell, or variable 0 where there is none, stands at j
-      module _ (a : ℕ) (p : e ≡ Effect.Allocate a) (q : b ≡ false) (j : ℕ) (place : j ≡ place_of (take end ks) x) where
+      -- the cell, or variable 0 where there is none, is lacking
+      pub allocate_lacks_cell :
+          (a : ℕ) → e ≡ Effect.Allocate a → b ≡ false → place_of (take end ks) x ≡ None → (Err (lacking x s), d) ≡ total
+      unfolding turned
+      allocate_lacks_cell a p q gone =
+          ⊎_elim
+          (λ z. absurd (omega (arith, past x gone, ap (index_of (take end ks)) (eqb-true x 0 z), index 0 k first, below 0 k first)))
+          (λ z. sym (h.going ∙ rw (p, ← found 0 k first, there 0 k first, ← y, astray_false n x (sym t ∙ q) z, absent x gone)))
+          (true_or_false (eqb x 0))
+
+      -- it stands at j
+      module _ (a : ℕ) (p : e ≡ Effect.Allocate a) (q : b ≡ false) (j : ℕ) (place : place_of (take end ks) x ≡ Some j) where
         same_place : x ≡ 0 → j ≡ k
-        same_place z = place ∙ (ap (place_of (take end ks)) z ∙ sym first)
-
-        pub allocate_lacks_cell : end ≤ j → (stands (Lacks x) s, d) ≡ total
-        unfolding turned
-        allocate_lacks_cell g =
-            ⊎_elim
-            (λ z. absurd (omega (arith, same_place (eqb-true x 0 z))))
-            (λ z. sym (h.going
-            ∙ rw (p, ← found 0 k first, there 0 k first here, ← y, astray_false n x (sym t ∙ q) z, ← found x j place, absent x j place g)))
-            (true_or_false (eqb x 0))
+        same_place z = index x j place ∙ (ap (index_of (take end ks)) z ∙ sym (index 0 k first))
 
         pub allocates :
-            (w : ℕ) (u : Simulation) (f : Dictionary) → j < end → w ≡ value_at d j → f ≡ assign (assign d k w) j 0 → u ≡ with_register s a x →
-            total ≡ (goes u, f)
+            (w : ℕ) (u : Simulation) (f : Dictionary) → w ≡ value_at d j → f ≡ assign (assign d k w) j 0 → u ≡ with_register s a x →
+            total ≡ (Ok u, f)
         unfolding turned allocated
-        allocates w u f g v r o =
+        allocates w u f v r o =
             ⊎_elim
             (λ z.
             let none : x ≡ 0 = eqb-true x 0 z in
             let same : f ≡ d =
             r ∙ rw (same_place none, v, same_place none, assign_own d k) (ap (assign d k) (sym none ∙ y) ∙ assign_own d k) in
-            h.going ∙ rw (p, ← found 0 k first, there 0 k first here, ← y, no_cell n x none, z, o, same, none))
+            h.going ∙ rw (p, ← found 0 k first, there 0 k first, ← y, no_cell n x none, z, o, same, none))
             (λ z.
             h.going
             ∙ rw (
               p,
               ← found 0 k first,
-              there 0 k first here,
+              there 0 k first,
               ← y,
               astray_false n x (sym t ∙ q) z,
               ← found x j place,
-              there x j place g,
+              there x j place,
               ← v,
               ← found 0 k
                   first,
@@ -350,27 +382,29 @@ module _ {n : ℕ} {total : Turned × Dictionary} {ks : List ℕ} {end : ℕ} {s
             ))
             (true_or_false (eqb x 0))
 
-    module _ (here : k < end) (c : ℕ) (p : e ≡ Effect.Free c) (j : ℕ) (place : j ≡ place_of (take end ks) c) where
-      pub free_lacks_cell : end ≤ j → (stands (Lacks c) s, d) ≡ total
+    module _ (c : ℕ) (p : e ≡ Effect.Free c) where
+      pub free_lacks_cell : place_of (take end ks) c ≡ None → (Err (lacking c s), d) ≡ total
       unfolding turned
-      free_lacks_cell g =
-          sym (h.going ∙ rw (p, ← found 0 k first, there 0 k first here, ← found c j place, absent c j place g))
+      free_lacks_cell gone = sym (h.going ∙ rw (p, ← found 0 k first, there 0 k first, absent c gone))
 
       pub frees :
-          (w : ℕ) (u : Simulation) (f : Dictionary) → j < end → w ≡ value_at d k → f ≡ assign (assign d j w) k c → u ≡ skipped s 0 →
-          total ≡ (goes u, f)
+          (j : ℕ) → place_of (take end ks) c ≡ Some j → (w : ℕ) (u : Simulation) (f : Dictionary) → w ≡ value_at d k →
+          f ≡ assign (assign d j w) k c → u ≡ skipped s 0 → total ≡ (Ok u, f)
       unfolding turned
-      frees w u f g v r o =
+      frees j place w u f v r o =
           h.going
-          ∙ rw (p, ← found 0 k first, there 0 k first here, ← found c j place, there c j place g, ← v, ← found_after 0 k first j w, o, r)
+          ∙ rw (p, ← found 0 k first, there 0 k first, ← found c j place, there c j place, ← v, ← found_after 0 k first j w, o, r)
 
 -- a turn, and the rest of the simulation after it
-abbrev on_turned : Turned × Dictionary → (Simulation → Dictionary → Simulated) → Simulated
-on_turned x next =
-    cond x.0.going (next x.0.simulation x.1) (record { pause = x.0.pause; simulation = x.0.simulation; dictionary = x.1 })
+abbrev after_turn : Result Simulation Paused → Dictionary → (Simulation → Dictionary → Simulated) → Simulated
+after_turn (Ok s) d next = next s d
+after_turn (Err p) d next = standing p d
+
+abbrev on_turned : Result Simulation Paused × Dictionary → (Simulation → Dictionary → Simulated) → Simulated
+on_turned x next = after_turn x.0 x.1 next
 
 either :
-    (next : Simulation → Dictionary → Simulated) (b : Bool) (x y : Turned × Dictionary) (z : Simulated) →
+    (next : Simulation → Dictionary → Simulated) (b : Bool) (x y : Result Simulation Paused × Dictionary) (z : Simulated) →
     on_turned x next ≡ z → on_turned (cond b x y) next ≡ cond b z (on_turned y next)
 either next true x y z e = e
 either next false x y z e = refl
@@ -378,13 +412,13 @@ either next false x y z e = refl
 turn_by :
     (next : Simulation → Dictionary → Simulated) (s : Simulation) (d : Dictionary) (l : List ℕ) (x : Executed) →
     on_turned
-    (on_lacking d l (λ v. (stands (Lacks v) s, d))
-    (on_executed x (stands Ended s, d) (stands Faulted (faulted s), d) (λ t w. (goes t, with_notes d w)))) next
+    (on_lacking d l (λ v. (Err (lacking v s), d))
+    (on_executed x (Err (ending s), d) (Err (faulting s), d) (λ t w. (Ok t, with_notes d w)))) next
     ≡ on_lacking d l (λ v. lacks v s d) (on_executed x (ended s d) (faults s d) (λ t w. next t (with_notes d w)))
 turn_by next s d [] Executed.Ends = refl
 turn_by next s d [] Executed.Faults = refl
 turn_by next s d [] (Executed.Goes t w) = refl
-turn_by next s d (v ∷ l) x = either next (has d v) _ (stands (Lacks v) s, d) _ (turn_by next s d l x)
+turn_by next s d (v ∷ l) x = either next (has d v) _ (Err (lacking v s), d) _ (turn_by next s d l x)
 
 one_turn :
     (n : ℕ) (program : Program) (inputs : Words) (m : ℕ) (s : Simulation) (d : Dictionary) →
@@ -415,18 +449,17 @@ module _ {ks before : List ℕ} {end : ℕ} {d : Dictionary} (h : Numbered ks be
 
   module _ (n : ℕ) (program : Program) (inputs : Words) (total : Simulated) (fuel m : ℕ) (s : Simulation) (xs : List ℕ) (same : length xs ≡ length before)
       (going : total ≡ simulate_from n program inputs fuel s (with_values d (take end xs))) (some : fuel ≡ suc m) {instruction : Instruction}
-      (here : instruction ≡ next_instruction program s.counter) {after : List ℕ} {r : Turned} (made : Turns n instruction inputs s ks end xs after r) where
+      (here : instruction ≡ next_instruction program s.counter) {after : List ℕ} {r : Result Simulation Paused} (made : Turns n instruction inputs s ks end xs after r) where
     turn_is : total ≡ on_turned (r, with_values d (take end after)) (simulate_from n program inputs m)
     turn_is =
         let e = made.left (with_values d (take end xs)) (numbered_again xs same) in
         going ∙ rw (some, one_turn, ← here, e, revalued_again xs after same (made.long ∙ same))
 
-    pub turn_goes : r.going ≡ true → total ≡ simulate_from n program inputs m r.simulation (with_values d (take end after))
-    turn_goes p = turn_is ∙ rw p
+    pub turn_goes : (t : Simulation) → r ≡ Ok t → total ≡ simulate_from n program inputs m t (with_values d (take end after))
+    turn_goes t p = turn_is ∙ rw p
 
-    pub turn_stands : r.going ≡ false → ◌≡◌ {A = Simulated} total
-        (record { pause = r.pause; simulation = r.simulation; dictionary = with_values d (take end after) })
-    turn_stands p = turn_is ∙ rw p
+    pub turn_stands : (t : Paused) → r ≡ Err t → total ≡ standing t (with_values d (take end after))
+    turn_stands t p = turn_is ∙ rw p
 
 -- where the loop begins and ends
 module _ (n : ℕ) (program : Program) (inputs : Words) (s : Simulation) (d : Dictionary) where
@@ -437,3 +470,30 @@ module _ (n : ℕ) (program : Program) (inputs : Words) (s : Simulation) (d : Di
   pub simulate_end : (fuel : ℕ) (total : Simulated) → total ≡ simulate_from n program inputs fuel s d → fuel ≤ 0 → ended s d ≡ total
   unfolding simulate_from
   simulate_end fuel total p h = sym (p ∙ (let z : fuel ≡ 0 = omega arith in rw z))
+
+-- what one instruction leaves by its effect e: the same values, or others
+module _ {n : ℕ} {instruction : Instruction} {inputs : Words} {s : Simulation} {ks : List ℕ} {end : ℕ} {before : List ℕ} {r : Result Simulation Paused}
+    {e : Effect} (is : e ≡ effect_of n inputs s.registers instruction) where
+  pub leaves :
+      (after : List ℕ) → length after ≡ length before → drop end after ≡ drop end before →
+      ((d : Dictionary) → Numbered ks before end d →
+      Here n (turned n s d (effect_of n inputs s.registers instruction)) ks end s (with_values d (take end before)) e →
+      turned n s d (effect_of n inputs s.registers instruction) ≡ (r, with_values d (take end after))) →
+      Turns n instruction inputs s ks end before after r
+  leaves after p q f =
+      record { long = p; rest = q; left = λ d h. f d h (record { going = rw (own_values h, is); keyed = keyed h (take end before) }) }
+
+  pub stays :
+      ((d : Dictionary) → Numbered ks before end d →
+      Here n (turned n s d (effect_of n inputs s.registers instruction)) ks end s (with_values d (take end before)) e →
+      turned n s d (effect_of n inputs s.registers instruction) ≡ (r, with_values d (take end before))) →
+      Turns n instruction inputs s ks end before before r
+  stays f = leaves before refl refl f
+
+-- the place of a variable that stands among the first keys
+pub inside_keys : (ks : List ℕ) (end v k : ℕ) → place_of (take end ks) v ≡ Some k → k < end
+inside_keys ks end v k e = omega (arith, (place_some (take end ks) v k e).1, length-take end ks)
+
+-- an error that is passed on
+pub raised : (r : Result Simulation Paused) {e f : Paused} → IsErrAnd r (λ y. y ≡ e) → e ≡ f → r ≡ Err f
+raised r h q = let p = err_from_is_err_and r h in p.1 ∙ ap Err (p.2 ∙ q)

@@ -1,5 +1,6 @@
 -- The numbers that stand in a dictionary as arrays of their own: a program runs on its keys and values, and copies no dictionary.
-use Rattle.std.specs.Prelude.{ℕ, suc, true, false, cond, List, [], ◌∷◌, map, ◌≡◌, eqb, length, take, drop}
+use Rattle.std.specs.Prelude.{ℕ, List, [], ◌∷◌, map, ◌≡◌, eqb, length, take, drop, replicate, Option, Result, Ok, Err}
+use Rattle.std.specs.List.{position}
 use Rattle.construction.specs.declared.{cells.Words.Words, programs.Instruction.Instruction, programs.Program.Program, programs.Effect.Effect}
 use Rattle.construction.specs.declared.{simulations.Item.Item, simulations.Dictionary.Dictionary, simulations.Simulation.Simulation, simulations.Pause.Pause}
 use Rattle.construction.specs.declared.{simulations.Simulated.Simulated}
@@ -8,8 +9,8 @@ use Rattle.construction.specs.Instructions.{effect_of, faulted}
 use Rattle.construction.specs.Effects.{touched, execute, on_executed}
 use Rattle.construction.specs.Dictionary.{noted, with_value}
 use Rattle.construction.specs.Helping.{note_of, with_notes, on_lacking, simulate}
+use Rattle.helping.specs.declared.numbers.Numbers.{Numbers}
 use Rattle.helping.specs.declared.simulation.Paused.{Paused}
-use Rattle.helping.specs.declared.simulation.Turned.{Turned}
 
 -- the variable and the value of each item (document 01: the noted records of a book)
 abbrev pub keys : Dictionary → List ℕ
@@ -18,10 +19,9 @@ keys d = map (λ (e : Item). e.variable) d.items
 abbrev pub values : Dictionary → List ℕ
 values d = map (λ (e : Item). e.value) d.items
 
--- lines H20 and H26: the place of a variable among keys; the number of keys if it is not there
-unfoldable pub place_of : List ℕ → ℕ → ℕ
-place_of [] v = 0
-place_of (x ∷ xs) v = cond (eqb x v) 0 (suc (place_of xs v))
+-- lines H20 and H26: the place of a variable among keys, if it is there
+abbrev pub place_of : List ℕ → ℕ → Option ℕ
+place_of ks v = position (λ k. eqb k v) ks
 
 -- a dictionary whose first items have other values
 unfoldable pub revalued : List Item → List ℕ → List Item
@@ -38,6 +38,10 @@ pub record Numbered (ks xs : List ℕ) (end : ℕ) (d : Dictionary) : Type 0 whe
   pub valued : take end xs ≡ take end (values d)
   pub count : end ≡ length (noted d)
 
+-- none are
+abbrev pub no_numbers : Numbers
+no_numbers = record { keys = replicate 32 0; values = replicate 32 0; end = 0 }
+
 -- a simulation that stands still, with its dictionary
 abbrev pub standing : Paused → Dictionary → Simulated
 standing r d = record { pause = r.pause; simulation = r.simulation; dictionary = d }
@@ -47,25 +51,28 @@ pub record Runs (n : ℕ) (program : Program) (inputs : Words) (s : Simulation) 
   pub long : length after ≡ length before
   pub left : (d : Dictionary) → Numbered ks before end d → simulate n program inputs s d ≡ standing r (with_values d (take end after))
 
--- what one instruction leaves: the program goes on, or stands still
-abbrev pub goes : Simulation → Turned
-goes s = record { going = true; pause = Ended; simulation = s }
+-- a program that stands still: it ended, or faulted, or lacks a variable
+abbrev pub ending : Simulation → Paused
+ending s = record { pause = Ended; simulation = s }
 
-abbrev pub stands : Pause → Simulation → Turned
-stands p s = record { going = false; pause = p; simulation = s }
+abbrev pub faulting : Simulation → Paused
+faulting s = record { pause = Faulted; simulation = faulted s }
 
--- lines H7 and H20 to H30: one turn of `simulate_from`, and the dictionary that it leaves
-unfoldable pub turned : ℕ → Simulation → Dictionary → Effect → Turned × Dictionary
+abbrev pub lacking : ℕ → Simulation → Paused
+lacking v s = record { pause = Lacks v; simulation = s }
+
+-- lines H7 and H20 to H30: one turn of `simulate_from`, from which the program goes on or stands still, and the dictionary that it leaves
+unfoldable pub turned : ℕ → Simulation → Dictionary → Effect → Result Simulation Paused × Dictionary
 turned n s d e =
     on_lacking d (touched n (note_of d) e)
-    (λ v. (stands (Lacks v) s, d))
+    (λ v. (Err (lacking v s), d))
     (on_executed (execute n (note_of d) s e)
-    (stands Ended s, d)
-    (stands Faulted (faulted s), d)
-    (λ t l. (goes t, with_notes d l)))
+    (Err (ending s), d)
+    (Err (faulting s), d)
+    (λ t l. (Ok t, with_notes d l)))
 
 -- a turn on the first numbers leaves what the turn leaves on every dictionary in which they stand, and the other numbers as they were
-pub record Turns (n : ℕ) (instruction : Instruction) (inputs : Words) (s : Simulation) (ks : List ℕ) (end : ℕ) (before after : List ℕ) (r : Turned) : Type 0 where
+pub record Turns (n : ℕ) (instruction : Instruction) (inputs : Words) (s : Simulation) (ks : List ℕ) (end : ℕ) (before after : List ℕ) (r : Result Simulation Paused) : Type 0 where
   pub long : length after ≡ length before
   pub rest : drop end after ≡ drop end before
   pub left :

@@ -3,12 +3,13 @@
 // It rests on the crates construction (types and definitions), cells, dictionary, opening and programs.
 #![tactic(auto)]
 
-pub mod simulation; // simulation.rt: a program that runs on lent keys and values
+pub mod numbers; // numbers.rt: the keys and values of a dictionary
+pub mod simulation; // simulation.rt: a program that runs on them
 
-ghost use Rattle.std.specs.Prelude.{◌≡◌, ◌≤◌, take};
+ghost use Rattle.std.specs.Prelude.{◌≡◌};
 ghost use Rattle.construction.specs.Machine.{write_control, pause_control, helps, begin_help, note, writing};
-ghost use Rattle.helping.specs.Numbers.{keys, values};
 
+use crate::numbers::Numbers;
 use crate::simulation::simulate;
 use construction::accesses::{Began, Control, Helped, Label, Writing};
 use construction::cells::{Announcement, Record, Words};
@@ -16,19 +17,11 @@ use construction::programs::Program;
 use construction::simulations::{Dictionary, Pause, Simulation};
 use dictionary::{insert, item_of, next_write, noted, with_bit};
 
-// The variables and the values of items.
-#[derive(Clone, Copy)]
-struct Numbers {
-    pub keys: [u8; 32],
-    pub values: [u32; 32],
-}
-
 // Line P17.
 pub fn helps(announcement: Announcement, number: u64) -> bool
     ensures { result ≡ helps announcement number }
 {
-    let flag = announcement.flag;
-    !cells::is_done(flag) && announcement.seq <= number
+    !cells::is_done(announcement.flag) && announcement.seq <= number
 }
 
 // Lines H31 and H32: the write of the next item of so many, or P19 past the last.
@@ -77,24 +70,12 @@ pub fn begin_help(
     ensures { result ≡ begin_help n program cell number control simulation }
 {
     if helps(cell, number) {
-        let inputs = cell.words;
-        let keys = [0u8; 32];
-        let mut values = [0u32; 32];
-        let paused = simulate(
-            n,
-            program,
-            inputs,
-            opening::started(),
-            &keys,
-            0,
-            &mut values,
-        );
-        let pause = paused.pause;
-        let state = paused.simulation;
+        let mut numbers = Numbers::none();
+        let paused = simulate(n, &program, cell.words, opening::started(), &mut numbers);
         return Began {
             helps: true,
-            control: after_pause(pause, 0, 0),
-            simulation: state,
+            control: after_pause(paused.pause, 0, 0),
+            simulation: paused.simulation,
         };
     }
     Began {
@@ -105,22 +86,6 @@ pub fn begin_help(
         },
         simulation,
     }
-}
-
-// The variables and values of the first items.
-fn numbers_of(dictionary: Dictionary, end: u8) -> Numbers
-    requires { end ≤ 32 }
-    ensures { (take end result.keys ≡ take end (keys dictionary)) × (take end result.values ≡ take end (values dictionary)) }
-{
-    let mut keys = [0u8; 32];
-    let mut values = [0u32; 32];
-    let mut k: u8 = 0;
-    while k < end {
-        keys[k as usize] = dictionary.items[k as usize].variable;
-        values[k as usize] = dictionary.items[k as usize].value;
-        k = k + 1;
-    }
-    Numbers { keys, values }
 }
 
 // Lines H21 to H25: a record that was read is noted in the dictionary and in the set of the variables noted, and the program goes on. Its values
@@ -152,21 +117,15 @@ pub fn note(
     let mask = with_bit(mask, control.target);
     let mut d = insert(dictionary, item_of(number, control.target, cell));
     let end = noted(d.length);
-    let numbers = numbers_of(d, end);
-    let keys = numbers.keys;
-    let mut values = numbers.values;
-    let paused = simulate(n, program, inputs, simulation, &keys, end, &mut values);
-    let pause = paused.pause;
-    let state = paused.simulation;
-    let mut k: u8 = 0;
-    while k < end {
-        d.items[k as usize].value = values[k as usize];
-        k = k + 1;
+    let mut numbers = Numbers::of(&d, end);
+    let paused = simulate(n, &program, inputs, simulation, &mut numbers);
+    for k in 0..end as usize {
+        d.items[k].value = numbers.values[k];
     }
     let next = next_write(number, d, 0);
     Helped {
-        control: after_pause(pause, next, end),
-        simulation: state,
+        control: after_pause(paused.pause, next, end),
+        simulation: paused.simulation,
         dictionary: d,
         mask,
     }

@@ -8,7 +8,8 @@ use native.Mathlib.Omega.{arith}
 use lib.Dec.{leb, ltb}
 use lib.ListN.{length, get_or}
 use borrow.Author.Tests.{lt-leb, leb-false}
-use Rattle.grammar.specs.declared.{Number.Number, Numbers.Numbers}
+use Rattle.std.specs.Prelude.{Option, Some, None}
+use Rattle.grammar.specs.declared.{Found.Found, Four.Four}
 use Rattle.grammar.specs.Reading.{has_word, four, field}
 use Rattle.construction.specs.declared.{texts.Verdict.Verdict, texts.CardLine.CardLine, texts.VarLine.VarLine, texts.SheetLine.SheetLine, texts.InsLine.InsLine}
 use Rattle.construction.specs.declared.{programs.Decoded.Decoded, programs.Encoded.Encoded, programs.Format.Format}
@@ -43,29 +44,30 @@ card_other : (t : List ℕ) (at : ℕ) → Other (card_line_fields (card_line t 
 unfolding card_line judge_card card_line_fields
 card_other t at = on_test (λ (x : CardLine). Other (card_line_fields x)) (has_word t at card_word) (λ _. by (four t (at + 5))) (λ _. two)
   where
-    by : (x : Numbers) → Other (card_line_fields (judge_card x))
-    by (Numbers.Values p n s l i) =
-        on_test (λ (x : CardLine). Other (card_line_fields x)) (card_fits p n s l) (λ _ e. let z : ◌≡◌ {A = ℕ} 99 114 = ap first_byte e in omega arith) (λ _. three)
-    by Numbers.Malformed = two
+    by : (x : Option (Found Four)) → Other (card_line_fields (judge_card x))
+    by (Some x) =
+        on_test (λ (x : CardLine). Other (card_line_fields x)) (card_fits x.value.a x.value.b x.value.c x.value.d)
+        (λ _ e. let z : ◌≡◌ {A = ℕ} 99 114 = ap first_byte e in omega arith) (λ _. three)
+    by None = two
 
 var_other : (t : List ℕ) (at : ℕ) → Other (var_line_fields (var_line t at))
 unfolding var_line judge_var var_line_fields
 var_other t at = on_test (λ (x : VarLine). Other (var_line_fields x)) (has_word t at var_word) (λ _. by (field t 10 (at + 4))) (λ _. two)
   where
-    by : (x : Number) → Other (var_line_fields (judge_var x))
-    by (Number.Value v i) =
-        on_test (λ (x : VarLine). Other (var_line_fields x)) (ltb v 4294967296) (λ _ e. let z : ◌≡◌ {A = ℕ} 118 114 = ap first_byte e in omega arith) (λ _. three)
-    by Number.Malformed = two
+    by : (x : Option (Found ℕ)) → Other (var_line_fields (judge_var x))
+    by (Some x) =
+        on_test (λ (x : VarLine). Other (var_line_fields x)) (ltb x.value 4294967296) (λ _ e. let z : ◌≡◌ {A = ℕ} 118 114 = ap first_byte e in omega arith) (λ _. three)
+    by None = two
 
 sheet_other : (t : List ℕ) (at : ℕ) → Other (sheet_line_fields (sheet_line t at))
 unfolding sheet_line judge_sheet sheet_line_fields
 sheet_other t at = on_test (λ (x : SheetLine). Other (sheet_line_fields x)) (has_word t at sheet_word) (λ _. by (field t 10 (at + 6))) (λ _. two)
   where
-    by : (x : Number) → Other (sheet_line_fields (judge_sheet x))
-    by (Number.Value v i) =
-        on_test (λ (x : SheetLine). Other (sheet_line_fields x)) (in_range 1 32 v) (λ _ e. let z : ◌≡◌ {A = ℕ} 115 114 = ap first_byte e in omega arith)
+    by : (x : Option (Found ℕ)) → Other (sheet_line_fields (judge_sheet x))
+    by (Some x) =
+        on_test (λ (x : SheetLine). Other (sheet_line_fields x)) (in_range 1 32 x.value) (λ _ e. let z : ◌≡◌ {A = ℕ} 115 114 = ap first_byte e in omega arith)
         (λ _. three)
-    by Number.Malformed = two
+    by None = two
 
 decoded_other : (x : Encoded) (n : ℕ) (f : Format) → Other (decoded_fields (decode_as f n x))
 unfolding decoded_fields
@@ -85,9 +87,12 @@ ins_other n t at = on_test (λ (x : InsLine). Other (ins_line_fields x)) (has_wo
     of (Decoded.Valid x) i h = h
     of (Decoded.Refused why) i h = h
 
-    by : (x : Numbers) → Other (ins_line_fields (judge_ins n x))
-    by (Numbers.Values k a b c i) = of (decode n (encoded k a b c)) i (decoded_other (encoded k a b c) n (row_of k).format)
-    by Numbers.Malformed = two
+    by : (x : Option (Found Four)) → Other (ins_line_fields (judge_ins n x))
+    by (Some x) =
+        let v = x.value in
+        let e = encoded v.a v.b v.c v.d in
+        of (decode n e) x.next (decoded_other e n (row_of v.a).format)
+    by None = two
 
 -- no text is refused with 11
 text_other : (t : List ℕ) {f : Fields} → Judged t f → (line : ℕ) → f ≡ refused_in line 11 → ⊥

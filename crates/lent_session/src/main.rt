@@ -16,7 +16,7 @@ use crate::altering::{PATTERN, alter, is_kept};
 use crate::answering::refuses_short;
 use crate::printing::{put_command, put_start};
 use commands::reading::command_at;
-use grammar::Number;
+use grammar::Found;
 use grammar::reading::number_at;
 use host::{argument, argument_count, fail, read_file};
 use loan::dictionaries::loan_words;
@@ -34,7 +34,7 @@ struct Begun {
 fn number_of(rt: &impl Env, place: usize) -> u64 {
     let mut text = host::buffer();
     argument(rt, place, &mut text);
-    let Number::Value { value, next: _ } = number_at(&text, 0) else {
+    let Some(Found { value, .. }) = number_at(&text, 0) else {
         return 0;
     };
     value

@@ -12,7 +12,7 @@ use construction::programs::OperandKind::{Register, Skip, Unused, Variable, Word
 use construction::programs::{Decoded, Encoded, Format, Instruction, OperandKind};
 use construction::texts::{CardLine, InsLine, SheetLine, VarLine};
 use grammar::reading::{field_at, four_at, has_word};
-use grammar::{Number, Numbers};
+use grammar::{Found, Four};
 
 fn both(a: bool, b: bool) -> bool
     ensures { result ≡ a && b }
@@ -211,9 +211,10 @@ pub fn card_line(text: &[u8], at: usize) -> CardLine
     ensures { result ≡ card_line text.now at }
 {
     if has_word(text, at, b"card,") {
-        let Numbers::Values { a, b, c, d, next } = four_at(text, at + 5) else {
+        let Some(Found { value, next }) = four_at(text, at + 5) else {
             return CardLine::Refused(Refusal::Malformed);
         };
+        let Four { a, b, c, d } = value;
         if card_fits(a, b, c, d) {
             CardLine::Fields {
                 process_count: a as u8,
@@ -235,7 +236,7 @@ pub fn var_line(text: &[u8], at: usize) -> VarLine
     ensures { result ≡ var_line text.now at }
 {
     if has_word(text, at, b"var,") {
-        let Number::Value { value, next } = field_at(text, b'\n', at + 4) else {
+        let Some(Found { value, next }) = field_at(text, b'\n', at + 4) else {
             return VarLine::Refused(Refusal::Malformed);
         };
         if value < 4_294_967_296 {
@@ -256,7 +257,7 @@ pub fn sheet_line(text: &[u8], at: usize) -> SheetLine
     ensures { result ≡ sheet_line text.now at }
 {
     if has_word(text, at, b"sheet,") {
-        let Number::Value { value, next } = field_at(text, b'\n', at + 6) else {
+        let Some(Found { value, next }) = field_at(text, b'\n', at + 6) else {
             return SheetLine::Refused(Refusal::Malformed);
         };
         if in_range(1, 32, value) {
@@ -287,14 +288,14 @@ pub fn ins_line(variable_count: u8, text: &[u8], at: usize) -> InsLine
     ensures { result ≡ ins_line variable_count text.now at }
 {
     if has_word(text, at, b"ins,") {
-        let Numbers::Values { a, b, c, d, next } = four_at(text, at + 4) else {
+        let Some(Found { value, next }) = four_at(text, at + 4) else {
             return InsLine::Refused(Refusal::Malformed);
         };
         let x = Encoded {
-            code: a,
-            a: b,
-            b: c,
-            c: d,
+            code: value.a,
+            a: value.b,
+            b: value.c,
+            c: value.d,
         };
         ins_of(decode(variable_count, x), next)
     } else {

@@ -1,10 +1,8 @@
 -- A program of the block that goes on with the items of a process, by its parts, over plain values
 use Prim.Native.Nat.{ℕ, suc, ◌-◌, ◌<◌, ◌≤◌}
 use mathlib.Core.Path.{◌≡◌, refl, sym, ◌∙◌, ap}
-use mathlib.Core.Bool.{Bool, cond}
 use mathlib.Core.List.{List}
 use native.Mathlib.Omega.{arith}
-use lib.Dec.{ltb}
 use lib.ListN.{length, get_or, take}
 use Rattle.construction.specs.declared.simulations.Pause.{Pause}
 use Rattle.construction.specs.declared.simulations.Simulated.{Simulated}
@@ -17,8 +15,8 @@ use Rattle.helping.proofs.Laws as laws
 use Rattle.helping.proofs.Lines as lines
 use Rattle.codes.specs.Types.{Announcement, Instruction, Program, Dictionary, Simulation, Control}
 use Rattle.codes.proofs.Blocks.{get_or_table}
-use Rattle.block.specs.Layout.{variable_count_in, last_in, simulation_in, from_in, earlier_text, later_text, put_simulation}
-use Rattle.block.specs.Cards.{dictionary_at}
+use Rattle.block.specs.Layout.{variable_count_in, last_in, simulation_in, put_simulation}
+use Rattle.block.specs.Cards.{text_in, dictionary_at}
 use Rattle.loan.specs.declared.dictionaries.Span.{Span}
 use Rattle.loan.specs.Items.{keys_at, values_at, put_values}
 use Rattle.loan.specs.Loans.{span_in}
@@ -32,13 +30,13 @@ pub fetched :
     shortened rest x ≡ next_instruction y counter
 fetched y lines counter rest x el ex er = rw (er, el, ex)
 
+-- a run of the announced program, whose state is put into the block
 pub simulates :
-    (b c : List ℕ) (i number n : ℕ) (t : Bool) (a : Announcement) (s : Simulation) (ks : List ℕ) (end : ℕ) (before after : List ℕ) (r : Paused) →
-    n ≡ variable_count_in b → t ≡ ltb number (from_in b a.program) →
-    Runs n (cond t (earlier_text b a.program) (later_text b a.program)) a.words s ks end before after r → c ≡ put_simulation b i r.simulation →
+    (b c : List ℕ) (i number n : ℕ) (y : Program) (a : Announcement) (s : Simulation) (ks : List ℕ) (end : ℕ) (before after : List ℕ) (r : Paused) →
+    n ≡ variable_count_in b → y ≡ text_in b a.program number → Runs n y a.words s ks end before after r → c ≡ put_simulation b i r.simulation →
     Simulates b c i number a s ks end before after r.pause
-simulates b c i number n t a s ks end before after r en et h f =
-    let g = rw (en, et) at h in
+simulates b c i number n y a s ks end before after r en ey h f =
+    let g = rw (en, ey) at h in
     record {
       long = g.long;
       left = λ d p.

@@ -3,6 +3,7 @@ use Rattle.std.specs.Prelude.{ℕ, zero, suc, ◌+◌, ◌-◌, ◌*◌, List, �
 use Rattle.codes.specs.Parts.{word_at, table}
 use Rattle.codes.specs.Codes.{pair, upper}
 use Rattle.block.specs.Cards.{item_at}
+use Rattle.helping.specs.declared.numbers.Numbers.{Numbers}
 
 -- the first n numbers of an array of 32, and 0 behind them
 abbrev pub padded : ℕ → (ℕ → ℕ) → List ℕ
@@ -14,6 +15,9 @@ keys_at l base n = padded n (λ k. (item_at l base k).variable)
 
 abbrev pub values_at : List ℕ → ℕ → ℕ → List ℕ
 values_at l base n = padded n (λ k. (item_at l base k).value)
+
+abbrev pub numbers_at : List ℕ → ℕ → ℕ → Numbers
+numbers_at l base n = record { keys = keys_at l base n; values = values_at l base n; end = n }
 
 -- item k with another value
 abbrev pub put_value : List ℕ → ℕ → ℕ → List ℕ

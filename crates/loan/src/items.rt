@@ -1,16 +1,18 @@
 // Items of a loan, from an item on.
-ghost use Rattle.std.specs.Prelude.{◌≡◌, ℕ, suc, ◌+◌, ◌*◌, ◌<◌, ◌≤◌, length, get_or, replicate};
+ghost use Rattle.std.specs.Prelude.{◌≡◌, ℕ, suc, ◌+◌, ◌*◌, ◌<◌, ◌≤◌, length, get_or};
 ghost use Rattle.construction.specs.Dictionary.{no_item, next_write};
 ghost use Rattle.construction.specs.Machine.{write_from};
 ghost use Rattle.codes.specs.Parts.{part, stores};
 ghost use Rattle.codes.specs.Codes.{pair, upper, item_of, item_words};
 ghost use Rattle.block.specs.Cards.{dictionary_at};
-ghost use Rattle.loan.specs.Items.{keys_at, values_at, put_value, put_values};
+ghost use Rattle.helping.specs.Numbers.{no_numbers};
+ghost use Rattle.loan.specs.Items.{numbers_at, put_value, put_values};
 
 use codes::{bit, byte, half, odd};
 use construction::accesses::Control;
 use construction::cells::Record;
 use construction::simulations::Item;
+use helping::numbers::Numbers;
 use helping::write_from;
 
 // Two numbers in a word, and the second of them.
@@ -48,10 +50,9 @@ pub(crate) fn put_item(l: &mut [u64], at: usize, item: Item)
     requires { (at < 1000000) × (at + 3 ≤ length l.old) }
     ensures { l.new ≡ stores l.old at (item_words item) }
 {
-    let cell = item.cell;
-    let mark = bit(cell.toggle) as u32;
-    l[at] = cell.seq;
-    l[at + 1] = pair(cell.val0, cell.val1);
+    let mark = bit(item.cell.toggle) as u32;
+    l[at] = item.cell.seq;
+    l[at + 1] = pair(item.cell.val0, item.cell.val1);
     l[at + 2] = pair(item.value, item.variable as u32 + mark * 256);
 }
 
@@ -74,37 +75,26 @@ pub(crate) fn item_or(l: &[u64], base: usize, end: u8, k: u8) -> Item
     opening::no_item()
 }
 
-// The variables and values of the first items, put into zeros. The caller lends both arrays: given back by value they would be copied.
-pub(crate) fn get_numbers(
-    l: &[u64],
-    base: usize,
-    end: u8,
-    keys: &mut [u8; 32],
-    values: &mut [u32; 32],
-)
-    requires { (base < 10000) × (end ≤ 32) × ((base + end) * 3 ≤ length l.now) × (keys.old ≡ replicate 32 0) × (values.old ≡ replicate 32 0) }
-    ensures { (keys.new ≡ keys_at l.now base end) × (values.new ≡ values_at l.now base end) }
+// The variables and values of the first items. The caller lends the place for them: given back by value they would be copied.
+pub(crate) fn get_numbers(l: &[u64], base: usize, end: u8, numbers: &mut Numbers)
+    requires { (base < 10000) × (end ≤ 32) × ((base + end) * 3 ≤ length l.now) × (numbers.old ≡ no_numbers) }
+    ensures { numbers.new ≡ numbers_at l.now base end }
 {
-    let mut k: u8 = 0;
-    while k < end {
-        let at = k as usize;
-        let own = l[(base + at) * 3 + 2];
-        keys[at] = byte(upper(own));
-        values[at] = half(own);
-        k = k + 1;
+    numbers.end = end;
+    for k in 0..end as usize {
+        let own = l[(base + k) * 3 + 2];
+        numbers.keys[k] = byte(upper(own));
+        numbers.values[k] = half(own);
     }
 }
 
-// The first items with other values.
-pub(crate) fn put_values(l: &mut [u64], base: usize, end: u8, values: &[u32; 32])
-    requires { (base < 10000) × (end ≤ 32) × ((base + end) * 3 ≤ length l.old) }
-    ensures { (l.new ≡ put_values l.old base end values.now) × ((k : ℕ) → k < end → get_or values.now k 0 < 4294967296) }
+// The first items with these values.
+pub(crate) fn put_values(l: &mut [u64], base: usize, numbers: &Numbers)
+    requires { (base < 10000) × (numbers.now.end ≤ 32) × ((base + numbers.now.end) * 3 ≤ length l.old) }
+    ensures { (l.new ≡ put_values l.old base numbers.now.end numbers.now.values) × ((k : ℕ) → k < numbers.now.end → get_or numbers.now.values k 0 < 4294967296) }
 {
-    let mut k: u8 = 0;
-    while k < end {
-        let at = k as usize;
-        put_value(l, base + at, values[at]);
-        k = k + 1;
+    for k in 0..numbers.end as usize {
+        put_value(l, base + k, numbers.values[k]);
     }
 }
 
@@ -113,15 +103,13 @@ pub(crate) fn next_write(l: &[u64], base: usize, end: u8, seq: u64, from: u8) ->
     requires { (base < 10000) × (end ≤ 32) × ((base + end) * 3 ≤ length l.now) }
     ensures { result ≡ next_write seq (dictionary_at l.now base end) from }
 {
-    let mut k = from;
-    while k < end {
+    for k in from..end {
         let item = item_at(l, (base + k as usize) * 3);
         if dictionary::altered(seq, item) {
             return k;
         }
-        k = k + 1;
     }
-    k
+    from.max(end)
 }
 
 // Lines H31 and H32: where a helper goes on that wrote item k.

@@ -3,6 +3,7 @@
 // and definitions), codes and block (words), dictionary, helping, opening and programs (small values).
 #![tactic(auto)]
 
+mod fetching; // fetching.rt: the text of a program
 mod items; // items.rt: items at a place
 pub mod dictionaries; // dictionaries.rt: the dictionary of a process
 pub mod simulating; // simulating.rt: the program of an announcement runs on them

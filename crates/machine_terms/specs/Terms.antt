@@ -2,8 +2,8 @@
 -- line 1 by its form, then 18 where K is not 1 to 4, 'as K says how many lines follow'; then each further line by its form, missing and left over as in a card
 -- text; then 18 for T, shares and ceilings. Numbers have any length and count as at most 1,000,000,000,000,000,001 (crate grammar): a larger share is above T
 -- as it is, and a larger ceiling is as good as no ceiling (proofs/Ceilings).
-use Rattle.std.specs.Prelude.{ℕ, zero, suc, ◌+◌, cond, ◌||◌, List, [], ◌∷◌, length, set, replicate, ltb}
-use Rattle.grammar.specs.declared.Number.{Number}
+use Rattle.std.specs.Prelude.{ℕ, zero, suc, ◌+◌, cond, ◌||◌, List, [], ◌∷◌, length, set, replicate, ltb, Option, Some, None}
+use Rattle.grammar.specs.declared.Found.{Found}
 use Rattle.grammar.specs.Reading.{field, has_word}
 use Rattle.construction.specs.declared.{answers.Refusal.Refusal, texts.Verdict.Verdict}
 use Rattle.construction.specs.declared.answers.Refusal.TheVariants as refusals
@@ -13,13 +13,13 @@ use Rattle.allowance.specs.Opening.{allowance_from, opened_as}
 use Rattle.machine_terms.specs.declared.{Pair.Pair, QuotasRead.QuotasRead, Terms.Terms}
 
 -- two numbers, parted by a comma and ended by byte 10
-abbrev pub with_second : ℕ → Number → Pair
-with_second a (Number.Value b i) = Pair.Values a b i
-with_second a Number.Malformed = Pair.Malformed
+abbrev pub with_second : ℕ → Option (Found ℕ) → Pair
+with_second a (Some b) = Pair.Values a b.value b.next
+with_second a None = Pair.Malformed
 
-abbrev pub with_first : List ℕ → Number → Pair
-with_first t (Number.Value a i) = with_second a (field t 10 i)
-with_first t Number.Malformed = Pair.Malformed
+abbrev pub with_first : List ℕ → Option (Found ℕ) → Pair
+with_first t (Some a) = with_second a.value (field t 10 a.next)
+with_first t None = Pair.Malformed
 
 unfoldable pub pair : List ℕ → ℕ → Pair
 pair t at = with_first t (field t 44 at)

@@ -10,7 +10,7 @@ use allowance::{Allowance, Opened, Quota, open};
 use answers::kinds::is_refused;
 use construction::answers::Refusal;
 use construction::texts::Verdict;
-use grammar::Number;
+use grammar::Found;
 use grammar::reading::{field_at, has_word};
 
 // The two numbers of a line, and the place past it.
@@ -41,10 +41,10 @@ const LIMIT: usize = 16_384;
 fn pair_at(text: &[u8], at: usize) -> Pair
     ensures { result ≡ pair text.now at }
 {
-    let Number::Value { value: a, next: i } = field_at(text, b',', at) else {
+    let Some(Found { value: a, next: i }) = field_at(text, b',', at) else {
         return Pair::Malformed;
     };
-    let Number::Value { value: b, next } = field_at(text, b'\n', i) else {
+    let Some(Found { value: b, next }) = field_at(text, b'\n', i) else {
         return Pair::Malformed;
     };
     Pair::Values { a, b, next }

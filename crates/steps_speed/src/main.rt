@@ -11,7 +11,7 @@ use answers::kinds::is_run;
 use construction::answers::{Answer, Answered};
 use construction::card::Card;
 use construction::cells::Words;
-use grammar::Number;
+use grammar::Found;
 use grammar::reading::number_at;
 use host::read_input;
 use xorshift::next;
@@ -70,7 +70,7 @@ fn run(start: Answered, count: u64) -> Answered
 fn main(rt: HostRuntime) {
     let mut text = [0u8; 32];
     read_input(&rt, &mut text);
-    let Number::Value { value, next: _ } = number_at(&text, 0) else {
+    let Some(Found { value, .. }) = number_at(&text, 0) else {
         return;
     };
     let opened = reader::open(

@@ -10,7 +10,7 @@ ghost use Rattle.sweep_speed.specs.Rounds.{Repeats};
 
 use block::cells::{announcement, gate, record};
 use construction::cells::Words;
-use grammar::Numbers;
+use grammar::Found;
 use grammar::reading::four_at;
 use grammar::writing::{put_field, put_word};
 use host::{read_input, show_decimal};
@@ -138,11 +138,12 @@ fn answer(rt: &impl Print, count: u64, limit: u64, words: usize, loan: usize, sc
 fn main(rt: HostRuntime) {
     let mut text = [0u8; 4200];
     let length = read_input(&rt, &mut text);
-    let numbers = four_at(&text, 0);
-    let Numbers::Values { a, b, c, d, next } = numbers else {
+    let Some(Found { value, next }) = four_at(&text, 0) else {
         return;
     };
     if next <= length {
-        answer(&rt, a, b, lent(c, 40), lent(d, 48), &text[next..length]);
+        let words = lent(value.c, 40);
+        let loan = lent(value.d, 48);
+        answer(&rt, value.a, value.b, words, loan, &text[next..length]);
     }
 }

@@ -3,14 +3,14 @@ ghost use Rattle.std.specs.Prelude.{◌≡◌};
 ghost use Rattle.text_cases.specs.Cases.{case_at};
 
 use crate::Case;
-use grammar::Number;
+use grammar::Found;
 use grammar::reading::field_at;
 
 // The text whose length stands at a place.
 pub(crate) fn case_at(input: &[u8], at: usize) -> Case
     ensures { result ≡ case_at input.now at }
 {
-    let Number::Value { value, next } = field_at(input, b'\n', at) else {
+    let Some(Found { value, next }) = field_at(input, b'\n', at) else {
         return Case::Nothing;
     };
     let left = input.len() - next;

@@ -10,8 +10,8 @@ use native.Mathlib.Decide.{dec_lt}
 use lib.ListN.{length}
 use lib.Dec.{eqb, ltb}
 use borrow.Author.Tests.{ltb-true, ltb-false, lt-ltb, le-ltb}
-use Rattle.grammar.specs.declared.Number.{Number}
-use Rattle.grammar.specs.declared.Numbers.{Numbers}
+use Rattle.std.specs.Prelude.{Option, Some, None}
+use Rattle.grammar.specs.declared.{Found.Found, Four.Four}
 use Rattle.grammar.specs.Reading.{field, four, has_word}
 use Rattle.construction.specs.Types.{Instruction, Encoded, Format, Unknown, Known, Decoded, Refusal, TooLong, Malformed, OutOfRange, UnknownCode}
 use Rattle.construction.specs.Types.{NoProcess, NoProgram, Busy, NotBusy, NoPlace, LimitReached, ShortBuffer, OperandOutOfRange, UnusedOperand, TooHeavy}
@@ -41,9 +41,9 @@ sheet_why : (t : List ℕ) (at : ℕ) → SheetWhy (sheet_line t at)
 unfolding sheet_line judge_sheet
 sheet_why t at = on_test SheetWhy (has_word t at sheet_word) (λ _. by (field t 10 (at + 6))) (λ _. OfLine.misformed)
   where
-    by : (x : Number) → SheetWhy (judge_sheet x)
-    by (Number.Value v i) = on_test SheetWhy (in_range 1 32 v) (λ _. tt) (λ _. OfLine.range)
-    by Number.Malformed = OfLine.misformed
+    by : (x : Option (Found ℕ)) → SheetWhy (judge_sheet x)
+    by (Some x) = on_test SheetWhy (in_range 1 32 x.value) (λ _. tt) (λ _. OfLine.range)
+    by None = OfLine.misformed
 
 abbrev InsWhy : InsLine → Type 0
 InsWhy (InsLine.Ins x i) = Unit {0}
@@ -59,9 +59,9 @@ ins_why : (n : ℕ) (t : List ℕ) (at : ℕ) → InsWhy (ins_line n t at)
 unfolding ins_line judge_ins decode
 ins_why n t at = on_test InsWhy (has_word t at ins_word) (λ _. by (four t (at + 4))) (λ _. OfLine.misformed)
   where
-    by : (x : Numbers) → InsWhy (judge_ins n x)
-    by (Numbers.Values k a b c i) = decode_why (row_of k).format n (encoded k a b c) i
-    by Numbers.Malformed = OfLine.misformed
+    by : (x : Option (Found Four)) → InsWhy (judge_ins n x)
+    by (Some x) = let v = x.value in decode_why (row_of v.a).format n (encoded v.a v.b v.c v.d) x.next
+    by None = OfLine.misformed
 
 -- `ins` lines are read to their end, or refused at a line
 data LinesRead : ProgramReading → Type 0 where

@@ -9,9 +9,9 @@ use native.Mathlib.Decide.{dec_lt}
 use lib.ListN.{length, drop, length-append}
 use lib.Dec.{ltb, leb, eqb}
 use borrow.Author.Tests.{lt-leb, le-ltb, ne_eqb}
-use Rattle.grammar.specs.declared.Number.{Number}
-use Rattle.grammar.specs.declared.Numbers.{Numbers}
-use Rattle.grammar.specs.Reading.{most, field, four, has_word}
+use Rattle.std.specs.Prelude.{Option, Some, None}
+use Rattle.grammar.specs.declared.{Found.Found, Four.Four}
+use Rattle.grammar.specs.Reading.{found, four_of, most, field, four, has_word}
 use Rattle.grammar.specs.Writing.{field_text, four_text}
 use Rattle.grammar.proofs.Bytes.{word_text_lem, word_reads, drop_past}
 use Rattle.grammar.proofs.RoundTrip.{field_standing, four_standing, field_reads, four_reads}
@@ -40,40 +40,41 @@ module _ (t word : List ℕ) (at : ℕ) where
   -- a line of one number, and of four: it is read as it stands there, and if none stands there it has the wrong form
   pub field_found :
       (v : ℕ) → has_word t at (word ++ field_text 10 v) ≡ true →
-      (has_word t at word ≡ true) × (field t 10 (at + length word) ≡ Number.Value (min most v) (at + length (word ++ field_text 10 v)))
+      (has_word t at word ≡ true) × (field t 10 (at + length word) ≡ Some (found (min most v) (at + length (word ++ field_text 10 v))))
   field_found v h =
       let p = apart (field_text 10 v) h in
-      (p.0, field_reads t 10 (at + length word) v _ refl p.1 ∙ ap (λ (i : ℕ). Number.Value (min most v) i) (past (field_text 10 v)))
+      (p.0, field_reads t 10 (at + length word) v _ refl p.1 ∙ ap (λ (i : ℕ). Some (found (min most v) i)) (past (field_text 10 v)))
 
   pub field_none :
-      ((v : ℕ) → has_word t at (word ++ field_text 10 v) ≡ false) → has_word t at word ≡ true → field t 10 (at + length word) ≡ Number.Malformed
+      ((v : ℕ) → has_word t at (word ++ field_text 10 v) ≡ false) → has_word t at word ≡ true → field t 10 (at + length word) ≡ None
   field_none none w = go (field t 10 (at + length word)) refl
     where
-      go : (f : Number) → field t 10 (at + length word) ≡ f → f ≡ Number.Malformed
-      go Number.Malformed e = refl
-      go (Number.Value v i) e =
-          let s = field_standing t 10 (at + length word) v i e in
+      go : (f : Option (Found ℕ)) → field t 10 (at + length word) ≡ f → f ≡ None
+      go None e = refl
+      go (Some x) e =
+          let s = field_standing t 10 (at + length word) x.value x.next e in
           absurd (true_false _ (joined (field_text 10 s.value) _ w s.there) (none s.value))
 
   pub four_found :
       (a b c d : ℕ) → has_word t at (word ++ four_text a b c d) ≡ true →
       (has_word t at word ≡ true)
-      × (four t (at + length word) ≡ Numbers.Values (min most a) (min most b) (min most c) (min most d) (at + length (word ++ four_text a b c d)))
+      × (four t (at + length word) ≡ Some (found (four_of (min most a) (min most b) (min most c) (min most d)) (at + length (word ++ four_text a b c d))))
   four_found a b c d h =
       let p = apart (four_text a b c d) h in (
         p.0,
         four_reads t (at + length word) a b c d _ p.1
-            ∙ ap (λ (i : ℕ). Numbers.Values (min most a) (min most b) (min most c) (min most d) i) (past (four_text a b c d)),
+            ∙ ap (λ (i : ℕ). Some (found (four_of (min most a) (min most b) (min most c) (min most d)) i)) (past (four_text a b c d)),
       )
 
   pub four_none :
-      ((a b c d : ℕ) → has_word t at (word ++ four_text a b c d) ≡ false) → has_word t at word ≡ true → four t (at + length word) ≡ Numbers.Malformed
+      ((a b c d : ℕ) → has_word t at (word ++ four_text a b c d) ≡ false) → has_word t at word ≡ true → four t (at + length word) ≡ None
   four_none none w = go (four t (at + length word)) refl
     where
-      go : (f : Numbers) → four t (at + length word) ≡ f → f ≡ Numbers.Malformed
-      go Numbers.Malformed e = refl
-      go (Numbers.Values a b c d i) e =
-          let s = four_standing t (at + length word) a b c d i e in
+      go : (f : Option (Found Four)) → four t (at + length word) ≡ f → f ≡ None
+      go None e = refl
+      go (Some x) e =
+          let v = x.value in
+          let s = four_standing t (at + length word) v.a v.b v.c v.d x.next e in
           absurd (true_false _ (joined (four_text s.a' s.b' s.c' s.d') _ w s.there) (none s.a' s.b' s.c' s.d'))
 
 -- what depends on a number only below `most` does not see that it is kept there

@@ -5,9 +5,10 @@ use mathlib.Core.List.{List}
 use Prim.Native.Nat.{ℕ, ◌+◌, ◌<◌, ◌≤◌}
 use lib.Dec.{ltb, leb}
 use borrow.Author.Tests.{lt-ltb, le-ltb, ltb-true, leb-true}
-use Rattle.grammar.specs.declared.Number.{Number}
-use Rattle.grammar.specs.declared.Numbers.{Numbers}
-use Rattle.grammar.specs.Reading.{field, four, has_word}
+use Rattle.std.specs.Prelude.{Option, Some, None}
+use Rattle.grammar.specs.declared.{Found.Found, Four.Four}
+use Rattle.grammar.specs.Reading.{found, four_of, field, four, has_word}
+use Rattle.grammar.proofs.Places.{same_parts, same_fours}
 use Rattle.construction.proofs.Basics.{on_test, and_true, clash}
 use Rattle.construction.specs.Types.{Instruction, Decoded, Encoded, Malformed, OutOfRange, CardLine, VarLine, SheetLine, InsLine}
 use Rattle.construction.specs.Instructions.{in_range, decode, encoded}
@@ -24,16 +25,16 @@ module _ (t : List ℕ) (at : ℕ) {w : Bool} (e : w ≡ has_word t at card_word
   card_other p = rw (← e, p)
 
   module _ (p : w ≡ true) where
-    pub card_malformed : Numbers.Malformed ≡ four t (at + 5) → CardLine.Refused Malformed ≡ card_line t at
+    pub card_malformed : None ≡ four t (at + 5) → CardLine.Refused Malformed ≡ card_line t at
     unfolding card_line judge_card
     card_malformed q = rw (← e, p, ← q)
 
-    module _ {a b c d i : ℕ} {f : Bool} (q : Numbers.Values a b c d i ≡ four t (at + 5)) (g : f ≡ card_fits a b c d) where
+    module _ {x : Found Four} {f : Bool} (q : Some x ≡ four t (at + 5)) (g : f ≡ card_fits x.value.a x.value.b x.value.c x.value.d) where
       pub card_out : f ≡ false → CardLine.Refused OutOfRange ≡ card_line t at
       unfolding card_line judge_card
       card_out z = rw (← e, p, ← q, ← g, z)
 
-      pub card_fields : f ≡ true → CardLine.Fields a b c d i ≡ card_line t at
+      pub card_fields : f ≡ true → CardLine.Fields x.value.a x.value.b x.value.c x.value.d x.next ≡ card_line t at
       unfolding card_line judge_card
       card_fields z = rw (← e, p, ← q, ← g, z)
 
@@ -58,7 +59,7 @@ card_fits_lem p n s l e =
 -- what a `card` line that was read consists of
 pub record CardRead (t : List ℕ) (at p n s l i : ℕ) : Type 0 where
   pub word_there : has_word t at card_word ≡ true
-  pub numbers_there : four t (at + 5) ≡ Numbers.Values p n s l i
+  pub numbers_there : four t (at + 5) ≡ Some (found (four_of p n s l) i)
   pub fits : CardFits p n s l
 
 pub card_read : (t : List ℕ) (at p n s l i : ℕ) → card_line t at ≡ CardLine.Fields p n s l i → CardRead t at p n s l i
@@ -67,11 +68,17 @@ card_read t at p n s l i =
     on_test (λ (z : CardLine). z ≡ CardLine.Fields p n s l i → CardRead t at p n s l i) (has_word t at card_word) (λ h. go h (four t (at + 5)) refl)
     (λ h e. clash (cc))
   where
-    go : has_word t at card_word ≡ true → (f : Numbers) → four t (at + 5) ≡ f → judge_card f ≡ CardLine.Fields p n s l i → CardRead t at p n s l i
-    go h (Numbers.Values a b c d j) q =
-        on_test (λ (z : CardLine). z ≡ CardLine.Fields p n s l i → CardRead t at p n s l i) (card_fits a b c d)
-        (λ k e. record { word_there = h; numbers_there = cc; fits = card_fits_lem p n s l (cc) }) (λ k e. clash (cc))
-    go h Numbers.Malformed q = λ e. clash (cc)
+    go : has_word t at card_word ≡ true → (f : Option (Found Four)) → four t (at + 5) ≡ f → judge_card f ≡ CardLine.Fields p n s l i → CardRead t at p n s l i
+    go h (Some x) q =
+        on_test (λ (z : CardLine). z ≡ CardLine.Fields p n s l i → CardRead t at p n s l i)
+        (card_fits x.value.a x.value.b x.value.c x.value.d)
+        (λ k e. record {
+          word_there = h;
+          numbers_there = q ∙ same_fours (cc) (cc) (cc) (cc) (cc);
+          fits = card_fits_lem p n s l (cc);
+        })
+        (λ k e. clash (cc))
+    go h None q = λ e. clash (cc)
 
 -- ---- a `var` line
 module _ (t : List ℕ) (at : ℕ) {w : Bool} (e : w ≡ has_word t at var_word) where
@@ -80,22 +87,22 @@ module _ (t : List ℕ) (at : ℕ) {w : Bool} (e : w ≡ has_word t at var_word)
   var_other p = rw (← e, p)
 
   module _ (p : w ≡ true) where
-    pub var_malformed : Number.Malformed ≡ field t 10 (at + 4) → VarLine.Refused Malformed ≡ var_line t at
+    pub var_malformed : None ≡ field t 10 (at + 4) → VarLine.Refused Malformed ≡ var_line t at
     unfolding var_line judge_var
     var_malformed q = rw (← e, p, ← q)
 
-    module _ {v i : ℕ} (q : Number.Value v i ≡ field t 10 (at + 4)) where
-      pub var_out : 4294967296 ≤ v → VarLine.Refused OutOfRange ≡ var_line t at
+    module _ {x : Found ℕ} (q : Some x ≡ field t 10 (at + 4)) where
+      pub var_out : 4294967296 ≤ x.value → VarLine.Refused OutOfRange ≡ var_line t at
       unfolding var_line judge_var
-      var_out z = rw (← e, p, ← q, le-ltb v 4294967296 z)
+      var_out z = rw (← e, p, ← q, le-ltb x.value 4294967296 z)
 
-      pub var_start : v < 4294967296 → VarLine.Start v i ≡ var_line t at
+      pub var_start : x.value < 4294967296 → VarLine.Start x.value x.next ≡ var_line t at
       unfolding var_line judge_var
-      var_start z = rw (← e, p, ← q, lt-ltb v 4294967296 z)
+      var_start z = rw (← e, p, ← q, lt-ltb x.value 4294967296 z)
 
 pub record VarRead (t : List ℕ) (at v i : ℕ) : Type 0 where
   pub word_there : has_word t at var_word ≡ true
-  pub field_there : field t 10 (at + 4) ≡ Number.Value v i
+  pub field_there : field t 10 (at + 4) ≡ Some (found v i)
   pub fits : v < 4294967296
 
 pub var_read : (t : List ℕ) (at v i : ℕ) → var_line t at ≡ VarLine.Start v i → VarRead t at v i
@@ -103,11 +110,11 @@ unfolding var_line judge_var
 var_read t at v i =
     on_test (λ (z : VarLine). z ≡ VarLine.Start v i → VarRead t at v i) (has_word t at var_word) (λ h. go h (field t 10 (at + 4)) refl) (λ h e. clash (cc))
   where
-    go : has_word t at var_word ≡ true → (f : Number) → field t 10 (at + 4) ≡ f → judge_var f ≡ VarLine.Start v i → VarRead t at v i
-    go h (Number.Value w j) q =
-        on_test (λ (z : VarLine). z ≡ VarLine.Start v i → VarRead t at v i) (ltb w 4294967296)
-        (λ k e. record { word_there = h; field_there = cc; fits = ltb-true v 4294967296 (cc) }) (λ k e. clash (cc))
-    go h Number.Malformed q = λ e. clash (cc)
+    go : has_word t at var_word ≡ true → (f : Option (Found ℕ)) → field t 10 (at + 4) ≡ f → judge_var f ≡ VarLine.Start v i → VarRead t at v i
+    go h (Some x) q =
+        on_test (λ (z : VarLine). z ≡ VarLine.Start v i → VarRead t at v i) (ltb x.value 4294967296)
+        (λ k e. record { word_there = h; field_there = q ∙ same_parts (cc) (cc); fits = ltb-true v 4294967296 (cc) }) (λ k e. clash (cc))
+    go h None q = λ e. clash (cc)
 
 -- ---- a `sheet` line
 module _ (t : List ℕ) (at : ℕ) {w : Bool} (e : w ≡ has_word t at sheet_word) where
@@ -116,22 +123,22 @@ module _ (t : List ℕ) (at : ℕ) {w : Bool} (e : w ≡ has_word t at sheet_wor
   sheet_other p = rw (← e, p)
 
   module _ (p : w ≡ true) where
-    pub sheet_malformed : Number.Malformed ≡ field t 10 (at + 6) → SheetLine.Refused Malformed ≡ sheet_line t at
+    pub sheet_malformed : None ≡ field t 10 (at + 6) → SheetLine.Refused Malformed ≡ sheet_line t at
     unfolding sheet_line judge_sheet
     sheet_malformed q = rw (← e, p, ← q)
 
-    module _ {v i : ℕ} {f : Bool} (q : Number.Value v i ≡ field t 10 (at + 6)) (g : f ≡ in_range 1 32 v) where
+    module _ {x : Found ℕ} {f : Bool} (q : Some x ≡ field t 10 (at + 6)) (g : f ≡ in_range 1 32 x.value) where
       pub sheet_out : f ≡ false → SheetLine.Refused OutOfRange ≡ sheet_line t at
       unfolding sheet_line judge_sheet
       sheet_out z = rw (← e, p, ← q, ← g, z)
 
-      pub sheet_length : f ≡ true → SheetLine.Length v i ≡ sheet_line t at
+      pub sheet_length : f ≡ true → SheetLine.Length x.value x.next ≡ sheet_line t at
       unfolding sheet_line judge_sheet
       sheet_length z = rw (← e, p, ← q, ← g, z)
 
 pub record SheetRead (t : List ℕ) (at m i : ℕ) : Type 0 where
   pub word_there : has_word t at sheet_word ≡ true
-  pub field_there : field t 10 (at + 6) ≡ Number.Value m i
+  pub field_there : field t 10 (at + 6) ≡ Some (found m i)
   pub fits : (1 ≤ m) × (m ≤ 32)
 
 pub sheet_read : (t : List ℕ) (at m i : ℕ) → sheet_line t at ≡ SheetLine.Length m i → SheetRead t at m i
@@ -140,11 +147,11 @@ sheet_read t at m i =
     on_test (λ (z : SheetLine). z ≡ SheetLine.Length m i → SheetRead t at m i) (has_word t at sheet_word) (λ h. go h (field t 10 (at + 6)) refl)
     (λ h e. clash (cc))
   where
-    go : has_word t at sheet_word ≡ true → (f : Number) → field t 10 (at + 6) ≡ f → judge_sheet f ≡ SheetLine.Length m i → SheetRead t at m i
-    go h (Number.Value w j) q =
-        on_test (λ (z : SheetLine). z ≡ SheetLine.Length m i → SheetRead t at m i) (in_range 1 32 w)
-        (λ k e. record { word_there = h; field_there = cc; fits = range_true 1 32 m (cc) }) (λ k e. clash (cc))
-    go h Number.Malformed q = λ e. clash (cc)
+    go : has_word t at sheet_word ≡ true → (f : Option (Found ℕ)) → field t 10 (at + 6) ≡ f → judge_sheet f ≡ SheetLine.Length m i → SheetRead t at m i
+    go h (Some x) q =
+        on_test (λ (z : SheetLine). z ≡ SheetLine.Length m i → SheetRead t at m i) (in_range 1 32 x.value)
+        (λ k e. record { word_there = h; field_there = q ∙ same_parts (cc) (cc); fits = range_true 1 32 m (cc) }) (λ k e. clash (cc))
+    go h None q = λ e. clash (cc)
 
 -- ---- an `ins` line
 module _ (n : ℕ) (t : List ℕ) (at : ℕ) {w : Bool} (e : w ≡ has_word t at ins_word) where
@@ -153,19 +160,20 @@ module _ (n : ℕ) (t : List ℕ) (at : ℕ) {w : Bool} (e : w ≡ has_word t at
   ins_other p = rw (← e, p)
 
   module _ (p : w ≡ true) where
-    pub ins_malformed : Numbers.Malformed ≡ four t (at + 4) → InsLine.Refused Malformed ≡ ins_line n t at
+    pub ins_malformed : None ≡ four t (at + 4) → InsLine.Refused Malformed ≡ ins_line n t at
     unfolding ins_line judge_ins
     ins_malformed q = rw (← e, p, ← q)
 
-    pub ins_decoded : {k a b c i : ℕ} {d : Decoded} {r : InsLine} → Numbers.Values k a b c i ≡ four t (at + 4) → d ≡ decode n (encoded k a b c) →
-        r ≡ ins_of d i → r ≡ ins_line n t at
+    pub ins_decoded :
+        {x : Found Four} {d : Decoded} {r : InsLine} → Some x ≡ four t (at + 4) →
+        d ≡ decode n (encoded x.value.a x.value.b x.value.c x.value.d) → r ≡ ins_of d x.next → r ≡ ins_line n t at
     unfolding ins_line judge_ins
     ins_decoded q f z = z ∙ rw (← e, p, ← q, ← f)
 
 pub record InsRead (n : ℕ) (t : List ℕ) (at : ℕ) (x : Instruction) (i : ℕ) : Type 0 where
   pub numbers : Encoded
   pub word_there : has_word t at ins_word ≡ true
-  pub numbers_there : four t (at + 4) ≡ Numbers.Values numbers.code numbers.a numbers.b numbers.c i
+  pub numbers_there : four t (at + 4) ≡ Some (found (four_of numbers.code numbers.a numbers.b numbers.c) i)
   pub fits : decode n numbers ≡ Decoded.Valid x
 
 pub ins_read : (n : ℕ) (t : List ℕ) (at : ℕ) (x : Instruction) (i : ℕ) → ins_line n t at ≡ InsLine.Ins x i → InsRead n t at x i
@@ -174,11 +182,13 @@ ins_read n t at x i =
     on_test (λ (z : InsLine). z ≡ InsLine.Ins x i → InsRead n t at x i) (has_word t at ins_word) (λ h. go h (four t (at + 4)) refl) (λ h e. clash (cc))
   where
     good :
-        has_word t at ins_word ≡ true → (k a b c j : ℕ) → four t (at + 4) ≡ Numbers.Values k a b c j → (d : Decoded) → decode n (encoded k a b c) ≡ d →
-        ins_of d j ≡ InsLine.Ins x i → InsRead n t at x i
-    good h k a b c j q (Decoded.Valid y) f e = record { numbers = encoded k a b c; word_there = h; numbers_there = cc; fits = cc }
-    good h k a b c j q (Decoded.Refused y) f e = clash (cc)
+        has_word t at ins_word ≡ true → (y : Found Four) → four t (at + 4) ≡ Some y →
+        (d : Decoded) → decode n (encoded y.value.a y.value.b y.value.c y.value.d) ≡ d → ins_of d y.next ≡ InsLine.Ins x i → InsRead n t at x i
+    good h y q (Decoded.Valid z) f e =
+        let v = y.value in
+        record { numbers = encoded v.a v.b v.c v.d; word_there = h; numbers_there = q ∙ same_parts refl (cc); fits = cc }
+    good h y q (Decoded.Refused z) f e = clash (cc)
 
-    go : has_word t at ins_word ≡ true → (f : Numbers) → four t (at + 4) ≡ f → judge_ins n f ≡ InsLine.Ins x i → InsRead n t at x i
-    go h (Numbers.Values k a b c j) q e = good h k a b c j q (decode n (encoded k a b c)) refl e
-    go h Numbers.Malformed q e = clash (cc)
+    go : has_word t at ins_word ≡ true → (f : Option (Found Four)) → four t (at + 4) ≡ f → judge_ins n f ≡ InsLine.Ins x i → InsRead n t at x i
+    go h (Some y) q e = good h y q (decode n (encoded y.value.a y.value.b y.value.c y.value.d)) refl e
+    go h None q e = clash (cc)

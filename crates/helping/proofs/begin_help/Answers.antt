@@ -6,12 +6,12 @@ use Rattle.helping.proofs.begin_help.Goals as goal
 pub returns-then-helps : goal.returns-then-helps
 returns-then-helps c =
     lines.helps_on _ _ _ _ _ _ _ c.helps.ensures c.if-helps.true _ _
-    (rw c.started.ensures at (c.simulate-paused.ensures.left empty (record {
+    (rw c.started.ensures at (c.simulate-paused.ensures.told.left empty (rw c.none-numbers.ensures (record {
       keyed = refl;
       valued = refl;
       count
           = refl;
-    }))) _ c.after_pause.ensures
+    })))) _ c.after_pause.ensures
 
 pub returns : goal.returns
 returns c = lines.helps_not _ _ _ _ _ _ _ c.helps.ensures c.if-helps.false

@@ -18,12 +18,12 @@ returns-in_default c =
 
 pub returns-then-card_fits : goal.returns-then-card_fits
 returns-then-card_fits c =
-    laws.card_fields _ _ c.has_word.ensures c.if-has_word.true (sym c.in-Values.is ∙ c.four_at.ensures)
+    laws.card_fields _ _ c.has_word.ensures c.if-has_word.true (sym c.in-Some.is ∙ c.four_at.ensures)
     c.card_fits.ensures c.if-card_fits.true
 
 pub returns-else-card_fits : goal.returns-else-card_fits
 returns-else-card_fits c =
-    laws.card_out _ _ c.has_word.ensures c.if-has_word.true (sym c.in-Values.is ∙ c.four_at.ensures)
+    laws.card_out _ _ c.has_word.ensures c.if-has_word.true (sym c.in-Some.is ∙ c.four_at.ensures)
     c.card_fits.ensures c.if-card_fits.false
 
 pub returns-else-has_word : goal.returns-else-has_word

@@ -16,9 +16,9 @@ pub returns-in_default : goal.returns-in_default
 returns-in_default c =
     laws.ins_malformed _ _ _ c.has_word.ensures c.if-has_word.true (sym c.in_default.is ∙ c.four_at.ensures)
 
-pub returns-in-Values : goal.returns-in-Values
-returns-in-Values c =
-    laws.ins_decoded _ _ _ c.has_word.ensures c.if-has_word.true (sym c.in-Values.is ∙ c.four_at.ensures)
+pub returns-in-Some : goal.returns-in-Some
+returns-in-Some c =
+    laws.ins_decoded _ _ _ c.has_word.ensures c.if-has_word.true (sym c.in-Some.is ∙ c.four_at.ensures)
     c.decode.ensures c.ins_of.ensures
 
 pub returns-else-has_word : goal.returns-else-has_word

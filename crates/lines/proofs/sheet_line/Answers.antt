@@ -18,12 +18,12 @@ returns-in_default c =
 
 pub returns-then-in_range : goal.returns-then-in_range
 returns-then-in_range c =
-    laws.sheet_length _ _ c.has_word.ensures c.if-has_word.true (sym c.in-Value.is ∙ c.field_at.ensures)
+    laws.sheet_length _ _ c.has_word.ensures c.if-has_word.true (sym c.in-Some.is ∙ c.field_at.ensures)
     c.in_range.ensures c.if-in_range.true
 
 pub returns-else-in_range : goal.returns-else-in_range
 returns-else-in_range c =
-    laws.sheet_out _ _ c.has_word.ensures c.if-has_word.true (sym c.in-Value.is ∙ c.field_at.ensures)
+    laws.sheet_out _ _ c.has_word.ensures c.if-has_word.true (sym c.in-Some.is ∙ c.field_at.ensures)
     c.in_range.ensures c.if-in_range.false
 
 pub returns-else-has_word : goal.returns-else-has_word

@@ -18,12 +18,12 @@ returns-in_default c =
 
 pub returns-then-value-lt4294967296 : goal.returns-then-value-lt4294967296
 returns-then-value-lt4294967296 c =
-    laws.var_start _ _ c.has_word.ensures c.if-has_word.true (sym c.in-Value.is ∙ c.field_at.ensures)
+    laws.var_start _ _ c.has_word.ensures c.if-has_word.true (sym c.in-Some.is ∙ c.field_at.ensures)
     c.if-value-lt4294967296.true
 
 pub returns-else-value-lt4294967296 : goal.returns-else-value-lt4294967296
 returns-else-value-lt4294967296 c =
-    laws.var_out _ _ c.has_word.ensures c.if-has_word.true (sym c.in-Value.is ∙ c.field_at.ensures)
+    laws.var_out _ _ c.has_word.ensures c.if-has_word.true (sym c.in-Some.is ∙ c.field_at.ensures)
     c.if-value-lt4294967296.false
 
 pub returns-else-has_word : goal.returns-else-has_word

@@ -9,9 +9,9 @@ returns-in_default c = rw (← c.field_at.ensures, c.in_default.is)
 pub returns-then-value-lt4294967296 : goal.returns-then-value-lt4294967296
 unfolding word
 returns-then-value-lt4294967296 c =
-    rw (← c.field_at.ensures, c.in-Value.is, lt-ltb _ _ c.if-value-lt4294967296.true)
+    rw (← c.field_at.ensures, c.in-Some.is, lt-ltb _ _ c.if-value-lt4294967296.true)
 
 pub returns-else-value-lt4294967296 : goal.returns-else-value-lt4294967296
 unfolding word
 returns-else-value-lt4294967296 c =
-    rw (← c.field_at.ensures, c.in-Value.is, le-ltb _ _ c.if-value-lt4294967296.false)
+    rw (← c.field_at.ensures, c.in-Some.is, le-ltb _ _ c.if-value-lt4294967296.false)

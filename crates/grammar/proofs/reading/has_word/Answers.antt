@@ -1,15 +1,10 @@
-use Rattle.std.proofs.Common.{arith, sym, ◌∙◌}
+use Rattle.std.proofs.Common.{arith, ◌∙◌}
 use Rattle.grammar.proofs.Bytes as bytes
 use Rattle.grammar.proofs.reading.has_word.Goals as goal
 
-pub loop-k-preserved : goal.loop-k-preserved
-loop-k-preserved c = (
-  c.loop-k.invariant.0 ∙ bytes.word_more _ _ _ _ c.loop-k-test.true c.has_byte.ensures c.if-has_byte.true,
-  omega arith,
-)
+pub returns-in-Some : goal.returns-in-Some
+returns-in-Some c =
+    bytes.word_starts _ _ c.in-Some.ensures.lookup.0.0 c.in-Some.ensures.lookup.0.2 c.starts_with.ensures.value
 
-pub returns-else-has_byte : goal.returns-else-has_byte
-returns-else-has_byte c = sym (c.loop-k.invariant.0 ∙ bytes.word_other _ _ _ _ c.loop-k-test.true c.has_byte.ensures c.if-has_byte.false)
-
-pub returns : goal.returns
-returns c = sym (c.loop-k.invariant.0 ∙ bytes.word_end _ _ _ _ c.loop-k-test.false)
+pub returns-in-None : goal.returns-in-None
+returns-in-None c = c.is_empty.ensures ∙ bytes.word_past _ _ _ (omega (arith, c.in-None.ensures.lookup.0))

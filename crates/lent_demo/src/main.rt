@@ -2,10 +2,10 @@
 // compares every cell afterwards, and prints a line for each case. It rests on the crates construction, answers, cells, lent and report.
 #![tactic(auto)]
 
-ghost use Rattle.std.specs.Prelude.{◌≡◌};
+ghost use Rattle.std.specs.Prelude.{◌≡◌, ◌<◌};
 ghost use Rattle.construction.specs.Cells.{swap_gate};
 ghost use Rattle.lent.specs.Row.{row_answer, row_after};
-ghost use Rattle.lent_demo.specs.Rows.{record_of, first_row, new_record, held_gate, free_gate, same_row};
+ghost use Rattle.lent_demo.specs.Rows.{record_of, first_row, new_record, held_gate, free_gate, same_at, same_row};
 
 use answers::put_row_swap;
 use construction::cells::{Gate, Holder, Record, RowSwap, SwappedCell};
@@ -95,10 +95,17 @@ fn free_gate() -> Gate
     }
 }
 
+fn same_at(a: [Record; 4], b: [Record; 4], k: usize) -> bool
+    requires { k < 4 }
+    ensures { result ≡ same_at a b k }
+{
+    a[k] == b[k]
+}
+
 fn same_row(a: [Record; 4], b: [Record; 4]) -> bool
     ensures { result ≡ same_row a b }
 {
-    a[0] == b[0] && a[1] == b[1] && a[2] == b[2] && a[3] == b[3]
+    same_at(a, b, 0) && (same_at(a, b, 1) && (same_at(a, b, 2) && same_at(a, b, 3)))
 }
 
 fn write_answer(rt: &impl Print, answer: RowSwap) {

@@ -1,4 +1,6 @@
 -- The types of this crate, which src/ declares, and the variants that stand under their own names, for one `use` line a file
+use Rattle.std.specs.Prelude.{ℕ, Result}
+use Rattle.grammar.specs.declared.Found.{Found}
 pub use Rattle.construction.specs.declared.cells.Holder.{Holder}
 pub use Rattle.construction.specs.declared.cells.Holder.TheVariants.{Nobody, Process}
 pub use Rattle.construction.specs.declared.cells.Gate.{Gate}
@@ -12,8 +14,6 @@ pub use Rattle.construction.specs.declared.programs.Instruction.{Instruction}
 pub use Rattle.construction.specs.declared.programs.OperandKind.{OperandKind}
 pub use Rattle.construction.specs.declared.programs.OperandKind.TheVariants.{Unused, Register, Word, Variable, Skip}
 pub use Rattle.construction.specs.declared.programs.Format.{Format}
-pub use Rattle.construction.specs.declared.programs.Format.TheVariants.{Unknown, Known}
-pub use Rattle.construction.specs.declared.programs.Decoded.{Decoded}
 pub use Rattle.construction.specs.declared.programs.Encoded.{Encoded}
 pub use Rattle.construction.specs.declared.programs.Line.{Line}
 pub use Rattle.construction.specs.declared.programs.Program.{Program}
@@ -50,13 +50,27 @@ pub use Rattle.construction.specs.declared.answers.Report.{Report}
 pub use Rattle.construction.specs.declared.answers.Traced.{Traced}
 pub use Rattle.construction.specs.declared.cells.SwappedCell.{SwappedCell}
 pub use Rattle.construction.specs.declared.cells.RowSwap.{RowSwap}
-pub use Rattle.construction.specs.declared.texts.CardLine.{CardLine}
-pub use Rattle.construction.specs.declared.texts.VarLine.{VarLine}
-pub use Rattle.construction.specs.declared.texts.SheetLine.{SheetLine}
-pub use Rattle.construction.specs.declared.texts.InsLine.{InsLine}
+pub use Rattle.construction.specs.declared.texts.CardNumbers.{CardNumbers}
 pub use Rattle.construction.specs.declared.texts.Contents.{Contents}
 pub use Rattle.construction.specs.declared.texts.Verdict.{Verdict}
 pub use Rattle.construction.specs.declared.texts.ProgramReading.{ProgramReading}
 pub use Rattle.construction.specs.declared.texts.Reading.{Reading}
 pub use Rattle.construction.specs.declared.texts.Opened.{Opened}
 pub use Rattle.construction.specs.declared.texts.Written.{Written}
+
+-- an instruction that was decoded, or why there is none
+abbrev pub Decoded : Type 0
+Decoded = Result Instruction Refusal
+
+-- what a line of a card text yields: what it says, and the place past it, or why it is refused
+abbrev pub CardLine : Type 0
+CardLine = Result (Found CardNumbers) Refusal
+
+abbrev pub VarLine : Type 0
+VarLine = Result (Found ℕ) Refusal
+
+abbrev pub SheetLine : Type 0
+SheetLine = Result (Found ℕ) Refusal
+
+abbrev pub InsLine : Type 0
+InsLine = Result (Found Instruction) Refusal

@@ -14,7 +14,7 @@ use construction::cells::{Gate, Record};
 pub fn swap_lent_gate(gate: &mut Gate, expected: Gate, new: Gate) -> bool
     ensures { (result ≡ (swap_gate gate.old expected new).won) × (gate.new ≡ (swap_gate gate.old expected new).cell) }
 {
-    let after = cells::swap_gate(*gate, expected, new);
+    let after = cells::swap(*gate, expected, new);
     *gate = after.cell;
     after.won
 }
@@ -26,7 +26,7 @@ pub fn swap_in_row(row: &mut [Record], place: usize, expected: Record, new: Reco
     if row.len() <= place {
         return Err(Refusal::NoPlace);
     }
-    let after = cells::swap_record(row[place], expected, new);
+    let after = cells::swap(row[place], expected, new);
     row[place] = after.cell;
     Ok(after.won)
 }

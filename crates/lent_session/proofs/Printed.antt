@@ -48,7 +48,7 @@ module _ (card calls b u : List ℕ) {v : Verdict} {c : List ℕ} (o : Opens car
       }
 
   pub starts_refused :
-      {why : Refusal} {line n : ℕ} {z : List ℕ} → v ≡ Err refused → Put u 0 (card_refusal (Err refused)) n z × (n ≤ longest) →
+      {refused : RefusedAt} {n : ℕ} {z : List ℕ} → v ≡ Err refused → Put u 0 (card_refusal (Err refused)) n z × (n ≤ longest) →
       Starts card calls b u (record { length = n; at = length calls }) c z
   starts_refused e p = starts_with (after_refusal calls (card_of (opened_block card b) []) (sym o.answer ∙ e)) p.0 p.1 refl
 

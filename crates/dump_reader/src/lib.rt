@@ -114,6 +114,7 @@ fn read_lines(text: &[u8], count: u8, step: u64, start: Progress) -> Progress
     let mut number = start.line;
     let mut time = start.time;
     let mut next = start.next;
+    // The place moves by what a line turns out to be, which no range or iterator gives.
     while at < text.len() {
         let line = line_at(text, at);
         if !takes(count, time, next, &values, line) {

@@ -86,6 +86,7 @@ pub fn put_rows(text: &[u8], count: u8, start: Scan, buffer: &mut [u8]) -> Shown
     let mut at = start.at;
     let mut length: usize = 0;
     let mut line = line_at(text, at);
+    // As in `read_lines`, the place moves by what a line turns out to be.
     while is_line(line) {
         let end = put_ended(buffer, length, count, time, &values, line);
         if buffer.len() < end {

@@ -95,10 +95,9 @@ fn then_vars(text: &[u8], header: Header) -> Header
     let Ok(()) = header.verdict else {
         return header;
     };
-    let mut count: u8 = 0;
     let mut at = header.at;
     let mut line = header.line;
-    while count < 64 {
+    for count in 0..64 {
         if !has_var(text, at, count) {
             return Header {
                 verdict: Ok(()),
@@ -108,12 +107,11 @@ fn then_vars(text: &[u8], header: Header) -> Header
             };
         }
         at = at + 22 + digits(count);
-        line = line + 1;
-        count = count + 1;
+        line += 1;
     }
     Header {
         verdict: Ok(()),
-        count,
+        count: 64,
         at,
         line,
     }

@@ -5,8 +5,9 @@
 use Rattle.std.specs.Prelude.{ℕ, zero, suc, ◌+◌, cond, ◌||◌, List, [], ◌∷◌, length, set, replicate, ltb, Option, Some, None, Result, Ok, Err}
 use Rattle.grammar.specs.declared.Found.{Found}
 use Rattle.grammar.specs.Reading.{found, with_found, field, has_word}
-use Rattle.construction.specs.declared.{answers.Refusal.Refusal, texts.Verdict.Verdict}
+use Rattle.construction.specs.declared.{answers.Refusal.Refusal}
 use Rattle.construction.specs.declared.answers.Refusal.TheVariants as refusals
+use Rattle.construction.specs.Types.{told_at}
 use Rattle.allowance.specs.declared.{Quota.Quota, Allowance.Allowance}
 use Rattle.allowance.specs.Allowing.{quota_of}
 use Rattle.allowance.specs.Opening.{allowance_from, opened_as}
@@ -49,11 +50,11 @@ quotas_read t at count = quotas_from t count 0 at (replicate 4 (quota_of 0 0))
 
 -- 'which leaves no machines'
 unfoldable pub refused : Refusal → ℕ → Terms
-refused why n = record { allowance = allowance_from 0 0 (replicate 4 (quota_of 0 0)); verdict = Verdict.Refused why n }
+refused why n = record { allowance = allowance_from 0 0 (replicate 4 (quota_of 0 0)); verdict = Err (told_at why n) }
 
 -- what opening answers
 unfoldable pub judged_as : Result Allowance Refusal → Terms
-judged_as (Ok a) = record { allowance = a; verdict = Verdict.Accepted }
+judged_as (Ok a) = record { allowance = a; verdict = Ok tt }
 judged_as (Err why) = refused why 0
 
 abbrev pub with_quotas : ℕ → ℕ → Quotas → Terms

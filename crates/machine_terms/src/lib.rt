@@ -8,7 +8,7 @@ ghost use Rattle.machine_terms.specs.Terms.{pair, line, quotas_read, refused, ju
 
 use allowance::{Allowance, Quota, no_machines, no_quota, open, quota_of};
 use construction::answers::Refusal;
-use construction::texts::Verdict;
+use construction::texts::RefusedAt;
 use grammar::Found;
 use grammar::reading::{field_at, has_word};
 
@@ -23,7 +23,7 @@ pub struct Pair {
 #[derive(Clone, Copy)]
 pub struct Terms {
     pub allowance: Allowance,
-    pub verdict: Verdict,
+    pub verdict: Result<(), RefusedAt>,
 }
 
 // The most bytes of the text.
@@ -94,7 +94,7 @@ fn refused_with(refusal: Refusal, line: u64) -> Terms
 {
     Terms {
         allowance: no_machines(),
-        verdict: Verdict::Refused { refusal, line },
+        verdict: Err(RefusedAt { refusal, line }),
     }
 }
 
@@ -106,7 +106,7 @@ fn judged(opened: Result<Allowance, Refusal>) -> Terms
     match opened {
         Ok(allowance) => Terms {
             allowance,
-            verdict: Verdict::Accepted,
+            verdict: Ok(()),
         },
         Err(refusal) => refused_with(refusal, 0),
     }

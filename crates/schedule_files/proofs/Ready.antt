@@ -1,15 +1,16 @@
 -- A listing that is made has at most 16 steps: every other is refused with 17.
+use Rattle.std.specs.Prelude.{Ok, Err}
 use Prim.Native.Nat.{ℕ, ◌≤◌}
 use mathlib.Core.Path.{◌≡◌, refl, sym, ◌∙◌}
 use mathlib.Core.Bool.{Bool, true, false, cond, not, true≢false}
 use mathlib.Core.List.{List}
 use lib.ListN.{length}
 use lib.Dec.{ltb}
-use Rattle.construction.specs.declared.{card.Card.Card, texts.Verdict.Verdict}
+use Rattle.construction.specs.declared.{card.Card.Card}
 use Rattle.construction.specs.Opening.{opened}
+use Rattle.construction.specs.Types.{Verdict}
 use Rattle.executions.specs.Listings.{is_callable, is_listable}
 use Rattle.executions.proofs.Statements.Listings.{listable_true}
-use Rattle.std.specs.Prelude.{Ok, Err}
 use Rattle.calls.specs.Tables.{requests_in}
 use Rattle.calls.specs.Texts.{Calls, calls_of as calls_in}
 use Rattle.schedule_files.specs.Files.{Preparation, judged_calls, judged_card, preparation}
@@ -29,8 +30,8 @@ calls_short c (Ok words) L h =
 calls_short c (Err wrong) L h = absurd (true≢false (sym h))
 
 card_short_lem : (v : Verdict) (c : Card) (calls : List ℕ) (L : ℕ) → (judged_card v c calls L).ready ≡ true → L ≤ 16
-card_short_lem Verdict.Accepted c calls L h = calls_short c (calls_in calls c.process_count) L (not_refused (ltb 65536 (length calls)) _ _ refl h)
-card_short_lem (Verdict.Refused r line) c calls L h = absurd (true≢false (sym h))
+card_short_lem (Ok _) c calls L h = calls_short c (calls_in calls c.process_count) L (not_refused (ltb 65536 (length calls)) _ _ refl h)
+card_short_lem (Err e) c calls L h = absurd (true≢false (sym h))
 
 pub ready_short : (card calls : List ℕ) (L : ℕ) → (preparation card calls L).ready ≡ true → L ≤ 16
 unfolding preparation

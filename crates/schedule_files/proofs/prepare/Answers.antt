@@ -1,9 +1,9 @@
 use Rattle.schedule_files.proofs.Laws as laws
 use Rattle.schedule_files.proofs.prepare.Goals as goal
 
-pub returns-in-Refused : goal.returns-in-Refused
-returns-in-Refused c =
-    laws.card_refused _ _ c.args.length c.open-opened.ensures c.in-Refused.is c.put_card_refusal-end.ensures.0
+pub returns-in-Err : goal.returns-in-Err
+returns-in-Err c =
+    laws.card_refused _ _ c.args.length c.open-opened.ensures c.in-Err.is c.put_card_refusal-end.ensures.0
     c.put_card_refusal-end.ensures.1 c.over.ensures
 
 pub returns-then-calls-gt-LIMIT : goal.returns-then-calls-gt-LIMIT
@@ -11,11 +11,11 @@ returns-then-calls-gt-LIMIT c =
     laws.calls_refused _ _ c.args.length c.open-opened.ensures c.in_default.is c.if-calls-gt-LIMIT.true
     c.put_calls_refusal-end.ensures.0 c.put_calls_refusal-end.ensures.1 c.over-then-calls-gt-LIMIT.ensures
 
-pub returns-in-Err : goal.returns-in-Err
-returns-in-Err c =
+pub returns-in-Err-read_calls : goal.returns-in-Err-read_calls
+returns-in-Err-read_calls c =
     laws.line_refused _ _ c.args.length c.open-opened.ensures c.in_default.is c.if-calls-gt-LIMIT.false
-    c.read_calls.ensures c.in-Err.is c.put_line_refusal-end.ensures.0 c.put_line_refusal-end.ensures.1
-    c.over-in-Err.ensures
+    c.read_calls.ensures c.in-Err-read_calls.is c.put_line_refusal-end.ensures.0 c.put_line_refusal-end.ensures.1
+    c.over-in-Err-read_calls.ensures
 
 pub returns-then-not-are_callable : goal.returns-then-not-are_callable
 returns-then-not-are_callable c =

@@ -1,4 +1,5 @@
 -- What each test of the reader comes to, by what the code has found.
+use Rattle.std.specs.Prelude.{Ok, Err}
 use mathlib.Core.Bool.{Bool, true, false, cond, not, ◌&&◌}
 use mathlib.Core.Path.{◌≡◌, refl, sym, ◌∙◌, ap}
 use mathlib.Core.List.{List, [], ◌∷◌, ◌++◌}
@@ -17,9 +18,9 @@ use Rattle.grammar.specs.Writing.{decimal}
 use Rattle.grammar.proofs.Decimals.{decimal_one, decimal_more}
 use Rattle.grammar.proofs.Bytes.{byte_true, word_within}
 use Rattle.grammar.proofs.Cases.{on_test, and_true}
-use Rattle.construction.specs.declared.texts.Verdict.{Verdict}
 use Rattle.construction.specs.Answers.{bytes}
-use Rattle.construction.specs.declared.answers.Refusal.{Refusal}
+use Rattle.construction.specs.Types.{Verdict}
+use Rattle.construction.specs.declared.texts.RefusedAt.{RefusedAt}
 use Rattle.dump.specs.declared.{DumpLine.DumpLine, Header.Header}
 use Rattle.dump.specs.Binary.{over, is_bit, bits_at}
 use Rattle.dump.specs.Dump.{line_of, timescale_line, scope_line, upscope_line, definitions_line, code_of, var_line, time_text}
@@ -27,77 +28,7 @@ use Rattle.dump.specs.Reading.{time_of, has_code, value_of, line_at, header_star
 use Rattle.dump.specs.Reading.{read_header}
 use Rattle.dump_reader.specs.Taking.{time_follows, value_follows}
 
--- ---- binary digits
-pub bit_low : (x : ℕ) → x < 48 → false ≡ is_bit x
-bit_low x p = rw (lt-leb 48 x p)
-
-pub bit_not_low : (x : ℕ) → 48 ≤ x → leb x 49 ≡ is_bit x
-bit_not_low x p = rw (le-leb 48 x p)
-
--- ---- tests
-pub time_bare : (now next k : ℕ) → next ≡ 0 → false ≡ time_follows now next k
-time_bare now next k e = rw (eq-eqb next 0 e)
-
-module _ (now next k : ℕ) (some : next ≡ 0 → ⊥) where
-  pub time_low : k ≤ now → false ≡ time_follows now next k
-  time_low h = rw (ne_eqb next 0 some, le-ltb now k h)
-
-  pub time_high : now < k → leb k 1000000000000000000 ≡ time_follows now next k
-  time_high h = rw (ne_eqb next 0 some, lt-ltb now k h)
-
-pub value_low : (n next : ℕ) (values : List ℕ) (v x : ℕ) → v < next → false ≡ value_follows n next values v x
-value_low n next values v x h = rw (lt-leb next v h)
-
-module _ (n next : ℕ) (values : List ℕ) (v x : ℕ) (order : next ≤ v) where
-  pub value_out : n ≤ v → false ≡ value_follows n next values v x
-  value_out h = rw (le-leb next v order, le-ltb v n h)
-
-  pub value_in_lem : v < n → not (eqb x (get_or values v 0)) ≡ value_follows n next values v x
-  value_in_lem h = rw (le-leb next v order, lt-ltb v n h)
-
--- ---- a space, a code and the line's end
-module _ (t : List ℕ) (at : ℕ) {b : Bool} (e : b ≡ has_byte t at 32) where
-  pub code_none : not b ≡ true → false ≡ has_code t at
-  code_none h = rw (← e, not-true b h)
-
-  module _ (h : not b ≡ false) {x : ℕ} (f : x ≡ get_or t (at + 1) 0) where
-    pub code_low : x < 33 → false ≡ has_code t at
-    code_low l = rw (← e, not-false b h, ← f, lt-leb 33 x l)
-
-    pub code_there : {d : Bool} → 33 ≤ x → d ≡ has_byte t (at + 2) 10 → d ≡ has_code t at
-    code_there {d} l g = rw (← e, not-false b h, ← f, le-leb 33 x l) g
-
 -- ---- the lines
-module _ (t : List ℕ) {m : Option (Found ℕ)} where
-  pub time_malformed : (at : ℕ) → m ≡ field t 10 at → m ≡ None → DumpLine.Malformed ≡ time_of (field t 10 at)
-  time_malformed at e f = rw (← e, f)
-
-  pub time_value : {n : Found ℕ} (at : ℕ) → m ≡ field t 10 at → m ≡ Some n → DumpLine.Time n.value n.next ≡ time_of (field t 10 at)
-  time_value at e f = rw (← e, f)
-
-  module _ (at : ℕ) (e : m ≡ bits_at t at) where
-    pub value_malformed : m ≡ None → DumpLine.Malformed ≡ value_of t (bits_at t at)
-    value_malformed f = rw (← e, f)
-
-    module _ {n : Found ℕ} (f : m ≡ Some n) where
-      pub value_long : over ≤ n.value → DumpLine.Malformed ≡ value_of t (bits_at t at)
-      value_long h = rw (← e, f, le-ltb n.value over h)
-
-      module _ (small : n.value < over) {b : Bool} (g : b ≡ has_code t n.next) where
-        pub value_uncoded : not b ≡ true → DumpLine.Malformed ≡ value_of t (bits_at t at)
-        value_uncoded h = rw (← e, f, lt-ltb n.value over small, ← g, not-true b h)
-
-        -- the code of a value is a byte from 33 on, and its line ends within the text
-        pub coded : not b ≡ false → (33 ≤ get_or t (n.next + 1) 0) × (n.next + 2 < length t)
-        coded h =
-            let c = and_true (has_byte t n.next 32) _ (sym g ∙ not-false b h) in
-            let d = and_true (leb 33 (get_or t (n.next + 1) 0)) _ c.1 in
-            let w = byte_true t (n.next + 2) 10 d.1 in
-            (leb-true 33 (get_or t (n.next + 1) 0) d.0, w.within)
-
-        pub value_coded : {y : ℕ} → not b ≡ false → y ≡ get_or t (n.next + 1) 0 → DumpLine.Value (y - 33) n.value (n.next + 3) ≡ value_of t (bits_at t at)
-        value_coded h k = rw (← e, f, lt-ltb n.value over small, ← g, not-false b h, ← k)
-
 module _ (t : List ℕ) (at : ℕ) {b : Bool} (e : b ≡ has_byte t at 35) where
   pub line_time : {r : DumpLine} → b ≡ true → r ≡ time_of (field t 10 (at + 1)) → r ≡ line_at t at
   unfolding line_at
@@ -114,16 +45,16 @@ module _ (t : List ℕ) (at : ℕ) {b : Bool} (e : b ≡ has_byte t at 35) where
 
 -- ---- the header
 module _ (t w : List ℕ) (h : Header) where
-  pub word_refused : {why : Refusal} {line : ℕ} → h.verdict ≡ Verdict.Refused why line → h ≡ then_word t w h
+  pub word_refused : {refused : RefusedAt} → h.verdict ≡ Err refused → h ≡ then_word t w h
   unfolding then_word
   word_refused e = rw e
 
-  module _ (a : h.verdict ≡ Verdict.Accepted) {b : Bool} (e : b ≡ has_word t h.at w) where
+  module _ (a : h.verdict ≡ Ok tt) {b : Bool} (e : b ≡ has_word t h.at w) where
     pub word_other : {r : Header} → not b ≡ true → r ≡ header_refused h.line → r ≡ then_word t w h
     unfolding then_word
     word_other n f = rw (a, ← e, not-true b n) f
 
-    pub word_there : not b ≡ false → record { verdict = Verdict.Accepted; count = h.count; at = h.at + length w; line = h.line + 1 } ≡ then_word t w h
+    pub word_there : not b ≡ false → record { verdict = Ok tt; count = h.count; at = h.at + length w; line = h.line + 1 } ≡ then_word t w h
     unfolding then_word
     word_there n = rw (a, ← e, not-false b n)
 
@@ -210,9 +141,6 @@ module _ (t : List ℕ) (at v : ℕ) where
       pub var_code : not b ≡ true → false ≡ has_word t at (var_line v)
       var_code n = sym (var_parts ∙ rw (← ea, not-false a na, ← eb, not-true b n))
 
-      pub var_after_code : not b ≡ false → at + 13 < length t
-      var_after_code n = (byte_true t (at + 13) (33 + v) (sym eb ∙ not-false b n)).within
-
       module _ (nb : not b ≡ false) {c : Bool} (ec : c ≡ has_word t (at + 14) (bytes " v")) where
         pub var_name : not c ≡ true → false ≡ has_word t at (var_line v)
         var_name n = sym (var_parts ∙ rw (← ea, not-false a na, ← eb, not-false b nb, ← ec, not-true c n))
@@ -233,7 +161,7 @@ var_long v = omega (arith, length-append (decimal v) (line_of " $end"))
 
 -- ---- the variables
 abbrev pub header_at : ℕ → ℕ → ℕ → Header
-header_at n at line = record { verdict = Verdict.Accepted; count = n; at = at; line = line }
+header_at n at line = record { verdict = Ok tt; count = n; at = at; line = line }
 
 module _ (t : List ℕ) (n at line : ℕ) (few : n < 64) {b : Bool} (e : b ≡ has_word t at (var_line n)) where
   left_more : (m : ℕ) → vars_from t (suc m) (header_at n at line) ≡ cond b (vars_from t m (with_var (header_at n at line))) (header_at n at line)
@@ -260,11 +188,11 @@ pub vars_end : (t : List ℕ) (n : ℕ) (h : Header) → 64 ≤ n → vars_from 
 unfolding vars_from
 vars_end t n h l = let k : 64 - n ≡ 0 = omega arith in rw k
 
-pub vars_refused : (t : List ℕ) (h : Header) {why : Refusal} {line : ℕ} → h.verdict ≡ Verdict.Refused why line → h ≡ then_vars t h
+pub vars_refused : (t : List ℕ) (h : Header) {refused : RefusedAt} → h.verdict ≡ Err refused → h ≡ then_vars t h
 unfolding then_vars
 vars_refused t h e = rw e
 
-pub vars_done : (t : List ℕ) (h r : Header) → h.verdict ≡ Verdict.Accepted → h.count ≡ 0 → vars_from t 64 (header_at 0 h.at h.line) ≡ r → r ≡ then_vars t h
+pub vars_done : (t : List ℕ) (h r : Header) → h.verdict ≡ Ok tt → h.count ≡ 0 → vars_from t 64 (header_at 0 h.at h.line) ≡ r → r ≡ then_vars t h
 unfolding then_vars
 vars_done t h r a z e =
     let same : header_at 0 h.at h.line ≡ h = λ i. record { verdict = sym a i; count = sym z i; at = h.at; line = h.line } in
@@ -276,8 +204,8 @@ unfolding then_word
 word_line t w h = by h.verdict
   where
     by : (v : Verdict) → (on_header v h (cond (has_word t h.at w) (past_word h w) (header_refused h.line))).line ≤ h.line + 1
-    by Verdict.Accepted = on_test (λ (k : Header). k.line ≤ h.line + 1) (has_word t h.at w) (λ _. omega arith) (λ _. omega arith)
-    by (Verdict.Refused why line) = omega arith
+    by (Ok _) = on_test (λ (k : Header). k.line ≤ h.line + 1) (has_word t h.at w) (λ _. omega arith) (λ _. omega arith)
+    by (Err e) = omega arith
 
 vars_line : (t : List ℕ) (m : ℕ) (h : Header) → (vars_from t m h).line ≤ h.line + m
 unfolding vars_from
@@ -291,8 +219,8 @@ unfolding then_vars
 then_vars_line t h = by h.verdict
   where
     by : (v : Verdict) → (on_header v h (vars_from t 64 h)).line ≤ h.line + 64
-    by Verdict.Accepted = vars_line t 64 h
-    by (Verdict.Refused why line) = omega arith
+    by (Ok _) = vars_line t 64 h
+    by (Err e) = omega arith
 
 pub word_lines : (t w : List ℕ) (h : Header) {r : Header} (n : ℕ) → r ≡ then_word t w h → h.line ≤ n → r.line ≤ n + 1
 word_lines t w h n e l = rw e (omega (arith, word_line t w h))
@@ -305,8 +233,8 @@ unfolding then_word
 word_count t w h z = by h.verdict
   where
     by : (v : Verdict) → (on_header v h (cond (has_word t h.at w) (past_word h w) (header_refused h.line))).count ≡ 0
-    by Verdict.Accepted = on_test (λ (k : Header). k.count ≡ 0) (has_word t h.at w) (λ _. z) (λ _. refl)
-    by (Verdict.Refused why line) = z
+    by (Ok _) = on_test (λ (k : Header). k.count ≡ 0) (has_word t h.at w) (λ _. z) (λ _. refl)
+    by (Err e) = z
 
 pub word_counts : (t w : List ℕ) (h : Header) {r : Header} → r ≡ then_word t w h → h.count ≡ 0 → r.count ≡ 0
 word_counts t w h e z = rw e (word_count t w h z)
@@ -349,11 +277,3 @@ module _ (t : List ℕ) {h₁ : Header} (e₁ : h₁ ≡ then_word t timescale_l
           pub header_whole : {h₆ : Header} → h₆ ≡ then_word t (35 ∷ 48 ∷ 10 ∷ []) h₅ → h₆ ≡ read_header t
           unfolding read_header
           header_whole e₆ = e₆ ∙ rw (e₅, e₄, e₃, e₂, e₁, zero_line)
-
--- a header that was read: its lines, and that it is short
-pub header_line : (t : List ℕ) {h : Header} → h ≡ read_header t → h.line ≤ 70
-unfolding read_header
-header_line t e =
-    rw e
-    (word_lines t (time_text 0) _ 69 refl
-    (line₅ t {h₁ = then_word t timescale_line header_start} refl {h₂ = then_word t scope_line (then_word t timescale_line header_start)} refl refl refl refl))

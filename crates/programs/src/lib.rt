@@ -174,24 +174,21 @@ pub fn effect_of(n: u8, inputs: Words, r: Words, remaining: u8, instruction: Ins
 pub fn forward(counter: u8, count: u8) -> u8
     ensures { result ≡ forward counter count }
 {
-    if counter < 31 {
-        if count < 31 - counter {
-            return counter + count + 1;
-        }
+    if counter < 31 && count < 31 - counter {
+        counter + count + 1
+    } else {
+        32
     }
-    32
 }
 
 // The state after a register took a value.
 pub fn with_register(simulation: Simulation, register: u8, value: u32) -> Simulation
     ensures { result ≡ with_register simulation register value }
 {
-    let registers = simulation.registers;
-    let yields = simulation.yields;
     Simulation {
         counter: forward(simulation.counter, 0),
-        registers: with_word(registers, register, value),
-        yields,
+        registers: with_word(simulation.registers, register, value),
+        ..simulation
     }
 }
 
@@ -199,16 +196,13 @@ pub fn with_register(simulation: Simulation, register: u8, value: u32) -> Simula
 pub fn with_output(simulation: Simulation, output: u8, value: u32) -> Simulation
     ensures { result ≡ with_output simulation output value }
 {
-    let registers = simulation.registers;
-    let yields = simulation.yields;
-    let outputs = yields.outputs;
     Simulation {
         counter: forward(simulation.counter, 0),
-        registers,
         yields: Yield {
-            outputs: with_word(outputs, output, value),
-            fault: yields.fault,
+            outputs: with_word(simulation.yields.outputs, output, value),
+            ..simulation.yields
         },
+        ..simulation
     }
 }
 
@@ -216,12 +210,9 @@ pub fn with_output(simulation: Simulation, output: u8, value: u32) -> Simulation
 pub fn skipped(simulation: Simulation, count: u8) -> Simulation
     ensures { result ≡ skipped simulation count }
 {
-    let registers = simulation.registers;
-    let yields = simulation.yields;
     Simulation {
         counter: forward(simulation.counter, count),
-        registers,
-        yields,
+        ..simulation
     }
 }
 
@@ -229,10 +220,7 @@ pub fn skipped(simulation: Simulation, count: u8) -> Simulation
 pub fn faulted(simulation: Simulation) -> Simulation
     ensures { result ≡ faulted simulation }
 {
-    let registers = simulation.registers;
     Simulation {
-        counter: simulation.counter,
-        registers,
         yields: Yield {
             outputs: Words {
                 w0: 0,
@@ -242,6 +230,7 @@ pub fn faulted(simulation: Simulation) -> Simulation
             },
             fault: true,
         },
+        ..simulation
     }
 }
 
@@ -260,11 +249,9 @@ pub fn remaining_after(length: u8, counter: u8) -> u8
 pub fn instruction_at(length: u8, counter: u8, line: Line) -> Instruction
     ensures { result ≡ instruction_at length counter line }
 {
-    let instruction = line.instruction;
-    if counter < length {
-        if counter < 32 {
-            return instruction;
-        }
+    if counter < length && counter < 32 {
+        line.instruction
+    } else {
+        Instruction::Stop
     }
-    Instruction::Stop
 }

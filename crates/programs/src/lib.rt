@@ -171,6 +171,7 @@ pub fn effect_of(n: u8, inputs: Words, r: Words, remaining: u8, instruction: Ins
 }
 
 // The place after the next one and `count` more, at most the end.
+#[tactic(auto, unfolding(construction::specs::Instructions::forward))]
 pub fn forward(counter: u8, count: u8) -> u8
     ensures { result ≡ forward counter count }
 {

@@ -1,4 +1,4 @@
-use Rattle.std.proofs.Common.{◌-◌, ◌≤◌, ◌≡◌}
+use Rattle.std.proofs.Common.{◌≡◌}
 use Rattle.construction.specs.Weight.{weight_before}
 use Rattle.programs.proofs.weights.weight.Given as goal
 

@@ -43,24 +43,6 @@ module _ (f : Words) (x : ℕ) where
   unfolding placed
   with_word_lem k a b c d p q r s = rw (p, q, r, s) (placed_is k)
 
-module _ (n a v : ℕ) where
-  pub load_there : v < n → Effect.Load a v ≡ load n a v
-  unfolding load
-  load_there p = rw (lt-ltb _ _ p)
-
-  pub load_none : n ≤ v → Effect.Fault ≡ load n a v
-  unfolding load
-  load_none p = rw (le-ltb _ _ p)
-
-module _ (n v x : ℕ) where
-  pub store_there : v < n → Effect.Store v x ≡ store n v x
-  unfolding store
-  store_there p = rw (lt-ltb _ _ p)
-
-  pub store_none : n ≤ v → Effect.Fault ≡ store n v x
-  unfolding store
-  store_none p = rw (le-ltb _ _ p)
-
 -- a number that a cell can have
 module _ (n c : ℕ) where
   pub cell_some : (c ≡ 0 → ⊥) → ltb c n ≡ is_cell n c
@@ -78,14 +60,6 @@ module _ (n c : ℕ) where
   module _ {t : Bool} (e : t ≡ is_cell n c) where
     pub cell_below : t ≡ true → c < n
     cell_below p = ltb-true c n (and_true (not (eqb c 0)) (ltb c n) (sym e ∙ p)).1
-
-    pub free_there : t ≡ true → Effect.Free c ≡ free n c
-    unfolding free
-    free_there p = rw (← e, p)
-
-    pub free_none : t ≡ false → Effect.Fault ≡ free n c
-    unfolding free
-    free_none p = rw (← e, p)
 
 module _ (size k : ℕ) (line : Line) where
   pub at_there : k < size → k < 32 → line.instruction ≡ instruction_at size k line

@@ -14,7 +14,6 @@ use calls::requests_in;
 use commands::printing::{put_calls_refusal, put_card_refusal};
 use construction::answers::Refusal;
 use construction::card::Card;
-use construction::texts::Verdict;
 use grammar::writing::{put_byte, put_word};
 use listing::judging::{are_callable, is_listable};
 use listing::starting::call_all;
@@ -55,9 +54,8 @@ pub fn prepare(card: &[u8], calls: &[u8], length: u32, buffer: &mut [u8]) -> Pre
 {
     let opened = reader::open(card);
     let first = opened.card;
-    let verdict = opened.verdict;
-    if let Verdict::Refused { refusal, line } = verdict {
-        let end = put_card_refusal(buffer, refusal, line);
+    if let Err(refused) = opened.verdict {
+        let end = put_card_refusal(buffer, refused);
         return over(first, end);
     }
     if LIMIT < calls.len() {

@@ -9,7 +9,6 @@ use calls::reading::{put_line_refusal, read_calls};
 use calls::request_in;
 use commands::Command;
 use commands::printing::{put_calls_refusal, put_card_refusal, put_line};
-use construction::texts::Verdict;
 use lent_card::requesting::call;
 use reports::no_report;
 
@@ -55,8 +54,8 @@ pub fn start(card: &[u8], calls: &[u8], b: &mut [u64], buffer: &mut [u8]) -> Sta
     ensures { Starts card.now calls.now b.old buffer.old result b.new buffer.new }
 {
     let verdict = lent_text::open(card, b);
-    if let Verdict::Refused { refusal, line } = verdict {
-        return over(put_card_refusal(buffer, refusal, line));
+    if let Err(refused) = verdict {
+        return over(put_card_refusal(buffer, refused));
     }
     if LIMIT < calls.len() {
         return over(put_calls_refusal(buffer));

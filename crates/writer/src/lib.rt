@@ -13,7 +13,7 @@ ghost use Rattle.writer.specs.Written.{Writes};
 use construction::answers::Refusal;
 use construction::card::Card;
 use construction::programs::{Encoded, Instruction, Line, Program};
-use construction::texts::{Contents, Written};
+use construction::texts::Contents;
 use grammar::writing::{put_field, put_four, put_word};
 
 fn encoded(code: u64, a: u8, b: u8, c: u8) -> Encoded
@@ -137,20 +137,20 @@ fn put_text(buffer: &mut [u8], contents: Contents) -> usize
 }
 
 // The text of a card with these contents. The length of the text is learnt from a buffer of no bytes; then the text is put where it fits.
-pub fn write_contents(contents: Contents, buffer: &mut [u8]) -> Written
+pub fn write_contents(contents: Contents, buffer: &mut [u8]) -> Result<usize, Refusal>
     ensures { Writes (fresh contents) buffer.old result buffer.new }
 {
     let length = put_text(&mut buffer[..0], contents);
     if length <= buffer.len() {
         put_text(buffer, contents);
-        Written::Bytes(length)
+        Ok(length)
     } else {
-        Written::Refused(Refusal::ShortBuffer)
+        Err(Refusal::ShortBuffer)
     }
 }
 
 // The text of a card: that of what it was opened with.
-pub fn write(card: Card, buffer: &mut [u8]) -> Written
+pub fn write(card: Card, buffer: &mut [u8]) -> Result<usize, Refusal>
     ensures { Writes card buffer.old result buffer.new }
 {
     let starts = card.starts;

@@ -30,21 +30,17 @@ fn call_all(b: &mut [u64], calls: &[u32], buffer: &mut [u8]) -> usize
     ensures { Calls calls.now b.old buffer.old result b.new buffer.new }
 {
     let count = process_count(b);
-    let mut i: u8 = 0;
-    while i < count {
+    for i in 0..count {
         let request = request_in(calls, i);
-        let program = request.program;
-        let inputs = request.inputs;
-        let answer = call(b, i as u32, program, inputs);
+        let answer = call(b, i as u32, request.program, request.inputs);
         if is_refused(answer) {
             let command = Command::Call {
                 process: i as u32,
-                program,
-                inputs,
+                program: request.program,
+                inputs: request.inputs,
             };
             return put_line(buffer, 0, 0, command, no_report(), answer);
         }
-        i = i + 1;
     }
     0
 }

@@ -7,7 +7,7 @@ ghost use Rattle.std.specs.Prelude.{◌≡◌};
 ghost use Rattle.codes.specs.Codes.{byte, half, odd, bit, holder_from, holder_word, flag_from, flag_word, place_from, place_word, instruction_from, packed, instruction_word};
 
 use construction::accesses::Label;
-use construction::cells::{Flag, Holder};
+use construction::cells::Flag;
 use construction::programs::{Encoded, Instruction};
 use labels::label_row;
 
@@ -35,21 +35,21 @@ pub fn bit(test: bool) -> u64
     if test { 1 } else { 0 }
 }
 
-pub fn holder_from(w: u64) -> Holder
+pub fn holder_from(w: u64) -> Option<u8>
     ensures { result ≡ holder_from w }
 {
     if w == 0 {
-        return Holder::Nobody;
+        return None;
     }
-    Holder::Process(byte(w - 1))
+    Some(byte(w - 1))
 }
 
-pub fn holder_word(holder: Holder) -> u64
+pub fn holder_word(holder: Option<u8>) -> u64
     ensures { result ≡ holder_word holder }
 {
     match holder {
-        Holder::Nobody => 0,
-        Holder::Process(m) => m as u64 + 1,
+        None => 0,
+        Some(m) => m as u64 + 1,
     }
 }
 

@@ -8,7 +8,7 @@ ghost use Rattle.lent.specs.Row.{row_answer, row_after};
 ghost use Rattle.lent_demo.specs.Rows.{record_of, first_row, new_record, held_gate, free_gate, same_at, same_row};
 
 use answers::put_row_swap;
-use construction::cells::{Gate, Holder, Record, RowSwap, SwappedCell};
+use construction::cells::{Gate, Record, RowSwap, SwappedCell};
 use host::show;
 
 // A row that came back from a loan, and what the swap answered.
@@ -80,7 +80,7 @@ fn held_gate() -> Gate
     ensures { result ≡ held_gate }
 {
     Gate {
-        holder: Holder::Process(1),
+        holder: Some(1),
         seq: 7,
     }
 }
@@ -90,7 +90,7 @@ fn free_gate() -> Gate
     ensures { result ≡ free_gate }
 {
     Gate {
-        holder: Holder::Nobody,
+        holder: None,
         seq: 8,
     }
 }
@@ -186,7 +186,7 @@ fn gate_cases(rt: &impl Print) {
         rt,
         b"gate,other seq,",
         Gate {
-            holder: Holder::Process(1),
+            holder: Some(1),
             seq: 6,
         },
         held,
@@ -195,7 +195,7 @@ fn gate_cases(rt: &impl Print) {
         rt,
         b"gate,other process,",
         Gate {
-            holder: Holder::Process(0),
+            holder: Some(0),
             seq: 7,
         },
         held,
@@ -204,7 +204,7 @@ fn gate_cases(rt: &impl Print) {
         rt,
         b"gate,nobody,",
         Gate {
-            holder: Holder::Nobody,
+            holder: None,
             seq: 7,
         },
         held,

@@ -1,5 +1,5 @@
 -- The parts of a card as words, one field a word: every list of words is some value.
-use Rattle.std.specs.Prelude.{ℕ, suc, ◌+◌, ◌-◌, ◌*◌, ◌/◌, ◌%◌, Bool, cond, List, [], ◌∷◌, eqb, get_or, set, Option, None, Some}
+use Rattle.std.specs.Prelude.{◌≡◌, refl, ℕ, suc, ◌+◌, ◌-◌, ◌*◌, ◌/◌, ◌%◌, Bool, cond, List, [], ◌∷◌, eqb, length, get_or, set, Option, None, Some}
 use Rattle.construction.specs.Labels.{label_row}
 use Rattle.construction.specs.Instructions.{encode, no_line}
 use Rattle.codes.specs.Types.{Encoded, Gate, Flag, Done, Active, Exit, Words, Announcement, Record, Label, Idle, P1, P3, P5, P7}
@@ -70,6 +70,12 @@ abbrev pub put_halves : List ℕ → ℕ → Words → List ℕ
 put_halves w k x = set (set (set (set w k x.w0) (k + 1) x.w1) (k + 2) x.w2) (k + 3) x.w3
 
 -- a value of a part's words, and the words of a value
+
+abbrev pub number_of : List ℕ → ℕ
+number_of w = word_at w 0
+
+abbrev pub number_words : ℕ → List ℕ
+number_words x = x ∷ []
 
 abbrev pub gate_of : List ℕ → Gate
 gate_of w = record { holder = holder_from (word_at w 0); seq = word_at w 1 }
@@ -177,3 +183,8 @@ program_of w = record { length = byte (word_at w 0); lines = table 32 (λ k. rec
 
 abbrev pub program_words : Program → List ℕ
 program_words y = y.length ∷ table 32 (λ k. instruction_word (get_or y.lines k no_line).instruction)
+
+-- always 33 words
+pub program_long : (y : Program) → length (program_words y) ≡ 33
+unfolding table
+program_long y = refl

@@ -4,7 +4,10 @@
 #![tactic(auto)]
 
 ghost use Rattle.std.specs.Prelude.{◌≡◌};
-ghost use Rattle.codes.specs.Codes.{byte, half, odd, bit, holder_from, holder_word, flag_from, flag_word, place_from, place_word, instruction_from, packed, instruction_word};
+ghost use Rattle.codes.specs.Codes.{byte, half, odd, bit, holder_from, holder_word, flag_from, flag_word, place_from, place_word, instruction_from, packed, instruction_word, pair, upper};
+
+pub mod parts; // parts.rt: a value in words of its own
+mod kinds; // kinds.rt: the values that stand in words
 
 use construction::accesses::Label;
 use construction::cells::Flag;
@@ -35,6 +38,20 @@ pub fn bit(test: bool) -> u64
     if test { 1 } else { 0 }
 }
 
+// Two numbers in a word, and the second of them.
+pub fn pair(low: u32, high: u32) -> u64
+    ensures { result ≡ pair low high }
+{
+    low as u64 + high as u64 * 4294967296
+}
+
+pub fn upper(w: u64) -> u64
+    ensures { result ≡ upper w }
+{
+    w / 4294967296
+}
+
+#[tactic(auto, unfolding(crate::specs::Codes::holder_from))]
 pub fn holder_from(w: u64) -> Option<u8>
     ensures { result ≡ holder_from w }
 {
@@ -53,6 +70,7 @@ pub fn holder_word(holder: Option<u8>) -> u64
     }
 }
 
+#[tactic(auto, unfolding(crate::specs::Codes::flag_from))]
 pub fn flag_from(w: u64) -> Flag
     ensures { result ≡ flag_from w }
 {
@@ -73,6 +91,7 @@ pub fn flag_word(flag: Flag) -> u64
     }
 }
 
+#[tactic(auto, unfolding(crate::specs::Codes::place_from))]
 pub fn place_from(w: u64) -> Label
     ensures { result ≡ place_from w }
 {
@@ -103,10 +122,10 @@ pub fn place_from(w: u64) -> Label
 pub fn place_word(place: Label) -> u64
     ensures { result ≡ place_word place }
 {
-    let row = label_row(place);
-    row.word
+    label_row(place).word
 }
 
+#[tactic(auto, unfolding(crate::specs::Codes::instruction_from))]
 pub fn instruction_from(w: u64) -> Instruction
     ensures { result ≡ instruction_from w }
 {
@@ -114,8 +133,7 @@ pub fn instruction_from(w: u64) -> Instruction
     let x = half(w / 4294967296);
     let b = byte(w / 4294967296);
     let c = byte(w / 65536);
-    let code = byte(w);
-    match code {
+    match byte(w) {
         1 => Instruction::Input {
             register: a,
             input: b,
@@ -179,6 +197,5 @@ fn packed(line: Encoded) -> u64
 pub fn instruction_word(x: Instruction) -> u64
     ensures { result ≡ instruction_word x }
 {
-    let line = writer::encode(x);
-    packed(line)
+    packed(writer::encode(x))
 }

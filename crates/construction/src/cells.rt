@@ -1,5 +1,4 @@
 // The shared cells, and what a swap of one gives back.
-use crate::answers::Refusal;
 
 // The gate: the process whose operation all processes help, none where nobody holds it, and its number.
 #[derive(Clone, Copy, PartialEq, Eq)]
@@ -57,12 +56,4 @@ pub struct Record {
 pub struct SwappedCell<T> {
     pub cell: T,
     pub won: bool,
-}
-
-// The answer to a swap on a lent row.
-#[derive(Clone, Copy)]
-pub enum RowSwap {
-    Won,
-    Lost,
-    Refused(Refusal),
 }

@@ -7,6 +7,7 @@ ghost use Rattle.loan.specs.Loans.{loan_words, has_items, span_in, held_dictiona
 use crate::items;
 use block::cells::{process_count, room};
 use block::own::{noted, put_noted};
+use codes::parts::Part;
 use construction::accesses::{Control, Writing};
 use construction::simulations::Item;
 
@@ -81,7 +82,7 @@ pub fn insert(b: &mut [u64], l: &mut [u64], i: u8, item: Item)
         let end = noted(b, i);
         let w = room(b);
         if end < w {
-            items::put_item(l, (w as usize * (i as usize) + end as usize) * 3, item);
+            item.store(l, (w as usize * i as usize + end as usize) * 3);
             put_noted(b, i, end + 1);
         }
     }

@@ -1,14 +1,13 @@
 -- What the files of a sweep come to (document 02, order 12): the card is judged first, then the length of the calls, then their lines, of which there is one for each
 -- process; then 'every process is called', and the first call that is refused is printed. Where nothing is printed the sweep begins.
-use Rattle.std.specs.Prelude.{ℕ, zero, suc, ◌≤◌, ◌≡◌, cond, List, [], ltb, length, replicate}
+use Rattle.std.specs.Prelude.{ℕ, zero, suc, ◌≤◌, ◌≡◌, cond, List, [], ltb, length, replicate, Ok, Err}
 use Rattle.grammar.specs.Writing.{Put}
-use Rattle.construction.specs.declared.texts.Verdict.{Verdict}
 use Rattle.construction.specs.Answers.{is_refused}
 use Rattle.construction.specs.Opening.{read_card}
 use Rattle.construction.specs.Tracing.{no_report}
-use Rattle.calls.specs.declared.Calls.{Calls as CallsOf}
+use Rattle.construction.specs.Types.{Verdict}
 use Rattle.calls.specs.Tables.{request_in}
-use Rattle.calls.specs.Texts.{calls_of, line_refusal}
+use Rattle.calls.specs.Texts.{Calls as CallsOf, calls_of, line_refusal}
 use Rattle.commands.specs.declared.Command.{Command}
 use Rattle.commands.specs.Printing.{line_text, longest, card_refusal, calls_refusal}
 use Rattle.block.specs.Layout.{process_count_in}
@@ -59,14 +58,13 @@ abbrev pub stopped : List ℕ → List ℕ → Starting
 stopped text b = record { text = text; block = b; table = no_calls }
 
 abbrev pub calls_starting : List ℕ → CallsOf → Starting
-calls_starting b x =
-    cond (ltb 0 x.line) (stopped (line_refusal x.line) b)
-    (record { text = (called x.words b).text; block = (called x.words b).block; table = x.words })
+calls_starting b (Ok words) = record { text = (called words b).text; block = (called words b).block; table = words }
+calls_starting b (Err wrong) = stopped (line_refusal wrong.line) b
 
 abbrev pub card_starting : List ℕ → List ℕ → Verdict → Starting
-card_starting calls b Verdict.Accepted =
+card_starting calls b (Ok _) =
     cond (ltb 65536 (length calls)) (stopped calls_refusal b) (calls_starting b (calls_of calls (process_count_in b)))
-card_starting calls b (Verdict.Refused why line) = stopped (card_refusal (Verdict.Refused why line)) b
+card_starting calls b (Err e) = stopped (card_refusal (Err e)) b
 
 unfoldable pub starting : List ℕ → List ℕ → List ℕ → Starting
 starting card calls b = card_starting calls (opened_block card b) (judged (read_card card).verdict b)

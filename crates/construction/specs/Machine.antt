@@ -1,6 +1,6 @@
 -- One step (document 01, 'One step'; lines P1 to P24, C1 to C6, F1 to F4, H1 to H36): one shared access, then all local work up to the next.
-use Rattle.std.specs.Prelude.{ℕ, suc, ◌+◌, ◌%◌, Bool, true, false, cond, not, ◌&&◌, leb, ltb, length, get_or}
-use Rattle.construction.specs.Types.{Holder, Nobody, Process, Gate, Flag, Done, Active, Exit, Words, Yield, Announcement, Record, Program, Item}
+use Rattle.std.specs.Prelude.{ℕ, suc, ◌+◌, ◌%◌, Bool, true, false, cond, not, ◌&&◌, leb, ltb, length, get_or, Option, None, Some}
+use Rattle.construction.specs.Types.{Gate, Flag, Done, Active, Exit, Words, Yield, Announcement, Record, Program, Item}
 use Rattle.construction.specs.Types.{Dictionary, Simulation, Pause, Ended, Faulted, Lacks, Simulated, Label, Idle, P1, P3, P5, P7, P10, C2, C4, P13, P14}
 use Rattle.construction.specs.Types.{P16, H21, H36, P19, P20, P21, P22, F1, F3, P6, GateAccess, AnnouncementAccess, Access, Cell, Swap, Control}
 use Rattle.construction.specs.Types.{AccessedCell, Began, Helped, Writing, Operation, Card, SwappedCell, Contents}
@@ -41,9 +41,9 @@ abbrev pub go_to : Control → Label → Control
 go_to t p = record { place = p; target = t.target }
 
 -- lines P11 and P15: by the holder of the gate
-abbrev pub by_holder : Holder → Label → Label → Label
-by_holder Nobody held free = free
-by_holder (Process m) held free = held
+abbrev pub by_holder : Option ℕ → Label → Label → Label
+by_holder None held free = free
+by_holder (Some m) held free = held
 
 -- lines P4, P8, P23, C3 and C5: by the flag of an announcement
 abbrev pub by_flag : Flag → Label → Label → Label → Label
@@ -52,17 +52,17 @@ by_flag Active done active exit = active
 by_flag Exit done active exit = exit
 
 -- the process that holds a gate, 0 where nobody does
-abbrev pub holder_of : Holder → ℕ
-holder_of Nobody = 0
-holder_of (Process m) = m
+abbrev pub holder_of : Option ℕ → ℕ
+holder_of None = 0
+holder_of (Some m) = m
 
 -- lines F2 and F4: a process that holds the gate releases it, any other returns
-abbrev pub after_last : Holder → ℕ → Label
-after_last h i = cond (same_holder h (Process i)) F3 Idle
+abbrev pub after_last : Option ℕ → ℕ → Label
+after_last h i = cond (same_holder h (Some i)) F3 Idle
 
 -- line P13: the gate of a nominee
 abbrev pub nominated : Gate → ℕ → Gate
-nominated g m = record { holder = Process m; seq = g.seq }
+nominated g m = record { holder = Some m; seq = g.seq }
 
 -- line C1: the process whose turn it is, seq mod p
 unfoldable pub first_choice : ℕ → ℕ → ℕ

@@ -1,8 +1,6 @@
 -- The types of this crate, which src/ declares, and the variants that stand under their own names, for one `use` line a file
 use Rattle.std.specs.Prelude.{ℕ, Bool, Result}
 use Rattle.grammar.specs.declared.Found.{Found}
-pub use Rattle.construction.specs.declared.cells.Holder.{Holder}
-pub use Rattle.construction.specs.declared.cells.Holder.TheVariants.{Nobody, Process}
 pub use Rattle.construction.specs.declared.cells.Gate.{Gate}
 pub use Rattle.construction.specs.declared.cells.Flag.{Flag}
 pub use Rattle.construction.specs.declared.cells.Flag.TheVariants.{Done, Active, Exit}

@@ -7,7 +7,8 @@ use native.Mathlib.Omega.{arith}
 use lib.ListN.{length, set}
 use lib.Dec.{ltb, leb}
 use borrow.Author.Tests.{ltb-true, ltb-false, leb-true, leb-false, not-true, not-false}
-use Rattle.construction.specs.Types.{Process, Done, Announcement, Dictionary, Simulation, Pause, Ended, Faulted, Lacks, Simulated, P16, H21, Access}
+use Rattle.std.specs.Prelude.{Some}
+use Rattle.construction.specs.Types.{Done, Announcement, Dictionary, Simulation, Pause, Ended, Faulted, Lacks, Simulated, P16, H21, Access}
 use Rattle.construction.specs.Types.{Began, Helped, Operation, Card, Program}
 use Rattle.construction.specs.Cells.{open_announcement, is_done, previous, open_record}
 use Rattle.construction.specs.Instructions.{started}
@@ -90,10 +91,10 @@ module _ {c : Card} {w : World} {i : ℕ} (B : Before c w i) where
 
   -- line P17: an operation that is not done and not too new is the one that the gate is held for
   module _ (nd : theirs.flag ≢ Done) (le : theirs.seq ≤ s) (q : LocAt P16 F W i (local_at c i)) where
-    still : (c.gate.holder ≡ Process m) × (c.gate.seq ≡ s)
+    still : (c.gate.holder ≡ Some m) × (c.gate.seq ≡ s)
     still = q.seen.still (omega (arith, (B.good.announced m).fresh nd))
 
-    pending : Phase (Process m) W
+    pending : Phase (Some m) W
     pending = phase_at B.good still.0
 
     many : s < length W.rounds

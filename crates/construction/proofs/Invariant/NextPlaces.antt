@@ -4,7 +4,8 @@ use mathlib.Core.Path.{◌≡◌, refl, sym, subst}
 use lib.ListN.{length, get_or, set}
 use lib.Seq.{get_or-set_same}
 use lib.Dec.{ltb}
-use Rattle.construction.specs.Types.{Holder, Nobody, Process, Gate, Flag, Done, Active, Exit, Words, Yield, Announcement, Record, Program, Dictionary}
+use Rattle.std.specs.Prelude.{Option, None, Some}
+use Rattle.construction.specs.Types.{Gate, Flag, Done, Active, Exit, Words, Yield, Announcement, Record, Program, Dictionary}
 use Rattle.construction.specs.Types.{Simulation, Pause, Ended, Faulted, Lacks, Simulated, Label, Idle, P1, P3, P5, P7, C4, P13, P14, H21, H36, P19, P21}
 use Rattle.construction.specs.Types.{F3, GateAccess, AnnouncementAccess, Access, Control, Began, Helped, Operation, Card}
 use Rattle.construction.specs.Cells.{open_announcement, same_holder}
@@ -40,9 +41,9 @@ module _ (Q : Label → Type 0) where
   Leads Access.Note = Q P19 × Q H21 × Q H36
   Leads Access.Write = Q H36 × Q P19
 
-  by_holder_lem : (h : Holder) (held free : Label) → Q held → Q free → Q (by_holder h held free)
-  by_holder_lem Nobody held free a b = b
-  by_holder_lem (Process m) held free a b = a
+  by_holder_lem : (h : Option ℕ) (held free : Label) → Q held → Q free → Q (by_holder h held free)
+  by_holder_lem None held free a b = b
+  by_holder_lem (Some m) held free a b = a
 
   by_flag_lem : (f : Flag) (done active exit : Label) → Q done → Q active → Q exit → Q (by_flag f done active exit)
   by_flag_lem Done done active exit a b c = a
@@ -61,7 +62,7 @@ module _ (Q : Label → Type 0) where
   gate_leads : (a : GateAccess) → GateLeads a → (i : ℕ) (cell g : Gate) (t : Control) → Q (access_gate a i cell g t).control.place
   unfolding access_gate
   gate_leads (GateAccess.Read held free) q i cell g t = by_holder_lem cell.holder held free q.0 q.1
-  gate_leads GateAccess.ReadLast q i cell g t = on_test Q (same_holder cell.holder (Process i)) (λ _. q.0) (λ _. q.1)
+  gate_leads GateAccess.ReadLast q i cell g t = on_test Q (same_holder cell.holder (Some i)) (λ _. q.0) (λ _. q.1)
   gate_leads GateAccess.Nominate q i cell g t = q
   gate_leads (GateAccess.Release next) q i cell g t = q
 

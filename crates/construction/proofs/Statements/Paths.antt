@@ -8,7 +8,8 @@ use native.Mathlib.Omega.{arith}
 use lib.Dec.{eqb, ltb}
 use lib.ListN.{length}
 use borrow.Author.Tests.{le-ltb, ltb-true, ltb-false, leb-true, leb-false, not-true, not-false, eqb-true, eqb-false}
-use Rattle.construction.specs.Types.{Holder, Nobody, Process, Gate, Flag, Done, Active, Exit, Words, Announcement, Record, Program, Dictionary}
+use Rattle.std.specs.Prelude.{Option, None, Some}
+use Rattle.construction.specs.Types.{Gate, Flag, Done, Active, Exit, Words, Announcement, Record, Program, Dictionary}
 use Rattle.construction.specs.Types.{Simulation, Pause, Ended, Faulted, Lacks, Label, Idle, P1, P3, P5, P7, P10, C2, C4, P13, P14, P16, H21, H36, P19}
 use Rattle.construction.specs.Types.{P20, P21, P22, F1, F3, P6, GateAccess, Access, Cell, Swap, Control, Began, Helped, Card, Refusal, Answer, Answered}
 use Rattle.construction.specs.Types.{Contents}
@@ -75,9 +76,9 @@ helps_false a number e =
 
 -- the choices that the lines make, with what was asked
 module _ (Q : Label → Type 0) where
-  on_holder : (h : Holder) (held free : Label) → (h ≢ Nobody → Q held) → (h ≡ Nobody → Q free) → Q (by_holder h held free)
-  on_holder Nobody held free a b = b refl
-  on_holder (Process m) held free a b = a (λ e. nobody_process e refl)
+  on_holder : (h : Option ℕ) (held free : Label) → (h ≢ None → Q held) → (h ≡ None → Q free) → Q (by_holder h held free)
+  on_holder None held free a b = b refl
+  on_holder (Some m) held free a b = a (λ e. nobody_process e refl)
 
   on_flag :
       (f : Flag) (done active exit : Label) → (f ≡ Done → Q done) → (f ≡ Active → Q active) → (f ≡ Exit → Q exit) →
@@ -273,11 +274,11 @@ module _ (c : Card) (i : ℕ) (Z : Sizes c) (lt : i < 8) where
       top e true = Edge.P22-P6 e
       top e false = Edge.P22-P10 e
   lands F1 exit n q =
-      (on_test (GateRead Label.F1) (same_holder c.gate.holder (Process i)) {x = F3} {y = Idle} (λ e _. Edge.F1-F3 (same_holder-true _ _ e))
+      (on_test (GateRead Label.F1) (same_holder c.gate.holder (Some i)) {x = F3} {y = Idle} (λ e _. Edge.F1-F3 (same_holder-true _ _ e))
       (λ e. subst (Settles Label.F1 Swap.None (Found.gate c.gate) own.announcement) (sym (q (inl refl))) (End.F1 (not_held e))))
     where
-      not_held : same_holder c.gate.holder (Process i) ≡ false → c.gate.holder ≢ Process i
-      not_held e z = true_false _ (rw z (same_holder-refl (Process i))) e
+      not_held : same_holder c.gate.holder (Some i) ≡ false → c.gate.holder ≢ Some i
+      not_held e z = true_false _ (rw z (same_holder-refl (Some i))) e
   lands F3 exit n q =
       subst (Settles Label.F3 (perform (access_of F3 exit) c i).swap (Found.gate c.gate) own.announcement) (sym (q (inr refl)))
       (End.F3 (gate_swapped_lem c.gate own.gate (released own.gate)))
@@ -381,7 +382,7 @@ module _ (c : Card) (i : ℕ) (Z : Sizes c) (lt : i < 8) where
     stays_due P20 exit n room q = tt
     stays_due P21 exit n room q = tt
     stays_due P22 exit n room q = on_flag (HelpNext P22 exit h due) (announcement_at c i).flag F1 P5 Idle (λ _. tt) (λ _. tt) (λ _. tt)
-    stays_due F1 exit n room q = on_test (HelpNext F1 exit h due) (same_holder c.gate.holder (Process i)) (λ _. tt) (λ _. tt)
+    stays_due F1 exit n room q = on_test (HelpNext F1 exit h due) (same_holder c.gate.holder (Some i)) (λ _. tt) (λ _. tt)
     stays_due F3 exit n room q = tt
     stays_due P6 exit n room q = tt
 

@@ -36,7 +36,7 @@ pub use Rattle.construction.specs.declared.accesses.Swap.{Swap}
 pub use Rattle.construction.specs.declared.accesses.Control.{Control}
 pub use Rattle.construction.specs.declared.accesses.GateAccessed.{GateAccessed}
 pub use Rattle.construction.specs.declared.accesses.AnnouncementAccessed.{AnnouncementAccessed}
-pub use Rattle.construction.specs.declared.accesses.Began.{Began}
+pub use Rattle.construction.specs.declared.accesses.Begun.{Begun}
 pub use Rattle.construction.specs.declared.accesses.Helped.{Helped}
 pub use Rattle.construction.specs.declared.accesses.Writing.{Writing}
 pub use Rattle.construction.specs.declared.card.Operation.{Operation}

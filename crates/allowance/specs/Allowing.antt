@@ -1,6 +1,6 @@
 -- The allowance of steps in a turn (document 02, order 14)
-use Rattle.std.specs.Prelude.{ℕ, ◌+◌, Bool, true, false, cond, ◌&&◌, ◌||◌, List, [], ◌∷◌, map, get_or, set, ltb}
-use Rattle.allowance.specs.Types.{Quota, Allowance, Allowed}
+use Rattle.std.specs.Prelude.{ℕ, ◌+◌, Option, Some, None, Bool, cond, ◌&&◌, ◌||◌, List, [], ◌∷◌, map, get_or, set, ltb}
+use Rattle.allowance.specs.Types.{Quota, Allowance}
 
 -- the quota of a place where no machine is
 abbrev pub empty : Quota
@@ -38,9 +38,8 @@ unfoldable pub spend : Allowance → ℕ → Allowance
 spend a m = record { steps = a.steps; count = a.count; quotas = set a.quotas m (with_step (quota_at a m)) }
 
 -- a step: used if it has its allowance
-abbrev pub allowed : Allowance → ℕ → Allowed
-allowed a m =
-    cond (has_allowance a m) (record { allowance = spend a m; allowed = true }) (record { allowance = a; allowed = false })
+abbrev pub allowed : Allowance → ℕ → Option Allowance
+allowed a m = cond (has_allowance a m) (Some (spend a m)) None
 
 -- 'A new turn sets the steps used to 0'
 abbrev pub unused : Quota → Quota

@@ -1,5 +1,4 @@
 -- The types of this crate, which src/lib.rt declares
 pub use Rattle.allowance.specs.declared.Quota.{Quota}
 pub use Rattle.allowance.specs.declared.Allowance.{Allowance}
-pub use Rattle.allowance.specs.declared.Allowed.{Allowed}
 pub use Rattle.allowance.specs.declared.Opened.{Opened}

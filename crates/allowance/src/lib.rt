@@ -4,7 +4,7 @@
 #![tactic(auto)]
 
 ghost use Rattle.std.specs.Prelude.{◌≡◌, true, cond, ◌&&◌, ◌+◌, ltb, leb};
-ghost use Rattle.allowance.specs.Allowing.{empty, quota_at, larger, reserved, has_allowance, unused, spend, allowed as allowedAs, turn};
+ghost use Rattle.allowance.specs.Allowing.{empty, quota_at, larger, reserved, has_allowance, unused, spend, allowed, turn};
 ghost use Rattle.allowance.specs.Opening.{is_accepted, opened, are_ordered, shares, opened_as};
 
 use construction::answers::{Answer, Refusal};
@@ -23,13 +23,6 @@ pub struct Allowance {
     pub steps: u64,
     pub count: u64,
     pub quotas: [Quota; 4],
-}
-
-// Whether a step has its allowance, and the allowance after it.
-#[derive(Clone, Copy)]
-pub struct Allowed {
-    pub allowance: Allowance,
-    pub allowed: bool,
 }
 
 // What opening answers, and the allowance that it leaves.
@@ -129,20 +122,14 @@ fn spent(mut a: Allowance, m: u64) -> Allowance
     a
 }
 
-// A step of machine m: whether it has its allowance, and the allowance with this step used if it has.
-pub fn allow(a: Allowance, m: u64) -> Allowed
-    ensures { result ≡ allowedAs a m }
+// A step of machine m: the allowance with this step used, if it has its allowance.
+pub fn allow(a: Allowance, m: u64) -> Option<Allowance>
+    ensures { result ≡ allowed a m }
 {
     if has_allowance(a, m) {
-        Allowed {
-            allowance: spent(a, m),
-            allowed: true,
-        }
+        Some(spent(a, m))
     } else {
-        Allowed {
-            allowance: a,
-            allowed: false,
-        }
+        None
     }
 }
 

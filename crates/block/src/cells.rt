@@ -3,8 +3,8 @@ ghost use Rattle.std.specs.Prelude.{◌≡◌};
 ghost use Rattle.construction.specs.Cells.{open_gate};
 ghost use Rattle.block.specs.Layout.{process_count_in, put_process_count, variable_count_in, put_variable_count, program_count_in, put_program_count, limit_in, put_limit, steps_in, put_steps, room_in, put_room, gate_in, put_gate, announcement_in, put_announcement, record_in, put_record};
 
-use crate::numbers::{is_room, number, put_number};
-use crate::parts;
+use crate::numbers::{number, put_number};
+use crate::parts::{put_row, row_at};
 use codes::byte;
 use construction::cells::{Announcement, Gate, Holder, Record};
 
@@ -101,52 +101,37 @@ fn open_gate() -> Gate
 pub fn gate(b: &[u64]) -> Gate
     ensures { result ≡ gate_in b.now }
 {
-    if is_room(b, 0, 1) {
-        return parts::gate_at(b, 5);
-    }
-    open_gate()
+    row_at(b, 5, 1, 0, open_gate())
 }
 
 pub fn put_gate(b: &mut [u64], value: Gate)
     ensures { b.new ≡ put_gate b.old value }
 {
-    if is_room(b, 0, 1) {
-        parts::put_gate(b, 5, value);
-    }
+    put_row(b, 5, 1, 0, value);
 }
 
 // The announcement of process m.
 pub fn announcement(b: &[u64], m: u8) -> Announcement
     ensures { result ≡ announcement_in b.now m }
 {
-    if is_room(b, m, 8) {
-        return parts::announcement_at(b, 8 + 9 * (m as usize));
-    }
-    opening::open_announcement()
+    row_at(b, 8, 8, m, opening::open_announcement())
 }
 
 pub fn put_announcement(b: &mut [u64], m: u8, value: Announcement)
     ensures { b.new ≡ put_announcement b.old m value }
 {
-    if is_room(b, m, 8) {
-        parts::put_announcement(b, 8 + 9 * (m as usize), value);
-    }
+    put_row(b, 8, 8, m, value);
 }
 
 // The record of variable v.
 pub fn record(b: &[u64], v: u8) -> Record
     ensures { result ≡ record_in b.now v }
 {
-    if is_room(b, v, 64) {
-        return parts::record_at(b, 80 + 4 * (v as usize));
-    }
-    opening::open_record(0)
+    row_at(b, 80, 64, v, opening::open_record(0))
 }
 
 pub fn put_record(b: &mut [u64], v: u8, value: Record)
     ensures { b.new ≡ put_record b.old v value }
 {
-    if is_room(b, v, 64) {
-        parts::put_record(b, 80 + 4 * (v as usize), value);
-    }
+    put_row(b, 80, 64, v, value);
 }

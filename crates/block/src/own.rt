@@ -4,8 +4,8 @@ ghost use Rattle.construction.specs.Parts.{idle_control, no_operation, no_gate};
 ghost use Rattle.block.specs.Layout.{control_in, put_control, operation_in, put_operation, exit_in, put_exit, count_in, put_count, last_gate_in, put_last_gate, last_in, put_last, simulation_in, put_simulation, mask_in, put_mask, noted_in, put_noted};
 
 use crate::cells::room;
-use crate::numbers::{is_room, number, put_number};
-use crate::parts;
+use crate::numbers::{number, put_number};
+use crate::parts::{put_row, row_at};
 use codes::{bit, byte, odd};
 use construction::accesses::{Control, Label};
 use construction::card::Operation;
@@ -44,36 +44,26 @@ fn no_gate() -> Gate
 pub fn control(b: &[u64], i: u8) -> Control
     ensures { result ≡ control_in b.now i }
 {
-    if is_room(b, i, 8) {
-        return parts::control_at(b, 336 + 2 * (i as usize));
-    }
-    idle_control()
+    row_at(b, 336, 8, i, idle_control())
 }
 
 pub fn put_control(b: &mut [u64], i: u8, value: Control)
     ensures { b.new ≡ put_control b.old i value }
 {
-    if is_room(b, i, 8) {
-        parts::put_control(b, 336 + 2 * (i as usize), value);
-    }
+    put_row(b, 336, 8, i, value);
 }
 
 // The operation that a process was called with.
 pub fn operation(b: &[u64], i: u8) -> Operation
     ensures { result ≡ operation_in b.now i }
 {
-    if is_room(b, i, 8) {
-        return parts::operation_at(b, 352 + 5 * (i as usize));
-    }
-    no_operation()
+    row_at(b, 352, 8, i, no_operation())
 }
 
 pub fn put_operation(b: &mut [u64], i: u8, value: Operation)
     ensures { b.new ≡ put_operation b.old i value }
 {
-    if is_room(b, i, 8) {
-        parts::put_operation(b, 352 + 5 * (i as usize), value);
-    }
+    put_row(b, 352, 8, i, value);
 }
 
 // Whether a process is asked to exit.
@@ -106,54 +96,39 @@ pub fn put_count(b: &mut [u64], i: u8, value: u64)
 pub fn last_gate(b: &[u64], i: u8) -> Gate
     ensures { result ≡ last_gate_in b.now i }
 {
-    if is_room(b, i, 8) {
-        return parts::gate_at(b, 408 + 2 * (i as usize));
-    }
-    no_gate()
+    row_at(b, 408, 8, i, no_gate())
 }
 
 pub fn put_last_gate(b: &mut [u64], i: u8, value: Gate)
     ensures { b.new ≡ put_last_gate b.old i value }
 {
-    if is_room(b, i, 8) {
-        parts::put_gate(b, 408 + 2 * (i as usize), value);
-    }
+    put_row(b, 408, 8, i, value);
 }
 
 // The announcement that a process last read (the paper's a).
 pub fn last(b: &[u64], i: u8) -> Announcement
     ensures { result ≡ last_in b.now i }
 {
-    if is_room(b, i, 8) {
-        return parts::announcement_at(b, 424 + 9 * (i as usize));
-    }
-    opening::open_announcement()
+    row_at(b, 424, 8, i, opening::open_announcement())
 }
 
 pub fn put_last(b: &mut [u64], i: u8, value: Announcement)
     ensures { b.new ≡ put_last b.old i value }
 {
-    if is_room(b, i, 8) {
-        parts::put_announcement(b, 424 + 9 * (i as usize), value);
-    }
+    put_row(b, 424, 8, i, value);
 }
 
 // The simulation of a process.
 pub fn simulation(b: &[u64], i: u8) -> Simulation
     ensures { result ≡ simulation_in b.now i }
 {
-    if is_room(b, i, 8) {
-        return parts::simulation_at(b, 496 + 10 * (i as usize));
-    }
-    opening::started()
+    row_at(b, 496, 8, i, opening::started())
 }
 
 pub fn put_simulation(b: &mut [u64], i: u8, value: Simulation)
     ensures { b.new ≡ put_simulation b.old i value }
 {
-    if is_room(b, i, 8) {
-        parts::put_simulation(b, 496 + 10 * (i as usize), value);
-    }
+    put_row(b, 496, 8, i, value);
 }
 
 // The set of the variables that a process has noted.

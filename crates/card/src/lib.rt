@@ -4,9 +4,8 @@
 #![tactic(auto)]
 
 ghost use Rattle.std.specs.Prelude.{◌≡◌};
-ghost use Rattle.construction.specs.Requests.{call, request_exit, step, read};
+ghost use Rattle.construction.specs.Requests.{refused, call, request_exit, step, read};
 
-use answers::kinds::is_refused;
 use construction::accesses::{Access, Control, Label};
 use construction::answers::{Answer, Answered, Refusal};
 use construction::card::{Card, Operation};
@@ -20,28 +19,40 @@ use requests::judging::{answer_of, is_below, judge_call, judge_exit, judge_step}
 use requests::lookups::{announcement_at, program_at, record_at};
 use requests::reading::value_of;
 
+// A request that is refused leaves the card as it was.
+fn refused(card: Card, refusal: Refusal) -> Answered
+    ensures { result ≡ refused card refusal }
+{
+    Answered {
+        card,
+        answer: Answer::Refused(refusal),
+    }
+}
+
 // Call: refusals 5, 6 and 7.
 pub fn call(card: Card, process: u32, program: u32, inputs: Words) -> Answered
     ensures { result ≡ call card process program inputs }
 {
     let mut c = card;
     let i = (process % 8) as usize;
-    let control = c.controls[i];
-    let place = control.place;
-    let answer = judge_call(process, c.process_count, program, c.program_count, place);
-    if !is_refused(answer) {
-        c.controls[i] = Control {
-            place: Label::P1,
-            target: 0,
-        };
-        c.operations[i] = Operation {
-            program: program as u8,
-            inputs,
-        };
-        c.exits[i] = false;
-        c.counts[i] = 0;
+    let place = c.controls[i].place;
+    if let Err(refusal) = judge_call(process, c.process_count, program, c.program_count, place) {
+        return refused(c, refusal);
     }
-    Answered { card: c, answer }
+    c.controls[i] = Control {
+        place: Label::P1,
+        target: 0,
+    };
+    c.operations[i] = Operation {
+        program: program as u8,
+        inputs,
+    };
+    c.exits[i] = false;
+    c.counts[i] = 0;
+    Answered {
+        card: c,
+        answer: Answer::Taken,
+    }
 }
 
 // Exit request (document 01: wish): refusals 5 and 8.
@@ -50,13 +61,14 @@ pub fn request_exit(card: Card, process: u32) -> Answered
 {
     let mut c = card;
     let i = (process % 8) as usize;
-    let control = c.controls[i];
-    let place = control.place;
-    let answer = judge_exit(process, c.process_count, place);
-    if !is_refused(answer) {
-        c.exits[i] = true;
+    if let Err(refusal) = judge_exit(process, c.process_count, c.controls[i].place) {
+        return refused(c, refusal);
     }
-    Answered { card: c, answer }
+    c.exits[i] = true;
+    Answered {
+        card: c,
+        answer: Answer::Taken,
+    }
 }
 
 // Step: refusals 5, 8 and 10, or one shared access. One dictionary is taken out, updated and put back by the steps that help (document 01,
@@ -69,12 +81,8 @@ pub fn step(card: Card, process: u32) -> Answered
     let i = id as usize;
     let control = c.controls[i];
     let place = control.place;
-    let judged = judge_step(process, c.process_count, place, c.steps, c.limit);
-    if is_refused(judged) {
-        return Answered {
-            card: c,
-            answer: judged,
-        };
+    if let Err(refusal) = judge_step(process, c.process_count, place, c.steps, c.limit) {
+        return refused(c, refusal);
     }
     let gate = c.gates_read[i];
     let last = c.announcements_read[i];
@@ -203,10 +211,7 @@ pub fn read(card: Card, variable: u32) -> Answered
     ensures { result ≡ read card variable }
 {
     if !is_below(variable, card.variable_count, 64) {
-        return Answered {
-            card,
-            answer: Answer::Refused(Refusal::NoPlace),
-        };
+        return refused(card, Refusal::NoPlace);
     }
     let gate = card.gate;
     let holder = gate.holder;

@@ -7,8 +7,7 @@ ghost use Rattle.std.specs.Prelude.{◌≡◌, min};
 ghost use Rattle.construction.specs.Weight.{heaviest as heaviestOf};
 ghost use Rattle.construction.specs.Changes.{change};
 
-use answers::kinds::is_refused;
-use construction::answers::Answered;
+use construction::answers::{Answer, Answered};
 use construction::card::Card;
 use construction::programs::Program;
 use programs::weights::heaviest;
@@ -33,28 +32,28 @@ pub fn change(card: Card, program: u32, from: u64, text: &[u8]) -> Answered
 {
     let mut c = card;
     let at = (program % 8) as usize;
-    let programs = c.programs;
-    let controls = c.controls;
-    let gates_read = c.gates_read;
-    let gate = c.gate;
     let last = c.from[at];
-    let read = read_change(c.variable_count, most_weight(programs), text);
-    let verdict = read.verdict;
-    let behind = some_behind(controls, gates_read, c.process_count, last);
-    let answer = judge_change(
+    let read = read_change(c.variable_count, most_weight(c.programs), text);
+    let behind = some_behind(c.controls, c.gates_read, c.process_count, last);
+    if let Err((refusal, line)) = judge_change(
         program,
         c.program_count,
-        verdict,
-        gate.seq,
+        read.verdict,
+        c.gate.seq,
         from,
         last,
         behind,
-    );
-    if !is_refused(answer) {
-        let changed = read.program;
-        c.earlier[at] = c.later[at];
-        c.later[at] = changed;
-        c.from[at] = from;
+    ) {
+        return Answered {
+            card: c,
+            answer: Answer::RefusedAt { refusal, line },
+        };
     }
-    Answered { card: c, answer }
+    c.earlier[at] = c.later[at];
+    c.later[at] = read.program;
+    c.from[at] = from;
+    Answered {
+        card: c,
+        answer: Answer::Taken,
+    }
 }

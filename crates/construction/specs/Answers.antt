@@ -1,6 +1,6 @@
 -- Every answer by its fields: the word of its case and its numbers, as document 01 gives them. 'If an answer is an enum, a definition gives this
 -- paper's number and values for every case of the enum, and the promises use that definition.'
-use Rattle.std.specs.Prelude.{ℕ, ◌≡◌, Bool, true, false, List, [], ◌∷◌, ◌++◌}
+use Rattle.std.specs.Prelude.{ℕ, ◌≡◌, Bool, true, false, List, [], ◌∷◌, ◌++◌, Ok, Err}
 use Prim.Native.Char.{code}
 use Prim.Native.String.{String}
 use Rattle.grammar.specs.Writing.{decimal}
@@ -121,12 +121,12 @@ abbrev pub encoded_fields : Encoded → Fields
 encoded_fields e = fields "ins" (e.code ∷ e.a ∷ e.b ∷ e.c ∷ [])
 
 unfoldable pub decoded_fields : Decoded → Fields
-decoded_fields (Decoded.Valid x) = encoded_fields (encode x)
-decoded_fields (Decoded.Refused r) = refused_with (number_of r)
+decoded_fields (Ok x) = encoded_fields (encode x)
+decoded_fields (Err r) = refused_with (number_of r)
 
 unfoldable pub ins_line_fields : InsLine → Fields
-ins_line_fields (InsLine.Ins x next) = decoded_fields (Decoded.Valid x)
-ins_line_fields (InsLine.Refused r) = decoded_fields (Decoded.Refused r)
+ins_line_fields (InsLine.Ins x next) = decoded_fields (Ok x)
+ins_line_fields (InsLine.Refused r) = decoded_fields (Err r)
 
 -- a request on the card c is refused with a number: 'Elsewhere the card and all lent cells and bytes remain as they were'
 pub record Refuses (c : Card) (r : Answered) (number : ℕ) : Type 0 where

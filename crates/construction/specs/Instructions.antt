@@ -1,6 +1,6 @@
 -- The fourteen instructions (document 01, 'The card text', and document 02, order 9): what one does, decoding and encoding.
-use Rattle.std.specs.Prelude.{ℕ, suc, ◌+◌, ◌-◌, min, Bool, true, cond, not, ◌&&◌, List, [], ◌∷◌, eqb, leb, ltb, get_or, replicate}
-use Rattle.construction.specs.Types.{Words, Instruction, OperandKind, Unused, Register, Word, Variable, Skip, Format, Unknown, Known, Decoded, Encoded}
+use Rattle.std.specs.Prelude.{ℕ, suc, ◌+◌, ◌-◌, min, Bool, true, cond, not, ◌&&◌, List, [], ◌∷◌, eqb, leb, ltb, get_or, replicate, Option, None, Some, Ok, Err}
+use Rattle.construction.specs.Types.{Words, Instruction, OperandKind, Unused, Register, Word, Variable, Skip, Format, Decoded, Encoded}
 use Rattle.construction.specs.Types.{Line, Program, Effect, Simulation, UnknownCode, OperandOutOfRange, UnusedOperand}
 use Rattle.construction.specs.Cells.{zeros, no_yield, fault_yield}
 
@@ -127,14 +127,17 @@ in_range low high x = leb low x && leb x high
 
 -- a row of the table of codes: the kinds of the operands a, b and c, and the instruction 'with only its own operands'
 pub record CodeRow : Type 0 where
-  pub format : Format
+  pub format : Option Format
   pub instruction : ℕ → ℕ → ℕ → Instruction
 
+abbrev pub kinds : OperandKind → OperandKind → OperandKind → Format
+kinds a b c = record { a = a; b = b; c = c }
+
 abbrev pub row : OperandKind → OperandKind → OperandKind → (ℕ → ℕ → ℕ → Instruction) → CodeRow
-row a b c make = record { format = Known a b c; instruction = make }
+row a b c make = record { format = Some (kinds a b c); instruction = make }
 
 abbrev pub no_row : CodeRow
-no_row = record { format = Unknown; instruction = λ a b c. Instruction.Stop }
+no_row = record { format = None; instruction = λ a b c. Instruction.Stop }
 
 -- the table: a row for each code, from 0, which is none, to 14
 abbrev pub codes : List CodeRow
@@ -179,17 +182,17 @@ unused_zero Variable x = true
 unused_zero Skip x = true
 
 -- whether each operand passes a test against its kind
-abbrev pub each_operand : (OperandKind → ℕ → Bool) → OperandKind → OperandKind → OperandKind → Encoded → Bool
-each_operand test a b c x = test a x.a && (test b x.b && test c x.c)
+abbrev pub each_operand : (OperandKind → ℕ → Bool) → Format → Encoded → Bool
+each_operand test f x = test f.a x.a && (test f.b x.b && test f.c x.c)
 
 -- `code,a,b,c` on a card of n variables to an instruction, or a refusal (document 02, order 8): 'Number 4 stays for an unknown code, 12 is an
 -- operand out of range, and 13 an unused operand that isn't 0, tested in that sequence'
-abbrev pub decode_as : Format → ℕ → Encoded → Decoded
-decode_as Unknown n x = Decoded.Refused UnknownCode
-decode_as (Known a b c) n x =
-    cond (not (each_operand (ranged n) a b c x)) (Decoded.Refused OperandOutOfRange)
-    (cond (not (each_operand unused_zero a b c x)) (Decoded.Refused UnusedOperand)
-    (Decoded.Valid (instruction_of x)))
+abbrev pub decode_as : Option Format → ℕ → Encoded → Decoded
+decode_as None n x = Err UnknownCode
+decode_as (Some f) n x =
+    cond (not (each_operand (ranged n) f x)) (Err OperandOutOfRange)
+    (cond (not (each_operand unused_zero f x)) (Err UnusedOperand)
+    (Ok (instruction_of x)))
 
 unfoldable pub decode : ℕ → Encoded → Decoded
 decode n x = decode_as (row_of x.code).format n x

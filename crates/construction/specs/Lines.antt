@@ -1,5 +1,5 @@
 -- The lines of a card text (document 01, 'The card text'): each yields its fields and the place past it, or a refusal.
-use Rattle.std.specs.Prelude.{ℕ, ◌+◌, Bool, cond, ◌&&◌, List, [], ◌∷◌, ◌++◌, ltb, Option, Some, None}
+use Rattle.std.specs.Prelude.{ℕ, ◌+◌, Bool, cond, ◌&&◌, List, [], ◌∷◌, ◌++◌, ltb, Option, Some, None, Ok, Err}
 use Rattle.grammar.specs.declared.{Found.Found, Four.Four}
 use Rattle.grammar.specs.Reading.{field, four, has_word}
 use Rattle.grammar.specs.Writing.{field_text, four_text}
@@ -51,8 +51,8 @@ sheet_line t at = cond (has_word t at sheet_word) (judge_sheet (field t 10 (at +
 
 -- `ins,code,a,b,c` on a card of n variables
 abbrev pub ins_of : Decoded → ℕ → InsLine
-ins_of (Decoded.Valid x) i = InsLine.Ins x i
-ins_of (Decoded.Refused why) i = InsLine.Refused why
+ins_of (Ok x) i = InsLine.Ins x i
+ins_of (Err why) i = InsLine.Refused why
 
 unfoldable pub judge_ins : ℕ → Option (Found Four) → InsLine
 judge_ins n (Some x) = let v = x.value in ins_of (decode n (encoded v.a v.b v.c v.d)) x.next

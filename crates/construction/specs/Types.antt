@@ -1,4 +1,5 @@
 -- The types of this crate, which src/ declares, and the variants that stand under their own names, for one `use` line a file
+use Rattle.std.specs.Prelude.{Result}
 pub use Rattle.construction.specs.declared.cells.Holder.{Holder}
 pub use Rattle.construction.specs.declared.cells.Holder.TheVariants.{Nobody, Process}
 pub use Rattle.construction.specs.declared.cells.Gate.{Gate}
@@ -12,8 +13,6 @@ pub use Rattle.construction.specs.declared.programs.Instruction.{Instruction}
 pub use Rattle.construction.specs.declared.programs.OperandKind.{OperandKind}
 pub use Rattle.construction.specs.declared.programs.OperandKind.TheVariants.{Unused, Register, Word, Variable, Skip}
 pub use Rattle.construction.specs.declared.programs.Format.{Format}
-pub use Rattle.construction.specs.declared.programs.Format.TheVariants.{Unknown, Known}
-pub use Rattle.construction.specs.declared.programs.Decoded.{Decoded}
 pub use Rattle.construction.specs.declared.programs.Encoded.{Encoded}
 pub use Rattle.construction.specs.declared.programs.Line.{Line}
 pub use Rattle.construction.specs.declared.programs.Program.{Program}
@@ -63,3 +62,7 @@ pub use Rattle.construction.specs.declared.texts.ProgramReading.{ProgramReading}
 pub use Rattle.construction.specs.declared.texts.Reading.{Reading}
 pub use Rattle.construction.specs.declared.texts.Opened.{Opened}
 pub use Rattle.construction.specs.declared.texts.Written.{Written}
+
+-- an instruction that was decoded, or why there is none
+abbrev pub Decoded : Type 0
+Decoded = Result Instruction Refusal

@@ -1,6 +1,4 @@
 // Instructions, their codes and programs.
-use crate::answers::Refusal;
-
 // One of the fourteen kinds of instruction, with only its own operands.
 #[derive(Clone, Copy)]
 pub enum Instruction {
@@ -31,18 +29,12 @@ pub enum OperandKind {
     Skip,
 }
 
-// The format of a code: the kinds of its operands a, b and c, or that there is no such code.
+// The format of a code: the kinds of its operands a, b and c.
 #[derive(Clone, Copy)]
-pub enum Format {
-    Unknown,
-    Known(OperandKind, OperandKind, OperandKind),
-}
-
-// An instruction that was decoded, or why there is none.
-#[derive(Clone, Copy)]
-pub enum Decoded {
-    Valid(Instruction),
-    Refused(Refusal),
+pub struct Format {
+    pub a: OperandKind,
+    pub b: OperandKind,
+    pub c: OperandKind,
 }
 
 // The four numbers of an instruction's line.

@@ -9,7 +9,9 @@ use lib.Dec.{eqb, leb, ltb}
 use lib.ListN.{length, get_or, set, take}
 use borrow.Author.Tests.{ltb-true, not-false}
 use Rattle.grammar.proofs.Cases.{on_test, and_true, clash}
-use Rattle.construction.specs.declared.{cells.Words.Words, programs.Instruction.Instruction, programs.Decoded.Decoded, programs.Encoded.Encoded}
+use Rattle.std.specs.Prelude.{Ok}
+use Rattle.construction.specs.Types.{Decoded}
+use Rattle.construction.specs.declared.{cells.Words.Words, programs.Instruction.Instruction, programs.Encoded.Encoded}
 use Rattle.construction.specs.declared.{programs.Line.Line, programs.Program.Program, simulations.Simulation.Simulation, card.Card.Card}
 use Rattle.construction.specs.declared.{texts.Contents.Contents, texts.CardLine.CardLine, texts.Verdict.Verdict, texts.ProgramReading.ProgramReading}
 use Rattle.construction.specs.declared.{texts.Reading.Reading}
@@ -36,14 +38,14 @@ use Rattle.construction.proofs.Simulating.Sizes.{Small, FitsConstant, FitsSimula
 
 -- ---- instructions: the constant is a word
 -- a constant that was decoded is a word
-constant_narrow : (n a b : ℕ) → decode n (encoded 2 a b 0) ≡ Decoded.Valid (Instruction.Constant a b) → Small b
+constant_narrow : (n a b : ℕ) → decode n (encoded 2 a b 0) ≡ Ok (Instruction.Constant a b) → Small b
 unfolding decode
 constant_narrow n a b =
-    on_test (λ (d : Decoded). d ≡ Decoded.Valid (Instruction.Constant a b) → Small b) (not (ltb a 4 && (ltb b 4294967296 && true)))
+    on_test (λ (d : Decoded). d ≡ Ok (Instruction.Constant a b) → Small b) (not (ltb a 4 && (ltb b 4294967296 && true)))
     (λ t d. clash (cc))
     (λ t d. let h = and_true (ltb a 4) _ (not-false _ t) in ltb-true b 4294967296 (and_true (ltb b 4294967296) true h.1).0)
 
-decoded_narrow : (n : ℕ) (x : Encoded) (y : Instruction) → n ≤ 256 → decode n x ≡ Decoded.Valid y → FitsConstant y
+decoded_narrow : (n : ℕ) (x : Encoded) (y : Instruction) → n ≤ 256 → decode n x ≡ Ok y → FitsConstant y
 unfolding encode
 decoded_narrow n x Instruction.Stop h e = tt
 decoded_narrow n x (Instruction.Input a b) h e = tt

@@ -1,16 +1,15 @@
 // A program changed while the machine runs (document 02, order 11).
 ghost use Rattle.std.specs.Prelude.{◌≡◌, ◌&&◌, ltb};
 ghost use Rattle.construction.specs.Changes.{is_behind};
-ghost use Rattle.requests.specs.Judging.{change_judged};
+ghost use Rattle.requests.specs.Judging.{answer_of_change, change_judged};
 ghost use Rattle.block.specs.Layout.{process_count_in, program_count_in, gate_in, control_in, last_gate_in, from_in};
 ghost use Rattle.lent_card.specs.Requests.{behind_in, change_answer, put_change, change_block};
 
 use crate::narrow::narrow;
-use answers::kinds::is_refused;
 use block::cells::{gate, process_count, program_count, room, variable_count};
 use block::own::{control, last_gate};
 use block::texts::put_from;
-use construction::answers::Answer;
+use construction::answers::{Answer, Refusal};
 use construction::programs::Program;
 use construction::texts::Verdict;
 use reader::changes::read_change;
@@ -18,41 +17,35 @@ use requests::behind::is_behind;
 use requests::judging::judge_change;
 use texts::{Text, keep_later, put_program};
 
-// Whether the operation of process i is behind a gate number.
-fn is_behind_at(b: &[u64], i: u8, number: u64) -> bool
-    ensures { result ≡ ltb i (process_count_in b.now) && is_behind (control_in b.now i).place (last_gate_in b.now i) number }
-{
-    let control = control(b, i);
-    let place = control.place;
-    i < process_count(b) && is_behind(place, last_gate(b, i), number)
-}
-
-// Whether the operation of some process is.
+// Whether the operation of some process is behind a gate number.
+#[tactic(auto, unfolding(crate::specs::Requests::behind_in))]
 fn some_behind(b: &[u64], number: u64) -> bool
     ensures { result ≡ behind_in b.now number 8 }
 {
     let mut behind = false;
-    let mut i: u8 = 0;
-    while i < 8 {
-        if is_behind_at(b, i, number) {
+    for i in 0..8u8 {
+        if i < process_count(b) && is_behind(control(b, i).place, last_gate(b, i), number) {
             behind = true;
         }
-        i = i + 1;
     }
     behind
 }
 
 // Whether a change is taken, by the verdict on its text.
-fn answer_change(b: &[u64], program: u32, from: u64, verdict: Verdict) -> Answer
-    ensures { result ≡ change_judged program (program_count_in b.now) verdict (gate_in b.now).seq from (from_in b.now program) (behind_in b.now (from_in b.now program) 8) }
+fn judge_change_in(
+    b: &[u64],
+    program: u32,
+    from: u64,
+    verdict: Verdict,
+) -> Result<(), (Refusal, u64)>
+    ensures { answer_of_change result ≡ change_judged program (program_count_in b.now) verdict (gate_in b.now).seq from (from_in b.now program) (behind_in b.now (from_in b.now program) 8) }
 {
-    let gate = gate(b);
     let last = block::texts::from(b, narrow(program));
     judge_change(
         program,
         program_count(b),
         verdict,
-        gate.seq,
+        gate(b).seq,
         from,
         last,
         some_behind(b, last),
@@ -73,11 +66,9 @@ pub fn change(b: &mut [u64], program: u32, from: u64, text: &[u8]) -> Answer
     ensures { (result ≡ change_answer b.old program from text.now) × (b.new ≡ change_block b.old program from text.now) }
 {
     let read = read_change(variable_count(b), room(b), text);
-    let verdict = read.verdict;
-    let answer = answer_change(b, program, from, verdict);
-    if !is_refused(answer) {
-        let y = read.program;
-        put_change(b, narrow(program), from, y);
+    if let Err((refusal, line)) = judge_change_in(b, program, from, read.verdict) {
+        return Answer::RefusedAt { refusal, line };
     }
-    answer
+    put_change(b, narrow(program), from, read.program);
+    Answer::Taken
 }

@@ -1,9 +1,9 @@
 // Call, exit request (document 01: wish) and read (document 01: look).
 ghost use Rattle.std.specs.Prelude.{◌≡◌};
+ghost use Rattle.requests.specs.Judging.{answer_of_judged};
 ghost use Rattle.lent_card.specs.Requests.{call_answer, put_call, call_block, exit_answer, exit_block, value_in, read_answer};
 
 use crate::narrow::narrow;
-use answers::kinds::is_refused;
 use block::cells::{announcement, gate, process_count, program_count, record, variable_count};
 use block::own::{control, put_control, put_count, put_exit, put_operation};
 use construction::accesses::{Control, Label};
@@ -15,12 +15,16 @@ use requests::judging::{is_below, judge_call, judge_exit};
 use requests::reading::value_of;
 
 // Whether a call is taken.
-fn answer_call(b: &[u64], process: u32, program: u32) -> Answer
-    ensures { result ≡ call_answer b.now process program }
+fn judge_call_in(b: &[u64], process: u32, program: u32) -> Result<(), Refusal>
+    ensures { answer_of_judged result ≡ call_answer b.now process program }
 {
-    let control = control(b, narrow(process));
-    let place = control.place;
-    judge_call(process, process_count(b), program, program_count(b), place)
+    judge_call(
+        process,
+        process_count(b),
+        program,
+        program_count(b),
+        control(b, narrow(process)).place,
+    )
 }
 
 // A call that is taken.
@@ -44,31 +48,29 @@ fn put_call(b: &mut [u64], i: u8, program: u8, inputs: Words)
 pub fn call(b: &mut [u64], process: u32, program: u32, inputs: Words) -> Answer
     ensures { (result ≡ call_answer b.old process program) × (b.new ≡ call_block b.old process program inputs) }
 {
-    let answer = answer_call(b, process, program);
-    if !is_refused(answer) {
-        put_call(b, narrow(process), narrow(program), inputs);
+    if let Err(refusal) = judge_call_in(b, process, program) {
+        return Answer::Refused(refusal);
     }
-    answer
+    put_call(b, narrow(process), narrow(program), inputs);
+    Answer::Taken
 }
 
 // Whether an exit request is taken.
-fn answer_exit(b: &[u64], process: u32) -> Answer
-    ensures { result ≡ exit_answer b.now process }
+fn judge_exit_in(b: &[u64], process: u32) -> Result<(), Refusal>
+    ensures { answer_of_judged result ≡ exit_answer b.now process }
 {
-    let control = control(b, narrow(process));
-    let place = control.place;
-    judge_exit(process, process_count(b), place)
+    judge_exit(process, process_count(b), control(b, narrow(process)).place)
 }
 
 // Exit request: refusals 5 and 8.
 pub fn request_exit(b: &mut [u64], process: u32) -> Answer
     ensures { (result ≡ exit_answer b.old process) × (b.new ≡ exit_block b.old process) }
 {
-    let answer = answer_exit(b, process);
-    if !is_refused(answer) {
-        put_exit(b, narrow(process), true);
+    if let Err(refusal) = judge_exit_in(b, process) {
+        return Answer::Refused(refusal);
     }
-    answer
+    put_exit(b, narrow(process), true);
+    Answer::Taken
 }
 
 // What a read shows of a variable.
@@ -76,10 +78,9 @@ fn value(b: &[u64], variable: u8) -> u32
     ensures { result ≡ value_in b.now variable }
 {
     let gate = gate(b);
-    let holder = gate.holder;
     value_of(
         gate,
-        announcement(b, holder_of(holder)),
+        announcement(b, holder_of(gate.holder)),
         record(b, variable),
     )
 }

@@ -8,11 +8,12 @@ use native.Mathlib.Omega.{arith}
 use lib.Dec.{leb, ltb}
 use lib.ListN.{length, get_or}
 use borrow.Author.Tests.{lt-leb, leb-false}
-use Rattle.std.specs.Prelude.{Option, Some, None}
 use Rattle.grammar.specs.declared.{Found.Found, Four.Four}
 use Rattle.grammar.specs.Reading.{has_word, four, field}
 use Rattle.construction.specs.declared.{texts.Verdict.Verdict, texts.CardLine.CardLine, texts.VarLine.VarLine, texts.SheetLine.SheetLine, texts.InsLine.InsLine}
-use Rattle.construction.specs.declared.{programs.Decoded.Decoded, programs.Encoded.Encoded, programs.Format.Format}
+use Rattle.std.specs.Prelude.{Option, None, Some, Ok, Err}
+use Rattle.construction.specs.declared.{programs.Encoded.Encoded, programs.Format.Format}
+use Rattle.construction.specs.Types.{Decoded}
 use Rattle.construction.specs.Answers.{Fields, refused_with, verdict_fields, card_line_fields, var_line_fields, sheet_line_fields, ins_line_fields, decoded_fields}
 use Rattle.construction.specs.Instructions.{in_range, ranged, unused_zero, each_operand, decode_as, decode, row_of, encoded}
 use Rattle.construction.specs.Lines.{card_word, var_word, sheet_word, ins_word, card_fits, judge_card, card_line, judge_var, var_line, judge_sheet, sheet_line, ins_of}
@@ -69,13 +70,13 @@ sheet_other t at = on_test (λ (x : SheetLine). Other (sheet_line_fields x)) (ha
         (λ _. three)
     by None = two
 
-decoded_other : (x : Encoded) (n : ℕ) (f : Format) → Other (decoded_fields (decode_as f n x))
+decoded_other : (x : Encoded) (n : ℕ) (o : Option Format) → Other (decoded_fields (decode_as o n x))
 unfolding decoded_fields
-decoded_other x n Format.Unknown = λ e. let z : ◌≡◌ {A = ℕ} 4 11 = ap first_number e in omega arith
-decoded_other x n (Format.Known a b c) =
-    on_test (λ (y : Decoded). Other (decoded_fields y)) (not (each_operand (ranged n) a b c x))
+decoded_other x n None = λ e. let z : ◌≡◌ {A = ℕ} 4 11 = ap first_number e in omega arith
+decoded_other x n (Some f) =
+    on_test (λ (y : Decoded). Other (decoded_fields y)) (not (each_operand (ranged n) f x))
     (λ _ e. let z : ◌≡◌ {A = ℕ} 12 11 = ap first_number e in omega arith)
-    (λ _. on_test (λ (y : Decoded). Other (decoded_fields y)) (not (each_operand unused_zero a b c x))
+    (λ _. on_test (λ (y : Decoded). Other (decoded_fields y)) (not (each_operand unused_zero f x))
     (λ _ e. let z : ◌≡◌ {A = ℕ} 13 11 = ap first_number e in omega arith)
     (λ _ e. let z : ◌≡◌ {A = ℕ} 105 114 = ap first_byte e in omega arith))
 
@@ -84,8 +85,8 @@ unfolding ins_line judge_ins ins_line_fields decoded_fields decode
 ins_other n t at = on_test (λ (x : InsLine). Other (ins_line_fields x)) (has_word t at ins_word) (λ _. by (four t (at + 4))) (λ _. two)
   where
     of : (x : Decoded) (i : ℕ) → Other (decoded_fields x) → Other (ins_line_fields (ins_of x i))
-    of (Decoded.Valid x) i h = h
-    of (Decoded.Refused why) i h = h
+    of (Ok x) i h = h
+    of (Err why) i h = h
 
     by : (x : Option (Found Four)) → Other (ins_line_fields (judge_ins n x))
     by (Some x) =

@@ -1,9 +1,9 @@
 // Step: refusals 5, 8, 10 and 11, or one shared access; and whether it would be refused.
 ghost use Rattle.std.specs.Prelude.{◌≡◌, min};
+ghost use Rattle.requests.specs.Judging.{answer_of_judged};
 ghost use Rattle.lent_helping.specs.Steps.{access_loan};
 ghost use Rattle.lent_steps.specs.Steps.{step_verdict, access_at, advanced, step_block, step_loan, answer_in, answer_to, swap_to};
 
-use answers::kinds::is_refused;
 use block::cells::{limit, process_count, steps};
 use block::own::{control, count, exit, last};
 use construction::accesses::{Access, Swap};
@@ -17,25 +17,26 @@ use machine::places::{access_of, is_idle};
 use requests::judging::judge_step;
 
 // Whether a step is accepted: refusals 5, 8, 10, and then 11. The caller narrows the number of the process, so that the control is read once.
-pub(crate) fn judge(b: &[u64], l: &[u64], process: u32, i: u8) -> Answer
+pub(crate) fn judge(b: &[u64], l: &[u64], process: u32, i: u8) -> Result<(), Refusal>
     requires { i ≡ min process 255 }
-    ensures { result ≡ step_verdict b.now l.now process }
+    ensures { answer_of_judged result ≡ step_verdict b.now l.now process }
 {
-    let control = control(b, i);
-    let place = control.place;
-    let judged = judge_step(process, process_count(b), place, steps(b), limit(b));
-    if is_refused(judged) {
-        return judged;
-    }
+    judge_step(
+        process,
+        process_count(b),
+        control(b, i).place,
+        steps(b),
+        limit(b),
+    )?;
     if l.len() < loan_words(b) {
-        return Answer::Refused(Refusal::ShortBuffer);
+        return Err(Refusal::ShortBuffer);
     }
-    Answer::Taken
+    Ok(())
 }
 
-// Whether a step is accepted, with nothing written: what its answer would be if it is refused, and `taken` if it is not.
-pub fn verdict(b: &[u64], l: &[u64], process: u32) -> Answer
-    ensures { result ≡ step_verdict b.now l.now process }
+// Whether a step is accepted, with nothing written: why it would be refused, or that it would not.
+pub fn verdict(b: &[u64], l: &[u64], process: u32) -> Result<(), Refusal>
+    ensures { answer_of_judged result ≡ step_verdict b.now l.now process }
 {
     judge(b, l, process, narrow(process))
 }
@@ -44,9 +45,7 @@ pub fn verdict(b: &[u64], l: &[u64], process: u32) -> Answer
 pub(crate) fn access_at(b: &[u64], i: u8) -> Access
     ensures { result ≡ access_at b.now i }
 {
-    let control = control(b, i);
-    let place = control.place;
-    access_of(place, exit(b, i))
+    access_of(control(b, i).place, exit(b, i))
 }
 
 // An accepted step, and its swap.
@@ -63,9 +62,7 @@ pub fn advance(b: &mut [u64], l: &mut [u64], i: u8) -> Swap
 pub fn answer_in(b: &[u64], i: u8) -> Answer
     ensures { result ≡ answer_in b.now i }
 {
-    let control = control(b, i);
-    let place = control.place;
-    if is_idle(place) {
+    if is_idle(control(b, i).place) {
         returned(last(b, i), count(b, i))
     } else {
         Answer::Run
@@ -77,9 +74,8 @@ pub fn step(b: &mut [u64], l: &mut [u64], process: u32) -> Answer
     ensures { (result ≡ answer_to b.old l.old process) × (b.new ≡ step_block b.old l.old process) × (l.new ≡ step_loan b.old l.old process) }
 {
     let i = narrow(process);
-    let judged = judge(b, l, process, i);
-    if is_refused(judged) {
-        return judged;
+    if let Err(refusal) = judge(b, l, process, i) {
+        return Answer::Refused(refusal);
     }
     advance(b, l, i);
     answer_in(b, i)

@@ -5,7 +5,6 @@ ghost use Rattle.block.specs.Layout.{control_in, exit_in};
 ghost use Rattle.lent_steps.specs.Steps.{step_block, step_loan, answer_to, cell_to, report_to};
 
 use crate::stepping::{access_at, advance, answer_in, judge};
-use answers::kinds::is_refused;
 use block::cells::process_count;
 use block::own::{control, exit, last_gate, mask};
 use construction::accesses::{Access, Cell, Label};
@@ -25,9 +24,7 @@ pub struct Told {
 fn label_at(b: &[u64], i: u8) -> Label
     ensures { result ≡ label_of (control_in b.now i).place (exit_in b.now i) }
 {
-    let control = control(b, i);
-    let place = control.place;
-    label_of(place, exit(b, i))
+    label_of(control(b, i).place, exit(b, i))
 }
 
 // The cell that the access of process i touches: line H36 alone looks at the loan.
@@ -57,18 +54,16 @@ pub fn trace(b: &mut [u64], l: &mut [u64], process: u32) -> Told
     ensures { (result.answer ≡ answer_to b.old l.old process) × (result.report ≡ report_to b.old l.old process) × (b.new ≡ step_block b.old l.old process) × (l.new ≡ step_loan b.old l.old process) }
 {
     let i = narrow(process);
-    let judged = judge(b, l, process, i);
-    if is_refused(judged) {
+    if let Err(refusal) = judge(b, l, process, i) {
         return Told {
-            answer: judged,
+            answer: Answer::Refused(refusal),
             report: no_report(),
         };
     }
     let label = label_at(b, i);
     let cell = cell_to(b, l, i);
     let swap = advance(b, l, i);
-    let read = last_gate(b, i);
-    let report = report_with(label, cell, swap, read.seq, mask(b, i));
+    let report = report_with(label, cell, swap, last_gate(b, i).seq, mask(b, i));
     Told {
         answer: answer_in(b, i),
         report,

@@ -4,9 +4,8 @@ use mathlib.Core.Path.{◌≡◌, refl, ◌∙◌, ap}
 use mathlib.Core.Bool.{Bool, true, false, cond}
 use mathlib.Core.List.{List, [], ◌∷◌, ◌++◌}
 use native.Mathlib.Omega.{arith}
-use native.Mathlib.Numerals.{add-one}
-use lib.ListN.{length, get_or, set, drop, replicate, length-append, length-drop, length-replicate, get_or-replicate, get_or-append}
-use lib.Seq.{drop-cons, set_at, get_or-append-add, get_or-drop}
+use lib.ListN.{length, get_or, take, drop, replicate, length-append, length-drop, length-replicate, get_or-replicate, get_or-append}
+use lib.Seq.{get_or-append-add, get_or-drop, length-take-le}
 use borrow.Author.Tests.{le-leb, lt-leb}
 use Rattle.construction.specs.Dictionary.{empty}
 use Rattle.construction.specs.Opening.{fresh, no_contents}
@@ -24,24 +23,12 @@ use Rattle.lent_text.specs.Opened.{zeroed, cleared}
 abbrev zeros : ℕ → List ℕ
 zeros n = replicate n 0
 
-one_more : (k : ℕ) (ys : List ℕ) → zeros k ++ (0 ∷ ys) ≡ zeros (suc k) ++ ys
-one_more zero ys = refl
-one_more (suc k) ys = let e = one_more k ys in λ j. 0 ∷ e j
-
 module _ (b : List ℕ) where
-  pub clear_start : b ≡ zeroed 0 b
-  unfolding zeroed
-  clear_start = refl
-
-  pub clear_turn : (c : List ℕ) (k : ℕ) → c ≡ zeroed k b → k < length b → set c k 0 ≡ zeroed (k + 1) b
-  unfolding zeroed
-  clear_turn c k e p =
-      rw (e, add-one k, drop-cons b k 0 p)
-      (set_at (zeros k) (get_or b k 0) (drop (suc k) b) 0 k (length-replicate k 0) ∙ one_more k (drop (suc k) b))
-
-  pub clear_done : (c : List ℕ) (k : ℕ) → c ≡ zeroed k b → k ≡ 1456 → 1456 ≤ length b → c ≡ cleared b
-  unfolding cleared
-  clear_done c k e h p = e ∙ rw (h, le-leb 1456 (length b) p)
+  pub filled_front : (z : List ℕ) → 1456 ≤ length b → z ≡ replicate (length (take 1456 b)) 0 → z ++ drop 1456 b ≡ cleared b
+  unfolding cleared zeroed
+  filled_front z p e =
+      let n : length (take 1456 b) ≡ 1456 = length-take-le 1456 b p in
+      rw (le-leb 1456 (length b) p, e, n)
 
   pub cleared_long : 1456 ≤ length b → cleared b ≡ zeroed 1456 b
   unfolding cleared

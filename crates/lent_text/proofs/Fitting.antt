@@ -8,9 +8,10 @@ use lib.Dec.{eqb, ltb}
 use lib.ListN.{length, get_or, replicate, length-set}
 use borrow.Author.Tests.{eqb-true, eqb-false, not-false}
 use Rattle.construction.specs.declared.{texts.Contents.Contents, programs.Line.Line, programs.Instruction.Instruction, programs.Encoded.Encoded}
-use Rattle.construction.specs.declared.{programs.Decoded.Decoded, texts.ProgramReading.ProgramReading, texts.Reading.Reading, texts.CardLine.CardLine}
-use Rattle.construction.specs.declared.{programs.Format.Format, programs.OperandKind.OperandKind}
-use Rattle.construction.specs.declared.programs.Format.TheVariants.{Unknown, Known}
+use Rattle.construction.specs.declared.{texts.ProgramReading.ProgramReading, texts.Reading.Reading, texts.CardLine.CardLine}
+use Rattle.construction.specs.declared.{programs.Format.Format}
+use Rattle.std.specs.Prelude.{Option, None, Some, Ok}
+use Rattle.construction.specs.Types.{Decoded}
 use Rattle.construction.specs.Instructions.{codes, row_of, instruction_of, ranged, unused_zero, each_operand, decode, decode_as, encoded, no_line, no_program}
 use Rattle.construction.specs.Lines.{card_line, var_line, sheet_line, ins_line}
 use Rattle.construction.specs.Opening.{no_contents, with_line, ins_from, read_program, with_program, programs_from, with_start, vars_from, at_end, then_programs}
@@ -68,27 +69,27 @@ bytes_fit code =
     code
 
 -- and so does every one that is decoded
-module _ (n : ℕ) (x : Encoded) (h : n ≤ 256) (y : Instruction) (v : decode n x ≡ Decoded.Valid y) where
+module _ (n : ℕ) (x : Encoded) (h : n ≤ 256) (y : Instruction) (v : decode n x ≡ Ok y) where
   valid_fits :
-      {a b c : OperandKind} → (row_of x.code).format ≡ Known a b c → each_operand (ranged n) a b c x ≡ true → each_operand unused_zero a b c x ≡ true →
+      {f : Format} → (row_of x.code).format ≡ Some f → each_operand (ranged n) f x ≡ true → each_operand unused_zero f x ≡ true →
       (k : Bool) → eqb x.code 2 ≡ k → FitsInstruction y
   valid_fits e t z true k =
-      let w : Decoded.Valid (Instruction.Constant (x.a % 256) (x.b % 4294967296)) ≡ Decoded.Valid y =
+      let w : Ok (Instruction.Constant (x.a % 256) (x.b % 4294967296)) ≡ Ok y =
       decode_constant n x refl e refl t refl h z (eqb-true x.code 2 k) ∙ v in
       let i : Instruction.Constant (x.a % 256) (x.b % 4294967296) ≡ y = cc in
       subst FitsInstruction i (byte_fits x.a, half_fits x.b)
   valid_fits e t z false k =
-      let w : Decoded.Valid (instruction_of (encoded x.code (x.a % 256) (x.b % 256) (x.c % 256))) ≡ Decoded.Valid y =
+      let w : Ok (instruction_of (encoded x.code (x.a % 256) (x.b % 256) (x.c % 256))) ≡ Ok y =
       decode_bytes n x refl e refl t refl h z (eqb-false x.code 2 k) refl ∙ v in
       let i : instruction_of (encoded x.code (x.a % 256) (x.b % 256) (x.c % 256)) ≡ y = cc in
       subst FitsInstruction i (bytes_fit x.code (x.a % 256) (x.b % 256) (x.c % 256) (byte_fits x.a) (byte_fits x.b) (byte_fits x.c))
 
-  by_format : (f : Format) → (row_of x.code).format ≡ f → decode_as f n x ≡ Decoded.Valid y → FitsInstruction y
-  by_format Unknown e = λ d. clash (cc)
-  by_format (Known a b c) e =
-      on_test (λ (d : Decoded). d ≡ Decoded.Valid y → FitsInstruction y) (not (each_operand (ranged n) a b c x))
+  by_format : (o : Option Format) → (row_of x.code).format ≡ o → decode_as o n x ≡ Ok y → FitsInstruction y
+  by_format None e = λ d. clash (cc)
+  by_format (Some f) e =
+      on_test (λ (d : Decoded). d ≡ Ok y → FitsInstruction y) (not (each_operand (ranged n) f x))
       (λ t d. clash (cc))
-      (λ t. on_test (λ (d : Decoded). d ≡ Decoded.Valid y → FitsInstruction y) (not (each_operand unused_zero a b c x))
+      (λ t. on_test (λ (d : Decoded). d ≡ Ok y → FitsInstruction y) (not (each_operand unused_zero f x))
       (λ z d. clash (cc))
       (λ z d. valid_fits e (not-false _ t) (not-false _ z) (eqb x.code 2) refl))
 

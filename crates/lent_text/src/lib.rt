@@ -32,11 +32,7 @@ fn clear(b: &mut [u64])
     ensures { b.new ≡ cleared b.old }
 {
     if SIZE <= b.len() {
-        let mut k: usize = 0;
-        while k < SIZE {
-            b[k] = 0;
-            k = k + 1;
-        }
+        b[..SIZE].fill(0);
     }
 }
 
@@ -53,8 +49,7 @@ fn open_gate() -> Gate
 fn put_head(b: &mut [u64], contents: Contents)
     ensures { b.new ≡ put_head b.old contents }
 {
-    let programs = contents.programs;
-    put_room(b, heaviest(programs));
+    put_room(b, heaviest(contents.programs));
     put_process_count(b, contents.process_count);
     put_variable_count(b, contents.variable_count);
     put_program_count(b, contents.program_count);
@@ -73,10 +68,8 @@ fn put_value(b: &mut [u64], v: u8, value: u32)
 fn put_values(b: &mut [u64], starts: [u32; 64])
     ensures { b.new ≡ put_values 64 b.old starts }
 {
-    let mut k: u8 = 0;
-    while k < 64 {
+    for k in 0..64u8 {
         put_value(b, k, starts[k as usize]);
-        k = k + 1;
     }
 }
 
@@ -92,11 +85,8 @@ fn put_texts(b: &mut [u64], k: u8, program: Program)
 fn put_programs(b: &mut [u64], programs: [Program; 8])
     ensures { b.new ≡ put_programs 8 b.old programs }
 {
-    let mut k: u8 = 0;
-    while k < 8 {
-        let program = programs[k as usize];
-        put_texts(b, k, program);
-        k = k + 1;
+    for k in 0..8u8 {
+        put_texts(b, k, programs[k as usize]);
     }
 }
 
@@ -104,12 +94,10 @@ fn put_programs(b: &mut [u64], programs: [Program; 8])
 fn put_contents(b: &mut [u64], contents: Contents)
     ensures { b.new ≡ contents_block b.old contents }
 {
-    let starts = contents.starts;
-    let programs = contents.programs;
     clear(b);
     put_head(b, contents);
-    put_values(b, starts);
-    put_programs(b, programs);
+    put_values(b, contents.starts);
+    put_programs(b, contents.programs);
 }
 
 // The verdict on a text, then on the block.
@@ -133,10 +121,8 @@ pub fn open(text: &[u8], b: &mut [u64]) -> Verdict
     ensures { Opens text.now b.old result b.new }
 {
     let read = reader::read_card(text);
-    let contents = read.contents;
-    let verdict = read.verdict;
-    let answer = judge(verdict, b);
-    put_contents(b, contents);
+    let answer = judge(read.verdict, b);
+    put_contents(b, read.contents);
     answer
 }
 
@@ -144,10 +130,8 @@ fn starts_of(b: &[u64]) -> [u32; 64]
     ensures { result ≡ table 64 (λ v. start_in b.now v) }
 {
     let mut starts = [0u32; 64];
-    let mut k: u8 = 0;
-    while k < 64 {
+    for k in 0..64u8 {
         starts[k as usize] = start(b, k);
-        k = k + 1;
     }
     starts
 }
@@ -155,12 +139,9 @@ fn starts_of(b: &[u64]) -> [u32; 64]
 fn programs_of(b: &[u64]) -> [Program; 8]
     ensures { result ≡ table 8 (λ k. opening_text b.now k) }
 {
-    let program = opening::no_program();
-    let mut programs = [program; 8];
-    let mut k: u8 = 0;
-    while k < 8 {
+    let mut programs = [opening::no_program(); 8];
+    for k in 0..8u8 {
         programs[k as usize] = texts::program(b, Text::Opening, k);
-        k = k + 1;
     }
     programs
 }
@@ -169,15 +150,13 @@ fn programs_of(b: &[u64]) -> [Program; 8]
 pub fn contents_of(b: &[u64]) -> Contents
     ensures { result ≡ contents_of (card_of b.now []) }
 {
-    let starts = starts_of(b);
-    let programs = programs_of(b);
     Contents {
         process_count: process_count(b),
         variable_count: variable_count(b),
         program_count: program_count(b),
         limit: limit(b),
-        starts,
-        programs,
+        starts: starts_of(b),
+        programs: programs_of(b),
     }
 }
 
@@ -185,6 +164,5 @@ pub fn contents_of(b: &[u64]) -> Contents
 pub fn write(b: &[u64], buffer: &mut [u8]) -> Written
     ensures { Writes (card_of b.now []) buffer.old result buffer.new }
 {
-    let contents = contents_of(b);
-    writer::write_contents(contents, buffer)
+    writer::write_contents(contents_of(b), buffer)
 }

@@ -2,49 +2,49 @@
 // It rests on the crates grammar and construction. Every public function is total, and its contract gives its whole result.
 #![tactic(auto)]
 
-ghost use Rattle.std.specs.Prelude.{◌≡◌, ◌&&◌};
-ghost use Rattle.construction.specs.Instructions.{in_range, ranged, unused_zero, each_operand, row_of, instruction_of, encoded, decode as decoded};
+ghost use Rattle.std.specs.Prelude.{◌≡◌, Some};
+ghost use Rattle.construction.specs.Instructions.{in_range, ranged, unused_zero, each_operand, kinds, row_of, instruction_of, encoded, decode as decoded};
 ghost use Rattle.construction.specs.Lines.{card_fits, card_line, var_line, sheet_line, ins_of, ins_line};
 
 use construction::answers::Refusal;
-use construction::programs::Format::{Known, Unknown};
 use construction::programs::OperandKind::{Register, Skip, Unused, Variable, Word};
-use construction::programs::{Decoded, Encoded, Format, Instruction, OperandKind};
+use construction::programs::{Encoded, Format, Instruction, OperandKind};
 use construction::texts::{CardLine, InsLine, SheetLine, VarLine};
 use grammar::reading::{field_at, four_at, has_word};
 use grammar::{Found, Four};
 
-fn both(a: bool, b: bool) -> bool
-    ensures { result ≡ a && b }
-{
-    if a { b } else { false }
-}
-
 fn in_range(low: u64, high: u64, x: u64) -> bool
     ensures { result ≡ in_range low high x }
 {
-    both(low <= x, x <= high)
+    low <= x && x <= high
+}
+
+// A code that there is, by the kinds of its operands.
+fn known(a: OperandKind, b: OperandKind, c: OperandKind) -> Option<Format>
+    ensures { result ≡ Some (kinds a b c) }
+{
+    Some(Format { a, b, c })
 }
 
 // The format of a code, from the table of codes 0, which is none, to 14.
-fn format_of(code: u64) -> Format
+fn format_of(code: u64) -> Option<Format>
     ensures { result ≡ (row_of code).format }
 {
-    let registers = Known(Register, Register, Unused);
-    let constant = Known(Register, Word, Unused);
-    let load = Known(Register, Variable, Unused);
-    let store = Known(Variable, Register, Unused);
-    let skip = Known(Register, Register, Skip);
-    let stop = Known(Unused, Unused, Unused);
-    let register = Known(Register, Unused, Unused);
+    let registers = known(Register, Register, Unused);
+    let constant = known(Register, Word, Unused);
+    let load = known(Register, Variable, Unused);
+    let store = known(Variable, Register, Unused);
+    let skip = known(Register, Register, Skip);
+    let stop = known(Unused, Unused, Unused);
+    let register = known(Register, Unused, Unused);
     let formats = [
-        Unknown, registers, constant, load, store, registers, registers, registers, registers,
+        None, registers, constant, load, store, registers, registers, registers, registers,
         skip, skip, registers, stop, register, register,
     ];
     if code < 15 {
         formats[code as usize]
     } else {
-        Unknown
+        None
     }
 }
 
@@ -128,82 +128,59 @@ fn operand_in_range(variable_count: u8, kind: OperandKind, x: u64) -> bool
 fn operand_zero_if_unused(kind: OperandKind, x: u64) -> bool
     ensures { result ≡ unused_zero kind x }
 {
-    match kind {
-        Unused => x == 0,
-        Register => true,
-        Word => true,
-        Variable => true,
-        Skip => true,
-    }
+    !matches!(kind, Unused) || x == 0
 }
 
-// Whether the operands are within the ranges of their kinds a, b and c.
-fn operands_in_range(
-    variable_count: u8,
-    a: OperandKind,
-    b: OperandKind,
-    c: OperandKind,
-    x: Encoded,
-) -> bool
-    ensures { result ≡ each_operand (ranged variable_count) a b c x }
+// Whether the operands are within the ranges of their kinds.
+fn operands_in_range(variable_count: u8, format: Format, x: Encoded) -> bool
+    ensures { result ≡ each_operand (ranged variable_count) format x }
 {
-    both(
-        operand_in_range(variable_count, a, x.a),
-        both(
-            operand_in_range(variable_count, b, x.b),
-            operand_in_range(variable_count, c, x.c),
-        ),
-    )
+    operand_in_range(variable_count, format.a, x.a)
+        && operand_in_range(variable_count, format.b, x.b)
+        && operand_in_range(variable_count, format.c, x.c)
 }
 
 // Whether the operands of unused kinds are 0.
-fn operands_zero_if_unused(a: OperandKind, b: OperandKind, c: OperandKind, x: Encoded) -> bool
-    ensures { result ≡ each_operand unused_zero a b c x }
+fn operands_zero_if_unused(format: Format, x: Encoded) -> bool
+    ensures { result ≡ each_operand unused_zero format x }
 {
-    both(
-        operand_zero_if_unused(a, x.a),
-        both(
-            operand_zero_if_unused(b, x.b),
-            operand_zero_if_unused(c, x.c),
-        ),
-    )
+    operand_zero_if_unused(format.a, x.a)
+        && operand_zero_if_unused(format.b, x.b)
+        && operand_zero_if_unused(format.c, x.c)
 }
 
 // The instruction of a code and its operands, on a card of so many variables: refusals 4, 12 and 13. An operand that is not refused is told
 // whole by its low byte, a constant by its low word.
-pub fn decode(variable_count: u8, x: Encoded) -> Decoded
+pub fn decode(variable_count: u8, x: Encoded) -> Result<Instruction, Refusal>
     ensures { result ≡ decoded variable_count x }
 {
-    let Known(kind_a, kind_b, kind_c) = format_of(x.code) else {
-        return Decoded::Refused(Refusal::UnknownCode);
-    };
-    if !operands_in_range(variable_count, kind_a, kind_b, kind_c, x) {
-        return Decoded::Refused(Refusal::OperandOutOfRange);
+    let format = format_of(x.code).ok_or(Refusal::UnknownCode)?;
+    if !operands_in_range(variable_count, format, x) {
+        return Err(Refusal::OperandOutOfRange);
     }
-    if !operands_zero_if_unused(kind_a, kind_b, kind_c, x) {
-        return Decoded::Refused(Refusal::UnusedOperand);
+    if !operands_zero_if_unused(format, x) {
+        return Err(Refusal::UnusedOperand);
     }
     let a = (x.a % 256) as u8;
     let b = (x.b % 256) as u8;
     let c = (x.c % 256) as u8;
     let constant = (x.b % 4_294_967_296) as u32;
     if x.code == 2 {
-        return Decoded::Valid(Instruction::Constant {
+        return Ok(Instruction::Constant {
             register: a,
             constant,
         });
     }
-    Decoded::Valid(instruction_of(x.code, a, b, c))
+    Ok(instruction_of(x.code, a, b, c))
 }
 
 fn card_fits(process_count: u64, variable_count: u64, program_count: u64, limit: u64) -> bool
     ensures { result ≡ card_fits process_count variable_count program_count limit }
 {
-    let p = in_range(1, 8, process_count);
-    let n = in_range(1, 64, variable_count);
-    let s = in_range(1, 8, program_count);
-    let l = in_range(1, 1_000_000_000_000_000_000, limit);
-    both(p, both(n, both(s, l)))
+    in_range(1, 8, process_count)
+        && in_range(1, 64, variable_count)
+        && in_range(1, 8, program_count)
+        && in_range(1, 1_000_000_000_000_000_000, limit)
 }
 
 // `card,p,n,s,limit`
@@ -274,12 +251,12 @@ pub fn sheet_line(text: &[u8], at: usize) -> SheetLine
 }
 
 // What a decoded instruction is in a line that ends before `next`.
-fn ins_of(decoded: Decoded, next: usize) -> InsLine
+fn ins_of(decoded: Result<Instruction, Refusal>, next: usize) -> InsLine
     ensures { result ≡ ins_of decoded next }
 {
     match decoded {
-        Decoded::Valid(instruction) => InsLine::Ins { instruction, next },
-        Decoded::Refused(refusal) => InsLine::Refused(refusal),
+        Ok(instruction) => InsLine::Ins { instruction, next },
+        Err(refusal) => InsLine::Refused(refusal),
     }
 }
 

@@ -1,10 +1,19 @@
 -- Whether a request is taken, by numbers and the place of its process: refusals 5 to 8, 10, 15 and 16 in their order. These are the tests of `call`,
 -- `request_exit`, `step` and `change` of construction without the card that those give: the functions that judge have none. `call_refused`, `call_taken`
 -- and their like for the others (card/proofs/Requests, changing/proofs/Laws) say that the two agree.
-use Rattle.std.specs.Prelude.{ℕ, Bool, cond, not, ◌&&◌, ◌||◌, ltb}
+use Rattle.std.specs.Prelude.{ℕ, Result, Ok, Err, Bool, cond, not, ◌&&◌, ◌||◌, ltb}
 use Rattle.construction.specs.declared.{accesses.Label.Label, answers.Refusal.Refusal, answers.Answer.Answer, texts.Verdict.Verdict}
 use Rattle.construction.specs.declared.answers.Refusal.TheVariants.{NoProcess, NoProgram, Busy, NotBusy, LimitReached, NotAhead, Unsettled}
 use Rattle.construction.specs.Requests.{is_idle}
+
+-- code judges a request with a Result: the answer that it stands for, of a request but a change, and of a change, whose refusals have a line
+abbrev pub answer_of_judged : Result (Unit {0}) Refusal → Answer
+answer_of_judged (Ok x) = Answer.Taken
+answer_of_judged (Err r) = Answer.Refused r
+
+abbrev pub answer_of_change : Result (Unit {0}) (Refusal × ℕ) → Answer
+answer_of_change (Ok x) = Answer.Taken
+answer_of_change (Err (r, line)) = Answer.RefusedAt r line
 
 -- the first of three tests that fails gives its refusal
 abbrev pub judged : Bool → Refusal → Bool → Refusal → Bool → Refusal → Answer

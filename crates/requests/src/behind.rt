@@ -24,14 +24,8 @@ pub fn is_behind(place: Label, gate: Gate, number: u64) -> bool
     has_read(place) && gate.seq < number
 }
 
-// The same of process i, on a card of so many processes.
-fn is_behind_at(i: u8, process_count: u8, place: Label, gate: Gate, number: u64) -> bool
-    ensures { result ≡ ltb i process_count && is_behind place gate number }
-{
-    i < process_count && is_behind(place, gate, number)
-}
-
 // Whether the operation of some process is behind a number.
+#[tactic(auto, unfolding(construction::specs::Changes::some_behind))]
 pub fn some_behind(
     controls: [Control; 8],
     gates_read: [Gate; 8],
@@ -41,16 +35,11 @@ pub fn some_behind(
     ensures { result ≡ some_behind controls gates_read process_count number 8 }
 {
     let mut behind = false;
-    let mut i: u8 = 0;
-    while i < 8 {
+    for i in 0..8u8 {
         let at = i as usize;
-        let control = controls[at];
-        let gate = gates_read[at];
-        let place = control.place;
-        if is_behind_at(i, process_count, place, gate, number) {
+        if i < process_count && is_behind(controls[at].place, gates_read[at], number) {
             behind = true;
         }
-        i = i + 1;
     }
     behind
 }

@@ -2,7 +2,7 @@
 // and 16), and the answer to a step that was.
 ghost use Rattle.std.specs.Prelude.{◌≡◌, ◌&&◌, ltb};
 ghost use Rattle.construction.specs.Requests.{step_answer};
-ghost use Rattle.requests.specs.Judging.{call_judged, exit_judged, step_judged, change_judged};
+ghost use Rattle.requests.specs.Judging.{answer_of_judged, answer_of_change, call_judged, exit_judged, step_judged, change_judged};
 
 use construction::accesses::{Control, Label};
 use construction::answers::{Answer, Refusal};
@@ -25,52 +25,53 @@ pub fn judge_call(
     program: u32,
     program_count: u8,
     place: Label,
-) -> Answer
-    ensures { result ≡ call_judged process process_count program program_count place }
+) -> Result<(), Refusal>
+    ensures { answer_of_judged result ≡ call_judged process process_count program program_count place }
 {
     if !is_below(process, process_count, 8) {
-        return Answer::Refused(Refusal::NoProcess);
+        return Err(Refusal::NoProcess);
     }
     if !is_below(program, program_count, 8) {
-        return Answer::Refused(Refusal::NoProgram);
+        return Err(Refusal::NoProgram);
     }
     if !is_idle(place) {
-        return Answer::Refused(Refusal::Busy);
+        return Err(Refusal::Busy);
     }
-    Answer::Taken
+    Ok(())
 }
 
 // An exit request: refusals 5 and 8, or taken.
-pub fn judge_exit(process: u32, process_count: u8, place: Label) -> Answer
-    ensures { result ≡ exit_judged process process_count place }
+pub fn judge_exit(process: u32, process_count: u8, place: Label) -> Result<(), Refusal>
+    ensures { answer_of_judged result ≡ exit_judged process process_count place }
 {
     if !is_below(process, process_count, 8) {
-        return Answer::Refused(Refusal::NoProcess);
+        return Err(Refusal::NoProcess);
     }
     if is_idle(place) {
-        return Answer::Refused(Refusal::NotBusy);
+        return Err(Refusal::NotBusy);
     }
-    Answer::Taken
+    Ok(())
 }
 
 // A step: refusals 5, 8 and 10, or taken.
-pub fn judge_step(process: u32, process_count: u8, place: Label, steps: u64, limit: u64) -> Answer
-    ensures { result ≡ step_judged process process_count place steps limit }
+pub fn judge_step(
+    process: u32,
+    process_count: u8,
+    place: Label,
+    steps: u64,
+    limit: u64,
+) -> Result<(), Refusal>
+    ensures { answer_of_judged result ≡ step_judged process process_count place steps limit }
 {
-    if !is_below(process, process_count, 8) {
-        return Answer::Refused(Refusal::NoProcess);
-    }
-    if is_idle(place) {
-        return Answer::Refused(Refusal::NotBusy);
-    }
+    judge_exit(process, process_count, place)?;
     if limit <= steps {
-        return Answer::Refused(Refusal::LimitReached);
+        return Err(Refusal::LimitReached);
     }
-    Answer::Taken
+    Ok(())
 }
 
-// A change of a program: refusal 6, then that of its text, 15 and 16, or taken. `verdict` is that on the text, `number` the gate's, `last` the number
-// from which the program's last change holds, and `behind` tells whether an operation under way last read a gate number below that.
+// A change of a program: refusal 6, then that of its text, 15 and 16, each with its line, or taken. `verdict` is that on the text, `number` the gate's, `last`
+// the number from which the program's last change holds, and `behind` tells whether an operation under way last read a gate number below that.
 pub fn judge_change(
     program: u32,
     program_count: u8,
@@ -79,31 +80,22 @@ pub fn judge_change(
     from: u64,
     last: u64,
     behind: bool,
-) -> Answer
-    ensures { result ≡ change_judged program program_count verdict number from last behind }
+) -> Result<(), (Refusal, u64)>
+    ensures { answer_of_change result ≡ change_judged program program_count verdict number from last behind }
 {
     if !is_below(program, program_count, 8) {
-        return Answer::RefusedAt {
-            refusal: Refusal::NoProgram,
-            line: 0,
-        };
+        return Err((Refusal::NoProgram, 0));
     }
     if let Verdict::Refused { refusal, line } = verdict {
-        return Answer::RefusedAt { refusal, line };
+        return Err((refusal, line));
     }
     if from <= number {
-        return Answer::RefusedAt {
-            refusal: Refusal::NotAhead,
-            line: 0,
-        };
+        return Err((Refusal::NotAhead, 0));
     }
     if number < last || behind {
-        return Answer::RefusedAt {
-            refusal: Refusal::Unsettled,
-            line: 0,
-        };
+        return Err((Refusal::Unsettled, 0));
     }
-    Answer::Taken
+    Ok(())
 }
 
 // 'Returning is local work of the last access': the answer to a step that was taken, by the control after it, the announcement last read and
@@ -111,8 +103,7 @@ pub fn judge_change(
 pub fn answer_of(control: Control, last: Announcement, steps: u64) -> Answer
     ensures { result ≡ step_answer control.place last steps }
 {
-    let place = control.place;
-    if is_idle(place) {
+    if is_idle(control.place) {
         return returned(last, steps);
     }
     Answer::Run

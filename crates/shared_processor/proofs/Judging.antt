@@ -9,20 +9,29 @@ use Rattle.construction.specs.declared.answers.Answer.{Answer}
 use Rattle.construction.specs.declared.answers.Refusal.TheVariants as refusals
 use Rattle.construction.specs.Answers.{is_refused}
 use Rattle.lent_steps.specs.Steps.{step_verdict}
-use Rattle.allowance.specs.declared.{Allowance.Allowance, Allowed.Allowed}
+use Rattle.std.specs.Prelude.{Option, Some, None}
+use Rattle.std.specs.Option.{ok_or}
+use Rattle.allowance.specs.declared.Allowance.{Allowance}
 use Rattle.allowance.specs.Allowing.{has_allowance, spend, allowed}
 use Rattle.shared_processor.specs.Parts.{part}
-use Rattle.shared_processor.specs.Judging.{step_judged}
+use Rattle.shared_processor.specs.Judging.{stepped_of, step_judged}
 use Rattle.shared_processor.proofs.Parts.{cut}
 use Rattle.shared_processor.proofs.Requests.{piece}
 
 -- what `allow` tells
-told : (a : Allowance) (m : ℕ) (r : Allowed) → r ≡ allowed a m → r.allowed ≡ has_allowance a m
-told a m r e = ap (λ (x : Allowed). x.allowed) e ∙ go (has_allowance a m)
+told : (a : Allowance) (m : ℕ) {o : Option Allowance} {b : Allowance} → o ≡ allowed a m → o ≡ Some b → (has_allowance a m ≡ true) × (b ≡ spend a m)
+told a m {o} {b} e h = go (has_allowance a m) (sym h ∙ e)
   where
-    go : (t : Bool) → (cond {A = Allowed} t (record { allowance = spend a m; allowed = true }) (record { allowance = a; allowed = false })).allowed ≡ t
-    go true = refl
-    go false = refl
+    go : (t : Bool) → Some b ≡ cond t (Some (spend a m)) None → (t ≡ true) × (b ≡ spend a m)
+    go true q = (refl, cc)
+    go false q = absurd (cc)
+
+told_none : (a : Allowance) (m : ℕ) {o : Option Allowance} → o ≡ allowed a m → o ≡ None → has_allowance a m ≡ false
+told_none a m {o} e h = go (has_allowance a m) (sym h ∙ e)
+  where
+    go : (t : Bool) → None ≡ cond t (Some (spend a m)) None → t ≡ false
+    go true q = absurd (cc)
+    go false q = refl
 
 module _ (a : Allowance) (stride : ℕ) (blocks loans : List ℕ) (m i : ℕ) where
   pub absent : a.count ≤ m → record { allowance = a; answer = Answer.Refused refusals.NoProcess } ≡ step_judged a stride blocks loans m i
@@ -33,27 +42,28 @@ module _ (a : Allowance) (stride : ℕ) (blocks loans : List ℕ) (m i : ℕ) wh
       (there : m < a.count) {s t c d : ℕ}
       (at : s ≡ min (1456 * m) (length blocks)) (to : t ≡ min (s + 1456) (length blocks))
       (from : c ≡ min (stride * m) (length loans)) (past : d ≡ min (c + stride) (length loans))
-      {v : Answer} (says : v ≡ step_verdict (piece blocks s t) (piece loans c d) i) {b : Bool} (test : b ≡ is_refused v)
+      {v : Answer} (says : v ≡ step_verdict (piece blocks s t) (piece loans c d) i)
     where
       verdict_is : v ≡ step_verdict (part 1456 blocks m) (part stride loans m) i
       verdict_is = says ∙ (λ q. step_verdict (cut 1456 blocks m s t at to q) (cut stride loans m c d from past q) i)
 
-      pub own : b ≡ true → record { allowance = a; answer = v } ≡ step_judged a stride blocks loans m i
+      pub own : is_refused v ≡ true → record { allowance = a; answer = v } ≡ step_judged a stride blocks loans m i
       unfolding step_judged
-      own r = let w : is_refused v ≡ true = sym test ∙ r in rw (← verdict_is, lt-ltb m a.count there, w)
+      own w = rw (← verdict_is, lt-ltb m a.count there, w)
 
-      module _ (r : b ≡ false) {x : Allowed} (tells : x ≡ allowed a m) where
-        pub goes : x.allowed ≡ true → record { allowance = x.allowance; answer = Answer.Taken } ≡ step_judged a stride blocks loans m i
+      module _ (w : is_refused v ≡ false) {o : Option Allowance} (tells : o ≡ allowed a m) where
+        pub goes : {b : Allowance} → o ≡ Some b → record { allowance = b; answer = Answer.Taken } ≡ step_judged a stride blocks loans m i
         unfolding step_judged
-        goes h =
-            let w : is_refused v ≡ false = sym test ∙ r in
-            let k : has_allowance a m ≡ true = sym (told a m x tells) ∙ h in
-            let after : x.allowance ≡ spend a m = ap (λ (y : Allowed). y.allowance) tells ∙ rw k in
-            rw (← verdict_is, lt-ltb m a.count there, w, k, after)
+        goes h = let k = told a m tells h in rw (← verdict_is, lt-ltb m a.count there, w, k.0, k.1)
 
-        pub stopped : x.allowed ≡ false → record { allowance = a; answer = Answer.Refused refusals.NoAllowance } ≡ step_judged a stride blocks loans m i
+        pub stopped : o ≡ None → record { allowance = a; answer = Answer.Refused refusals.NoAllowance } ≡ step_judged a stride blocks loans m i
         unfolding step_judged
-        stopped h =
-            let w : is_refused v ≡ false = sym test ∙ r in
-            let k : has_allowance a m ≡ false = sym (told a m x tells) ∙ h in
-            rw (← verdict_is, lt-ltb m a.count there, w, k)
+        stopped h = let k = told_none a m tells h in rw (← verdict_is, lt-ltb m a.count there, w, k)
+
+        -- as `ok_or` gives it
+        pub last : stepped_of a (ok_or o refusals.NoAllowance) ≡ step_judged a stride blocks loans m i
+        last = go o refl
+          where
+            go : (z : Option Allowance) → o ≡ z → stepped_of a (ok_or z refusals.NoAllowance) ≡ step_judged a stride blocks loans m i
+            go (Some b) h = goes h
+            go None h = stopped h

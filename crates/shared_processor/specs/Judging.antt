@@ -1,6 +1,7 @@
 -- A step judged before anything is written: the machine's number, what the card itself refuses, and last the allowance (document 02, order 14).
 use Rattle.std.specs.Prelude.{ℕ, cond, List, ltb}
-use Rattle.construction.specs.declared.answers.Answer.{Answer}
+use Rattle.std.specs.Prelude.{Result, Ok, Err}
+use Rattle.construction.specs.declared.{answers.Answer.Answer, answers.Refusal.Refusal}
 use Rattle.construction.specs.declared.answers.Refusal.TheVariants as refusals
 use Rattle.construction.specs.Answers.{is_refused}
 use Rattle.lent_steps.specs.Steps.{step_verdict}
@@ -8,6 +9,11 @@ use Rattle.allowance.specs.declared.Allowance.{Allowance}
 use Rattle.allowance.specs.Allowing.{has_allowance, spend}
 use Rattle.shared_processor.specs.declared.stepping.Stepped.{Stepped}
 use Rattle.shared_processor.specs.Parts.{part}
+
+-- code judges a step with a Result: the allowance and the answer that it stands for, by the allowance before the step
+abbrev pub stepped_of : Allowance → Result Allowance Refusal → Stepped
+stepped_of a (Ok after) = record { allowance = after; answer = Answer.Taken }
+stepped_of a (Err why) = record { allowance = a; answer = Answer.Refused why }
 
 -- the allowance after it and its refusal, or `taken` for one that goes on
 abbrev pub judged_with : Allowance → ℕ → Answer → Stepped

@@ -4,7 +4,7 @@ ghost use Rattle.construction.specs.History.{Entry};
 ghost use Rattle.lent_runs.specs.Runs.{untraced};
 ghost use Rattle.shared_processor.specs.Requests.{Performs};
 
-use crate::places::{BLOCK, end_of, start_of};
+use crate::places::block_of;
 use allowance::Allowance;
 use construction::answers::{Answer, Refusal};
 use construction::cells::Words;
@@ -20,36 +20,35 @@ pub fn call(
 ) -> Answer
     ensures { Performs a 0 blocks.old [] m (Entry.Call process program inputs) (untraced result) a blocks.new [] }
 {
-    if a.count <= m as u64 {
+    let Some(block) = block_of(a, m, blocks.len()) else {
         return Answer::Refused(Refusal::NoProcess);
-    }
-    let start = start_of(BLOCK, m, blocks.len());
-    let end = end_of(BLOCK, start, blocks.len());
-    lent_card::requesting::call(&mut blocks[start..end], process, program, inputs)
+    };
+    lent_card::requesting::call(
+        &mut blocks[block.start..block.end],
+        process,
+        program,
+        inputs,
+    )
 }
 
 // An exit request to machine m.
 pub fn request_exit(a: Allowance, blocks: &mut [u64], m: u32, process: u32) -> Answer
     ensures { Performs a 0 blocks.old [] m (Entry.Exit process) (untraced result) a blocks.new [] }
 {
-    if a.count <= m as u64 {
+    let Some(block) = block_of(a, m, blocks.len()) else {
         return Answer::Refused(Refusal::NoProcess);
-    }
-    let start = start_of(BLOCK, m, blocks.len());
-    let end = end_of(BLOCK, start, blocks.len());
-    lent_card::requesting::request_exit(&mut blocks[start..end], process)
+    };
+    lent_card::requesting::request_exit(&mut blocks[block.start..block.end], process)
 }
 
 // A read of machine m.
 pub fn read(a: Allowance, blocks: &[u64], m: u32, variable: u32) -> Answer
     ensures { Performs a 0 blocks.now [] m (Entry.Read variable) (untraced result) a blocks.now [] }
 {
-    if a.count <= m as u64 {
+    let Some(block) = block_of(a, m, blocks.len()) else {
         return Answer::Refused(Refusal::NoProcess);
-    }
-    let start = start_of(BLOCK, m, blocks.len());
-    let end = end_of(BLOCK, start, blocks.len());
-    lent_card::requesting::read(&blocks[start..end], variable)
+    };
+    lent_card::requesting::read(&blocks[block.start..block.end], variable)
 }
 
 // A change of a program of machine m, which brings its text.
@@ -63,13 +62,11 @@ pub fn change(
 ) -> Answer
     ensures { Performs a 0 blocks.old [] m (Entry.Change program from text.now) (untraced result) a blocks.new [] }
 {
-    if a.count <= m as u64 {
+    let Some(block) = block_of(a, m, blocks.len()) else {
         return Answer::RefusedAt {
             refusal: Refusal::NoProcess,
             line: 0,
         };
-    }
-    let start = start_of(BLOCK, m, blocks.len());
-    let end = end_of(BLOCK, start, blocks.len());
-    lent_card::changing::change(&mut blocks[start..end], program, from, text)
+    };
+    lent_card::changing::change(&mut blocks[block.start..block.end], program, from, text)
 }

@@ -2,12 +2,11 @@
 ghost use Rattle.std.specs.Prelude.{◌≡◌};
 ghost use Rattle.construction.specs.History.{Entry};
 ghost use Rattle.lent_runs.specs.Runs.{untraced};
-ghost use Rattle.shared_processor.specs.Judging.{step_judged};
+ghost use Rattle.shared_processor.specs.Judging.{stepped_of, step_judged};
 ghost use Rattle.shared_processor.specs.Requests.{Performs};
 
-use crate::places::{BLOCK, end_of, start_of};
+use crate::places::{BLOCK, block_of, part_of};
 use allowance::{Allowance, allow};
-use answers::kinds::is_refused;
 use construction::answers::{Answer, Refusal, Report};
 use lent_steps::stepping::verdict;
 
@@ -26,40 +25,27 @@ pub struct Traced {
     pub report: Report,
 }
 
-// Whether a step is refused, and the allowance after it: 5 for a machine not there, what its card refuses, and 19 last.
-fn judge(a: Allowance, stride: u32, blocks: &[u64], loans: &[u64], m: u32, process: u32) -> Stepped
-    ensures { result ≡ step_judged a stride blocks.now loans.now m process }
+// The allowance after a step, or why it is refused: 5 for a machine not there, what its card refuses, and 19 last.
+fn judge(
+    a: Allowance,
+    stride: u32,
+    blocks: &[u64],
+    loans: &[u64],
+    m: u32,
+    process: u32,
+) -> Result<Allowance, Refusal>
+    ensures { stepped_of a result ≡ step_judged a stride blocks.now loans.now m process }
 {
-    if a.count <= m as u64 {
-        return Stepped {
-            allowance: a,
-            answer: Answer::Refused(Refusal::NoProcess),
-        };
-    }
-    let start = start_of(BLOCK, m, blocks.len());
-    let end = end_of(BLOCK, start, blocks.len());
-    let first = start_of(stride, m, loans.len());
-    let last = end_of(stride, first, loans.len());
-    let answer = verdict(&blocks[start..end], &loans[first..last], process);
-    if is_refused(answer) {
-        return Stepped {
-            allowance: a,
-            answer,
-        };
-    }
-    let allowed = allow(a, m as u64);
-    let after = allowed.allowance;
-    if allowed.allowed {
-        Stepped {
-            allowance: after,
-            answer: Answer::Taken,
-        }
-    } else {
-        Stepped {
-            allowance: a,
-            answer: Answer::Refused(Refusal::NoAllowance),
-        }
-    }
+    let Some(block) = block_of(a, m, blocks.len()) else {
+        return Err(Refusal::NoProcess);
+    };
+    let loan = part_of(stride, m, loans.len());
+    verdict(
+        &blocks[block.start..block.end],
+        &loans[loan.start..loan.end],
+        process,
+    )?;
+    allow(a, m as u64).ok_or(Refusal::NoAllowance)
 }
 
 // A step of machine m.
@@ -73,21 +59,22 @@ pub fn step(
 ) -> Stepped
     ensures { Performs a stride blocks.old loans.old m (Entry.Step process) (untraced result.answer) result.allowance blocks.new loans.new }
 {
-    let judged = judge(a, stride, blocks, loans, m, process);
-    let refusal = judged.answer;
-    if is_refused(refusal) {
-        return judged;
-    }
-    let start = start_of(BLOCK, m, blocks.len());
-    let end = end_of(BLOCK, start, blocks.len());
-    let first = start_of(stride, m, loans.len());
-    let last = end_of(stride, first, loans.len());
+    let after = match judge(a, stride, blocks, loans, m, process) {
+        Ok(after) => after,
+        Err(refusal) => {
+            return Stepped {
+                allowance: a,
+                answer: Answer::Refused(refusal),
+            };
+        }
+    };
+    let block = part_of(BLOCK, m, blocks.len());
+    let loan = part_of(stride, m, loans.len());
     let answer = lent_steps::stepping::step(
-        &mut blocks[start..end],
-        &mut loans[first..last],
+        &mut blocks[block.start..block.end],
+        &mut loans[loan.start..loan.end],
         process,
     );
-    let after = judged.allowance;
     Stepped {
         allowance: after,
         answer,
@@ -105,30 +92,26 @@ pub fn trace(
 ) -> Traced
     ensures { Performs a stride blocks.old loans.old m (Entry.Trace process) (record { answer = result.answer; report = result.report }) result.allowance blocks.new loans.new }
 {
-    let judged = judge(a, stride, blocks, loans, m, process);
-    let after = judged.allowance;
-    let refusal = judged.answer;
-    if is_refused(refusal) {
-        return Traced {
-            allowance: after,
-            answer: refusal,
-            report: reports::no_report(),
-        };
-    }
-    let start = start_of(BLOCK, m, blocks.len());
-    let end = end_of(BLOCK, start, blocks.len());
-    let first = start_of(stride, m, loans.len());
-    let last = end_of(stride, first, loans.len());
+    let after = match judge(a, stride, blocks, loans, m, process) {
+        Ok(after) => after,
+        Err(refusal) => {
+            return Traced {
+                allowance: a,
+                answer: Answer::Refused(refusal),
+                report: reports::no_report(),
+            };
+        }
+    };
+    let block = part_of(BLOCK, m, blocks.len());
+    let loan = part_of(stride, m, loans.len());
     let told = lent_steps::tracing::trace(
-        &mut blocks[start..end],
-        &mut loans[first..last],
+        &mut blocks[block.start..block.end],
+        &mut loans[loan.start..loan.end],
         process,
     );
-    let answer = told.answer;
-    let report = told.report;
     Traced {
         allowance: after,
-        answer,
-        report,
+        answer: told.answer,
+        report: told.report,
     }
 }

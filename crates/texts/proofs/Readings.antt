@@ -8,9 +8,10 @@ use native.Mathlib.Omega.{arith}
 use lib.Dec.{ltb, eqb}
 use lib.ListN.{length, length-set}
 use borrow.Author.Tests.{ltb-true, not-false}
-use Rattle.construction.specs.declared.{programs.Format.Format, programs.Decoded.Decoded, programs.Encoded.Encoded, programs.Instruction.Instruction}
+use Rattle.construction.specs.declared.{programs.Format.Format, programs.Encoded.Encoded, programs.Instruction.Instruction}
 use Rattle.construction.specs.declared.{programs.Line.Line, texts.Verdict.Verdict, texts.ProgramReading.ProgramReading}
-use Rattle.construction.specs.declared.programs.Format.TheVariants.{Unknown, Known}
+use Rattle.std.specs.Prelude.{Option, None, Some, Ok}
+use Rattle.construction.specs.Types.{Decoded}
 use Rattle.construction.specs.declared.answers.Refusal.TheVariants.{Malformed}
 use Rattle.construction.specs.Instructions.{no_line, codes, row_of, instruction_of, ranged, unused_zero, each_operand, decode_as, decode}
 use Rattle.construction.specs.Lines.{sheet_line, ins_line}
@@ -30,10 +31,10 @@ variable : (n x : ℕ) → n ≤ 256 → ltb x n ≡ true → x < 256
 variable n x h e = omega (arith, ltb-true x n e)
 
 -- each row of the table of codes
-abbrev FitAs : Format → (ℕ → ℕ → ℕ → Instruction) → Type 0
-FitAs Unknown make = Unit {0}
-FitAs (Known ka kb kc) make =
-    (n a b c : ℕ) → n ≤ 256 → ranged n ka a ≡ true → ranged n kb b ≡ true → ranged n kc c ≡ true → FitsInstruction (make a b c)
+abbrev FitAs : Option Format → (ℕ → ℕ → ℕ → Instruction) → Type 0
+FitAs None make = Unit {0}
+FitAs (Some f) make =
+    (n a b c : ℕ) → n ≤ 256 → ranged n f.a a ≡ true → ranged n f.b b ≡ true → ranged n f.c c ≡ true → FitsInstruction (make a b c)
 
 row_fits : (k : ℕ) → FitAs (row_of k).format (row_of k).instruction
 row_fits =
@@ -80,21 +81,21 @@ row_fits =
 
 module _ (n : ℕ) (small : n ≤ 256) where
   -- an instruction that decodes
-  decoded_fits : (x : Encoded) (y : Instruction) → decode n x ≡ Decoded.Valid y → FitsInstruction y
+  decoded_fits : (x : Encoded) (y : Instruction) → decode n x ≡ Ok y → FitsInstruction y
   unfolding decode
   decoded_fits x y = by (row_of x.code).format refl
     where
-      by : (f : Format) → (row_of x.code).format ≡ f → decode_as f n x ≡ Decoded.Valid y → FitsInstruction y
-      by Unknown e = λ d. clash (cc)
-      by (Known a b c) e =
-          on_test (λ (d : Decoded). d ≡ Decoded.Valid y → FitsInstruction y) (not (each_operand (ranged n) a b c x))
+      by : (o : Option Format) → (row_of x.code).format ≡ o → decode_as o n x ≡ Ok y → FitsInstruction y
+      by None e = λ d. clash (cc)
+      by (Some f) e =
+          on_test (λ (d : Decoded). d ≡ Ok y → FitsInstruction y) (not (each_operand (ranged n) f x))
           (λ t d. clash (cc))
-          (λ t. on_test (λ (d : Decoded). d ≡ Decoded.Valid y → FitsInstruction y) (not (each_operand unused_zero a b c x))
+          (λ t. on_test (λ (d : Decoded). d ≡ Ok y → FitsInstruction y) (not (each_operand unused_zero f x))
           (λ z d. clash (cc))
           (λ z d.
-          let first = and_true (ranged n a x.a) _ (not-false _ t) in
-          let next = and_true (ranged n b x.b) _ first.1 in
-          let fit = subst (λ (f : Format). FitAs f (row_of x.code).instruction) e (row_fits x.code) in
+          let first = and_true (ranged n f.a x.a) _ (not-false _ t) in
+          let next = and_true (ranged n f.b x.b) _ first.1 in
+          let fit = subst (λ (o : Option Format). FitAs o (row_of x.code).instruction) e (row_fits x.code) in
           let same : instruction_of x ≡ y = cc in
           subst FitsInstruction same (fit n x.a x.b x.c small first.0 next.0 next.1)))
 

@@ -32,11 +32,9 @@ pub fn draw(buffer: &mut [u8], x: u64, p: u8) -> u64
     ensures { Draws buffer.old x p result buffer.new }
 {
     let mut x = x;
-    let mut k: usize = 0;
-    while k < buffer.len() {
+    for process in buffer.iter_mut() {
         x = next(x);
-        buffer[k] = remainder(x, p);
-        k = k + 1;
+        *process = remainder(x, p);
     }
     x
 }

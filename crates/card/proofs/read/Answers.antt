@@ -1,10 +1,12 @@
+use Rattle.std.proofs.Common.{◌∙◌}
 use Rattle.std.proofs.lemmas.Bool.{not_from_false, not_from_true}
 use Rattle.requests.proofs.Arrays as arrays
 use Rattle.card.proofs.Requests as requests
 use Rattle.card.proofs.read.Goals as goal
 
 pub returns-then-not-is_below : goal.returns-then-not-is_below
-returns-then-not-is_below c = requests.read_refused _ _ _ c.is_below.ensures (not_from_false _ c.if-not-is_below.true)
+returns-then-not-is_below c =
+    c.refused.ensures ∙ requests.read_refused _ _ _ c.is_below.ensures (not_from_false _ c.if-not-is_below.true)
 
 pub returns : goal.returns
 returns c =

@@ -1,4 +1,4 @@
-use Rattle.std.proofs.Common.{◌≡◌, ◌%◌, cond, ltb, [], get_or, sym, ◌∙◌, ⊎_elim, mod-eq_of_lt, arith, le-ltb, lt-ltb, length}
+use Rattle.std.proofs.Common.{◌≡◌, ◌%◌, cond, ltb, [], get_or, refl, sym, ◌∙◌, ⊎_elim, mod-eq_of_lt, arith, le-ltb, lt-ltb, length}
 use lib.Seq.{set-get_or}
 use Rattle.construction.specs.declared.answers.Answered.{Answered}
 use Rattle.construction.specs.declared.programs.Program.{Program}
@@ -14,7 +14,7 @@ use Rattle.card.proofs.step.Goals.{After-access_of-access, After-program_at, Aft
 step_is :
     (c : After-access_of-access) → let a = c.args in (y : Answered) → y ≡ requests.stepped_at a.card (a.process % 8) → y
     ≡ step a.card a.process
-step_is c = requests.step_taken _ _ _ c.judge_step-judged.ensures (sym c.is_refused.ensures ∙ c.if-is_refused.false)
+step_is c = requests.step_taken _ _ _ (c.in_default.ensures {u = tt}) refl
 
 accepted :
     (c : After-access_of-access) → let a = c.args in accesses.Accepted a.card (a.process % 8) c.wrapping_add_u64.result
@@ -59,9 +59,8 @@ noted_text c =
     accesses.text_found a.card (arrays.full_arrays c.args.card _ c.well_formed.0) k number blank _ _
     chosen c.program_at-in-Note.ensures
 
-pub returns-then-is_refused : goal.returns-then-is_refused
-returns-then-is_refused c =
-    requests.step_refused _ _ _ c.judge_step-judged.ensures (sym c.is_refused.ensures ∙ c.if-is_refused.true)
+pub returns-in-Err : goal.returns-in-Err
+returns-in-Err c = c.refused.ensures ∙ requests.step_refused _ _ _ c.in-Err.ensures refl
 
 pub returns-in-None : goal.returns-in-None
 returns-in-None c =

@@ -6,6 +6,7 @@ use mathlib.Core.Path.{◌≡◌, refl, sym, ap, ◌∙◌}
 use mathlib.Core.Bool.{Bool, true, false, cond}
 use mathlib.Core.List.{[], ◌∷◌, ◌++◌}
 use lib.ListN.{get_or, length}
+use Rattle.std.specs.Prelude.{Ok, Err}
 use Rattle.grammar.specs.Reading.{has_word}
 use Rattle.construction.specs.Types.{Yield, Instruction, Decoded, Refusal, TooLong, Malformed, OutOfRange, UnknownCode, NoProcess, NoProgram, Busy}
 use Rattle.construction.specs.Types.{NotBusy, NoPlace, LimitReached, ShortBuffer, OperandOutOfRange, UnusedOperand, TooHeavy, Answer, RowSwap, CardLine}
@@ -93,7 +94,7 @@ module _ (f : Fields) where
   instruction_from = instruction_of (encoded (number 0) (number 1) (number 2) (number 3))
 
   abbrev decoded_from : Decoded
-  decoded_from = cond is_refusal (Decoded.Refused why) (Decoded.Valid instruction_from)
+  decoded_from = cond is_refusal (Err why) (Ok instruction_from)
 
   -- a line from its fields and the place past it
   abbrev card_from : ℕ → CardLine
@@ -160,8 +161,8 @@ instruction_back (Instruction.Free a) = refl
 
 decoded_back : (d : Decoded) → decoded_from (decoded_fields d) ≡ d
 unfolding decoded_fields has_word
-decoded_back (Decoded.Valid x) = ap Decoded.Valid (instruction_back x)
-decoded_back (Decoded.Refused r) = ap Decoded.Refused (refusal_back r)
+decoded_back (Ok x) = ap Ok (instruction_back x)
+decoded_back (Err r) = ap Err (refusal_back r)
 
 card_back : (x : CardLine) → card_from (card_line_fields x) (card_line_end x) ≡ x
 unfolding card_line_fields has_word

@@ -10,9 +10,10 @@ use native.Mathlib.Omega.{arith}
 use lib.ListN.{length}
 use borrow.Author.Tests.{lt-ltb, le-ltb}
 use Rattle.grammar.specs.Reading.{most, has_word}
-use Rattle.construction.specs.Types.{OperandKind, Unknown, Known, Decoded, Encoded, CardLine, VarLine, SheetLine, InsLine}
+use Rattle.std.specs.Prelude.{None, Some, Ok}
+use Rattle.construction.specs.Types.{OperandKind, Format, Decoded, Encoded, CardLine, VarLine, SheetLine, InsLine}
 use Rattle.construction.specs.Answers.{fields, refused_with, card_line_fields, var_line_fields, sheet_line_fields, encoded_fields, decoded_fields, ins_line_fields}
-use Rattle.construction.specs.Instructions.{in_range, codes, row_of, instruction_of, ranged, unused_zero, each_operand, decode, encoded}
+use Rattle.construction.specs.Instructions.{in_range, codes, row_of, kinds, instruction_of, ranged, unused_zero, each_operand, decode, encoded}
 use Rattle.construction.specs.Lines.{card_word, var_word, sheet_word, ins_word, card_fits, card_line, judge_card, var_line, judge_var, sheet_line, judge_sheet}
 use Rattle.construction.specs.Lines.{ins_of, ins_line, judge_ins, card_text, var_text, sheet_text, encoded_text}
 use Rattle.construction.proofs.Basics.{on_test, clash}
@@ -107,29 +108,29 @@ module _ (n : ℕ) (few : n ≤ 64) (t : List ℕ) (at : ℕ) where
     line_is = let f = four_found t ins_word at k a b c there in rw (f.0, f.1)
 
     -- an unknown code
-    pub ins_line_code : (row_of k).format ≡ Unknown → ins_line_fields (ins_line n t at) ≡ refused_with 4
+    pub ins_line_code : (row_of k).format ≡ None → ins_line_fields (ins_line n t at) ≡ refused_with 4
     unfolding decode ins_line_fields decoded_fields
     ins_line_code f = rw (line_is, code_kept k ∙ f)
 
     -- a code of the table, by the kinds of its operands
-    module _ (ka kb kc : OperandKind) (f : (row_of k).format ≡ Known ka kb kc) where
-      ranged_same : each_operand (ranged n) ka kb kc as_read ≡ each_operand (ranged n) ka kb kc x
+    module _ (ka kb kc : OperandKind) (f : (row_of k).format ≡ Some (kinds ka kb kc)) where
+      ranged_same : each_operand (ranged n) (kinds ka kb kc) as_read ≡ each_operand (ranged n) (kinds ka kb kc) x
       ranged_same = cc (ranged_kept n few ka a, ranged_kept n few kb b, ranged_kept n few kc c)
 
-      unused_same : each_operand unused_zero ka kb kc as_read ≡ each_operand unused_zero ka kb kc x
+      unused_same : each_operand unused_zero (kinds ka kb kc) as_read ≡ each_operand unused_zero (kinds ka kb kc) x
       unused_same = cc (unused_kept ka a, unused_kept kb b, unused_kept kc c)
 
-      pub ins_line_range : each_operand (ranged n) ka kb kc x ≡ false → ins_line_fields (ins_line n t at) ≡ refused_with 12
+      pub ins_line_range : each_operand (ranged n) (kinds ka kb kc) x ≡ false → ins_line_fields (ins_line n t at) ≡ refused_with 12
       unfolding decode ins_line_fields decoded_fields
       ins_line_range r = rw (line_is, code_kept k ∙ f, ranged_same ∙ r)
 
-      module _ (r : each_operand (ranged n) ka kb kc x ≡ true) where
-        pub ins_line_unused : each_operand unused_zero ka kb kc x ≡ false → ins_line_fields (ins_line n t at) ≡ refused_with 13
+      module _ (r : each_operand (ranged n) (kinds ka kb kc) x ≡ true) where
+        pub ins_line_unused : each_operand unused_zero (kinds ka kb kc) x ≡ false → ins_line_fields (ins_line n t at) ≡ refused_with 13
         unfolding decode ins_line_fields decoded_fields
         ins_line_unused u = rw (line_is, code_kept k ∙ f, ranged_same ∙ r, unused_same ∙ u)
 
-        module _ (u : each_operand unused_zero ka kb kc x ≡ true) where
-          valid : decode n x ≡ Decoded.Valid (instruction_of x)
+        module _ (u : each_operand unused_zero (kinds ka kb kc) x ≡ true) where
+          valid : decode n x ≡ Ok (instruction_of x)
           unfolding decode
           valid = rw (f, r, u)
 
@@ -148,15 +149,15 @@ module _ (n : ℕ) (few : n ≤ 64) (t : List ℕ) (at : ℕ) where
               ap ins_line_fields ins_line_good ∙ ap encoded_fields (decoded_encodes n x (omega arith) (instruction_of x) valid).back
 
 -- the codes of the table are 1 to 14
-pub code_unknown : (k : ℕ) → (k ≡ 0) ⊎ (14 < k) → (row_of k).format ≡ Unknown
+pub code_unknown : (k : ℕ) → (k ≡ 0) ⊎ (14 < k) → (row_of k).format ≡ None
 code_unknown k = ⊎_elim (λ (e : k ≡ 0). rw e) (code_past k)
 
-known_format : {a b c : OperandKind} → Known a b c ≢ Unknown
+known_format : {f : Format} → Some f ≢ None
 known_format e = clash (cc)
 
-pub code_known : (k : ℕ) → 0 < k → k ≤ 14 → (row_of k).format ≢ Unknown
+pub code_known : (k : ℕ) → 0 < k → k ≤ 14 → (row_of k).format ≢ None
 code_known =
-    rows_at (λ k r. 0 < k → k ≤ 14 → r.format ≢ Unknown) codes (
+    rows_at (λ k r. 0 < k → k ≤ 14 → r.format ≢ None) codes (
       λ l _. absurd (omega arith),
       (
         λ _ _. known_format,

@@ -13,7 +13,7 @@ use borrow.Author.Tests.{ltb-true, ltb-false, lt-ltb, le-ltb}
 use Rattle.std.specs.Prelude.{Option, Some, None}
 use Rattle.grammar.specs.declared.{Found.Found, Four.Four}
 use Rattle.grammar.specs.Reading.{field, four, has_word}
-use Rattle.construction.specs.Types.{Instruction, Encoded, Format, Unknown, Known, Decoded, Refusal, TooLong, Malformed, OutOfRange, UnknownCode}
+use Rattle.construction.specs.Types.{Instruction, Encoded, Format, Decoded, Refusal, TooLong, Malformed, OutOfRange, UnknownCode}
 use Rattle.construction.specs.Types.{NoProcess, NoProgram, Busy, NotBusy, NoPlace, LimitReached, ShortBuffer, OperandOutOfRange, UnusedOperand, TooHeavy}
 use Rattle.construction.specs.Types.{NotAhead, Unsettled, SheetLine, InsLine, Contents, Verdict, ProgramReading, TooLarge, BadTerms, NoAllowance}
 use Rattle.construction.specs.Instructions.{in_range, row_of, ranged, unused_zero, each_operand, decode_as, decode, encoded}
@@ -49,11 +49,11 @@ abbrev InsWhy : InsLine → Type 0
 InsWhy (InsLine.Ins x i) = Unit {0}
 InsWhy (InsLine.Refused why) = OfLine why
 
-decode_why : (f : Format) (n : ℕ) (x : Encoded) (i : ℕ) → InsWhy (ins_of (decode_as f n x) i)
-decode_why Unknown n x i = OfLine.code
-decode_why (Known a b c) n x i =
-    on_test (λ (d : Decoded). InsWhy (ins_of d i)) (not (each_operand (ranged n) a b c x)) (λ _. OfLine.operand)
-    (λ _. on_test (λ (d : Decoded). InsWhy (ins_of d i)) (not (each_operand unused_zero a b c x)) (λ _. OfLine.unused) (λ _. tt))
+decode_why : (o : Option Format) (n : ℕ) (x : Encoded) (i : ℕ) → InsWhy (ins_of (decode_as o n x) i)
+decode_why None n x i = OfLine.code
+decode_why (Some f) n x i =
+    on_test (λ (d : Decoded). InsWhy (ins_of d i)) (not (each_operand (ranged n) f x)) (λ _. OfLine.operand)
+    (λ _. on_test (λ (d : Decoded). InsWhy (ins_of d i)) (not (each_operand unused_zero f x)) (λ _. OfLine.unused) (λ _. tt))
 
 ins_why : (n : ℕ) (t : List ℕ) (at : ℕ) → InsWhy (ins_line n t at)
 unfolding ins_line judge_ins decode

@@ -7,8 +7,9 @@ use lib.Dec.{eqb, ltb}
 use lib.ListN.{length, get_or, get_or-eq_default}
 use native.Mathlib.Omega.{arith}
 use borrow.Author.Tests.{eqb-true, ltb-true, eq-eqb, ne_eqb, not-false}
+use Rattle.std.specs.Prelude.{Option, None, Some, Ok, Err}
 use Rattle.grammar.proofs.RoundTrip.{Small}
-use Rattle.construction.specs.Types.{Instruction, OperandKind, Unused, Register, Word, Variable, Skip, Format, Unknown, Known, Decoded, Encoded}
+use Rattle.construction.specs.Types.{Instruction, OperandKind, Unused, Register, Word, Variable, Skip, Format, Decoded, Encoded}
 use Rattle.construction.specs.Types.{UnknownCode, OperandOutOfRange, UnusedOperand}
 use Rattle.construction.specs.Instructions.{CodeRow, no_row, codes, row_of, instruction_of, ranged, unused_zero, each_operand, decode, decode_as, encoded}
 use Rattle.construction.specs.Instructions.{encode}
@@ -38,8 +39,8 @@ kept Variable x = x % 256
 kept Skip x = x % 256
 
 -- what it keeps of all three
-abbrev kept_of : OperandKind → OperandKind → OperandKind → Encoded → Encoded
-kept_of a b c x = encoded x.code (kept a x.a) (kept b x.b) (kept c x.c)
+abbrev kept_of : Format → Encoded → Encoded
+kept_of f x = encoded x.code (kept f.a x.a) (kept f.b x.b) (kept f.c x.c)
 
 -- an operand within the range of its kind, and 0 where it is unused, is kept whole, and is a word
 operand_kept :
@@ -61,9 +62,9 @@ abbrev Keeps : Encoded → Encoded → Type 0
 Keeps x z = (from_bytes x ≡ instruction_of z) × (encode (instruction_of z) ≡ z) × (ltb z.code 4294967296 ≡ true)
 
 -- so it is for each row
-abbrev Sound : ℕ → Format → Type 0
-Sound k Unknown = Unit {0}
-Sound k (Known ka kb kc) = (a b c : ℕ) → Keeps (encoded k a b c) (kept_of ka kb kc (encoded k a b c))
+abbrev Sound : ℕ → Option Format → Type 0
+Sound k None = Unit {0}
+Sound k (Some f) = (a b c : ℕ) → Keeps (encoded k a b c) (kept_of f (encoded k a b c))
 
 codes_sound : (k : ℕ) → Sound k (row_of k).format
 unfolding encode
@@ -116,24 +117,24 @@ pub record Decodes (x : Encoded) (y : Instruction) : Type 0 where
 
 -- ---- a code that has a format, with operands within their ranges, and 0 where they are unused
 module _
-    (n : ℕ) (x : Encoded) (h : n ≤ 256) {a b c : OperandKind}
-    (e : (row_of x.code).format ≡ Known a b c)
-    (t : each_operand (ranged n) a b c x ≡ true) (z : each_operand unused_zero a b c x ≡ true) where
+    (n : ℕ) (x : Encoded) (h : n ≤ 256) {f : Format}
+    (e : (row_of x.code).format ≡ Some f)
+    (t : each_operand (ranged n) f x ≡ true) (z : each_operand unused_zero f x ≡ true) where
   abbrev Kept : OperandKind → ℕ → Type 0
   Kept kind y = (kept kind y ≡ y) × (y < 4294967296)
 
-  operands : Kept a x.a × Kept b x.b × Kept c x.c
+  operands : Kept f.a x.a × Kept f.b x.b × Kept f.c x.c
   operands =
-      let t₁ = and_true (ranged n a x.a) _ t in
-      let t₂ = and_true (ranged n b x.b) _ t₁.1 in
-      let z₁ = and_true (unused_zero a x.a) _ z in
-      let z₂ = and_true (unused_zero b x.b) _ z₁.1 in
-      (operand_kept n a x.a h t₁.0 z₁.0, operand_kept n b x.b h t₂.0 z₂.0, operand_kept n c x.c h t₂.1 z₂.1)
+      let t₁ = and_true (ranged n f.a x.a) _ t in
+      let t₂ = and_true (ranged n f.b x.b) _ t₁.1 in
+      let z₁ = and_true (unused_zero f.a x.a) _ z in
+      let z₂ = and_true (unused_zero f.b x.b) _ z₁.1 in
+      (operand_kept n f.a x.a h t₁.0 z₁.0, operand_kept n f.b x.b h t₂.0 z₂.0, operand_kept n f.c x.c h t₂.1 z₂.1)
 
-  whole : kept_of a b c x ≡ x
+  whole : kept_of f x ≡ x
   whole = λ i. record { code = x.code; a = operands.0.0 i; b = operands.1.0 i; c = operands.2.0 i }
 
-  sound : Sound x.code (Known a b c)
+  sound : Sound x.code (Some f)
   sound = subst (Sound x.code) e (codes_sound x.code)
 
   built : from_bytes x ≡ instruction_of x
@@ -149,43 +150,43 @@ module _
         small = record { small_a = omega arith; small_b = omega arith; small_c = omega arith; small_d = omega arith };
       }
 
-pub decoded_encodes : (n : ℕ) (x : Encoded) → n ≤ 256 → (y : Instruction) → decode n x ≡ Decoded.Valid y → Decodes x y
+pub decoded_encodes : (n : ℕ) (x : Encoded) → n ≤ 256 → (y : Instruction) → decode n x ≡ Ok y → Decodes x y
 unfolding decode
 decoded_encodes n x h y = by (row_of x.code).format refl
   where
-    by : (f : Format) → (row_of x.code).format ≡ f → decode_as f n x ≡ Decoded.Valid y → Decodes x y
-    by Unknown e = λ d. clash (cc)
-    by (Known a b c) e =
-        on_test (λ (d : Decoded). d ≡ Decoded.Valid y → Decodes x y) (not (each_operand (ranged n) a b c x))
+    by : (o : Option Format) → (row_of x.code).format ≡ o → decode_as o n x ≡ Ok y → Decodes x y
+    by None e = λ d. clash (cc)
+    by (Some f) e =
+        on_test (λ (d : Decoded). d ≡ Ok y → Decodes x y) (not (each_operand (ranged n) f x))
         (λ t d. clash (cc))
-        (λ t. on_test (λ (d : Decoded). d ≡ Decoded.Valid y → Decodes x y) (not (each_operand unused_zero a b c x))
+        (λ t. on_test (λ (d : Decoded). d ≡ Ok y → Decodes x y) (not (each_operand unused_zero f x))
         (λ z d. clash (cc))
         (λ z d. subst (Decodes x) (cc) (decodes n x h e (not-false _ t) (not-false _ z))))
 
 -- ---- what a decoder finds, by the format that it looked up and the tests that it made
-module _ (n : ℕ) (x : Encoded) {f : Format} (e : f ≡ (row_of x.code).format) where
-  pub decode_unknown : f ≡ Unknown → Decoded.Refused UnknownCode ≡ decode n x
+module _ (n : ℕ) (x : Encoded) {o : Option Format} (e : o ≡ (row_of x.code).format) where
+  pub decode_unknown : o ≡ None → Err UnknownCode ≡ decode n x
   unfolding decode
   decode_unknown p = rw (← e, p)
 
-  module _ {ka kb kc : OperandKind} (p : f ≡ Known ka kb kc) {t : Bool} (q : t ≡ each_operand (ranged n) ka kb kc x) where
-    pub decode_range : t ≡ false → Decoded.Refused OperandOutOfRange ≡ decode n x
+  module _ {f : Format} (p : o ≡ Some f) {t : Bool} (q : t ≡ each_operand (ranged n) f x) where
+    pub decode_range : t ≡ false → Err OperandOutOfRange ≡ decode n x
     unfolding decode
     decode_range z = rw (← e, p, ← q, z)
 
-    module _ (z : t ≡ true) {u : Bool} (r : u ≡ each_operand unused_zero ka kb kc x) where
-      pub decode_unused : u ≡ false → Decoded.Refused UnusedOperand ≡ decode n x
+    module _ (z : t ≡ true) {u : Bool} (r : u ≡ each_operand unused_zero f x) where
+      pub decode_unused : u ≡ false → Err UnusedOperand ≡ decode n x
       unfolding decode
       decode_unused y = rw (← e, p, ← q, z, ← r, y)
 
       module _ (h : n ≤ 256) (y : u ≡ true) where
-        decode_valid : {k : Instruction} → k ≡ from_bytes x → Decoded.Valid k ≡ decode n x
+        decode_valid : {k : Instruction} → k ≡ from_bytes x → Ok k ≡ decode n x
         unfolding decode
         decode_valid s = rw (← e, p, ← q, z, ← r, y, s ∙ built n x h (sym e ∙ p) (sym q ∙ z) (sym r ∙ y))
 
-        pub decode_constant : x.code ≡ 2 → Decoded.Valid (Instruction.Constant (x.a % 256) (x.b % 4294967296)) ≡ decode n x
+        pub decode_constant : x.code ≡ 2 → Ok (Instruction.Constant (x.a % 256) (x.b % 4294967296)) ≡ decode n x
         decode_constant k = decode_valid (rw (eq-eqb x.code 2 k))
 
         pub decode_bytes :
-            {k : Instruction} → (x.code ≡ 2 → ⊥) → k ≡ instruction_of (encoded x.code (x.a % 256) (x.b % 256) (x.c % 256)) → Decoded.Valid k ≡ decode n x
+            {k : Instruction} → (x.code ≡ 2 → ⊥) → k ≡ instruction_of (encoded x.code (x.a % 256) (x.b % 256) (x.c % 256)) → Ok k ≡ decode n x
         decode_bytes ne s = decode_valid (s ∙ rw (ne_eqb x.code 2 ne))

@@ -15,7 +15,7 @@ use Rattle.grammar.specs.Reading.{found, four_of, most, field, four, has_word}
 use Rattle.grammar.specs.Writing.{field_text, four_text}
 use Rattle.grammar.proofs.Bytes.{word_text_lem, word_reads, drop_past}
 use Rattle.grammar.proofs.RoundTrip.{field_standing, four_standing, field_reads, four_reads}
-use Rattle.construction.specs.Types.{OperandKind, Unused, Register, Word, Variable, Skip, Unknown}
+use Rattle.construction.specs.Types.{OperandKind, Unused, Register, Word, Variable, Skip}
 use Rattle.construction.specs.Instructions.{in_range, CodeRow, row_of, ranged, unused_zero}
 use Rattle.construction.specs.Lines.{card_fits}
 use Rattle.construction.proofs.Basics.{true_false}
@@ -117,7 +117,7 @@ unused_kept Word x = refl
 unused_kept Variable x = refl
 unused_kept Skip x = refl
 
-pub code_past : (k : ℕ) → 14 < k → (row_of k).format ≡ Unknown
+pub code_past : (k : ℕ) → 14 < k → (row_of k).format ≡ None
 code_past k h = sym (ap (λ (r : CodeRow). r.format) (past_rows k h))
 
 pub code_kept : (k : ℕ) → (row_of (min most k)).format ≡ (row_of k).format

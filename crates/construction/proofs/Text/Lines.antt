@@ -5,7 +5,7 @@ use mathlib.Core.List.{List}
 use Prim.Native.Nat.{ℕ, ◌+◌, ◌<◌, ◌≤◌}
 use lib.Dec.{ltb, leb}
 use borrow.Author.Tests.{lt-ltb, le-ltb, ltb-true, leb-true}
-use Rattle.std.specs.Prelude.{Option, Some, None}
+use Rattle.std.specs.Prelude.{Option, Some, None, Ok, Err}
 use Rattle.grammar.specs.declared.{Found.Found, Four.Four}
 use Rattle.grammar.specs.Reading.{found, four_of, field, four, has_word}
 use Rattle.grammar.proofs.Places.{same_parts, same_fours}
@@ -174,7 +174,7 @@ pub record InsRead (n : ℕ) (t : List ℕ) (at : ℕ) (x : Instruction) (i : �
   pub numbers : Encoded
   pub word_there : has_word t at ins_word ≡ true
   pub numbers_there : four t (at + 4) ≡ Some (found (four_of numbers.code numbers.a numbers.b numbers.c) i)
-  pub fits : decode n numbers ≡ Decoded.Valid x
+  pub fits : decode n numbers ≡ Ok x
 
 pub ins_read : (n : ℕ) (t : List ℕ) (at : ℕ) (x : Instruction) (i : ℕ) → ins_line n t at ≡ InsLine.Ins x i → InsRead n t at x i
 unfolding ins_line judge_ins
@@ -184,10 +184,10 @@ ins_read n t at x i =
     good :
         has_word t at ins_word ≡ true → (y : Found Four) → four t (at + 4) ≡ Some y →
         (d : Decoded) → decode n (encoded y.value.a y.value.b y.value.c y.value.d) ≡ d → ins_of d y.next ≡ InsLine.Ins x i → InsRead n t at x i
-    good h y q (Decoded.Valid z) f e =
+    good h y q (Ok z) f e =
         let v = y.value in
         record { numbers = encoded v.a v.b v.c v.d; word_there = h; numbers_there = q ∙ same_parts refl (cc); fits = cc }
-    good h y q (Decoded.Refused z) f e = clash (cc)
+    good h y q (Err z) f e = clash (cc)
 
     go : has_word t at ins_word ≡ true → (f : Option (Found Four)) → four t (at + 4) ≡ f → judge_ins n f ≡ InsLine.Ins x i → InsRead n t at x i
     go h (Some y) q e = good h y q (decode n (encoded y.value.a y.value.b y.value.c y.value.d)) refl e

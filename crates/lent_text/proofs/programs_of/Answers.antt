@@ -4,12 +4,11 @@ use Rattle.lent_text.proofs.Contents as contents
 use Rattle.lent_text.proofs.programs_of.Goals as goal
 
 pub loop-k-init : goal.loop-k-init
-loop-k-init c = (contents.table_start (λ (v : ℕ). opening_text c.args.b.now v), omega arith, refl)
+loop-k-init c = (contents.table_start (λ (v : ℕ). opening_text c.args.b.now v), refl)
 
 pub loop-k-preserved : goal.loop-k-preserved
 loop-k-preserved c = (
   contents.table_turn (λ (v : ℕ). opening_text c.args.b.now v) _ _ _ c.loop-k.invariant.0 (omega arith)
       c.program.ensures,
-  omega arith,
-  simp length-set c.loop-k.invariant.2,
+  simp length-set c.loop-k.invariant.1,
 )

@@ -5,4 +5,4 @@ use Rattle.lent_text.proofs.write.Goals as goal
 
 pub returns : goal.returns
 returns c =
-    contents.writes_card (card_of c.args.b.now []) _ _ _ _ c.contents_of-contents.ensures c.write_contents.ensures
+    contents.writes_card (card_of c.args.b.now []) _ _ _ _ c.contents_of.ensures c.write_contents.ensures

@@ -1,22 +1,21 @@
-use Rattle.std.proofs.Common.{sym, ◌∙◌}
+use Rattle.std.proofs.Common.{refl}
 use Rattle.lent_card.proofs.Judging as judging
 use Rattle.lent_card.proofs.changing.change.Goals as goal
 
-pub returns-then-not-is_refused : goal.returns-then-not-is_refused
-returns-then-not-is_refused c =
+pub returns-in-Err : goal.returns-in-Err
+returns-in-Err c =
     let a = c.args in (
       judging.change_told _ a.program a.from _ c.variable_count.ensures c.room.ensures c.read_change-read.ensures
-          c.answer_change-answer.ensures,
-      judging.change_taken _ a.program a.from _ c.variable_count.ensures c.room.ensures c.read_change-read.ensures
-          c.answer_change-answer.ensures (sym c.is_refused.ensures ∙ c.if-not-is_refused.true) c.narrow.ensures
-          c.put_change.ensures,
+          c.in-Err.ensures,
+      judging.change_refused _ a.program a.from _ c.variable_count.ensures c.room.ensures c.read_change-read.ensures
+          c.in-Err.ensures refl,
     )
 
-pub returns-else-not-is_refused : goal.returns-else-not-is_refused
-returns-else-not-is_refused c =
-    let a = c.args in (
-      judging.change_told _ a.program a.from _ c.variable_count.ensures c.room.ensures c.read_change-read.ensures
-          c.answer_change-answer.ensures,
-      judging.change_refused _ a.program a.from _ c.variable_count.ensures c.room.ensures c.read_change-read.ensures
-          c.answer_change-answer.ensures (sym c.is_refused.ensures ∙ c.if-not-is_refused.false),
+pub returns : goal.returns
+returns c =
+    let a = c.args in
+    let taken = c.in_default.ensures {u = tt} in (
+      judging.change_told _ a.program a.from _ c.variable_count.ensures c.room.ensures c.read_change-read.ensures taken,
+      judging.change_taken _ a.program a.from _ c.variable_count.ensures c.room.ensures c.read_change-read.ensures
+          taken refl c.narrow.ensures c.put_change.ensures,
     )

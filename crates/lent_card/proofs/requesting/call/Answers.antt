@@ -1,16 +1,12 @@
-use Rattle.std.proofs.Common.{sym, ◌∙◌}
+use Rattle.std.proofs.Common.{refl}
 use Rattle.lent_card.proofs.Judging as judging
 use Rattle.lent_card.proofs.requesting.call.Goals as goal
 
-pub returns-then-not-is_refused : goal.returns-then-not-is_refused
-returns-then-not-is_refused c = (
-  c.answer_call-answer.ensures,
-  judging.call_taken _ _ _ _ c.answer_call-answer.ensures (sym c.is_refused.ensures ∙ c.if-not-is_refused.true)
-      c.narrow.ensures c.narrow-then-not-is_refused.ensures c.put_call.ensures,
-)
+pub returns-in-Err : goal.returns-in-Err
+returns-in-Err c = (c.in-Err.ensures, judging.call_refused _ _ _ _ c.in-Err.ensures refl)
 
-pub returns-else-not-is_refused : goal.returns-else-not-is_refused
-returns-else-not-is_refused c = (
-  c.answer_call-answer.ensures,
-  judging.call_refused _ _ _ _ c.answer_call-answer.ensures (sym c.is_refused.ensures ∙ c.if-not-is_refused.false),
+pub returns : goal.returns
+returns c = (
+  c.in_default.ensures {u = tt},
+  judging.call_taken _ _ _ _ (c.in_default.ensures {u = tt}) refl c.narrow.ensures c.narrow-2.ensures c.put_call.ensures,
 )

@@ -1,16 +1,12 @@
-use Rattle.std.proofs.Common.{sym, ◌∙◌}
+use Rattle.std.proofs.Common.{refl}
 use Rattle.lent_card.proofs.Judging as judging
 use Rattle.lent_card.proofs.requesting.request_exit.Goals as goal
 
-pub returns-then-not-is_refused : goal.returns-then-not-is_refused
-returns-then-not-is_refused c = (
-  c.answer_exit-answer.ensures,
-  judging.exit_taken _ _ c.answer_exit-answer.ensures (sym c.is_refused.ensures ∙ c.if-not-is_refused.true)
-      c.narrow.ensures c.put_exit.ensures,
-)
+pub returns-in-Err : goal.returns-in-Err
+returns-in-Err c = (c.in-Err.ensures, judging.exit_refused _ _ c.in-Err.ensures refl)
 
-pub returns-else-not-is_refused : goal.returns-else-not-is_refused
-returns-else-not-is_refused c = (
-  c.answer_exit-answer.ensures,
-  judging.exit_refused _ _ c.answer_exit-answer.ensures (sym c.is_refused.ensures ∙ c.if-not-is_refused.false),
+pub returns : goal.returns
+returns c = (
+  c.in_default.ensures {u = tt},
+  judging.exit_taken _ _ (c.in_default.ensures {u = tt}) refl c.narrow.ensures c.put_exit.ensures,
 )

@@ -4,11 +4,11 @@ use Rattle.lent_runs.specs.Runs.{untraced}
 use Rattle.construction.specs.History.{Entry}
 use Rattle.shared_processor.proofs.requesting.request_exit.Goals as goal
 
-pub returns-then-a-m : goal.returns-then-a-m
-returns-then-a-m c = let a = c.args in laws.absent a.a 0 a.blocks.now [] a.m (Entry.Exit a.process) c.if-a-m.true
+pub returns-in_default : goal.returns-in_default
+returns-in_default c = let a = c.args in laws.absent a.a 0 a.blocks.now [] a.m (Entry.Exit a.process) c.in_default.ensures
 
 pub returns : goal.returns
 returns c =
     let a = c.args in
-    laws.plain a.a a.blocks.now a.m c.if-a-m.false _ _ c.start_of-start.ensures c.end_of-end.ensures
+    laws.plain a.a a.blocks.now a.m c.in-Some.ensures.0 _ _ c.in-Some.ensures.1 c.in-Some.ensures.2
     (Entry.Exit a.process) tt (ap untraced c.request_exit.ensures.0) c.request_exit.ensures.1

@@ -1,19 +1,19 @@
-use Rattle.std.proofs.Common.{sym, ap, ◌∙◌}
+use Rattle.std.proofs.Common.{refl, ap}
 use Rattle.shared_processor.proofs.Requests as laws
 use Rattle.lent_runs.specs.Runs.{untraced}
 use Rattle.construction.specs.History.{Entry, Steps}
 use Rattle.shared_processor.proofs.stepping.step.Goals as goal
 
-pub returns-then-is_refused : goal.returns-then-is_refused
-returns-then-is_refused c =
+pub returns-in-Err : goal.returns-in-Err
+returns-in-Err c =
     let a = c.args in
     laws.refused_step a.a a.stride a.blocks.now a.loans.now a.m a.process (Entry.Step a.process) Steps.by_step _
-    c.judge-judged.ensures (sym c.is_refused.ensures ∙ c.if-is_refused.true)
+    c.in-Err.ensures refl
 
 pub returns : goal.returns
 returns c =
     let a = c.args in
     laws.accepted_step_made a.a a.stride a.blocks.now a.loans.now a.m a.process (Entry.Step a.process) Steps.by_step
-    _ _ c.start_of-start.ensures c.end_of-end.ensures _ _ c.start_of-first.ensures c.end_of-last.ensures _
-    c.judge-judged.ensures (sym c.is_refused.ensures ∙ c.if-is_refused.false)
+    _ _ c.part_of-block.ensures.start c.part_of-block.ensures.end _ _ c.part_of-loan.ensures.start
+    c.part_of-loan.ensures.end _ c.in-Ok.ensures refl
     (ap untraced c.step-answer.ensures.0) c.step-answer.ensures.1 c.step-answer.ensures.2

@@ -15,9 +15,9 @@ use Rattle.codes.specs.Types.{Item, Control}
 use Rattle.codes.specs.Parts.{stores}
 use Rattle.codes.specs.Codes.{item_words}
 use Rattle.block.specs.Layout.{number_at, room_in, noted_in, put_noted}
-use Rattle.loan.specs.declared.dictionaries.Span.{Span}
+use Rattle.loan.specs.declared.items.Span.{Span}
 use Rattle.block.specs.Cards.{dictionary_at}
-use Rattle.loan.specs.Loans.{has_items, span_in, held_dictionary, is_inserted, insert_block, insert_loan}
+use Rattle.loan.specs.Loans.{Fits, has_items, span_in, held_dictionary, is_inserted, insert_block, insert_loan}
 
 pub room_small : (w x : ℕ) → w ≡ min x 32 → w ≤ 32
 room_small w x e = omega arith
@@ -31,11 +31,6 @@ base_small w i h p =
 pub has_long : (b l : List ℕ) (i : ℕ) → has_items b l i ≡ true → (room_in b * i + room_in b) * 3 ≤ length l
 unfolding has_items
 has_long b l i e = leb-true ((room_in b * i + room_in b) * 3) (length l) e
-
-pub record Fits (l : List ℕ) (s : Span) : Type 0 where
-  pub base : s.base < 10000
-  pub end : s.end ≤ 32
-  pub long : (s.base + s.end) * 3 ≤ length l
 
 pub span_fits : (b l : List ℕ) (i : ℕ) → i < 256 → (s : Span) → s ≡ span_in b l i → Fits l s
 span_fits b l i p s e = rw e (go (has_items b l i) refl)

@@ -94,14 +94,14 @@ returns-in-Some c =
     let at = goal.at.returns-in-Some c in
     step_is at.After-access_of-access _
     (accesses.at_begun (accepted at.After-access_of-access) _ c.in-Help.is _ c.holder_of-m.ensures _ c.announcement_at-cell.ensures _
-    (begun_text at.After-program_at) _ c.begin_help-began.ensures _ c.in-Some.is c.answer_of-answer-in-Help.ensures _ (rw c.empty.ensures))
+    (begun_text at.After-program_at) _ c.begin_help-began.ensures _ c.in-Some.is c.answer_of.ensures _ (rw c.empty.ensures))
 
 pub returns-in-None-began : goal.returns-in-None-began
 returns-in-None-began c =
     let at = goal.at.returns-in-None-began c in
     step_is at.After-access_of-access _
     (accesses.at_passed (accepted at.After-access_of-access) _ c.in-Help.is _ c.holder_of-m.ensures _ c.announcement_at-cell.ensures _
-    (begun_text at.After-program_at) _ c.begin_help-began.ensures c.in-None-began.is c.answer_of-answer-in-Help.ensures)
+    (begun_text at.After-program_at) _ c.begin_help-began.ensures c.in-None-began.is c.answer_of-in-None-began.ensures)
 
 pub returns-after-gate-c-2 : goal.returns-after-gate-c-2
 returns-after-gate-c-2 c =

@@ -12,16 +12,16 @@ use borrow.Author.Tests.{lt-ltb, le-ltb, le-leb, ne_eqb}
 use Rattle.grammar.specs.Writing.{decimal, largest}
 use Rattle.grammar.proofs.Cases.{on_test, clash}
 use Rattle.grammar.proofs.Decimals.{decimal_one, decimal_more, decimal_step, decimal_induction}
-use Rattle.arguments.specs.declared.Argument.{Argument}
+use Rattle.std.specs.Prelude.{Option, Some, None}
 use Rattle.arguments.specs.Arguments.{grown, fits, digits_of, begins_wrong, argument_of}
 use Rattle.arguments.proofs.Digits.{fit_bounds}
 
 -- ---- what is taken stands there as it is written
-digits_text : (xs : List ℕ) (v w : ℕ) → 0 < v → v ≤ largest → digits_of v xs ≡ Argument.Value w → (decimal v ++ xs ≡ decimal w) × (w ≤ largest)
+digits_text : (xs : List ℕ) (v w : ℕ) → 0 < v → v ≤ largest → digits_of v xs ≡ Some w → (decimal v ++ xs ≡ decimal w) × (w ≤ largest)
 unfolding digits_of
 digits_text [] v w p l = λ e. let z : v ≡ w = cc in (append-nil (decimal v) ∙ ap decimal z, omega arith)
 digits_text (x ∷ xs) v w p l =
-    on_test (λ (a : Argument). a ≡ Argument.Value w → (decimal v ++ (x ∷ xs) ≡ decimal w) × (w ≤ largest)) (fits v x)
+    on_test (λ (a : Option ℕ). a ≡ Some w → (decimal v ++ (x ∷ xs) ≡ decimal w) × (w ≤ largest)) (fits v x)
     (λ f e. let h = fit_bounds v x f in
     let y : 48 + (x - 48) ≡ x = omega arith in
     let r = digits_text xs (grown v x) w (omega arith) (omega arith) e in
@@ -29,10 +29,10 @@ digits_text (x ∷ xs) v w p l =
     (sym (append_snoc (decimal v) x xs) ∙ ap (λ (l : List ℕ). l ++ xs) (sym s) ∙ r.0, r.1))
     (λ f e. clash (cc))
 
-first_text : (x : ℕ) (xs : List ℕ) (n : ℕ) → (0 < length xs → x ≡ 48 → ⊥) → digits_of 0 (x ∷ xs) ≡ Argument.Value n → (x ∷ xs ≡ decimal n) × (n ≤ largest)
+first_text : (x : ℕ) (xs : List ℕ) (n : ℕ) → (0 < length xs → x ≡ 48 → ⊥) → digits_of 0 (x ∷ xs) ≡ Some n → (x ∷ xs ≡ decimal n) × (n ≤ largest)
 unfolding digits_of
 first_text x xs n other =
-    on_test (λ (a : Argument). a ≡ Argument.Value n → (x ∷ xs ≡ decimal n) × (n ≤ largest)) (fits 0 x)
+    on_test (λ (a : Option ℕ). a ≡ Some n → (x ∷ xs ≡ decimal n) × (n ≤ largest)) (fits 0 x)
     (λ f. go xs other (fit_bounds 0 x f))
     (λ f e. clash (cc))
   where
@@ -40,7 +40,7 @@ first_text x xs n other =
     one h = let y : 48 + (grown 0 x) ≡ x = omega arith in decimal_one (grown 0 x) (omega arith) ∙ ap (λ (b : ℕ). b ∷ []) y
 
     go :
-        (xs : List ℕ) → (0 < length xs → x ≡ 48 → ⊥) → (48 ≤ x) × (x ≤ 57) × (grown 0 x ≤ largest) → digits_of (grown 0 x) xs ≡ Argument.Value n →
+        (xs : List ℕ) → (0 < length xs → x ≡ 48 → ⊥) → (48 ≤ x) × (x ≤ 57) × (grown 0 x ≤ largest) → digits_of (grown 0 x) xs ≡ Some n →
         (x ∷ xs ≡ decimal n) × (n ≤ largest)
     go [] other h e = let z : grown 0 x ≡ n = cc in (sym (one h) ∙ ap decimal z, omega arith)
     go (y ∷ ys) other h e =
@@ -48,11 +48,11 @@ first_text x xs n other =
         let r = digits_text (y ∷ ys) (grown 0 x) n (omega arith) (omega arith) e in
         (ap (λ (l : List ℕ). l ++ (y ∷ ys)) (sym (one h)) ∙ r.0, r.1)
 
-pub argument_only : (t : List ℕ) (n : ℕ) → argument_of t ≡ Argument.Value n → (t ≡ decimal n) × (n ≤ largest)
+pub argument_only : (t : List ℕ) (n : ℕ) → argument_of t ≡ Some n → (t ≡ decimal n) × (n ≤ largest)
 unfolding argument_of
 argument_only [] n = λ e. clash (cc)
 argument_only (x ∷ xs) n =
-    on_test (λ (a : Argument). a ≡ Argument.Value n → (x ∷ xs ≡ decimal n) × (n ≤ largest)) (begins_wrong (x ∷ xs))
+    on_test (λ (a : Option ℕ). a ≡ Some n → (x ∷ xs ≡ decimal n) × (n ≤ largest)) (begins_wrong (x ∷ xs))
     (λ _ e. clash (cc))
     (λ f e. first_text x xs n
     (λ l q. let z : begins_wrong (x ∷ xs) ≡ true = rw (le-ltb (suc (length xs)) 1 (omega arith), q, lt-ltb 1 (suc (length xs)) (omega arith)) in
@@ -112,7 +112,7 @@ not_wrong t n b = let s = b.some in rw (le-ltb (length t) 1 (omega arith)) (go (
     go (yes p) = rw (b.few p) (only (eqb (get_or t 0 0) 48))
     go (no p) = let f = b.first (omega arith) in rw (ne_eqb (get_or t 0 0) 48 (λ (q : get_or t 0 0 ≡ 48). omega arith))
 
-pub argument_reads : (n : ℕ) → n ≤ largest → argument_of (decimal n) ≡ Argument.Value n
+pub argument_reads : (n : ℕ) → n ≤ largest → argument_of (decimal n) ≡ Some n
 unfolding argument_of digits_of
 argument_reads n l =
     rw (not_wrong (decimal n) n (begins n)) (ap (λ (t : List ℕ). digits_of 0 t) (sym (append-nil (decimal n))) ∙ digits_read n l [])

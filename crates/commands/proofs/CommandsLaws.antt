@@ -1,6 +1,6 @@
 -- Where the command at a place ends, and the commands of a text one after the other.
 use mathlib.Core.Bool.{Bool, true, false, cond}
-use mathlib.Core.Path.{◌≡◌, refl, ap}
+use mathlib.Core.Path.{◌≡◌, refl, sym, ◌∙◌}
 use mathlib.Core.List.{List, [], ◌∷◌}
 use Prim.Native.Nat.{ℕ, zero, suc, ◌+◌, ◌-◌, ◌<◌, ◌≤◌}
 use lib.Dec.{ltb, eqb}
@@ -8,20 +8,26 @@ use lib.ListN.{length, drop, get_or, length-drop, drop_of_length-le}
 use lib.Seq.{drop-cons}
 use native.Mathlib.Omega.{arith}
 use borrow.Author.Tests.{ltb-true}
-use Rattle.std.specs.Prelude.{Option, Some, None}
-use Rattle.grammar.specs.declared.Found.{Found as Read}
-use Rattle.grammar.specs.Reading.{field, has_word}
+use Rattle.std.specs.Prelude.{Option, Some, None, unwrap_or}
+use Rattle.std.specs.Option.{option_map, option_or}
+use Rattle.grammar.specs.declared.Found.{Found}
+use Rattle.grammar.specs.Reading.{found, with_found, field, has_word}
 use Rattle.grammar.proofs.Cases.{clash, on_test}
+use Rattle.grammar.proofs.Bytes.{word_within}
 use Rattle.grammar.proofs.Fields.{field_within}
 use Rattle.grammar.proofs.Items.{items_end, items_more, items_induction}
-use Rattle.commands.specs.declared.{Word.Word, Verb.Verb, Found.Found, Parsed.Parsed}
-use Rattle.commands.specs.Commands.{call_word, wish_word, step_word, look_word, trace_word, change_word, line_end, lines_end, malformed, limited, word, with_word}
-use Rattle.commands.specs.Commands.{call_at, change_at, Inside, found, fields_at, command, commands}
+use Rattle.commands.specs.declared.{Verb.Verb, Parsed.Parsed}
+use Rattle.commands.specs.Commands.{call_word, wish_word, step_word, look_word, trace_word, change_word, line_end, lines_end, malformed, limited, word}
+use Rattle.commands.specs.Commands.{one_line, with_number, numbered, call_at, change_at, Inside, verb_there, verb_at, parsed_at, fields_at, command, commands}
 
--- the place past a field, 0 where there is none
-abbrev next_of : Word → ℕ
-next_of (Word.Value v i) = i
-next_of Word.Malformed = 0
+-- what holds of a thing that is there
+abbrev pub OnSome : {A : Type 0} → (A → Type 0) → Option A → Type 0
+OnSome P None = Unit
+OnSome P (Some x) = P x
+
+pub on_unwrap : {A : Type 0} (P : A → Type 0) (o : Option A) (x : A) → OnSome P o → P x → P (unwrap_or o x)
+on_unwrap P None x p q = q
+on_unwrap P (Some y) x p q = p
 
 -- ---- a command ends past its place
 end_past : (xs : List ℕ) (at : ℕ) → at ≤ line_end at xs
@@ -51,85 +57,100 @@ unfolding line_end lines_end
 lines_none zero at t h = refl
 lines_none (suc k) at t h = rw (drop_of_length-le t h) (lines_none k at t h)
 
-pub lines_step : (k at : ℕ) (t : List ℕ) → (k ≡ 0 → ⊥) → lines_end k at t ≡ lines_end (k - 1) (line_end at (drop at t)) t
+pub lines_step : (k n at : ℕ) (t : List ℕ) → k < n → lines_end (n - k) at t ≡ lines_end (n - (k + 1)) (line_end at (drop at t)) t
 unfolding lines_end
-lines_step zero at t h = absurd (h refl)
-lines_step (suc k) at t h = rw (let e : suc k - 1 ≡ k = omega arith in e)
+lines_step k n at t h = let e : n - k ≡ suc (n - (k + 1)) = omega arith in rw e
 
-pub line_more : (t : List ℕ) (at : ℕ) → at < length t → length t - line_end at (drop at t) < length t - at
-line_more t at h = omega (arith, line_past t at h)
+pub lines_last : (k n at : ℕ) (t : List ℕ) → n ≤ k → lines_end (n - k) at t ≡ at
+unfolding lines_end
+lines_last k n at t h = let e : n - k ≡ 0 = omega arith in rw e
+
+-- a word that stands in a text ends at a place that the code can name, as the text and its place do
+pub word_fits :
+    (t : List ℕ) (at : ℕ) (w : List ℕ) {b : Bool} → b ≡ has_word t at w → b ≡ true → {n : ℕ} → at ≤ n → length t ≤ n → at + length w ≤ n
+word_fits t at [] e h l m = omega arith
+word_fits t at (x ∷ xs) e h l m = omega (arith, word_within t (x ∷ xs) at (omega arith) (sym e ∙ h))
 
 -- a field of 32 bits, by cases
 pub on_word :
-    (P : Parsed → Type 0) (t : List ℕ) {m : Parsed} → P m → (s at : ℕ) {go : ℕ → ℕ → Parsed} →
-    ((v i : ℕ) → at < i → i ≤ length t → v < 4294967296 → P (go v i)) → P (with_word (word t s at) m go)
+    {A : Type 0} (P : Option A → Type 0) (t : List ℕ) → P None → (s at : ℕ) {go : Found ℕ → Option A} →
+    ((x : Found ℕ) → at < x.next → x.next ≤ length t → x.value < 4294967296 → P (go x)) → P (with_found (word t s at) go)
 unfolding word
-on_word P t {m} p s at {go} f = by (field t s at) refl
+on_word P t p s at {go} f = by (field t s at) refl
   where
-    by : (n : Option (Read ℕ)) → field t s at ≡ n → P (with_word (limited n) m go)
+    by : (n : Option (Found ℕ)) → field t s at ≡ n → P (with_found (with_found n limited) go)
     by (Some x) e =
-        on_test (λ w. P (with_word w m go)) (ltb x.value 4294967296)
-        (λ h. let l = field_within t s at x.value x.next e in f x.value x.next l.0 l.1 (ltb-true x.value 4294967296 h)) (λ _. p)
+        on_test (λ w. P (with_found w go)) (ltb x.value 4294967296)
+        (λ h. let l = field_within t s at x.value x.next e in f x l.0 l.1 (ltb-true x.value 4294967296 h)) (λ _. p)
     by None e = p
 
 -- a field of 32 bits ends past its place
-pub word_past : (t : List ℕ) (s at : ℕ) {v i : ℕ} → word t s at ≡ Word.Value v i → at < i
+pub word_past : (t : List ℕ) (s at : ℕ) → OnSome (λ x. at < x.next) (word t s at)
 unfolding word
-word_past t s at {v} {i} e = by (field t s at) refl e
+word_past t s at = by (field t s at) refl
   where
-    by : (n : Option (Read ℕ)) → field t s at ≡ n → limited n ≡ Word.Value v i → at < i
-    by (Some x) f h = on_limit (ltb x.value 4294967296) h
-      where
-        on_limit : (b : Bool) → cond b (Word.Value x.value x.next) Word.Malformed ≡ Word.Value v i → at < i
-        on_limit true k = rw (← ap next_of k) (field_within t s at x.value x.next f).0
-        on_limit false k = clash (cc)
-    by None f h = clash (cc)
+    by : (n : Option (Found ℕ)) → field t s at ≡ n → OnSome (λ x. at < x.next) (with_found n limited)
+    by (Some x) e =
+        on_test (OnSome (λ x. at < x.next)) (ltb x.value 4294967296) (λ _. (field_within t s at x.value x.next e).0) (λ _. tt)
+    by None e = tt
 
 -- the fields of a command end past the place of its line
 pub fields_past : (t : List ℕ) (v : Verb) (line at : ℕ) → line < length t → line ≤ at → line < (fields_at t v line at).next
-unfolding fields_at call_at change_at
-fields_past t v line at h p = go v
+unfolding fields_at parsed_at call_at change_at
+fields_past t v line at h p = on_unwrap (λ m. line < m.next) (parsed_at t v at) _ (go v) (line_past t line h)
   where
-    P : Parsed → Type 0
-    P m = line < m.next
+    P : Option Parsed → Type 0
+    P o = OnSome (λ m. line < m.next) o
 
-    l : P (malformed t line)
-    l = line_past t line h
+    one : (v : Verb) → P (numbered t v at)
+    one v = by (word t 10 at) (word_past t 10 at)
+      where
+        by : (w : Option (Found ℕ)) → OnSome (λ x. at < x.next) w → P (option_map (λ x. one_line (with_number v x.value) x.next) w)
+        by None l = tt
+        by (Some x) l = omega arith
 
-    go : (v : Verb) → P (fields_at t v line at)
+    go : (v : Verb) → P (parsed_at t v at)
     go Verb.Call =
-        on_word P t l 44 at
-        (λ _ i a _ _. on_word P t l 44 i
-        (λ _ j b _ _. on_word P t l 44 j
-        (λ _ k c _ _. on_word P t l 44 k
-        (λ _ n d _ _. on_word P t l 44 n
-        (λ _ o e _ _. on_word P t l 10 o (λ _ q f _ _. omega arith))))))
-    go Verb.Exit = on_word P t l 10 at (λ v i g _ _. omega arith)
-    go Verb.Step = on_word P t l 10 at (λ v i g _ _. omega arith)
-    go Verb.Trace = on_word P t l 10 at (λ v i g _ _. omega arith)
-    go Verb.Read = on_word P t l 10 at (λ v i g _ _. omega arith)
+        on_word P t tt 44 at
+        (λ i a _ _. on_word P t tt 44 i.next
+        (λ j b _ _. on_word P t tt 44 j.next
+        (λ k c _ _. on_word P t tt 44 k.next
+        (λ n d _ _. on_word P t tt 44 n.next
+        (λ o e _ _. on_word P t tt 10 o.next (λ q f _ _. omega arith))))))
+    go Verb.Exit = one Verb.Exit
+    go Verb.Step = one Verb.Step
+    go Verb.Trace = one Verb.Trace
+    go Verb.Read = one Verb.Read
     go Verb.Change =
-        on_word P t l 44 at
-        (λ _ i a _ _. on_word P t l 44 i
-        (λ _ j b _ _. on_word P t l 10 j
-        (λ count start d _ _. omega (arith, lines_past count start t))))
-    go Verb.Unknown = l
+        on_word P t tt 44 at
+        (λ i a _ _. on_word P t tt 44 i.next
+        (λ j b _ _. on_word P t tt 10 j.next
+        (λ k d _ _. omega (arith, lines_past k.value k.next t))))
+    go Verb.Unknown = tt
 
 -- a verb ends at its place or past it
-pub found_past : (t : List ℕ) (at : ℕ) → at ≤ (found t at).next
-unfolding found
-found_past t at =
-    let P : Found → Type 0 = λ f. at ≤ f.next in
-    on_test P (has_word t at call_word) (λ _. omega arith)
-    (λ _. on_test P (has_word t at wish_word) (λ _. omega arith)
-    (λ _. on_test P (has_word t at step_word) (λ _. omega arith)
-    (λ _. on_test P (has_word t at look_word) (λ _. omega arith)
-    (λ _. on_test P (has_word t at trace_word) (λ _. omega arith)
-    (λ _. on_test P (has_word t at change_word) (λ _. omega arith) (λ _. omega arith))))))
+pub verb_past : (t : List ℕ) (at : ℕ) → at ≤ (verb_at t at).next
+unfolding verb_at
+verb_past t at =
+    on_unwrap (λ x. at ≤ x.next) _ _
+    (or _ change_word Verb.Change
+    (or _ trace_word Verb.Trace
+    (or _ look_word Verb.Read (or _ step_word Verb.Step (or _ wish_word Verb.Exit (there call_word Verb.Call))))))
+    (omega arith)
+  where
+    P : Option (Found Verb) → Type 0
+    P o = OnSome (λ x. at ≤ x.next) o
+
+    there : (w : List ℕ) (v : Verb) → P (verb_there t at w v)
+    there w v = on_test P (has_word t at w) (λ _. omega arith) (λ _. tt)
+
+    or : (o : Option (Found Verb)) (w : List ℕ) (v : Verb) → P o → P (option_or o (verb_there t at w v))
+    or None w v p = there w v
+    or (Some x) w v p = p
 
 pub command_past : (t : List ℕ) (at : ℕ) → at < length t → at < (command t at).next
 unfolding command
-command_past t at h = fields_past t (found t at).verb at (found t at).next h (found_past t at)
+command_past t at h = fields_past t (verb_at t at).value at (verb_at t at).next h (verb_past t at)
 
 -- ---- the text of a change lies in the calls text
 end_within : (xs : List ℕ) (at : ℕ) → line_end at xs ≤ at + length xs
@@ -145,34 +166,41 @@ lines_within zero at t h = h
 lines_within (suc k) at t h = lines_within k (line_end at (drop at t)) t (omega (arith, end_within (drop at t) at, length-drop at t))
 
 pub fields_inside : (t : List ℕ) (v : Verb) (line at : ℕ) → Inside t (fields_at t v line at).command
-unfolding fields_at call_at change_at
-fields_inside t v line at = go v
+unfolding fields_at parsed_at call_at change_at
+fields_inside t v line at = on_unwrap (λ m. Inside t m.command) (parsed_at t v at) (malformed t line) (go v) tt
   where
-    P : Parsed → Type 0
-    P m = Inside t m.command
+    P : Option Parsed → Type 0
+    P o = OnSome (λ m. Inside t m.command) o
 
-    go : (v : Verb) → P (fields_at t v line at)
+    one : (v : Verb) → ((x : ℕ) → Inside t (with_number v x)) → P (numbered t v at)
+    one v p = by (word t 10 at)
+      where
+        by : (w : Option (Found ℕ)) → P (option_map (λ x. one_line (with_number v x.value) x.next) w)
+        by None = tt
+        by (Some x) = p x.value
+
+    go : (v : Verb) → P (parsed_at t v at)
     go Verb.Call =
         on_word P t tt 44 at
-        (λ _ i _ _ _. on_word P t tt 44 i
-        (λ _ j _ _ _. on_word P t tt 44 j
-        (λ _ k _ _ _. on_word P t tt 44 k
-        (λ _ n _ _ _. on_word P t tt 44 n
-        (λ _ o _ _ _. on_word P t tt 10 o (λ _ _ _ _ _. tt))))))
-    go Verb.Exit = on_word P t tt 10 at (λ _ _ _ _ _. tt)
-    go Verb.Step = on_word P t tt 10 at (λ _ _ _ _ _. tt)
-    go Verb.Trace = on_word P t tt 10 at (λ _ _ _ _ _. tt)
-    go Verb.Read = on_word P t tt 10 at (λ _ _ _ _ _. tt)
+        (λ i _ _ _. on_word P t tt 44 i.next
+        (λ j _ _ _. on_word P t tt 44 j.next
+        (λ k _ _ _. on_word P t tt 44 k.next
+        (λ n _ _ _. on_word P t tt 44 n.next
+        (λ o _ _ _. on_word P t tt 10 o.next (λ _ _ _ _. tt))))))
+    go Verb.Exit = one Verb.Exit (λ _. tt)
+    go Verb.Step = one Verb.Step (λ _. tt)
+    go Verb.Trace = one Verb.Trace (λ _. tt)
+    go Verb.Read = one Verb.Read (λ _. tt)
     go Verb.Change =
         on_word P t tt 44 at
-        (λ _ i _ _ _. on_word P t tt 44 i
-        (λ _ j _ _ _. on_word P t tt 10 j
-        (λ count start _ l _. (lines_past count start t, lines_within count start t l))))
+        (λ i _ _ _. on_word P t tt 44 i.next
+        (λ j _ _ _. on_word P t tt 10 j.next
+        (λ k _ l _. (lines_past k.value k.next t, lines_within k.value k.next t l))))
     go Verb.Unknown = tt
 
 pub command_inside : (t : List ℕ) (at : ℕ) → Inside t (command t at).command
 unfolding command
-command_inside t at = fields_inside t (found t at).verb at (found t at).next
+command_inside t at = fields_inside t (verb_at t at).value at (verb_at t at).next
 
 -- ---- the commands of a text
 module _ (t : List ℕ) where

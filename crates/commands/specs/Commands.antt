@@ -1,11 +1,12 @@
 -- The commands of a calls text (document 01, 'The bench program'): `call,process,sheet,i0,i1,i2,i3`, `wish,process`, `step,process`,
 -- `look,variable`, 'with fields and line ends as in the card text'; `trace,process` (document 02, order 1); `change,sheet,number,lines` and the
 -- lines of its text (order 11).
-use Rattle.std.specs.Prelude.{ℕ, zero, suc, ◌+◌, ◌-◌, ◌≤◌, cond, List, [], ◌∷◌, length, take, drop, eqb, ltb, Option, Some, None}
-use Rattle.grammar.specs.declared.Found.{Found as Read}
-use Rattle.grammar.specs.Reading.{field, has_word}
+use Rattle.std.specs.Prelude.{ℕ, zero, suc, ◌+◌, ◌-◌, ◌≤◌, cond, List, [], ◌∷◌, length, take, drop, eqb, ltb, Option, Some, None, unwrap_or}
+use Rattle.std.specs.Option.{option_map, option_or}
+use Rattle.grammar.specs.declared.Found.{Found}
+use Rattle.grammar.specs.Reading.{found, with_found, field, has_word}
 use Rattle.grammar.specs.Items.{items}
-use Rattle.commands.specs.declared.{Word.Word, Verb.Verb, Found.Found, Command.Command, Parsed.Parsed}
+use Rattle.commands.specs.declared.{Verb.Verb, Command.Command, Parsed.Parsed}
 
 -- `call,` `wish,` `step,` `look,`
 abbrev pub call_word : List ℕ
@@ -46,30 +47,25 @@ one_line m next = record { command = m; lines = 1; next = next }
 abbrev pub malformed : List ℕ → ℕ → Parsed
 malformed t at = one_line Command.Malformed (line_end at (drop at t))
 
--- a field of 32 bits with its separator s, and what follows it
-abbrev pub limited : Option (Read ℕ) → Word
-limited (Some x) = cond (ltb x.value 4294967296) (Word.Value x.value x.next) Word.Malformed
-limited None = Word.Malformed
+-- a field of 32 bits with its separator s
+abbrev pub limited : Found ℕ → Option (Found ℕ)
+limited x = cond (ltb x.value 4294967296) (Some x) None
 
-unfoldable pub word : List ℕ → ℕ → ℕ → Word
-word t s at = limited (field t s at)
+unfoldable pub word : List ℕ → ℕ → ℕ → Option (Found ℕ)
+word t s at = with_found (field t s at) limited
 
-abbrev pub with_word : Word → Parsed → (ℕ → ℕ → Parsed) → Parsed
-with_word (Word.Value v i) m go = go v i
-with_word Word.Malformed m go = m
-
--- The fields of a command stand from a place on, in a line that begins at `line`; where they are malformed, the line is.
+-- The fields of a command stand from a place on.
 -- `call`: process, sheet and the inputs i0 to i3, which byte 10 ends
-unfoldable pub call_at : List ℕ → ℕ → ℕ → Parsed
-call_at t line at =
-    let m = malformed t line in
-    with_word (word t 44 at) m
-    (λ process i. with_word (word t 44 i) m
-    (λ program j. with_word (word t 44 j) m
-    (λ i0 k. with_word (word t 44 k) m
-    (λ i1 l. with_word (word t 44 l) m
-    (λ i2 n. with_word (word t 10 n) m
-    (λ i3 next. one_line (Command.Call process program (record { w0 = i0; w1 = i1; w2 = i2; w3 = i3 })) next))))))
+unfoldable pub call_at : List ℕ → ℕ → Option Parsed
+call_at t at =
+    with_found (word t 44 at) (λ process.
+    with_found (word t 44 process.next) (λ program.
+    with_found (word t 44 program.next) (λ i0.
+    with_found (word t 44 i0.next) (λ i1.
+    with_found (word t 44 i1.next) (λ i2.
+    with_found (word t 10 i2.next) (λ i3.
+    Some (one_line
+    (Command.Call process.value program.value (record { w0 = i0.value; w1 = i1.value; w2 = i2.value; w3 = i3.value })) i3.next)))))))
 
 -- `wish`, `step`, `look`, `trace`: one number, which byte 10 ends
 abbrev pub with_number : Verb → ℕ → Command
@@ -81,8 +77,8 @@ with_number Verb.Read v = Command.Read v
 with_number Verb.Change v = Command.Malformed
 with_number Verb.Unknown v = Command.Malformed
 
-abbrev pub numbered : List ℕ → Verb → ℕ → ℕ → Parsed
-numbered t verb line at = with_word (word t 10 at) (malformed t line) (λ v next. one_line (with_number verb v) next)
+abbrev pub numbered : List ℕ → Verb → ℕ → Option Parsed
+numbered t verb at = option_map (λ x. one_line (with_number verb x.value) x.next) (word t 10 at)
 
 -- `change`: sheet, gate number and the count of the lines of its text, which byte 10 ends. 'That sheet's lines as a card has them' follow: the next
 -- `count` lines of the calls text, byte for byte, or what is left of it, which no line follows.
@@ -91,13 +87,12 @@ change_with t program from count start =
     let end = lines_end count start t in
     record { command = Command.Change program from count start end; lines = suc count; next = end }
 
-unfoldable pub change_at : List ℕ → ℕ → ℕ → Parsed
-change_at t line at =
-    let m = malformed t line in
-    with_word (word t 44 at) m
-    (λ program i. with_word (word t 44 i) m
-    (λ from j. with_word (word t 10 j) m
-    (λ count start. change_with t program from count start)))
+unfoldable pub change_at : List ℕ → ℕ → Option Parsed
+change_at t at =
+    with_found (word t 44 at) (λ program.
+    with_found (word t 44 program.next) (λ from.
+    with_found (word t 10 from.next) (λ count.
+    Some (change_with t program.value from.value count.value count.next))))
 
 -- the bytes from a place to another
 abbrev pub part : List ℕ → ℕ → ℕ → List ℕ
@@ -114,29 +109,34 @@ Inside t (Command.Change k from count start end) = (start ≤ end) × (end ≤ l
 Inside t Command.Malformed = Unit
 
 -- the verb at a place, with the comma after it, and the place past both
-unfoldable pub found : List ℕ → ℕ → Found
-found t at =
-    cond (has_word t at call_word) (record { verb = Verb.Call; next = at + 5 })
-    (cond (has_word t at wish_word) (record { verb = Verb.Exit; next = at + 5 })
-    (cond (has_word t at step_word) (record { verb = Verb.Step; next = at + 5 })
-    (cond (has_word t at look_word) (record { verb = Verb.Read; next = at + 5 })
-    (cond (has_word t at trace_word) (record { verb = Verb.Trace; next = at + 6 })
-    (cond (has_word t at change_word) (record { verb = Verb.Change; next = at + 7 })
-    (record { verb = Verb.Unknown; next = at }))))))
+abbrev pub verb_there : List ℕ → ℕ → List ℕ → Verb → Option (Found Verb)
+verb_there t at w verb = cond (has_word t at w) (Some (found verb (at + length w))) None
+
+unfoldable pub verb_at : List ℕ → ℕ → Found Verb
+verb_at t at =
+    let or = λ (o : Option (Found Verb)) (w : List ℕ) (verb : Verb). option_or o (verb_there t at w verb) in
+    unwrap_or
+    (or (or (or (or (or (verb_there t at call_word Verb.Call) wish_word Verb.Exit) step_word Verb.Step) look_word Verb.Read) trace_word Verb.Trace)
+    change_word Verb.Change)
+    (found Verb.Unknown at)
 
 -- the fields that follow a verb
+unfoldable pub parsed_at : List ℕ → Verb → ℕ → Option Parsed
+parsed_at t Verb.Call at = call_at t at
+parsed_at t Verb.Exit at = numbered t Verb.Exit at
+parsed_at t Verb.Step at = numbered t Verb.Step at
+parsed_at t Verb.Trace at = numbered t Verb.Trace at
+parsed_at t Verb.Read at = numbered t Verb.Read at
+parsed_at t Verb.Change at = change_at t at
+parsed_at t Verb.Unknown at = None
+
+-- the same in a line that begins at `line`; where they are malformed, the line is
 unfoldable pub fields_at : List ℕ → Verb → ℕ → ℕ → Parsed
-fields_at t Verb.Call line at = call_at t line at
-fields_at t Verb.Exit line at = numbered t Verb.Exit line at
-fields_at t Verb.Step line at = numbered t Verb.Step line at
-fields_at t Verb.Trace line at = numbered t Verb.Trace line at
-fields_at t Verb.Read line at = numbered t Verb.Read line at
-fields_at t Verb.Change line at = change_at t line at
-fields_at t Verb.Unknown line at = malformed t line
+fields_at t verb line at = unwrap_or (parsed_at t verb at) (malformed t line)
 
 -- the command at a place, and the place past its lines
 unfoldable pub command : List ℕ → ℕ → Parsed
-command t at = fields_at t (found t at).verb at (found t at).next
+command t at = fields_at t (verb_at t at).value at (verb_at t at).next
 
 -- the commands from a place on, one after the other
 unfoldable pub commands : List ℕ → ℕ → List Parsed

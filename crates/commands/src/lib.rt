@@ -9,13 +9,6 @@ pub mod printing; // printing.rt: the printed lines
 
 use construction::cells::Words;
 
-// A field of a command: its value and the place past its separator.
-#[derive(Clone, Copy)]
-pub enum Word {
-    Value { value: u32, next: usize },
-    Malformed,
-}
-
 // The verb that a line begins with.
 #[derive(Clone, Copy)]
 pub enum Verb {
@@ -26,13 +19,6 @@ pub enum Verb {
     Read,
     Change,
     Unknown,
-}
-
-// A verb, and the place where what follows it begins.
-#[derive(Clone, Copy)]
-pub struct Found {
-    pub verb: Verb,
-    pub next: usize,
 }
 
 // A command, with its own fields only.

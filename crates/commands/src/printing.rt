@@ -16,25 +16,7 @@ use grammar::writing::{put_byte, put_word};
 pub fn is_malformed(command: Command) -> bool
     ensures { result ≡ is_malformed command }
 {
-    match command {
-        Command::Call {
-            process: _,
-            program: _,
-            inputs: _,
-        } => false,
-        Command::Exit { process: _ } => false,
-        Command::Step { process: _ } => false,
-        Command::Trace { process: _ } => false,
-        Command::Read { variable: _ } => false,
-        Command::Change {
-            program: _,
-            from: _,
-            count: _,
-            start: _,
-            end: _,
-        } => false,
-        Command::Malformed => true,
-    }
+    matches!(command, Command::Malformed)
 }
 
 // The verb of a command; of a malformed one `line`.
@@ -42,47 +24,28 @@ pub fn put_verb(buffer: &mut [u8], at: usize, command: Command) -> usize
     ensures { Put buffer.old at (verb_of command) result buffer.new × (result ≤ at + 6) }
 {
     match command {
-        Command::Call {
-            process: _,
-            program: _,
-            inputs: _,
-        } => put_word(buffer, at, b"call"),
-        Command::Exit { process: _ } => put_word(buffer, at, b"wish"),
-        Command::Step { process: _ } => put_word(buffer, at, b"step"),
-        Command::Trace { process: _ } => put_word(buffer, at, b"trace"),
-        Command::Read { variable: _ } => put_word(buffer, at, b"look"),
-        Command::Change {
-            program: _,
-            from: _,
-            count: _,
-            start: _,
-            end: _,
-        } => put_word(buffer, at, b"change"),
+        Command::Call { .. } => put_word(buffer, at, b"call"),
+        Command::Exit { .. } => put_word(buffer, at, b"wish"),
+        Command::Step { .. } => put_word(buffer, at, b"step"),
+        Command::Trace { .. } => put_word(buffer, at, b"trace"),
+        Command::Read { .. } => put_word(buffer, at, b"look"),
+        Command::Change { .. } => put_word(buffer, at, b"change"),
         Command::Malformed => put_word(buffer, at, b"line"),
     }
 }
 
 // The first number of a command; of a malformed one its line.
+#[tactic(auto, unfolding(crate::specs::Printing::first_of, crate::specs::CommandFields::command_fields))]
 pub fn first_of(line: u64, command: Command) -> u64
     ensures { result ≡ first_of line command }
 {
     match command {
-        Command::Call {
-            process,
-            program: _,
-            inputs: _,
-        } => process as u64,
-        Command::Exit { process } => process as u64,
-        Command::Step { process } => process as u64,
-        Command::Trace { process } => process as u64,
+        Command::Call { process, .. }
+        | Command::Exit { process }
+        | Command::Step { process }
+        | Command::Trace { process } => process as u64,
         Command::Read { variable } => variable as u64,
-        Command::Change {
-            program,
-            from: _,
-            count: _,
-            start: _,
-            end: _,
-        } => program as u64,
+        Command::Change { program, .. } => program as u64,
         Command::Malformed => line,
     }
 }

@@ -1,26 +1,25 @@
 // The command at a place of a calls text: its verb, and the fields that follow, which are read from any place.
 ghost use Rattle.std.specs.Prelude.{◌≡◌, drop};
-ghost use Rattle.commands.specs.Commands.{line_end, lines_end, word, one_line, malformed, call_at, with_number, numbered, change_at, found, fields_at, command};
+ghost use Rattle.commands.specs.Commands.{line_end, lines_end, word, one_line, malformed, call_at, with_number, numbered, change_at, verb_there, verb_at, parsed_at, fields_at, command};
 
-use crate::{Command, Found, Parsed, Verb, Word};
+use crate::{Command, Parsed, Verb};
 use construction::cells::Words;
-use grammar::Found as Read;
+use grammar::Found;
 use grammar::reading::{field_at, has_word};
 
 // A field that has 32 bits, ended by a separator that belongs to it.
-pub fn word_at(calls: &[u8], separator: u8, at: usize) -> Word
+#[tactic(auto, unfolding(crate::specs::Commands::word))]
+pub fn word_at(calls: &[u8], separator: u8, at: usize) -> Option<Found<u32>>
     ensures { result ≡ word calls.now separator at }
 {
-    let Some(Read { value, next }) = field_at(calls, separator, at) else {
-        return Word::Malformed;
-    };
+    let Found { value, next } = field_at(calls, separator, at)?;
     if value < 4_294_967_296 {
-        Word::Value {
+        Some(Found {
             value: value as u32,
             next,
-        }
+        })
     } else {
-        Word::Malformed
+        None
     }
 }
 
@@ -28,30 +27,26 @@ pub fn word_at(calls: &[u8], separator: u8, at: usize) -> Word
 fn line_end(calls: &[u8], at: usize) -> usize
     ensures { result ≡ line_end at (drop at calls.now) }
 {
-    let mut i = at;
-    while i < calls.len() {
+    for i in at..calls.len() {
         if calls[i] == b'\n' {
             return i + 1;
         }
-        i = i + 1;
     }
-    i
+    at.max(calls.len())
 }
 
 // The place past so many lines. A count that is too large ends with the text.
 fn lines_end(calls: &[u8], at: usize, count: u32) -> usize
     ensures { result ≡ lines_end count at calls.now }
 {
-    let mut i = at;
-    let mut left = count;
-    while i < calls.len() {
-        if left == 0 {
-            return i;
+    let mut end = at;
+    for _ in 0..count {
+        if calls.len() <= end {
+            return end;
         }
-        i = line_end(calls, i);
-        left = left - 1;
+        end = line_end(calls, end);
     }
-    i
+    end
 }
 
 // A command of one line.
@@ -73,72 +68,50 @@ pub fn malformed_at(calls: &[u8], at: usize) -> Parsed
     one_line(Command::Malformed, next)
 }
 
-// The fields of a call; malformed ones are a malformed line, which begins at `line`.
-fn call_at(calls: &[u8], line: usize, at: usize) -> Parsed
-    ensures { result ≡ call_at calls.now line at }
+// The fields of a call.
+#[tactic(auto, unfolding(crate::specs::Commands::call_at))]
+fn call_at(calls: &[u8], at: usize) -> Option<Parsed>
+    ensures { result ≡ call_at calls.now at }
 {
-    let Word::Value { value, next } = word_at(calls, b',', at) else {
-        return malformed_at(calls, line);
-    };
-    let process = value;
-    let Word::Value { value, next } = word_at(calls, b',', next) else {
-        return malformed_at(calls, line);
-    };
-    let program = value;
-    let Word::Value { value, next } = word_at(calls, b',', next) else {
-        return malformed_at(calls, line);
-    };
-    let w0 = value;
-    let Word::Value { value, next } = word_at(calls, b',', next) else {
-        return malformed_at(calls, line);
-    };
-    let w1 = value;
-    let Word::Value { value, next } = word_at(calls, b',', next) else {
-        return malformed_at(calls, line);
-    };
-    let w2 = value;
-    let Word::Value { value, next } = word_at(calls, b'\n', next) else {
-        return malformed_at(calls, line);
-    };
-    let w3 = value;
-    let inputs = Words { w0, w1, w2, w3 };
+    let process = word_at(calls, b',', at)?;
+    let program = word_at(calls, b',', process.next)?;
+    let w0 = word_at(calls, b',', program.next)?;
+    let w1 = word_at(calls, b',', w0.next)?;
+    let w2 = word_at(calls, b',', w1.next)?;
+    let w3 = word_at(calls, b'\n', w2.next)?;
     let command = Command::Call {
-        process,
-        program,
-        inputs,
+        process: process.value,
+        program: program.value,
+        inputs: Words {
+            w0: w0.value,
+            w1: w1.value,
+            w2: w2.value,
+            w3: w3.value,
+        },
     };
-    one_line(command, next)
+    Some(one_line(command, w3.next))
 }
 
 // The fields of a change, and its text.
-fn change_at(calls: &[u8], line: usize, at: usize) -> Parsed
-    ensures { result ≡ change_at calls.now line at }
+#[tactic(auto, unfolding(crate::specs::Commands::change_at))]
+fn change_at(calls: &[u8], at: usize) -> Option<Parsed>
+    ensures { result ≡ change_at calls.now at }
 {
-    let Word::Value { value, next } = word_at(calls, b',', at) else {
-        return malformed_at(calls, line);
-    };
-    let program = value;
-    let Word::Value { value, next } = word_at(calls, b',', next) else {
-        return malformed_at(calls, line);
-    };
-    let from = value;
-    let Word::Value { value, next } = word_at(calls, b'\n', next) else {
-        return malformed_at(calls, line);
-    };
-    let count = value;
-    let end = lines_end(calls, next, count);
-    let command = Command::Change {
-        program,
-        from,
-        count,
-        start: next,
-        end,
-    };
-    Parsed {
-        command,
-        lines: count as u64 + 1,
+    let program = word_at(calls, b',', at)?;
+    let from = word_at(calls, b',', program.next)?;
+    let count = word_at(calls, b'\n', from.next)?;
+    let end = lines_end(calls, count.next, count.value);
+    Some(Parsed {
+        command: Command::Change {
+            program: program.value,
+            from: from.value,
+            count: count.value,
+            start: count.next,
+            end,
+        },
+        lines: count.value as u64 + 1,
         next: end,
-    }
+    })
 }
 
 // The command of a verb that one number follows.
@@ -146,93 +119,82 @@ fn with_number(verb: Verb, value: u32) -> Command
     ensures { result ≡ with_number verb value }
 {
     match verb {
-        Verb::Call => Command::Malformed,
         Verb::Exit => Command::Exit { process: value },
         Verb::Step => Command::Step { process: value },
         Verb::Trace => Command::Trace { process: value },
         Verb::Read => Command::Read { variable: value },
-        Verb::Change => Command::Malformed,
-        Verb::Unknown => Command::Malformed,
+        Verb::Call | Verb::Change | Verb::Unknown => Command::Malformed,
     }
 }
 
 // The number of such a command.
-fn numbered_at(calls: &[u8], verb: Verb, line: usize, at: usize) -> Parsed
-    ensures { result ≡ numbered calls.now verb line at }
+fn numbered_at(calls: &[u8], verb: Verb, at: usize) -> Option<Parsed>
+    ensures { result ≡ numbered calls.now verb at }
 {
-    let Word::Value { value, next } = word_at(calls, b'\n', at) else {
-        return malformed_at(calls, line);
-    };
-    let command = with_number(verb, value);
-    one_line(command, next)
+    let Found { value, next } = word_at(calls, b'\n', at)?;
+    Some(one_line(with_number(verb, value), next))
 }
 
-// The fields of a verb's command from a place on, in a line that begins at `line`.
+// The fields of a verb's command, if they are well formed.
+#[tactic(auto, unfolding(crate::specs::Commands::parsed_at))]
+fn parsed_at(calls: &[u8], verb: Verb, at: usize) -> Option<Parsed>
+    ensures { result ≡ parsed_at calls.now verb at }
+{
+    match verb {
+        Verb::Call => call_at(calls, at),
+        Verb::Change => change_at(calls, at),
+        Verb::Exit | Verb::Step | Verb::Trace | Verb::Read => numbered_at(calls, verb, at),
+        Verb::Unknown => None,
+    }
+}
+
+// The fields of a verb's command from a place on, in a line that begins at `line`, which is malformed where they are.
+#[tactic(auto, unfolding(crate::specs::Commands::fields_at))]
 pub fn fields_at(calls: &[u8], verb: Verb, line: usize, at: usize) -> Parsed
     ensures { result ≡ fields_at calls.now verb line at }
 {
-    match verb {
-        Verb::Call => call_at(calls, line, at),
-        Verb::Exit => numbered_at(calls, verb, line, at),
-        Verb::Step => numbered_at(calls, verb, line, at),
-        Verb::Trace => numbered_at(calls, verb, line, at),
-        Verb::Read => numbered_at(calls, verb, line, at),
-        Verb::Change => change_at(calls, line, at),
-        Verb::Unknown => malformed_at(calls, line),
+    match parsed_at(calls, verb, at) {
+        Some(parsed) => parsed,
+        None => malformed_at(calls, line),
+    }
+}
+
+// A verb, where its word stands at a place.
+fn verb_there(calls: &[u8], at: usize, word: &[u8], verb: Verb) -> Option<Found<Verb>>
+    ensures { result ≡ verb_there calls.now at word.now verb }
+{
+    if has_word(calls, at, word) {
+        Some(Found {
+            value: verb,
+            next: at + word.len(),
+        })
+    } else {
+        None
     }
 }
 
 // The verb at a place of the text, with the comma after it.
-pub fn verb_at(calls: &[u8], at: usize) -> Found
-    ensures { result ≡ found calls.now at }
+#[tactic(auto, unfolding(crate::specs::Commands::verb_at))]
+pub fn verb_at(calls: &[u8], at: usize) -> Found<Verb>
+    ensures { result ≡ verb_at calls.now at }
 {
-    if has_word(calls, at, b"call,") {
-        return Found {
-            verb: Verb::Call,
-            next: at + 5,
-        };
-    }
-    if has_word(calls, at, b"wish,") {
-        return Found {
-            verb: Verb::Exit,
-            next: at + 5,
-        };
-    }
-    if has_word(calls, at, b"step,") {
-        return Found {
-            verb: Verb::Step,
-            next: at + 5,
-        };
-    }
-    if has_word(calls, at, b"look,") {
-        return Found {
-            verb: Verb::Read,
-            next: at + 5,
-        };
-    }
-    if has_word(calls, at, b"trace,") {
-        return Found {
-            verb: Verb::Trace,
-            next: at + 6,
-        };
-    }
-    if has_word(calls, at, b"change,") {
-        return Found {
-            verb: Verb::Change,
-            next: at + 7,
-        };
-    }
-    Found {
-        verb: Verb::Unknown,
-        next: at,
-    }
+    verb_there(calls, at, b"call,", Verb::Call)
+        .or(verb_there(calls, at, b"wish,", Verb::Exit))
+        .or(verb_there(calls, at, b"step,", Verb::Step))
+        .or(verb_there(calls, at, b"look,", Verb::Read))
+        .or(verb_there(calls, at, b"trace,", Verb::Trace))
+        .or(verb_there(calls, at, b"change,", Verb::Change))
+        .unwrap_or(Found {
+            value: Verb::Unknown,
+            next: at,
+        })
 }
 
 // The command at a place of the text.
+#[tactic(auto, unfolding(crate::specs::Commands::command))]
 pub fn command_at(calls: &[u8], at: usize) -> Parsed
     ensures { result ≡ command calls.now at }
 {
-    let found = verb_at(calls, at);
-    let verb = found.verb;
-    fields_at(calls, verb, at, found.next)
+    let verb = verb_at(calls, at);
+    fields_at(calls, verb.value, at, verb.next)
 }

@@ -105,16 +105,16 @@ row_fields (RowSwap.Refused r) = refused_with (number_of r)
 
 -- 'each line yields either its fields or a refusal number'; the place past the line is none of the paper's numbers
 unfoldable pub card_line_fields : CardLine → Fields
-card_line_fields (CardLine.Fields p n s limit next) = fields "card" (p ∷ n ∷ s ∷ limit ∷ [])
-card_line_fields (CardLine.Refused r) = refused_with (number_of r)
+card_line_fields (Ok x) = let v = x.value in fields "card" (v.process_count ∷ v.variable_count ∷ v.program_count ∷ v.limit ∷ [])
+card_line_fields (Err r) = refused_with (number_of r)
 
 unfoldable pub var_line_fields : VarLine → Fields
-var_line_fields (VarLine.Start value next) = fields "var" (value ∷ [])
-var_line_fields (VarLine.Refused r) = refused_with (number_of r)
+var_line_fields (Ok x) = fields "var" (x.value ∷ [])
+var_line_fields (Err r) = refused_with (number_of r)
 
 unfoldable pub sheet_line_fields : SheetLine → Fields
-sheet_line_fields (SheetLine.Length length next) = fields "sheet" (length ∷ [])
-sheet_line_fields (SheetLine.Refused r) = refused_with (number_of r)
+sheet_line_fields (Ok x) = fields "sheet" (x.value ∷ [])
+sheet_line_fields (Err r) = refused_with (number_of r)
 
 -- an instruction by its code and operands
 abbrev pub encoded_fields : Encoded → Fields
@@ -125,8 +125,8 @@ decoded_fields (Ok x) = encoded_fields (encode x)
 decoded_fields (Err r) = refused_with (number_of r)
 
 unfoldable pub ins_line_fields : InsLine → Fields
-ins_line_fields (InsLine.Ins x next) = decoded_fields (Ok x)
-ins_line_fields (InsLine.Refused r) = decoded_fields (Err r)
+ins_line_fields (Ok x) = decoded_fields (Ok x.value)
+ins_line_fields (Err r) = decoded_fields (Err r)
 
 -- a request on the card c is refused with a number: 'Elsewhere the card and all lent cells and bytes remain as they were'
 pub record Refuses (c : Card) (r : Answered) (number : ℕ) : Type 0 where

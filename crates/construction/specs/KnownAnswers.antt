@@ -1,26 +1,26 @@
 -- The enums that functions answer are known by their fields (document 01: 'If an answer is an enum, a definition gives this paper's number and values
 -- for every case of the enum, and the promises use that definition'): a promise that an answer equals a definition is one by its fields.
-use Rattle.std.specs.Prelude.{ℕ, ◌≡◌}
+use Rattle.std.specs.Prelude.{ℕ, ◌≡◌, Ok, Err}
 use Rattle.construction.specs.Types.{CardLine, VarLine, SheetLine, InsLine}
 use Rattle.construction.specs.Answers.{Fields, number_of, answer_fields, verdict_fields, written_fields, row_fields, card_line_fields, var_line_fields}
 use Rattle.construction.specs.Answers.{sheet_line_fields, decoded_fields, ins_line_fields}
 
 -- the place past a line, 0 where it is refused
 abbrev pub card_line_end : CardLine → ℕ
-card_line_end (CardLine.Fields p n s limit next) = next
-card_line_end (CardLine.Refused r) = 0
+card_line_end (Ok x) = x.next
+card_line_end (Err r) = 0
 
 abbrev pub var_line_end : VarLine → ℕ
-var_line_end (VarLine.Start value next) = next
-var_line_end (VarLine.Refused r) = 0
+var_line_end (Ok x) = x.next
+var_line_end (Err r) = 0
 
 abbrev pub sheet_line_end : SheetLine → ℕ
-sheet_line_end (SheetLine.Length length next) = next
-sheet_line_end (SheetLine.Refused r) = 0
+sheet_line_end (Ok x) = x.next
+sheet_line_end (Err r) = 0
 
 abbrev pub ins_line_end : InsLine → ℕ
-ins_line_end (InsLine.Ins x next) = next
-ins_line_end (InsLine.Refused r) = 0
+ins_line_end (Ok x) = x.next
+ins_line_end (Err r) = 0
 
 -- a value and what is told of it determine each other
 abbrev pub KnownBy : {A B : Type 0} → (A → B) → Type 0

@@ -1,5 +1,5 @@
 -- What a card text opens to (document 01, 'The card text' and 'Turned back'): judged by its length, then line by line.
-use Rattle.std.specs.Prelude.{ℕ, zero, suc, ◌+◌, false, cond, List, map, length, set, replicate, eqb, ltb}
+use Rattle.std.specs.Prelude.{ℕ, zero, suc, ◌+◌, false, cond, List, map, length, set, replicate, eqb, ltb, Ok, Err}
 use Rattle.construction.specs.Types.{Instruction, Line, Program, Card, Refusal, TooLong, Malformed, TooHeavy, CardLine, VarLine, SheetLine, InsLine}
 use Rattle.construction.specs.Types.{Contents, Verdict, ProgramReading, Reading, Opened}
 use Rattle.construction.specs.Cells.{open_gate, open_announcement, open_record}
@@ -84,8 +84,8 @@ abbrev pub with_line : ProgramReading → ℕ → Instruction → ℕ → Progra
 with_line r k x i = program_so_far r.program.length (set r.program.lines k (record { instruction = x })) i (suc r.line)
 
 abbrev pub next_ins : InsLine → ProgramReading → ℕ → (ProgramReading → ProgramReading) → ProgramReading
-next_ins (InsLine.Ins x i) r k go = go (with_line r k x i)
-next_ins (InsLine.Refused why) r k go = program_refused_at why r.line
+next_ins (Ok x) r k go = go (with_line r k x.value x.next)
+next_ins (Err why) r k go = program_refused_at why r.line
 
 unfoldable pub ins_from : ℕ → List ℕ → ℕ → ℕ → ProgramReading → ProgramReading
 ins_from n t zero k r = r
@@ -102,8 +102,9 @@ weighed most last r = judge_weight most r.verdict last r
 
 -- one program: `sheet,length` and its lines, m lines after that one
 abbrev pub program_after : ℕ → ℕ → List ℕ → SheetLine → ℕ → ProgramReading
-program_after n most t (SheetLine.Length m i) line = weighed most (line + m) (ins_from n t m 0 (program_so_far m (replicate 32 no_line) i (suc line)))
-program_after n most t (SheetLine.Refused why) line = program_refused_at why line
+program_after n most t (Ok x) line =
+    let m = x.value in weighed most (line + m) (ins_from n t m 0 (program_so_far m (replicate 32 no_line) x.next (suc line)))
+program_after n most t (Err why) line = program_refused_at why line
 
 unfoldable pub read_program : ℕ → ℕ → List ℕ → ℕ → ℕ → ProgramReading
 read_program n most t at line = program_after n most t (sheet_line t at) line
@@ -128,8 +129,8 @@ abbrev pub with_start : Reading → ℕ → ℕ → ℕ → Reading
 with_start r k v i = let y = r.contents in so_far (gathered y (set y.starts k v) y.programs) i (suc r.line)
 
 abbrev pub next_var : VarLine → Reading → ℕ → (Reading → Reading) → Reading
-next_var (VarLine.Start v i) r k go = go (with_start r k v i)
-next_var (VarLine.Refused why) r k go = refused_at why r.line
+next_var (Ok x) r k go = go (with_start r k x.value x.next)
+next_var (Err why) r k go = refused_at why r.line
 
 unfoldable pub vars_from : List ℕ → ℕ → ℕ → Reading → Reading
 vars_from t zero k r = r
@@ -152,8 +153,11 @@ then_programs t s r = if_accepted r.verdict r (λ x. programs_from t s 0 x)
 
 -- the lines after the first: n `var` lines, then s programs
 abbrev pub after_card : List ℕ → CardLine → Reading
-after_card t (CardLine.Fields p n s l i) = then_end t (then_programs t s (vars_from t n 0 (so_far (begun p n s l) i 2)))
-after_card t (CardLine.Refused why) = refused_at why 1
+after_card t (Ok x) =
+    let v = x.value in
+    let first = so_far (begun v.process_count v.variable_count v.program_count v.limit) x.next 2 in
+    then_end t (then_programs t v.program_count (vars_from t v.variable_count 0 first))
+after_card t (Err why) = refused_at why 1
 
 -- refusal 1: 'card text over the byte limit'
 unfoldable pub read_card : List ℕ → Reading

@@ -1,10 +1,11 @@
 -- How a text is judged (document 01, 'Turned back'): 'by 1, then line by line', so that the first line that is refused refuses the text.
-use Rattle.std.specs.Prelude.{ℕ, suc, ◌+◌, ◌≤◌, ◌<◌, ◌≡◌, ◌≢◌, List, [], ◌∷◌, length, replicate}
-use Rattle.construction.specs.Types.{Instruction, CardLine, VarLine, SheetLine, InsLine, ProgramReading, Reading}
+use Rattle.std.specs.Prelude.{ℕ, suc, ◌+◌, ◌≤◌, ◌<◌, ◌≡◌, ◌≢◌, List, [], ◌∷◌, length, replicate, Ok}
+use Rattle.grammar.specs.Reading.{found}
+use Rattle.construction.specs.Types.{Instruction, ProgramReading, Reading}
 use Rattle.construction.specs.Instructions.{no_line}
 use Rattle.construction.specs.Weight.{weight}
 use Rattle.construction.specs.Answers.{Fields, fields, refused_with, card_line_fields, var_line_fields, sheet_line_fields, ins_line_fields}
-use Rattle.construction.specs.Lines.{card_line, var_line, sheet_line, ins_line}
+use Rattle.construction.specs.Lines.{card_numbers, card_line, var_line, sheet_line, ins_line}
 use Rattle.construction.specs.Opening.{begun, so_far, program_so_far, with_start, with_line, with_program}
 
 -- The line that comes next: the `card` line; a `var` line, `left` of them, this one for variable k; a `sheet` line, `left` of them, this one for
@@ -21,19 +22,19 @@ pub data GoodUntil (t : List ℕ) : NextLine → Type 0 where
   card : length t ≤ 16384 → GoodUntil t NextLine.card
   -- 'In order: `card,p,n,s,limit`; n lines `var,value` ..'
   first_var :
-      {p n s limit next : ℕ} → GoodUntil t NextLine.card → card_line t 0 ≡ CardLine.Fields p n s limit next →
+      {p n s limit next : ℕ} → GoodUntil t NextLine.card → card_line t 0 ≡ Ok (found (card_numbers p n s limit) next) →
       GoodUntil t (NextLine.var n 0 (so_far (begun p n s limit) next 2))
   next_var :
-      {m k v next : ℕ} {r : Reading} → GoodUntil t (NextLine.var (suc m) k r) → var_line t r.at ≡ VarLine.Start v next →
+      {m k v next : ℕ} {r : Reading} → GoodUntil t (NextLine.var (suc m) k r) → var_line t r.at ≡ Ok (found v next) →
       GoodUntil t (NextLine.var m (suc k) (with_start r k v next))
   -- '.. for each sheet `sheet,length` and its lines `ins,code,a,b,c`'
   first_sheet : {k : ℕ} {r : Reading} → GoodUntil t (NextLine.var 0 k r) → GoodUntil t (NextLine.sheet r.contents.program_count 0 r)
   first_ins :
-      {s k m next : ℕ} {r : Reading} → GoodUntil t (NextLine.sheet (suc s) k r) → sheet_line t r.at ≡ SheetLine.Length m next →
+      {s k m next : ℕ} {r : Reading} → GoodUntil t (NextLine.sheet (suc s) k r) → sheet_line t r.at ≡ Ok (found m next) →
       GoodUntil t (NextLine.ins s k r m 0 (program_so_far m (replicate 32 no_line) next (suc r.line)))
   next_ins :
       {s k m j next : ℕ} {r : Reading} {x : ProgramReading} {y : Instruction} → GoodUntil t (NextLine.ins s k r (suc m) j x) →
-      ins_line r.contents.variable_count t x.at ≡ InsLine.Ins y next → GoodUntil t (NextLine.ins s k r m (suc j) (with_line x j y next))
+      ins_line r.contents.variable_count t x.at ≡ Ok (found y next) → GoodUntil t (NextLine.ins s k r m (suc j) (with_line x j y next))
   -- a sheet that does not count too much
   next_sheet :
       {s k j : ℕ} {r : Reading} {x : ProgramReading} → GoodUntil t (NextLine.ins s k r 0 j x) → weight x.program ≤ 32 →
@@ -68,10 +69,10 @@ pub data Judged (t : List ℕ) : Fields → Type 0 where
 -- greatest weight. All its lines before an `ins` line are good, `more` of them to come, this one for place j; what was read before stands beside it.
 pub data GoodLines (n : ℕ) (t : List ℕ) : ℕ → ℕ → ProgramReading → Type 0 where
   first :
-      {m next : ℕ} → length t ≤ 16384 → sheet_line t 0 ≡ SheetLine.Length m next →
+      {m next : ℕ} → length t ≤ 16384 → sheet_line t 0 ≡ Ok (found m next) →
       GoodLines n t m 0 (program_so_far m (replicate 32 no_line) next 2)
   next :
-      {m j next : ℕ} {x : ProgramReading} {y : Instruction} → GoodLines n t (suc m) j x → ins_line n t x.at ≡ InsLine.Ins y next →
+      {m j next : ℕ} {x : ProgramReading} {y : Instruction} → GoodLines n t (suc m) j x → ins_line n t x.at ≡ Ok (found y next) →
       GoodLines n t m (suc j) (with_line x j y next)
 
 -- what the verdict on it says

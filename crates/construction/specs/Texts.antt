@@ -1,7 +1,8 @@
 -- What a change comes to (document 02, order 11), in the customer's words: when 14 and 16 are given, what a taken change switches, and that every
 -- operation runs the text of its gate number.
-use Rattle.std.specs.Prelude.{ℕ, suc, ◌≤◌, ◌<◌, ◌≡◌, Bool, true, false, cond, ◌&&◌, ◌⊎◌, List, [], ◌∷◌, ◌++◌, length, get_or, replicate, eqb, leb}
-use Rattle.construction.specs.Types.{Card, SheetLine, Contents, Verdict, ProgramReading}
+use Rattle.std.specs.Prelude.{ℕ, suc, ◌≤◌, ◌<◌, ◌≡◌, Bool, true, false, cond, ◌&&◌, ◌⊎◌, List, [], ◌∷◌, ◌++◌, length, get_or, replicate, eqb, leb, Ok}
+use Rattle.grammar.specs.Reading.{found}
+use Rattle.construction.specs.Types.{Card, Contents, Verdict, ProgramReading}
 use Rattle.construction.specs.Instructions.{no_line}
 use Rattle.construction.specs.Weight.{weight, card_weight}
 use Rattle.construction.specs.Lines.{sheet_line}
@@ -19,7 +20,7 @@ instructions_read x t m i = ins_from x.variable_count t m 0 (program_so_far m (r
 pub record Overweight (x : Contents) (t : List ℕ) (line : ℕ) : Type 0 where
   pub m : ℕ
   pub i : ℕ
-  pub sheet : sheet_line t 0 ≡ SheetLine.Length m i
+  pub sheet : sheet_line t 0 ≡ Ok (found m i)
   pub good : (instructions_read x t m i).verdict ≡ Verdict.Accepted
   pub heavy : (32 < weight (instructions_read x t m i).program) ⊎ (card_weight x < weight (instructions_read x t m i).program)
   pub last : line ≡ suc m

@@ -1,5 +1,6 @@
 -- The types of this crate, which src/ declares, and the variants that stand under their own names, for one `use` line a file
-use Rattle.std.specs.Prelude.{Result}
+use Rattle.std.specs.Prelude.{ℕ, Result}
+use Rattle.grammar.specs.declared.Found.{Found}
 pub use Rattle.construction.specs.declared.cells.Holder.{Holder}
 pub use Rattle.construction.specs.declared.cells.Holder.TheVariants.{Nobody, Process}
 pub use Rattle.construction.specs.declared.cells.Gate.{Gate}
@@ -52,10 +53,7 @@ pub use Rattle.construction.specs.declared.cells.SwappedGate.{SwappedGate}
 pub use Rattle.construction.specs.declared.cells.SwappedAnnouncement.{SwappedAnnouncement}
 pub use Rattle.construction.specs.declared.cells.SwappedRecord.{SwappedRecord}
 pub use Rattle.construction.specs.declared.cells.RowSwap.{RowSwap}
-pub use Rattle.construction.specs.declared.texts.CardLine.{CardLine}
-pub use Rattle.construction.specs.declared.texts.VarLine.{VarLine}
-pub use Rattle.construction.specs.declared.texts.SheetLine.{SheetLine}
-pub use Rattle.construction.specs.declared.texts.InsLine.{InsLine}
+pub use Rattle.construction.specs.declared.texts.CardNumbers.{CardNumbers}
 pub use Rattle.construction.specs.declared.texts.Contents.{Contents}
 pub use Rattle.construction.specs.declared.texts.Verdict.{Verdict}
 pub use Rattle.construction.specs.declared.texts.ProgramReading.{ProgramReading}
@@ -66,3 +64,16 @@ pub use Rattle.construction.specs.declared.texts.Written.{Written}
 -- an instruction that was decoded, or why there is none
 abbrev pub Decoded : Type 0
 Decoded = Result Instruction Refusal
+
+-- what a line of a card text yields: what it says, and the place past it, or why it is refused
+abbrev pub CardLine : Type 0
+CardLine = Result (Found CardNumbers) Refusal
+
+abbrev pub VarLine : Type 0
+VarLine = Result (Found ℕ) Refusal
+
+abbrev pub SheetLine : Type 0
+SheetLine = Result (Found ℕ) Refusal
+
+abbrev pub InsLine : Type 0
+InsLine = Result (Found Instruction) Refusal

@@ -1,43 +1,15 @@
 // The card text: its lines, its reading, its writing.
 use crate::answers::Refusal;
 use crate::card::Card;
-use crate::programs::{Instruction, Program};
+use crate::programs::Program;
 
-// What the first line of a card text yields: its fields and the place past it, or why it is refused.
+// The numbers of the first line of a card text (document 01: p, n, s and the step limit).
 #[derive(Clone, Copy)]
-pub enum CardLine {
-    Fields {
-        process_count: u8,
-        variable_count: u8,
-        program_count: u8,
-        limit: u64,
-        next: usize,
-    },
-    Refused(Refusal),
-}
-
-// The same of a `var` line.
-#[derive(Clone, Copy)]
-pub enum VarLine {
-    Start { value: u32, next: usize },
-    Refused(Refusal),
-}
-
-// The same of a `sheet` line.
-#[derive(Clone, Copy)]
-pub enum SheetLine {
-    Length { length: u8, next: usize },
-    Refused(Refusal),
-}
-
-// The same of an `ins` line.
-#[derive(Clone, Copy)]
-pub enum InsLine {
-    Ins {
-        instruction: Instruction,
-        next: usize,
-    },
-    Refused(Refusal),
+pub struct CardNumbers {
+    pub process_count: u8,
+    pub variable_count: u8,
+    pub program_count: u8,
+    pub limit: u64,
 }
 
 // What a card text says.

@@ -10,10 +10,10 @@ use lib.ListN.{length, get_or, set, take}
 use borrow.Author.Tests.{ltb-true, not-false}
 use Rattle.grammar.proofs.Cases.{on_test, and_true, clash}
 use Rattle.std.specs.Prelude.{Ok}
-use Rattle.construction.specs.Types.{Decoded}
+use Rattle.construction.specs.Types.{Decoded, CardLine}
 use Rattle.construction.specs.declared.{cells.Words.Words, programs.Instruction.Instruction, programs.Encoded.Encoded}
 use Rattle.construction.specs.declared.{programs.Line.Line, programs.Program.Program, simulations.Simulation.Simulation, card.Card.Card}
-use Rattle.construction.specs.declared.{texts.Contents.Contents, texts.CardLine.CardLine, texts.Verdict.Verdict, texts.ProgramReading.ProgramReading}
+use Rattle.construction.specs.declared.{texts.Contents.Contents, texts.Verdict.Verdict, texts.ProgramReading.ProgramReading}
 use Rattle.construction.specs.declared.{texts.Reading.Reading}
 use Rattle.construction.specs.declared.answers.Refusal.{Refusal}
 use Rattle.construction.specs.declared.answers.Refusal.TheVariants.{TooLong, Malformed}

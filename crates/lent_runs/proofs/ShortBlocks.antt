@@ -10,10 +10,10 @@ use lib.ListN.{length, get_or}
 use borrow.Author.Tests.{lt-leb, leb-false}
 use Rattle.grammar.specs.declared.{Found.Found, Four.Four}
 use Rattle.grammar.specs.Reading.{has_word, four, field}
-use Rattle.construction.specs.declared.{texts.Verdict.Verdict, texts.CardLine.CardLine, texts.VarLine.VarLine, texts.SheetLine.SheetLine, texts.InsLine.InsLine}
+use Rattle.construction.specs.declared.{texts.Verdict.Verdict}
 use Rattle.std.specs.Prelude.{Option, None, Some, Ok, Err}
 use Rattle.construction.specs.declared.{programs.Encoded.Encoded, programs.Format.Format}
-use Rattle.construction.specs.Types.{Decoded}
+use Rattle.construction.specs.Types.{Decoded, CardLine, VarLine, SheetLine, InsLine}
 use Rattle.construction.specs.Answers.{Fields, refused_with, verdict_fields, card_line_fields, var_line_fields, sheet_line_fields, ins_line_fields, decoded_fields}
 use Rattle.construction.specs.Instructions.{in_range, ranged, unused_zero, each_operand, decode_as, decode, row_of, encoded}
 use Rattle.construction.specs.Lines.{card_word, var_word, sheet_word, ins_word, card_fits, judge_card, card_line, judge_var, var_line, judge_sheet, sheet_line, ins_of}

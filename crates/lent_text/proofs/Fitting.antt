@@ -8,10 +8,10 @@ use lib.Dec.{eqb, ltb}
 use lib.ListN.{length, get_or, replicate, length-set}
 use borrow.Author.Tests.{eqb-true, eqb-false, not-false}
 use Rattle.construction.specs.declared.{texts.Contents.Contents, programs.Line.Line, programs.Instruction.Instruction, programs.Encoded.Encoded}
-use Rattle.construction.specs.declared.{texts.ProgramReading.ProgramReading, texts.Reading.Reading, texts.CardLine.CardLine}
+use Rattle.construction.specs.declared.{texts.ProgramReading.ProgramReading, texts.Reading.Reading}
 use Rattle.construction.specs.declared.{programs.Format.Format}
 use Rattle.std.specs.Prelude.{Option, None, Some, Ok}
-use Rattle.construction.specs.Types.{Decoded}
+use Rattle.construction.specs.Types.{Decoded, CardLine}
 use Rattle.construction.specs.Instructions.{codes, row_of, instruction_of, ranged, unused_zero, each_operand, decode, decode_as, encoded, no_line, no_program}
 use Rattle.construction.specs.Lines.{card_line, var_line, sheet_line, ins_line}
 use Rattle.construction.specs.Opening.{no_contents, with_line, ins_from, read_program, with_program, programs_from, with_start, vars_from, at_end, then_programs}

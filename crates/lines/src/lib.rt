@@ -4,12 +4,12 @@
 
 ghost use Rattle.std.specs.Prelude.{◌≡◌, Some};
 ghost use Rattle.construction.specs.Instructions.{in_range, ranged, unused_zero, each_operand, kinds, row_of, instruction_of, encoded, decode as decoded};
-ghost use Rattle.construction.specs.Lines.{card_fits, card_line, var_line, sheet_line, ins_of, ins_line};
+ghost use Rattle.construction.specs.Lines.{card_fits, card_line, var_line, sheet_line, ins_line};
 
 use construction::answers::Refusal;
 use construction::programs::OperandKind::{Register, Skip, Unused, Variable, Word};
 use construction::programs::{Encoded, Format, Instruction, OperandKind};
-use construction::texts::{CardLine, InsLine, SheetLine, VarLine};
+use construction::texts::CardNumbers;
 use grammar::reading::{field_at, four_at, has_word};
 use grammar::{Found, Four};
 
@@ -38,8 +38,8 @@ fn format_of(code: u64) -> Option<Format>
     let stop = known(Unused, Unused, Unused);
     let register = known(Register, Unused, Unused);
     let formats = [
-        None, registers, constant, load, store, registers, registers, registers, registers,
-        skip, skip, registers, stop, register, register,
+        None, registers, constant, load, store, registers, registers, registers, registers, skip,
+        skip, registers, stop, register, register,
     ];
     if code < 15 {
         formats[code as usize]
@@ -184,98 +184,71 @@ fn card_fits(process_count: u64, variable_count: u64, program_count: u64, limit:
 }
 
 // `card,p,n,s,limit`
-pub fn card_line(text: &[u8], at: usize) -> CardLine
+pub fn card_line(text: &[u8], at: usize) -> Result<Found<CardNumbers>, Refusal>
     ensures { result ≡ card_line text.now at }
 {
-    if has_word(text, at, b"card,") {
-        let Some(Found { value, next }) = four_at(text, at + 5) else {
-            return CardLine::Refused(Refusal::Malformed);
-        };
-        let Four { a, b, c, d } = value;
-        if card_fits(a, b, c, d) {
-            CardLine::Fields {
-                process_count: a as u8,
-                variable_count: b as u8,
-                program_count: c as u8,
-                limit: d,
-                next,
-            }
-        } else {
-            CardLine::Refused(Refusal::OutOfRange)
-        }
-    } else {
-        CardLine::Refused(Refusal::Malformed)
+    if !has_word(text, at, b"card,") {
+        return Err(Refusal::Malformed);
     }
+    let Found { value, next } = four_at(text, at + 5).ok_or(Refusal::Malformed)?;
+    let Four { a, b, c, d } = value;
+    if !card_fits(a, b, c, d) {
+        return Err(Refusal::OutOfRange);
+    }
+    let value = CardNumbers {
+        process_count: a as u8,
+        variable_count: b as u8,
+        program_count: c as u8,
+        limit: d,
+    };
+    Ok(Found { value, next })
 }
 
 // `var,value`
-pub fn var_line(text: &[u8], at: usize) -> VarLine
+pub fn var_line(text: &[u8], at: usize) -> Result<Found<u32>, Refusal>
     ensures { result ≡ var_line text.now at }
 {
-    if has_word(text, at, b"var,") {
-        let Some(Found { value, next }) = field_at(text, b'\n', at + 4) else {
-            return VarLine::Refused(Refusal::Malformed);
-        };
-        if value < 4_294_967_296 {
-            VarLine::Start {
-                value: value as u32,
-                next,
-            }
-        } else {
-            VarLine::Refused(Refusal::OutOfRange)
-        }
-    } else {
-        VarLine::Refused(Refusal::Malformed)
+    if !has_word(text, at, b"var,") {
+        return Err(Refusal::Malformed);
     }
+    let Found { value, next } = field_at(text, b'\n', at + 4).ok_or(Refusal::Malformed)?;
+    if 4_294_967_296 <= value {
+        return Err(Refusal::OutOfRange);
+    }
+    let value = value as u32;
+    Ok(Found { value, next })
 }
 
 // `sheet,length`
-pub fn sheet_line(text: &[u8], at: usize) -> SheetLine
+pub fn sheet_line(text: &[u8], at: usize) -> Result<Found<u8>, Refusal>
     ensures { result ≡ sheet_line text.now at }
 {
-    if has_word(text, at, b"sheet,") {
-        let Some(Found { value, next }) = field_at(text, b'\n', at + 6) else {
-            return SheetLine::Refused(Refusal::Malformed);
-        };
-        if in_range(1, 32, value) {
-            SheetLine::Length {
-                length: value as u8,
-                next,
-            }
-        } else {
-            SheetLine::Refused(Refusal::OutOfRange)
-        }
-    } else {
-        SheetLine::Refused(Refusal::Malformed)
+    if !has_word(text, at, b"sheet,") {
+        return Err(Refusal::Malformed);
     }
-}
-
-// What a decoded instruction is in a line that ends before `next`.
-fn ins_of(decoded: Result<Instruction, Refusal>, next: usize) -> InsLine
-    ensures { result ≡ ins_of decoded next }
-{
-    match decoded {
-        Ok(instruction) => InsLine::Ins { instruction, next },
-        Err(refusal) => InsLine::Refused(refusal),
+    let Found { value, next } = field_at(text, b'\n', at + 6).ok_or(Refusal::Malformed)?;
+    if !in_range(1, 32, value) {
+        return Err(Refusal::OutOfRange);
     }
+    let value = value as u8;
+    Ok(Found { value, next })
 }
 
 // `ins,code,a,b,c`, on a card of so many variables
-pub fn ins_line(variable_count: u8, text: &[u8], at: usize) -> InsLine
+pub fn ins_line(variable_count: u8, text: &[u8], at: usize) -> Result<Found<Instruction>, Refusal>
     ensures { result ≡ ins_line variable_count text.now at }
 {
-    if has_word(text, at, b"ins,") {
-        let Some(Found { value, next }) = four_at(text, at + 4) else {
-            return InsLine::Refused(Refusal::Malformed);
-        };
-        let x = Encoded {
-            code: value.a,
-            a: value.b,
-            b: value.c,
-            c: value.d,
-        };
-        ins_of(decode(variable_count, x), next)
-    } else {
-        InsLine::Refused(Refusal::Malformed)
+    if !has_word(text, at, b"ins,") {
+        return Err(Refusal::Malformed);
     }
+    let Found { value, next } = four_at(text, at + 4).ok_or(Refusal::Malformed)?;
+    let Four { a, b, c, d } = value;
+    let x = Encoded {
+        code: a,
+        a: b,
+        b: c,
+        c: d,
+    };
+    let value = decode(variable_count, x)?;
+    Ok(Found { value, next })
 }

@@ -7,9 +7,10 @@ use native.Mathlib.Omega.{arith}
 use Rattle.grammar.specs.Reading.{has_word}
 use Rattle.grammar.proofs.Cases.{on_test}
 use Rattle.grammar.proofs.Items.{items_end, items_more, items_induction}
-use Rattle.commands.specs.declared.{Word.Word}
-use Rattle.commands.specs.Commands.{word, found}
-use Rattle.commands.proofs.CommandsLaws.{line_past, word_past, fields_past, found_past, fields_inside}
+use Rattle.std.specs.Prelude.{Option, Some, None}
+use Rattle.grammar.specs.declared.Found.{Found}
+use Rattle.commands.specs.Commands.{word, verb_at}
+use Rattle.commands.proofs.CommandsLaws.{OnSome, line_past, word_past, fields_past, verb_past, fields_inside}
 use Rattle.machine_commands.specs.declared.Line.{Line}
 use Rattle.machine_commands.specs.Requests.{turn_line, after_machine, request, InsideOf, requests}
 
@@ -17,21 +18,21 @@ use Rattle.machine_commands.specs.Requests.{turn_line, after_machine, request, I
 pub request_past : (t : List ℕ) (at : ℕ) → at < length t → at < (request t at).next
 unfolding request
 request_past t at h =
-    on_test (λ (m : Line). at < m.next) (has_word t at turn_line) (λ _. omega arith) (λ _. go (word t 44 (found t at).next) refl)
+    on_test (λ (m : Line). at < m.next) (has_word t at turn_line) (λ _. omega arith) (λ _. go (word t 44 (verb_at t at).next) (word_past t 44 (verb_at t at).next))
   where
-    go : (w : Word) → word t 44 (found t at).next ≡ w → at < (after_machine t (found t at).verb at w).next
-    go (Word.Value m i) e = fields_past t (found t at).verb at i h (omega (arith, found_past t at, word_past t 44 (found t at).next e))
-    go Word.Malformed e = line_past t at h
+    go : (w : Option (Found ℕ)) → OnSome (λ x. (verb_at t at).next < x.next) w → at < (after_machine t (verb_at t at).value at w).next
+    go (Some m) e = fields_past t (verb_at t at).value at m.next h (omega (arith, verb_past t at))
+    go None e = line_past t at h
 
 -- the text of a change lies in the calls text
 pub request_inside : (t : List ℕ) (at : ℕ) → InsideOf t (request t at).request
 unfolding request
 request_inside t at =
-    on_test (λ (m : Line). InsideOf t m.request) (has_word t at turn_line) (λ _. tt) (λ _. go (word t 44 (found t at).next))
+    on_test (λ (m : Line). InsideOf t m.request) (has_word t at turn_line) (λ _. tt) (λ _. go (word t 44 (verb_at t at).next))
   where
-    go : (w : Word) → InsideOf t (after_machine t (found t at).verb at w).request
-    go (Word.Value m i) = fields_inside t (found t at).verb at i
-    go Word.Malformed = tt
+    go : (w : Option (Found ℕ)) → InsideOf t (after_machine t (verb_at t at).value at w).request
+    go (Some m) = fields_inside t (verb_at t at).value at m.next
+    go None = tt
 
 -- ---- the requests of a text
 module _ (t : List ℕ) where

@@ -1,11 +1,11 @@
 -- The requests of a calls text (document 02, order 14; docs/FORMATS.md): 'the commands of the bench program with the machine after the verb, and `turn`, which
 -- is the whole line'.
-use Rattle.std.specs.Prelude.{ℕ, ◌+◌, cond, List, [], ◌∷◌}
+use Rattle.std.specs.Prelude.{ℕ, ◌+◌, cond, List, [], ◌∷◌, Option, Some, None}
 use Rattle.grammar.specs.Reading.{has_word}
 use Rattle.grammar.specs.Items.{items}
-use Rattle.commands.specs.declared.{Word.Word, Verb.Verb}
-use Rattle.commands.specs.declared.Parsed.{Parsed}
-use Rattle.commands.specs.Commands.{Inside, malformed, word, found, fields_at}
+use Rattle.grammar.specs.declared.Found.{Found}
+use Rattle.commands.specs.declared.{Verb.Verb, Parsed.Parsed}
+use Rattle.commands.specs.Commands.{Inside, malformed, word, verb_at, fields_at}
 use Rattle.machine_commands.specs.declared.{Request.Request, Line.Line}
 
 -- `turn` and byte 10
@@ -20,15 +20,15 @@ abbrev pub directed : ℕ → Parsed → Line
 directed m p = record { request = Request.To m p.command; lines = p.lines; next = p.next }
 
 -- the fields of a verb's command after the number of its machine
-abbrev pub after_machine : List ℕ → Verb → ℕ → Word → Line
-after_machine t verb at (Word.Value m i) = directed m (fields_at t verb at i)
-after_machine t verb at Word.Malformed = directed 0 (malformed t at)
+abbrev pub after_machine : List ℕ → Verb → ℕ → Option (Found ℕ) → Line
+after_machine t verb at (Some m) = directed m.value (fields_at t verb at m.next)
+after_machine t verb at None = directed 0 (malformed t at)
 
 -- the request at a place, and the place past its lines
 unfoldable pub request : List ℕ → ℕ → Line
 request t at =
     cond (has_word t at turn_line) (turned (at + 5))
-    (after_machine t (found t at).verb at (word t 44 (found t at).next))
+    (after_machine t (verb_at t at).value at (word t 44 (verb_at t at).next))
 
 -- the text of a change lies in the calls text
 abbrev pub InsideOf : List ℕ → Request → Type 0

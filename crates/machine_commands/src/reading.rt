@@ -3,24 +3,26 @@ ghost use Rattle.std.specs.Prelude.{◌≡◌};
 ghost use Rattle.machine_commands.specs.Requests.{directed, request};
 
 use crate::{Line, Request};
+use commands::Parsed;
 use commands::reading::{fields_at, malformed_at, verb_at, word_at};
-use commands::{Parsed, Word};
 use grammar::reading::has_word;
 
 // A command to a machine.
 fn directed_to(machine: u32, plain: Parsed) -> Line
     ensures { result ≡ directed machine plain }
 {
-    let command = plain.command;
-    let to = Request::To { machine, command };
     Line {
-        request: to,
+        request: Request::To {
+            machine,
+            command: plain.command,
+        },
         lines: plain.lines,
         next: plain.next,
     }
 }
 
 // The request at a place of the text.
+#[tactic(auto, unfolding(crate::specs::Requests::request))]
 pub fn request_at(calls: &[u8], at: usize) -> Line
     ensures { result ≡ request calls.now at }
 {
@@ -31,10 +33,12 @@ pub fn request_at(calls: &[u8], at: usize) -> Line
             next: at + 5,
         };
     }
-    let found = verb_at(calls, at);
-    let verb = found.verb;
-    let Word::Value { value, next } = word_at(calls, b',', found.next) else {
-        return directed_to(0, malformed_at(calls, at));
-    };
-    directed_to(value, fields_at(calls, verb, at, next))
+    let verb = verb_at(calls, at);
+    match word_at(calls, b',', verb.next) {
+        Some(machine) => directed_to(
+            machine.value,
+            fields_at(calls, verb.value, at, machine.next),
+        ),
+        None => directed_to(0, malformed_at(calls, at)),
+    }
 }

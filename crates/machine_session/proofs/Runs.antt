@@ -16,8 +16,10 @@ use Rattle.construction.specs.declared.answers.Refusal.TheVariants.{Malformed}
 use Rattle.construction.specs.Tracing.{no_report}
 use Rattle.construction.specs.History.{Entry}
 use Rattle.construction.proofs.Basics.{true_or_false}
-use Rattle.commands.specs.declared.{Command.Command, Word.Word}
-use Rattle.commands.specs.Commands.{part, word, found, fields_at}
+use Rattle.std.specs.Prelude.{Option, Some, None}
+use Rattle.grammar.specs.declared.Found.{Found}
+use Rattle.commands.specs.declared.{Command.Command}
+use Rattle.commands.specs.Commands.{part, word, verb_at, fields_at}
 use Rattle.commands.proofs.Fitting.{FitsCommand, fields_fit}
 use Rattle.allowance.specs.Requests as sharing
 use Rattle.lent_runs.specs.Runs.{Reply, untraced}
@@ -151,11 +153,11 @@ asked_fits t j Command.Malformed h = tt
 request_fits : (t : List ℕ) (at : ℕ) → AllFitRequests (asked t (request t at).request)
 unfolding request AllFitRequests
 request_fits t at =
-    on_test (λ (m : Line). AllFitRequests (asked t m.request)) (has_word t at turn_line) (λ _. (tt, tt)) (λ _. go (word t 44 (found t at).next))
+    on_test (λ (m : Line). AllFitRequests (asked t m.request)) (has_word t at turn_line) (λ _. (tt, tt)) (λ _. go (word t 44 (verb_at t at).next))
   where
-    go : (w : Word) → AllFitRequests (asked t (after_machine t (found t at).verb at w).request)
-    go (Word.Value m i) = asked_fits t m (fields_at t (found t at).verb at i).command (fields_fit t (found t at).verb at i)
-    go Word.Malformed = tt
+    go : (w : Option (Found ℕ)) → AllFitRequests (asked t (after_machine t (verb_at t at).value at w).request)
+    go (Some m) = asked_fits t m.value (fields_at t (verb_at t at).value at m.next).command (fields_fit t (verb_at t at).value at m.next)
+    go None = tt
 
 fit_append : (xs ys : List (sharing.Request Entry)) → AllFitRequests xs → AllFitRequests ys → AllFitRequests (xs ++ ys)
 unfolding AllFitRequests

@@ -35,8 +35,10 @@ use Rattle.shared_runs.specs.Runs.{Shared, shared_reply, shared_run, shared_repl
 use Rattle.shared_runs.proofs.Statements.{as_alone}
 use Rattle.shared_runs.proofs.Numbers.{ceilings_shared, turn_shared, share_shared}
 use Rattle.machine_commands.specs.Requests.{requests}
+use Rattle.std.specs.Prelude.{Option, Some, None, Result, Ok, Err}
+use Rattle.grammar.specs.declared.Found.{Found}
 use Rattle.machine_terms.specs.declared.{Pair.Pair, Terms.Terms}
-use Rattle.machine_terms.specs.Terms.{line, machines_word, quotas_read, refused, judged_as, with_head, terms}
+use Rattle.machine_terms.specs.Terms.{line, machines_word, Quotas, quotas_read, refused, judged_as, with_quotas, with_head, terms}
 use Rattle.machine_session.specs.declared.Printed.{Printed}
 use Rattle.machine_session.specs.Session.{stage, lines_text}
 use Rattle.machine_session.specs.Starting.{one_verdict, one_blocks, Cards, with_verdict, opened_cards, Beginning, beginning, session, Starts}
@@ -58,12 +60,15 @@ on_terms t P f = on_test Q (ltb 16384 (length t)) (λ _ h. clash (cc)) (λ _. he
     judged count steps qs true e h = f count steps qs e
     judged count steps qs false e h = clash (cc)
 
-    head : (p : Pair) → Q (with_head t p)
-    head (Pair.Values count steps next) =
-        let r = quotas_read t next count in
-        on_test Q (ltb count 1 || ltb 4 count) (λ _ h. clash (cc))
-        (λ _. on_test Q (ltb 0 r.line) (λ _ h. clash (cc)) (λ _. judged count steps r.quotas (is_accepted count steps r.quotas) refl))
-    head Pair.Malformed = λ h. clash (cc)
+    with_read : (count steps : ℕ) (r : Quotas) → Q (with_quotas count steps r)
+    with_read count steps (Ok qs) = judged count steps qs (is_accepted count steps qs) refl
+    with_read count steps (Err n) = λ h. clash (cc)
+
+    head : (p : Option (Found Pair)) → Q (with_head t p)
+    head (Some x) =
+        let v = x.value in
+        on_test Q (ltb v.a 1 || ltb 4 v.a) (λ _ h. clash (cc)) (λ _. with_read v.a v.b (quotas_read t x.next v.a))
+    head None = λ h. clash (cc)
 
 -- ---- each card stands in the block of its machine
 module _ (count : ℕ) where

@@ -7,13 +7,15 @@ use native.Mathlib.Omega.{arith}
 use native.Mathlib.Numerals.{add-one}
 use lib.ListN.{length, set, replicate}
 use borrow.Author.Tests.{lt-ltb, le-ltb}
+use Rattle.std.specs.Prelude.{Option, Some, None, Result, Ok, Err}
+use Rattle.grammar.specs.declared.Found.{Found}
 use Rattle.grammar.specs.Reading.{has_word}
 use Rattle.grammar.proofs.Bytes.{word_within}
 use Rattle.construction.specs.declared.answers.Refusal.TheVariants as refusals
 use Rattle.allowance.specs.declared.{Quota.Quota, Opened.Opened}
 use Rattle.allowance.specs.Opening.{opened_as}
-use Rattle.machine_terms.specs.declared.{Pair.Pair, QuotasRead.QuotasRead, Terms.Terms}
-use Rattle.machine_terms.specs.Terms.{line, machines_word, machine_word, quota_of, with_pair, quotas_from, quotas_read, refused, judged_as, with_head, terms}
+use Rattle.machine_terms.specs.declared.{Pair.Pair, Terms.Terms}
+use Rattle.machine_terms.specs.Terms.{line, machines_word, machine_word, quota_of, Quotas, with_pair, quotas_from, quotas_read, refused, judged_as, with_head, terms}
 
 -- a word that stands in a text ends at a place that the code can name, as the text and its place do
 pub word_fits :
@@ -30,42 +32,41 @@ module _ (t : List ℕ) where
   from_suc :
       (n k at : ℕ) (l : List Quota) →
       quotas_from t (suc n) k at l
-      ≡ with_pair (line t at machine_word) (record { quotas = l; line = k + 2 })
-      (λ share ceiling next. quotas_from t n (suc k) next (set l k (quota_of share ceiling)))
+      ≡ with_pair (line t at machine_word) (k + 2) (λ x. quotas_from t n (suc k) x.next (set l k (quota_of x.value.a x.value.b)))
   unfolding quotas_from
   from_suc n k at l = refl
 
   from_step :
       (n k at : ℕ) (l : List Quota) → k < n →
       quotas_from t (n - k) k at l
-      ≡ with_pair (line t at machine_word) (record { quotas = l; line = k + 2 })
-      (λ share ceiling next. quotas_from t (n - (k + 1)) (k + 1) next (set l k (quota_of share ceiling)))
+      ≡ with_pair (line t at machine_word) (k + 2)
+      (λ x. quotas_from t (n - (k + 1)) (k + 1) x.next (set l k (quota_of x.value.a x.value.b)))
   from_step n k at l h =
       let e : n - k ≡ suc (n - (k + 1)) = omega arith in
       rw (e, add-one k) (from_suc (n - suc k) k at l)
 
-  module _ (n k at : ℕ) (l : List Quota) {p : Pair} (h : k < n) (e : p ≡ line t at machine_word) where
+  module _ (n k at : ℕ) (l : List Quota) {p : Option (Found Pair)} (h : k < n) (e : p ≡ line t at machine_word) where
     pub quotas_turn :
-        {a b next : ℕ} → p ≡ Pair.Values a b next → {q : Quota} {l' : List Quota} → q ≡ quota_of a b → l' ≡ set l k q →
-        quotas_from t (n - k) k at l ≡ quotas_from t (n - (k + 1)) (k + 1) next l'
-    quotas_turn {a} {b} {next} f {q} {l'} i j =
+        {x : Found Pair} → p ≡ Some x → {q : Quota} {l' : List Quota} → q ≡ quota_of x.value.a x.value.b → l' ≡ set l k q →
+        quotas_from t (n - k) k at l ≡ quotas_from t (n - (k + 1)) (k + 1) x.next l'
+    quotas_turn {x} f {q} {l'} i j =
         from_step n k at l h
         ∙ rw (sym e ∙ f)
-        (ap (λ (x : Quota). quotas_from t (n - (k + 1)) (k + 1) next (set l k x)) (sym i)
-        ∙ ap (λ (x : List Quota). quotas_from t (n - (k + 1)) (k + 1) next x) (sym j))
+        (ap (λ (y : Quota). quotas_from t (n - (k + 1)) (k + 1) x.next (set l k y)) (sym i)
+        ∙ ap (λ (y : List Quota). quotas_from t (n - (k + 1)) (k + 1) x.next y) (sym j))
 
-    pub quotas_stop : p ≡ Pair.Malformed → quotas_from t (n - k) k at l ≡ record { quotas = l; line = k + 2 }
+    pub quotas_stop : p ≡ None → quotas_from t (n - k) k at l ≡ Err (k + 2)
     quotas_stop f = from_step n k at l h ∙ rw (sym e ∙ f)
 
   module _ (n k at : ℕ) (l : List Quota) (h : n ≤ k) where
     ended : quotas_from t (n - k) k at l ≡ quotas_from t 0 k at l
     ended = let e : n - k ≡ 0 = omega arith in rw e
 
-    pub quotas_more : at < length t → quotas_from t (n - k) k at l ≡ record { quotas = l; line = k + 2 }
+    pub quotas_more : k ≤ n → at < length t → quotas_from t (n - k) k at l ≡ Err (n + 2)
     unfolding quotas_from
-    quotas_more i = ended ∙ rw (lt-ltb at (length t) i)
+    quotas_more g i = let q : k ≡ n = omega arith in ended ∙ rw (lt-ltb at (length t) i) (ap (λ (x : ℕ). Err (x + 2)) q)
 
-    pub quotas_done : length t ≤ at → quotas_from t (n - k) k at l ≡ record { quotas = l; line = 0 }
+    pub quotas_done : length t ≤ at → quotas_from t (n - k) k at l ≡ Ok l
     unfolding quotas_from
     quotas_done i = ended ∙ rw (le-ltb at (length t) i)
 
@@ -75,24 +76,25 @@ module _ (t : List ℕ) where
   unfolding terms
   too_long_lem h e = rw (lt-ltb 16384 (length t) h) e
 
-  module _ (h : length t ≤ 16384) {p : Pair} (q : p ≡ line t 0 machines_word) where
+  module _ (h : length t ≤ 16384) {p : Option (Found Pair)} (q : p ≡ line t 0 machines_word) where
     headed : terms t ≡ with_head t p
     unfolding terms
     headed = rw (le-ltb 16384 (length t) h, ← q)
 
-    pub no_head : {r : Terms} → p ≡ Pair.Malformed → r ≡ refused refusals.Malformed 1 → r ≡ terms t
+    pub no_head : {r : Terms} → p ≡ None → r ≡ refused refusals.Malformed 1 → r ≡ terms t
     no_head f e = e ∙ sym (headed ∙ rw f)
 
-    module _ {count steps next : ℕ} (f : p ≡ Pair.Values count steps next) where
-      pub few : {r : Terms} → count < 1 → r ≡ refused refusals.BadTerms 0 → r ≡ terms t
-      few l e = e ∙ sym (headed ∙ rw (f, lt-ltb count 1 l))
+    module _ {x : Found Pair} (f : p ≡ Some x) where
+      pub few : {r : Terms} → x.value.a < 1 → r ≡ refused refusals.BadTerms 0 → r ≡ terms t
+      few l e = e ∙ sym (headed ∙ rw (f, lt-ltb x.value.a 1 l))
 
-      pub many : {r : Terms} → 1 ≤ count → 4 < count → r ≡ refused refusals.BadTerms 0 → r ≡ terms t
-      many k l e = e ∙ sym (headed ∙ rw (f, le-ltb count 1 k, lt-ltb 4 count l))
+      pub many : {r : Terms} → 1 ≤ x.value.a → 4 < x.value.a → r ≡ refused refusals.BadTerms 0 → r ≡ terms t
+      many k l e = e ∙ sym (headed ∙ rw (f, le-ltb x.value.a 1 k, lt-ltb 4 x.value.a l))
 
-      module _ (k : 1 ≤ count) (l : count ≤ 4) {x : QuotasRead} (g : x ≡ quotas_read t next count) where
-        pub wrong_line_lem : {r : Terms} → 0 < x.line → r ≡ refused refusals.Malformed x.line → r ≡ terms t
-        wrong_line_lem i e = e ∙ sym (headed ∙ rw (f, le-ltb count 1 k, le-ltb 4 count l, ← g, lt-ltb 0 x.line i))
+      module _ (k : 1 ≤ x.value.a) (l : x.value.a ≤ 4) {y : Quotas} (g : y ≡ quotas_read t x.next x.value.a) where
+        pub wrong_line_lem : {n : ℕ} {r : Terms} → y ≡ Err n → r ≡ refused refusals.Malformed n → r ≡ terms t
+        wrong_line_lem i e = e ∙ sym (headed ∙ rw (f, le-ltb x.value.a 1 k, le-ltb 4 x.value.a l, ← g, i))
 
-        pub judged_last : {r : Terms} → x.line ≤ 0 → {o : Opened} → o ≡ opened_as count steps x.quotas → r ≡ judged_as o → r ≡ terms t
-        judged_last i j e = e ∙ sym (headed ∙ rw (f, le-ltb count 1 k, le-ltb 4 count l, ← g, le-ltb 0 x.line i, ← j))
+        pub judged_last :
+            {quotas : List Quota} {r : Terms} → y ≡ Ok quotas → {o : Opened} → o ≡ opened_as x.value.a x.value.b quotas → r ≡ judged_as o → r ≡ terms t
+        judged_last i j e = e ∙ sym (headed ∙ rw (f, le-ltb x.value.a 1 k, le-ltb 4 x.value.a l, ← g, i, ← j))

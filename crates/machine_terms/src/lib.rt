@@ -13,18 +13,11 @@ use construction::texts::Verdict;
 use grammar::Found;
 use grammar::reading::{field_at, has_word};
 
-// The two numbers of a line, and the place past it.
+// The two numbers of a line.
 #[derive(Clone, Copy)]
-pub enum Pair {
-    Values { a: u64, b: u64, next: usize },
-    Malformed,
-}
-
-// The quotas that the lines say, and the number of the first line that is malformed or left over, or 0.
-#[derive(Clone, Copy)]
-pub struct QuotasRead {
-    pub quotas: [Quota; 4],
-    pub line: u64,
+pub struct Pair {
+    pub a: u64,
+    pub b: u64,
 }
 
 // The allowance at opening, of no machines where the text is refused, and the verdict.
@@ -38,26 +31,30 @@ pub struct Terms {
 const LIMIT: usize = 16_384;
 
 // Two numbers, parted by a comma and ended by byte 10.
-fn pair_at(text: &[u8], at: usize) -> Pair
+#[tactic(auto, unfolding(crate::specs::Terms::pair))]
+fn pair_at(text: &[u8], at: usize) -> Option<Found<Pair>>
     ensures { result ≡ pair text.now at }
 {
-    let Some(Found { value: a, next: i }) = field_at(text, b',', at) else {
-        return Pair::Malformed;
-    };
-    let Some(Found { value: b, next }) = field_at(text, b'\n', i) else {
-        return Pair::Malformed;
-    };
-    Pair::Values { a, b, next }
+    let a = field_at(text, b',', at)?;
+    let b = field_at(text, b'\n', a.next)?;
+    Some(Found {
+        value: Pair {
+            a: a.value,
+            b: b.value,
+        },
+        next: b.next,
+    })
 }
 
 // A line of a word and two numbers.
-fn line_at(text: &[u8], at: usize, word: &[u8]) -> Pair
+#[tactic(auto, unfolding(crate::specs::Terms::line))]
+fn line_at(text: &[u8], at: usize, word: &[u8]) -> Option<Found<Pair>>
     ensures { result ≡ line text.now at word.now }
 {
     if has_word(text, at, word) {
         pair_at(text, at + word.len())
     } else {
-        Pair::Malformed
+        None
     }
 }
 
@@ -77,64 +74,54 @@ fn with_quota(quotas: [Quota; 4], k: u8, quota: Quota) -> [Quota; 4]
     ensures { result ≡ set quotas k quota }
 {
     let mut quotas = quotas;
-    let at = k as usize;
-    if at < 4 {
-        quotas[at] = quota;
+    if k < 4 {
+        quotas[k as usize] = quota;
     }
     quotas
 }
 
-// The lines of so many machines from a place on, and that nothing follows them.
-fn read_quotas(text: &[u8], start: usize, count: u8) -> QuotasRead
+// The quotas that the lines of so many machines from a place on say, after which nothing may follow; or the number of the first line that is malformed or left over.
+fn read_quotas(text: &[u8], start: usize, count: u8) -> Result<[Quota; 4], u64>
     ensures { result ≡ quotas_read text.now start count }
 {
-    let none = quota_of(0, 0);
-    let mut quotas = [none; 4];
+    let mut quotas = [quota_of(0, 0); 4];
     let mut at = start;
-    let mut k: u8 = 0;
-    while k < count {
-        let Pair::Values { a, b, next } = line_at(text, at, b"machine,") else {
-            return QuotasRead {
-                quotas,
-                line: k as u64 + 2,
-            };
+    for k in 0..count {
+        let Some(Found { value, next }) = line_at(text, at, b"machine,") else {
+            return Err(k as u64 + 2);
         };
-        let more = with_quota(quotas, k, quota_of(a, b));
+        let more = with_quota(quotas, k, quota_of(value.a, value.b));
         quotas = more;
         at = next;
-        k = k + 1;
     }
     if at < text.len() {
-        return QuotasRead {
-            quotas,
-            line: k as u64 + 2,
-        };
+        return Err(count as u64 + 2);
     }
-    QuotasRead { quotas, line: 0 }
+    Ok(quotas)
 }
 
 // Refused terms, which leave no machines.
+#[tactic(auto, unfolding(crate::specs::Terms::refused))]
 fn refused_with(refusal: Refusal, line: u64) -> Terms
     ensures { result ≡ refused refusal line }
 {
-    let none = quota_of(0, 0);
-    let opened = open(0, 0, [none; 4]);
-    let allowance = opened.allowance;
-    let verdict = Verdict::Refused { refusal, line };
-    Terms { allowance, verdict }
+    let opened = open(0, 0, [quota_of(0, 0); 4]);
+    Terms {
+        allowance: opened.allowance,
+        verdict: Verdict::Refused { refusal, line },
+    }
 }
 
 // What opening answers.
+#[tactic(auto, unfolding(crate::specs::Terms::judged_as))]
 fn judged(opened: Opened) -> Terms
     ensures { result ≡ judged_as opened }
 {
-    let answer = opened.answer;
-    if is_refused(answer) {
+    if is_refused(opened.answer) {
         return refused_with(Refusal::BadTerms, 0);
     }
-    let allowance = opened.allowance;
     Terms {
-        allowance,
+        allowance: opened.allowance,
         verdict: Verdict::Accepted,
     }
 }
@@ -146,19 +133,14 @@ pub fn read_terms(text: &[u8]) -> Terms
     if LIMIT < text.len() {
         return refused_with(Refusal::TooLong, 0);
     }
-    let Pair::Values { a, b, next } = line_at(text, 0, b"machines,") else {
+    let Some(Found { value, next }) = line_at(text, 0, b"machines,") else {
         return refused_with(Refusal::Malformed, 1);
     };
-    if a < 1 {
+    if value.a < 1 || 4 < value.a {
         return refused_with(Refusal::BadTerms, 0);
     }
-    if 4 < a {
-        return refused_with(Refusal::BadTerms, 0);
+    match read_quotas(text, next, value.a as u8) {
+        Ok(quotas) => judged(open(value.a, value.b, quotas)),
+        Err(line) => refused_with(Refusal::Malformed, line),
     }
-    let read = read_quotas(text, next, a as u8);
-    if read.line > 0 {
-        return refused_with(Refusal::Malformed, read.line);
-    }
-    let quotas = read.quotas;
-    judged(open(a, b, quotas))
 }

@@ -4,20 +4,16 @@
 #![tactic(auto)]
 
 pub mod changes; // changes.rt: the text of a change
-mod refusals; // refusals.rt: refused readings, and the refusal of a line
+mod refusals; // refusals.rt: refused readings
 
 ghost use Rattle.std.specs.Prelude.{◌≡◌, ◌≤◌, replicate};
 ghost use Rattle.construction.specs.Opening.{begun, program_so_far, so_far, ins_from, weighed, read_program, programs_from, vars_from, then_end, then_programs, read_card, opened};
 ghost use Rattle.construction.specs.Instructions.{no_line};
 
-use crate::refusals::{
-    card_refusal, ins_refusal, program_refused_at, refused_at, sheet_refusal, var_refusal,
-};
+use crate::refusals::{program_refused_at, refused_at};
 use construction::answers::Refusal;
 use construction::programs::{Line, Program};
-use construction::texts::{
-    CardLine, Contents, InsLine, Opened, ProgramReading, Reading, SheetLine, VarLine, Verdict,
-};
+use construction::texts::{CardNumbers, Contents, Opened, ProgramReading, Reading, Verdict};
 use programs::weights::weight;
 
 // The contents after the `card` line alone.
@@ -29,16 +25,13 @@ pub(crate) fn begun_contents(
 ) -> Contents
     ensures { result ≡ begun process_count variable_count program_count limit }
 {
-    let program = opening::no_program();
-    let programs = [program; 8];
-    let starts = [0u32; 64];
     Contents {
         process_count,
         variable_count,
         program_count,
         limit,
-        starts,
-        programs,
+        starts: [0; 64],
+        programs: [opening::no_program(); 8],
     }
 }
 
@@ -53,21 +46,19 @@ fn read_lines(
     requires { (length ≤ 32) × (first ≤ 10000) }
     ensures { result ≡ ins_from variable_count text.now length 0 (program_so_far length (replicate 32 no_line) start first) }
 {
-    let blank = opening::no_line();
-    let mut lines = [blank; 32];
+    let mut lines = [opening::no_line(); 32];
     let mut at = start;
     let mut number = first;
-    let count = length as usize;
-    let mut k: usize = 0;
-    while k < count {
-        let line = lines::ins_line(variable_count, text, at);
-        let InsLine::Ins { instruction, next } = line else {
-            return program_refused_at(ins_refusal(line), number);
+    for k in 0..length as usize {
+        let line = match lines::ins_line(variable_count, text, at) {
+            Ok(line) => line,
+            Err(refusal) => return program_refused_at(refusal, number),
         };
-        lines[k] = Line { instruction };
-        at = next;
-        number = number + 1;
-        k = k + 1;
+        lines[k] = Line {
+            instruction: line.value,
+        };
+        at = line.next;
+        number += 1;
     }
     let program = Program { length, lines };
     ProgramReading {
@@ -104,12 +95,12 @@ pub(crate) fn read_program(
     requires { number ≤ 9000 }
     ensures { result ≡ read_program variable_count most text.now at number }
 {
-    let line = lines::sheet_line(text, at);
-    let SheetLine::Length { length, next } = line else {
-        return program_refused_at(sheet_refusal(line), number);
+    let line = match lines::sheet_line(text, at) {
+        Ok(line) => line,
+        Err(refusal) => return program_refused_at(refusal, number),
     };
-    let read = read_lines(variable_count, text, length, next, number + 1);
-    weigh(most, read, number + length as u64)
+    let read = read_lines(variable_count, text, line.value, line.next, number + 1);
+    weigh(most, read, number + line.value as u64)
 }
 
 // The programs, as many as the `card` line says.
@@ -117,23 +108,18 @@ fn read_programs(text: &[u8], count: u8, contents: Contents, start: usize, first
     requires { (count ≤ 8) × (first ≤ 1000) }
     ensures { result ≡ programs_from text.now count 0 (so_far contents start first) }
 {
-    let variable_count = contents.variable_count;
     let mut programs = contents.programs;
     let mut at = start;
     let mut number = first;
-    let all = count as usize;
-    let mut k: usize = 0;
-    while k < all {
-        let read = read_program(variable_count, 32, text, at, number);
+    for k in 0..count as usize {
+        let read = read_program(contents.variable_count, 32, text, at, number);
         let verdict = read.verdict;
         if let Verdict::Refused { refusal, line } = verdict {
             return refused_at(refusal, line);
         }
-        let program = read.program;
-        programs[k] = program;
+        programs[k] = read.program;
         at = read.at;
         number = read.line;
-        k = k + 1;
     }
     let contents = Contents {
         programs,
@@ -155,17 +141,14 @@ fn read_vars(text: &[u8], count: u8, contents: Contents, start: usize, first: u6
     let mut starts = contents.starts;
     let mut at = start;
     let mut number = first;
-    let all = count as usize;
-    let mut k: usize = 0;
-    while k < all {
-        let line = lines::var_line(text, at);
-        let VarLine::Start { value, next } = line else {
-            return refused_at(var_refusal(line), number);
+    for k in 0..count as usize {
+        let line = match lines::var_line(text, at) {
+            Ok(line) => line,
+            Err(refusal) => return refused_at(refusal, number),
         };
-        starts[k] = value;
-        at = next;
-        number = number + 1;
-        k = k + 1;
+        starts[k] = line.value;
+        at = line.next;
+        number += 1;
     }
     let contents = Contents { starts, ..contents };
     Reading {
@@ -212,19 +195,18 @@ pub fn read_card(text: &[u8]) -> Reading
     if 16384 < text.len() {
         return refused_at(Refusal::TooLong, 0);
     }
-    let line = lines::card_line(text, 0);
-    let CardLine::Fields {
+    let line = match lines::card_line(text, 0) {
+        Ok(line) => line,
+        Err(refusal) => return refused_at(refusal, 1),
+    };
+    let CardNumbers {
         process_count,
         variable_count,
         program_count,
         limit,
-        next,
-    } = line
-    else {
-        return refused_at(card_refusal(line), 1);
-    };
+    } = line.value;
     let contents = begun_contents(process_count, variable_count, program_count, limit);
-    read_body(text, variable_count, program_count, contents, next)
+    read_body(text, variable_count, program_count, contents, line.next)
 }
 
 // The card that a text opens to, or the refusal with its line and the empty card.

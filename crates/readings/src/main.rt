@@ -4,7 +4,7 @@
 
 ghost use Rattle.std.specs.Prelude.{◌≡◌, length};
 
-use arguments::{Argument, decimal_of};
+use arguments::decimal_of;
 use construction::texts::Verdict;
 use dump_reader::rows::{first_scan, put_row, put_rows};
 use grammar::writing::{put_byte, put_decimal, put_word};
@@ -104,7 +104,7 @@ fn main(rt: HostRuntime) {
         run(&rt, &path[..path_length], true, 0);
         return;
     }
-    let Argument::Value(step) = decimal_of(&asked[..length]) else {
+    let Some(step) = decimal_of(&asked[..length]) else {
         usage(&rt);
         return;
     };

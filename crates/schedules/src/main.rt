@@ -7,7 +7,7 @@ ghost use Rattle.std.specs.Prelude.{◌≡◌, ◌≤◌, length};
 ghost use Rattle.grammar.specs.Writing.{Put};
 ghost use Rattle.schedules.specs.Progress.{progress_text};
 
-use arguments::{Argument, decimal_of};
+use arguments::decimal_of;
 use construction::card::Card;
 use grammar::writing::{put_decimal, put_word};
 use host::{ErrorOutput, argument, argument_count, fail, is_due, read_file, seconds, tell};
@@ -23,11 +23,11 @@ const LAST: u8 = 5;
 const LARGEST: u64 = 4_294_967_295;
 
 // The one argument.
-fn read_argument(rt: &impl Env) -> Argument {
+fn read_argument(rt: &impl Env) -> Option<u64> {
     let mut text = host::buffer();
     let length = argument(rt, 1, &mut text);
     if argument_count(rt) != 2 {
-        return Argument::Wrong;
+        return None;
     }
     decimal_of(&text[..length])
 }
@@ -139,7 +139,7 @@ fn run(rt: &(impl Files + Print + Eprint + Alloc + Clock + ErrorOutput), length:
 
 // The argument is judged before any file.
 fn main(rt: HostRuntime) {
-    let Argument::Value(length) = read_argument(&rt) else {
+    let Some(length) = read_argument(&rt) else {
         usage(&rt);
         return;
     };

@@ -8,7 +8,7 @@ ghost use Rattle.grammar.specs.Writing.{Put};
 ghost use Rattle.sweeping.specs.Pieces.{Finishes};
 ghost use Rattle.sweep.specs.Progress.{quotient_of, rate_text, progress_text};
 
-use arguments::{Argument, decimal_of};
+use arguments::decimal_of;
 use grammar::writing::{put_decimal, put_word};
 use host::{ErrorOutput, argument, argument_count, fail, is_due, print, read_file, seconds, tell};
 use std::io;
@@ -19,7 +19,7 @@ use sweeping::printing::put_summary;
 use sweeping::starting::start;
 
 // An argument by its place.
-fn argument_at(rt: &impl Env, place: usize) -> Argument {
+fn argument_at(rt: &impl Env, place: usize) -> Option<u64> {
     let mut text = host::buffer();
     let length = argument(rt, place, &mut text);
     decimal_of(&text[..length])
@@ -152,11 +152,11 @@ fn tell_usage(rt: &impl Eprint) {
 fn main(rt: HostRuntime) {
     let first = argument_at(&rt, 1);
     let second = argument_at(&rt, 2);
-    let Argument::Value(steps) = first else {
+    let Some(steps) = first else {
         tell_usage(&rt);
         return;
     };
-    let Argument::Value(seed) = second else {
+    let Some(seed) = second else {
         tell_usage(&rt);
         return;
     };

@@ -5,15 +5,15 @@ use Rattle.arguments.proofs.decimal_of.Goals as goal
 pub returns-then-begins_wrong : goal.returns-then-begins_wrong
 returns-then-begins_wrong c = no_digits c.args.text.now c.begins_wrong.ensures c.if-begins_wrong.true
 
-pub loop-k-init : goal.loop-k-init
-loop-k-init c = digits_none c.args.text.now c.begins_wrong.ensures c.if-begins_wrong.false
+pub loop-byte-init : goal.loop-byte-init
+loop-byte-init c = digits_none c.args.text.now c.begins_wrong.ensures c.if-begins_wrong.false
 
 pub returns-then-not-is_fit : goal.returns-then-not-is_fit
 returns-then-not-is_fit c =
-    digit_wrong c.loop-k.invariant refl c.is_fit.ensures c.loop-k-test.true c.if-not-is_fit.true
+    digit_wrong c.loop-byte.invariant refl c.is_fit.ensures c.loop-byte-test.true c.if-not-is_fit.true
 
-pub loop-k-preserved : goal.loop-k-preserved
-loop-k-preserved c = digit_more c.loop-k.invariant refl c.is_fit.ensures c.loop-k-test.true c.if-not-is_fit.false
+pub loop-byte-preserved : goal.loop-byte-preserved
+loop-byte-preserved c = digit_more c.loop-byte.invariant refl c.is_fit.ensures c.loop-byte-test.true c.if-not-is_fit.false
 
 pub returns : goal.returns
-returns c = digits_all c.loop-k.invariant (omega arith)
+returns c = digits_all c.loop-byte.invariant (omega arith)

@@ -7,7 +7,7 @@ use mathlib.Core.Bool.{Bool, true, false, cond}
 use mathlib.Core.List.{[], ◌∷◌, ◌++◌}
 use lib.ListN.{get_or, length}
 use Rattle.std.specs.Prelude.{Ok, Err}
-use Rattle.grammar.specs.Reading.{has_word}
+use Rattle.grammar.specs.Reading.{found, has_word}
 use Rattle.construction.specs.Types.{Yield, Instruction, Decoded, Refusal, TooLong, Malformed, OutOfRange, UnknownCode, NoProcess, NoProgram, Busy}
 use Rattle.construction.specs.Types.{NotBusy, NoPlace, LimitReached, ShortBuffer, OperandOutOfRange, UnusedOperand, TooHeavy, Answer, RowSwap, CardLine}
 use Rattle.construction.specs.Types.{VarLine, SheetLine, InsLine, Verdict, Written, NotAhead, Unsettled, TooLarge, BadTerms, NoAllowance}
@@ -15,6 +15,7 @@ use Rattle.construction.specs.Answers.{bytes, Fields, fields, number_of, output_
 use Rattle.construction.specs.Answers.{decoded_fields, card_line_fields, var_line_fields, sheet_line_fields, ins_line_fields}
 use Rattle.construction.specs.KnownAnswers.{card_line_end, var_line_end, sheet_line_end, ins_line_end, KnownBy, KnownByFields}
 use Rattle.construction.specs.Instructions.{instruction_of, encode, encoded}
+use Rattle.construction.specs.Lines.{card_numbers}
 use lib.Dec.{eqb}
 
 -- what can be read back is known
@@ -98,16 +99,16 @@ module _ (f : Fields) where
 
   -- a line from its fields and the place past it
   abbrev card_from : ℕ → CardLine
-  card_from end = cond is_refusal (CardLine.Refused why) (CardLine.Fields (number 0) (number 1) (number 2) (number 3) end)
+  card_from end = cond is_refusal (Err why) (Ok (found (card_numbers (number 0) (number 1) (number 2) (number 3)) end))
 
   abbrev var_from : ℕ → VarLine
-  var_from end = cond is_refusal (VarLine.Refused why) (VarLine.Start (number 0) end)
+  var_from end = cond is_refusal (Err why) (Ok (found (number 0) end))
 
   abbrev sheet_from : ℕ → SheetLine
-  sheet_from end = cond is_refusal (SheetLine.Refused why) (SheetLine.Length (number 0) end)
+  sheet_from end = cond is_refusal (Err why) (Ok (found (number 0) end))
 
   abbrev ins_from : ℕ → InsLine
-  ins_from end = cond is_refusal (InsLine.Refused why) (InsLine.Ins instruction_from end)
+  ins_from end = cond is_refusal (Err why) (Ok (found instruction_from end))
 
 done_back :
     (n : ℕ) (y : Yield) (k : ℕ) (b : Bool) → y.fault ≡ b →
@@ -166,23 +167,23 @@ decoded_back (Err r) = ap Err (refusal_back r)
 
 card_back : (x : CardLine) → card_from (card_line_fields x) (card_line_end x) ≡ x
 unfolding card_line_fields has_word
-card_back (CardLine.Fields p n s l i) = refl
-card_back (CardLine.Refused r) = ap CardLine.Refused (refusal_back r)
+card_back (Ok x) = refl
+card_back (Err r) = ap Err (refusal_back r)
 
 var_back : (x : VarLine) → var_from (var_line_fields x) (var_line_end x) ≡ x
 unfolding var_line_fields has_word
-var_back (VarLine.Start v i) = refl
-var_back (VarLine.Refused r) = ap VarLine.Refused (refusal_back r)
+var_back (Ok x) = refl
+var_back (Err r) = ap Err (refusal_back r)
 
 sheet_back : (x : SheetLine) → sheet_from (sheet_line_fields x) (sheet_line_end x) ≡ x
 unfolding sheet_line_fields has_word
-sheet_back (SheetLine.Length m i) = refl
-sheet_back (SheetLine.Refused r) = ap SheetLine.Refused (refusal_back r)
+sheet_back (Ok x) = refl
+sheet_back (Err r) = ap Err (refusal_back r)
 
 ins_back : (x : InsLine) → ins_from (ins_line_fields x) (ins_line_end x) ≡ x
 unfolding ins_line_fields decoded_fields has_word
-ins_back (InsLine.Ins x i) = ap (λ (y : Instruction). InsLine.Ins y i) (instruction_back x)
-ins_back (InsLine.Refused r) = ap InsLine.Refused (refusal_back r)
+ins_back (Ok x) = ap (λ (y : Instruction). Ok (found y x.next)) (instruction_back x.value)
+ins_back (Err r) = ap Err (refusal_back r)
 
 -- the other way is plain
 both : {A B : Type 0} (tell : A → B) → ((a b : A) → tell a ≡ tell b → a ≡ b) → KnownBy tell

@@ -9,12 +9,12 @@ use mathlib.Core.List.{List, [], ◌∷◌}
 use native.Mathlib.Omega.{arith}
 use lib.ListN.{length}
 use borrow.Author.Tests.{lt-ltb, le-ltb}
-use Rattle.grammar.specs.Reading.{most, has_word}
+use Rattle.grammar.specs.Reading.{found, most, has_word}
 use Rattle.std.specs.Prelude.{None, Some, Ok}
-use Rattle.construction.specs.Types.{OperandKind, Format, Decoded, Encoded, CardLine, VarLine, SheetLine, InsLine}
+use Rattle.construction.specs.Types.{OperandKind, Format, Encoded, CardLine, VarLine, SheetLine, InsLine}
 use Rattle.construction.specs.Answers.{fields, refused_with, card_line_fields, var_line_fields, sheet_line_fields, encoded_fields, decoded_fields, ins_line_fields}
 use Rattle.construction.specs.Instructions.{in_range, codes, row_of, kinds, instruction_of, ranged, unused_zero, each_operand, decode, encoded}
-use Rattle.construction.specs.Lines.{card_word, var_word, sheet_word, ins_word, card_fits, card_line, judge_card, var_line, judge_var, sheet_line, judge_sheet}
+use Rattle.construction.specs.Lines.{card_numbers, card_word, var_word, sheet_word, ins_word, card_fits, card_line, judge_card, var_line, judge_var, sheet_line, judge_sheet}
 use Rattle.construction.specs.Lines.{ins_of, ins_line, judge_ins, card_text, var_text, sheet_text, encoded_text}
 use Rattle.construction.proofs.Basics.{on_test, clash}
 use Rattle.construction.proofs.Text.Lines.{range_true, card_fits_lem}
@@ -36,7 +36,7 @@ module _ (t : List ℕ) (at : ℕ) where
         let f = four_found t card_word at p n s l there in
         rw (f.0, f.1, fits_kept p n s l ∙ out)
 
-    pub card_line_good : card_fits p n s l ≡ true → card_line t at ≡ CardLine.Fields p n s l (at + length (card_text p n s l))
+    pub card_line_good : card_fits p n s l ≡ true → card_line t at ≡ Ok (found (card_numbers p n s l) (at + length (card_text p n s l)))
     unfolding card_text card_line judge_card
     card_line_good fits =
         let f = four_found t card_word at p n s l there in
@@ -60,7 +60,7 @@ module _ (t : List ℕ) (at : ℕ) where
         let f = field_found t var_word at v there in
         rw (f.0, f.1, le-ltb (min most v) 4294967296 (omega arith))
 
-    pub var_line_good : v < 4294967296 → var_line t at ≡ VarLine.Start v (at + length (var_text v))
+    pub var_line_good : v < 4294967296 → var_line t at ≡ Ok (found v (at + length (var_text v)))
     unfolding var_text var_line judge_var
     var_line_good fits =
         let f = field_found t var_word at v there in
@@ -80,7 +80,7 @@ module _ (t : List ℕ) (at : ℕ) where
         let f = field_found t sheet_word at m there in
         rw (f.0, f.1, range_kept 1 32 (omega arith) m ∙ out)
 
-    pub sheet_line_good : in_range 1 32 m ≡ true → sheet_line t at ≡ SheetLine.Length m (at + length (sheet_text m))
+    pub sheet_line_good : in_range 1 32 m ≡ true → sheet_line t at ≡ Ok (found m (at + length (sheet_text m)))
     unfolding sheet_text sheet_line judge_sheet
     sheet_line_good fits =
         let f = field_found t sheet_word at m there in
@@ -134,7 +134,7 @@ module _ (n : ℕ) (few : n ≤ 64) (t : List ℕ) (at : ℕ) where
           unfolding decode
           valid = rw (f, r, u)
 
-          pub ins_line_good : ins_line n t at ≡ InsLine.Ins (instruction_of x) (at + length (encoded_text x))
+          pub ins_line_good : ins_line n t at ≡ Ok (found (instruction_of x) (at + length (encoded_text x)))
           ins_line_good =
               let s = (decoded_encodes n x (omega arith) (instruction_of x) valid).small in
               let ek : min most k ≡ k = omega (arith, s.small_a) in

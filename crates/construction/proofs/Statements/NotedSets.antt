@@ -11,7 +11,7 @@ use lib.Dec.{ltb}
 use lib.ListN.{length, get_or, set}
 use lib.Seq.{get_or-set_same, get_or-set_other}
 use borrow.Author.Tests.{le-ltb}
-use Rattle.construction.specs.Types.{Gate, Words, Announcement, Record, Program, Dictionary, Simulation, Label, P5, H21, Access, Control, Helped, Card}
+use Rattle.construction.specs.Types.{Words, Record, Program, Dictionary, Simulation, Label, P5, H21, Access, Control, Helped, Card}
 use Rattle.construction.specs.Types.{Answered}
 use Rattle.construction.specs.Dictionary.{empty, noted, find, has, item_of}
 use Rattle.construction.specs.Marks.{Marks}

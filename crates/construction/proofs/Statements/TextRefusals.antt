@@ -7,7 +7,8 @@ use mathlib.Core.List.{List}
 use lib.ListN.{length, get_or}
 use lib.Dec.{eqb, ltb}
 use borrow.Author.Tests.{lt-ltb, le-ltb, ltb-true, ltb-false, eq-eqb, ne_eqb}
-use Rattle.grammar.specs.Reading.{has_word}
+use Rattle.std.specs.Prelude.{Ok, Err}
+use Rattle.grammar.specs.Reading.{found, has_word}
 use Rattle.construction.specs.Types.{Instruction, Refusal, Malformed, CardLine, VarLine, SheetLine, InsLine, Verdict, ProgramReading, Reading}
 use Rattle.construction.specs.Weight.{weight}
 use Rattle.construction.specs.Answers.{number_of, Fields, refused_with, verdict_fields, card_line_fields, var_line_fields, sheet_line_fields, decoded_fields}
@@ -96,29 +97,29 @@ module _ (t : List ℕ) where
   -- a line that is refused ends the reading
   card_ends : {number : ℕ} (z : CardLine) → card_line_fields z ≡ refused_with number → verdict_of (after_card t z) ≡ refused_in 1 number
   unfolding card_line_fields has_word
-  card_ends (CardLine.Fields p n s l i) e = absurd (unlike refl e)
-  card_ends (CardLine.Refused why) e = told why 1 e
+  card_ends (Ok z) e = absurd (unlike refl e)
+  card_ends (Err why) e = told why 1 e
 
   var_ends :
       {number : ℕ} (r : Reading) (s k : ℕ) (go : Reading → Reading) (z : VarLine) → var_line_fields z ≡ refused_with number →
       verdict_of (then_end t (then_programs t s (next_var z r k go))) ≡ refused_in r.line number
   unfolding var_line_fields has_word
-  var_ends r s k go (VarLine.Start v i) e = absurd (unlike refl e)
-  var_ends r s k go (VarLine.Refused why) e = told why r.line e
+  var_ends r s k go (Ok z) e = absurd (unlike refl e)
+  var_ends r s k go (Err why) e = told why r.line e
 
   sheet_ends :
       {number : ℕ} (s k : ℕ) (r : Reading) (n : ℕ) (z : SheetLine) → sheet_line_fields z ≡ refused_with number →
       verdict_of (from_program t s k r (program_after n 32 t z r.line)) ≡ refused_in r.line number
   unfolding sheet_line_fields has_word
-  sheet_ends s k r n (SheetLine.Length m i) e = absurd (unlike refl e)
-  sheet_ends s k r n (SheetLine.Refused why) e = told why r.line e
+  sheet_ends s k r n (Ok z) e = absurd (unlike refl e)
+  sheet_ends s k r n (Err why) e = told why r.line e
 
   ins_ends :
       {number : ℕ} (s k : ℕ) (r : Reading) (last j : ℕ) (x : ProgramReading) (go : ProgramReading → ProgramReading) (z : InsLine) →
       ins_line_fields z ≡ refused_with number → verdict_of (from_program t s k r (weighed 32 last (next_ins z x j go))) ≡ refused_in x.line number
   unfolding ins_line_fields decoded_fields has_word
-  ins_ends s k r last j x go (InsLine.Ins y i) e = absurd (unlike refl e)
-  ins_ends s k r last j x go (InsLine.Refused why) e = told why x.line e
+  ins_ends s k r last j x go (Ok z) e = absurd (unlike refl e)
+  ins_ends s k r last j x go (Err why) e = told why x.line e
 
   -- a text has no other verdict than that of its first refusal
   pub judged_only : {f : Fields} → Judged t f → verdict_fields (opened t).verdict ≡ f
@@ -168,15 +169,15 @@ module _ (t : List ℕ) where
           refl
         where
           line :
-              ((y : Instruction) (i : ℕ) → ins_line r.contents.variable_count t x.at ≡ InsLine.Ins y i →
+              ((y : Instruction) (i : ℕ) → ins_line r.contents.variable_count t x.at ≡ Ok (found y i) →
               Judged t (verdict_of (from_line t (NextLine.ins s k r m (suc j) (with_line x j y i))))) →
               (z : InsLine) → ins_line r.contents.variable_count t x.at ≡ z →
               Judged t
               (verdict_of
               (from_program t s k r
               (weighed 32 (r.line + x.program.length) (next_ins z x j (λ y. ins_from r.contents.variable_count t m (suc j) y)))))
-          line f (InsLine.Ins y i) e = f y i e
-          line f (InsLine.Refused why) e = Judged.ins d (ap ins_line_fields e)
+          line f (Ok z) e = f z.value z.next e
+          line f (Err why) e = Judged.ins d (ap ins_line_fields e)
 
   -- .. programs, ..
   by_sheets :
@@ -192,8 +193,8 @@ module _ (t : List ℕ) where
           ((m j : ℕ) (x : ProgramReading) → GoodUntil t (NextLine.ins s k r m j x) → x.verdict ≡ Verdict.Accepted →
           Judged t (verdict_of (from_line t (NextLine.ins s k r m j x)))) →
           (z : SheetLine) → sheet_line t r.at ≡ z → Judged t (verdict_of (from_program t s k r (program_after r.contents.variable_count 32 t z r.line)))
-      line f (SheetLine.Length m i) e = f m 0 (after_length m i (suc r.line)) (GoodUntil.first_ins d e) refl
-      line f (SheetLine.Refused why) e = Judged.sheet d (ap sheet_line_fields e)
+      line f (Ok z) e = f z.value 0 (after_length z.value z.next (suc r.line)) (GoodUntil.first_ins d e) refl
+      line f (Err why) e = Judged.sheet d (ap sheet_line_fields e)
 
   -- .. starting values ..
   by_vars :
@@ -205,11 +206,11 @@ module _ (t : List ℕ) where
   by_vars (suc m) k r d a = line (λ v i e. by_vars m (suc k) (with_start r k v i) (GoodUntil.next_var d e) refl) (var_line t r.at) refl
     where
       line :
-          ((v i : ℕ) → var_line t r.at ≡ VarLine.Start v i → Judged t (verdict_of (from_line t (NextLine.var m (suc k) (with_start r k v i))))) →
+          ((v i : ℕ) → var_line t r.at ≡ Ok (found v i) → Judged t (verdict_of (from_line t (NextLine.var m (suc k) (with_start r k v i))))) →
           (z : VarLine) → var_line t r.at ≡ z →
           Judged t (verdict_of (then_end t (then_programs t r.contents.program_count (next_var z r k (λ x. vars_from t m (suc k) x)))))
-      line f (VarLine.Start v i) e = f v i e
-      line f (VarLine.Refused why) e = Judged.var d (ap var_line_fields e)
+      line f (Ok z) e = f z.value z.next e
+      line f (Err why) e = Judged.var d (ap var_line_fields e)
 
   -- .. and the first line
   by_card : GoodUntil t NextLine.card → Judged t (verdict_of (from_line t NextLine.card))
@@ -217,8 +218,10 @@ module _ (t : List ℕ) where
   by_card d = line (card_line t 0) refl
     where
       line : (z : CardLine) → card_line t 0 ≡ z → Judged t (verdict_of (after_card t z))
-      line (CardLine.Fields p n s l i) e = by_vars n 0 (after_fields p n s l i) (GoodUntil.first_var d e) refl
-      line (CardLine.Refused why) e = Judged.card d (ap card_line_fields e)
+      line (Ok z) e =
+          let v = z.value in
+          by_vars v.variable_count 0 (after_fields v.process_count v.variable_count v.program_count v.limit z.next) (GoodUntil.first_var d e) refl
+      line (Err why) e = Judged.card d (ap card_line_fields e)
 
   -- every text has one of these verdicts
   pub text_judged : Judged t (verdict_fields (opened t).verdict)
@@ -252,15 +255,15 @@ module _ (n most : ℕ) (t : List ℕ) where
 
   refused_sheet : {number : ℕ} (z : SheetLine) → sheet_line_fields z ≡ refused_with number → change_verdict (program_after n most t z 1) ≡ refused_in 1 number
   unfolding sheet_line_fields has_word
-  refused_sheet (SheetLine.Length m i) e = absurd (unlike refl e)
-  refused_sheet (SheetLine.Refused why) e = told why 1 e
+  refused_sheet (Ok z) e = absurd (unlike refl e)
+  refused_sheet (Err why) e = told why 1 e
 
   refused_ins :
       {number : ℕ} (last j : ℕ) (x : ProgramReading) (go : ProgramReading → ProgramReading) (z : InsLine) →
       ins_line_fields z ≡ refused_with number → change_verdict (weighed most last (next_ins z x j go)) ≡ refused_in x.line number
   unfolding ins_line_fields decoded_fields has_word
-  refused_ins last j x go (InsLine.Ins y i) e = absurd (unlike refl e)
-  refused_ins last j x go (InsLine.Refused why) e = told why x.line e
+  refused_ins last j x go (Ok z) e = absurd (unlike refl e)
+  refused_ins last j x go (Err why) e = told why x.line e
 
   -- a program whose lines are good, of no more weight: what follows it is looked at
   abbrev at_its_end : ProgramReading → ProgramReading
@@ -309,19 +312,19 @@ module _ (n most : ℕ) (t : List ℕ) where
   by_lines (suc m) j x d a = line (λ y i e. by_lines m (suc j) (with_line x j y i) (GoodLines.next d e) refl) (ins_line n t x.at) refl
     where
       line :
-          ((y : Instruction) (i : ℕ) → ins_line n t x.at ≡ InsLine.Ins y i → ChangeJudged n most t (change_verdict (from_ins m (suc j) (with_line x j y i)))) →
+          ((y : Instruction) (i : ℕ) → ins_line n t x.at ≡ Ok (found y i) → ChangeJudged n most t (change_verdict (from_ins m (suc j) (with_line x j y i)))) →
           (z : InsLine) → ins_line n t x.at ≡ z →
           ChangeJudged n most t (change_verdict (weighed most (1 + x.program.length) (next_ins z x j (λ y. ins_from n t m (suc j) y))))
-      line f (InsLine.Ins y i) e = f y i e
-      line f (InsLine.Refused why) e = ChangeJudged.ins d (ap ins_line_fields e)
+      line f (Ok z) e = f z.value z.next e
+      line f (Err why) e = ChangeJudged.ins d (ap ins_line_fields e)
 
   by_first : length t ≤ 16384 → ChangeJudged n most t (change_verdict (program_after n most t (sheet_line t 0) 1))
   unfolding verdict_fields sheet_line_fields
   by_first l = line (sheet_line t 0) refl
     where
       line : (z : SheetLine) → sheet_line t 0 ≡ z → ChangeJudged n most t (change_verdict (program_after n most t z 1))
-      line (SheetLine.Length m i) e = by_lines m 0 (after_length m i 2) (GoodLines.first l e) refl
-      line (SheetLine.Refused why) e = ChangeJudged.sheet l (ap sheet_line_fields e)
+      line (Ok z) e = by_lines z.value 0 (after_length z.value z.next 2) (GoodLines.first l e) refl
+      line (Err why) e = ChangeJudged.sheet l (ap sheet_line_fields e)
 
   -- every text of a change has one of these verdicts
   pub change_judged_lem : ChangeJudged n most t (verdict_fields (program_text n most t).verdict)

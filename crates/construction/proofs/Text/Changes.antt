@@ -10,9 +10,9 @@ use native.Mathlib.Decide.{dec_lt}
 use lib.ListN.{length}
 use lib.Dec.{eqb, ltb}
 use borrow.Author.Tests.{ltb-true, ltb-false, lt-ltb, le-ltb}
-use Rattle.std.specs.Prelude.{Option, Some, None}
+use Rattle.std.specs.Prelude.{Option, Some, None, Ok, Err}
 use Rattle.grammar.specs.declared.{Found.Found, Four.Four}
-use Rattle.grammar.specs.Reading.{field, four, has_word}
+use Rattle.grammar.specs.Reading.{found, field, four, has_word}
 use Rattle.construction.specs.Types.{Instruction, Encoded, Format, Decoded, Refusal, TooLong, Malformed, OutOfRange, UnknownCode}
 use Rattle.construction.specs.Types.{NoProcess, NoProgram, Busy, NotBusy, NoPlace, LimitReached, ShortBuffer, OperandOutOfRange, UnusedOperand, TooHeavy}
 use Rattle.construction.specs.Types.{NotAhead, Unsettled, SheetLine, InsLine, Contents, Verdict, ProgramReading, TooLarge, BadTerms, NoAllowance}
@@ -34,8 +34,8 @@ data OfLine : Refusal → Type 0 where
   unused : OfLine UnusedOperand
 
 abbrev SheetWhy : SheetLine → Type 0
-SheetWhy (SheetLine.Length m i) = Unit {0}
-SheetWhy (SheetLine.Refused why) = OfLine why
+SheetWhy (Ok x) = Unit {0}
+SheetWhy (Err why) = OfLine why
 
 sheet_why : (t : List ℕ) (at : ℕ) → SheetWhy (sheet_line t at)
 unfolding sheet_line judge_sheet
@@ -46,8 +46,8 @@ sheet_why t at = on_test SheetWhy (has_word t at sheet_word) (λ _. by (field t 
     by None = OfLine.misformed
 
 abbrev InsWhy : InsLine → Type 0
-InsWhy (InsLine.Ins x i) = Unit {0}
-InsWhy (InsLine.Refused why) = OfLine why
+InsWhy (Ok x) = Unit {0}
+InsWhy (Err why) = OfLine why
 
 decode_why : (o : Option Format) (n : ℕ) (x : Encoded) (i : ℕ) → InsWhy (ins_of (decode_as o n x) i)
 decode_why None n x i = OfLine.code
@@ -76,8 +76,8 @@ lines_read n t (suc m) k r h = by (ins_line n t r.at) (ins_why n t r.at) (λ x i
     by :
         (x : InsLine) → InsWhy x → ((y : Instruction) (i : ℕ) → LinesRead (ins_from n t m (suc k) (with_line r k y i))) →
         LinesRead (next_ins x r k (λ y. ins_from n t m (suc k) y))
-    by (InsLine.Ins x i) w go = go x i
-    by (InsLine.Refused why) w go = LinesRead.until w r.line
+    by (Ok x) w go = go x.value x.next
+    by (Err why) w go = LinesRead.until w r.line
 
 -- what becomes of the text of a change
 data Judged (x : Contents) (t : List ℕ) : ProgramReading → Type 0 where
@@ -100,7 +100,7 @@ module _ (x : Contents) (t : List ℕ) (short : length t ≤ 16384) where
   most = min 32 (card_weight x)
 
   weighed_judged :
-      (m i : ℕ) → sheet_line t 0 ≡ SheetLine.Length m i → {r : ProgramReading} → instructions_read x t m i ≡ r → LinesRead r →
+      (m i : ℕ) → sheet_line t 0 ≡ Ok (found m i) → {r : ProgramReading} → instructions_read x t m i ≡ r → LinesRead r →
       Judged x t (weighed most (1 + m) r)
   weighed_judged m i s e (LinesRead.until w line) = Judged.at_line w line
   weighed_judged m i s {r} e (LinesRead.all h) =
@@ -121,8 +121,8 @@ module _ (x : Contents) (t : List ℕ) (short : length t ≤ 16384) where
   read_judged = by (sheet_line t 0) refl (sheet_why t 0)
     where
       by : (s : SheetLine) → sheet_line t 0 ≡ s → SheetWhy s → Judged x t (program_after x.variable_count most t s 1)
-      by (SheetLine.Length m i) e w = weighed_judged m i e refl (lines_read x.variable_count t m 0 (after_length m i 2) refl)
-      by (SheetLine.Refused why) e w = Judged.at_line w 1
+      by (Ok y) e w = weighed_judged y.value y.next e refl (lines_read x.variable_count t y.value 0 (after_length y.value y.next 2) refl)
+      by (Err why) e w = Judged.at_line w 1
 
   end_judged : {r : ProgramReading} → Judged x t r → Judged x t (program_then_end t r)
   end_judged (Judged.too_long_lem h) = Judged.too_long_lem h

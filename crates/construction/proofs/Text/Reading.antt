@@ -5,6 +5,8 @@ use lib.Dec.{ltb}
 use Prim.Native.Nat.{ℕ, suc, ◌+◌, ◌≤◌}
 use lib.ListN.{replicate}
 use borrow.Author.Tests.{ltb-false}
+use Rattle.std.specs.Prelude.{Ok, Err}
+use Rattle.grammar.specs.Reading.{found}
 use Rattle.construction.specs.Types.{Instruction, Refusal, TooHeavy, CardLine, VarLine, SheetLine, InsLine, Verdict, ProgramReading, Reading}
 use Rattle.construction.specs.Instructions.{no_line}
 use Rattle.construction.specs.Weight.{weight}
@@ -12,6 +14,7 @@ use Rattle.construction.specs.Opening.{refused_at, program_refused_at, with_line
 use Rattle.construction.specs.Opening.{next_program, with_start, next_var, vars_from, begun, program_so_far, so_far, if_accepted, then_end, then_programs}
 use Rattle.construction.specs.Opening.{after_card}
 use Rattle.construction.proofs.Basics.{on_test, clash}
+use Rattle.construction.specs.Lines.{card_numbers}
 
 -- ---- what is read after the `card` line and after a `sheet` line
 abbrev pub after_fields : ℕ → ℕ → ℕ → ℕ → ℕ → Reading
@@ -23,18 +26,18 @@ after_length m i line = program_so_far m (replicate 32 no_line) i line
 -- ---- by cases on what a line yields, which is in hand where it goes on
 pub on_ins :
     (P : ProgramReading → Type 0) (x : InsLine) (r : ProgramReading) (k : ℕ) (go : ProgramReading → ProgramReading) →
-    ((y : Instruction) (i : ℕ) → x ≡ InsLine.Ins y i → P (go (with_line r k y i))) → ((why : Refusal) → P (program_refused_at why r.line)) →
+    ((y : Instruction) (i : ℕ) → x ≡ Ok (found y i) → P (go (with_line r k y i))) → ((why : Refusal) → P (program_refused_at why r.line)) →
     P (next_ins x r k go)
-on_ins P (InsLine.Ins y i) r k go f g = f y i refl
-on_ins P (InsLine.Refused why) r k go f g = g why
+on_ins P (Ok y) r k go f g = f y.value y.next refl
+on_ins P (Err why) r k go f g = g why
 
 pub on_sheet :
     (P : ProgramReading → Type 0) (n most : ℕ) (t : List ℕ) (x : SheetLine) (line : ℕ) →
-    ((m i : ℕ) → x ≡ SheetLine.Length m i → P (weighed most (line + m) (ins_from n t m 0 (after_length m i (suc line))))) →
+    ((m i : ℕ) → x ≡ Ok (found m i) → P (weighed most (line + m) (ins_from n t m 0 (after_length m i (suc line))))) →
     ((why : Refusal) → P (program_refused_at why line)) →
     P (program_after n most t x line)
-on_sheet P n most t (SheetLine.Length m i) line f g = f m i refl
-on_sheet P n most t (SheetLine.Refused why) line f g = g why
+on_sheet P n most t (Ok y) line f g = f y.value y.next refl
+on_sheet P n most t (Err why) line f g = g why
 
 -- a program that was read is refused for its weight, or stays; one that stays and is accepted weighs at most `most`
 pub on_weighed :
@@ -54,9 +57,9 @@ on_program P (Verdict.Refused why line) x r k go f g = g why line
 
 pub on_var :
     (P : Reading → Type 0) (x : VarLine) (r : Reading) (k : ℕ) (go : Reading → Reading) →
-    ((v i : ℕ) → x ≡ VarLine.Start v i → P (go (with_start r k v i))) → ((why : Refusal) → P (refused_at why r.line)) → P (next_var x r k go)
-on_var P (VarLine.Start v i) r k go f g = f v i refl
-on_var P (VarLine.Refused why) r k go f g = g why
+    ((v i : ℕ) → x ≡ Ok (found v i) → P (go (with_start r k v i))) → ((why : Refusal) → P (refused_at why r.line)) → P (next_var x r k go)
+on_var P (Ok y) r k go f g = f y.value y.next refl
+on_var P (Err why) r k go f g = g why
 
 pub on_accepted :
     (P : Reading → Type 0) (r : Reading) (go : Reading → Reading) →
@@ -70,7 +73,8 @@ on_accepted P r go f g = by r.verdict refl
 
 pub on_card_lem :
     (P : Reading → Type 0) (t : List ℕ) (x : CardLine) →
-    ((p n s l i : ℕ) → x ≡ CardLine.Fields p n s l i → P (then_end t (then_programs t s (vars_from t n 0 (after_fields p n s l i))))) →
+    ((p n s l i : ℕ) → x ≡ Ok (found (card_numbers p n s l) i) → P (then_end t (then_programs t s (vars_from t n 0 (after_fields p n s l i))))) →
     ((why : Refusal) → P (refused_at why 1)) → P (after_card t x)
-on_card_lem P t (CardLine.Fields p n s l i) f g = f p n s l i refl
-on_card_lem P t (CardLine.Refused why) f g = g why
+on_card_lem P t (Ok y) f g =
+    let v = y.value in f v.process_count v.variable_count v.program_count v.limit y.next refl
+on_card_lem P t (Err why) f g = g why

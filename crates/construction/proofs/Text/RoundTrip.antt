@@ -9,12 +9,14 @@ use lib.ListN.{get_or, drop, length, length-set, length-replicate}
 use lib.Seq.{drop-length, get_or-set_same, get_or-set_other}
 use native.Mathlib.Omega.{arith}
 use borrow.Author.Tests.{ne_eqb, eqb-true}
+use Rattle.std.specs.Prelude.{Ok}
+use Rattle.grammar.specs.Reading.{found}
 use Rattle.construction.proofs.Basics.{on_test, clash}
 use Rattle.grammar.proofs.Bytes.{word_text_lem}
 use Rattle.grammar.proofs.RoundTrip.{Small, field_text_lem, four_text_lem}
-use Rattle.construction.specs.Types.{Instruction, Encoded, Line, CardLine, VarLine, SheetLine, InsLine, Contents, Verdict, ProgramReading, Reading}
+use Rattle.construction.specs.Types.{Instruction, Encoded, Line, Contents, Verdict, ProgramReading, Reading}
 use Rattle.construction.specs.Instructions.{no_line, no_program}
-use Rattle.construction.specs.Lines.{card_word, var_word, sheet_word, ins_word, card_line, var_line, sheet_line, ins_line, card_text, var_text, sheet_text}
+use Rattle.construction.specs.Lines.{card_numbers, card_word, var_word, sheet_word, ins_word, card_line, var_line, sheet_line, ins_line, card_text, var_text, sheet_text}
 use Rattle.construction.specs.Lines.{encoded_text, ins_text}
 use Rattle.construction.specs.Opening.{no_contents, fresh, with_line, ins_from, read_program, with_program, programs_from, with_start, vars_from, at_end, then_end}
 use Rattle.construction.specs.Opening.{then_programs, read_card, opened}
@@ -28,7 +30,7 @@ Accepted v = v ≡ Verdict.Accepted
 
 -- ---- what a line that was read looks like
 module _ (t : List ℕ) (at : ℕ) where
-  card_text_lem : (p n s l i : ℕ) → card_line t at ≡ CardLine.Fields p n s l i → drop at t ≡ card_text p n s l ++ drop i t
+  card_text_lem : (p n s l i : ℕ) → card_line t at ≡ Ok (found (card_numbers p n s l) i) → drop at t ≡ card_text p n s l ++ drop i t
   unfolding card_text
   card_text_lem p n s l i e =
       let r = card_read t at p n s l i e in
@@ -43,7 +45,7 @@ module _ (t : List ℕ) (at : ℕ) where
       word_text_lem t card_word at r.word_there
       ∙ ap (λ (x : List ℕ). card_word ++ x) (four_text_lem t (at + 5) p n s l i small r.numbers_there)
 
-  var_text_lem : (v i : ℕ) → var_line t at ≡ VarLine.Start v i → drop at t ≡ var_text v ++ drop i t
+  var_text_lem : (v i : ℕ) → var_line t at ≡ Ok (found v i) → drop at t ≡ var_text v ++ drop i t
   unfolding var_text
   var_text_lem v i e =
       let r = var_read t at v i e in
@@ -51,7 +53,7 @@ module _ (t : List ℕ) (at : ℕ) where
       word_text_lem t var_word at r.word_there
       ∙ ap (λ (x : List ℕ). var_word ++ x) (field_text_lem t 10 (at + 4) v i (omega arith) r.field_there)
 
-  sheet_text_lem : (m i : ℕ) → sheet_line t at ≡ SheetLine.Length m i → drop at t ≡ sheet_text m ++ drop i t
+  sheet_text_lem : (m i : ℕ) → sheet_line t at ≡ Ok (found m i) → drop at t ≡ sheet_text m ++ drop i t
   unfolding sheet_text
   sheet_text_lem m i e =
       let r = sheet_read t at m i e in
@@ -59,7 +61,7 @@ module _ (t : List ℕ) (at : ℕ) where
       word_text_lem t sheet_word at r.word_there
       ∙ ap (λ (x : List ℕ). sheet_word ++ x) (field_text_lem t 10 (at + 6) m i (omega arith) r.field_there)
 
-ins_text_lem : (n : ℕ) → n ≤ 256 → (t : List ℕ) (at : ℕ) (x : Instruction) (i : ℕ) → ins_line n t at ≡ InsLine.Ins x i → drop at t ≡ ins_text x ++ drop i t
+ins_text_lem : (n : ℕ) → n ≤ 256 → (t : List ℕ) (at : ℕ) (x : Instruction) (i : ℕ) → ins_line n t at ≡ Ok (found x i) → drop at t ≡ ins_text x ++ drop i t
 unfolding ins_text
 ins_text_lem n h t at x i e =
     let r = ins_read n t at x i e in
@@ -186,7 +188,7 @@ SoFar t z = t ≡ text_of (fresh z.contents) ++ drop z.at t
 abbrev WritesAs : List ℕ → Reading → Type 0
 WritesAs t z = Accepted z.verdict → text_of (fresh z.contents) ≡ t
 
-module _ (t : List ℕ) (p n s l i : ℕ) (f : card_line t 0 ≡ CardLine.Fields p n s l i) where
+module _ (t : List ℕ) (p n s l i : ℕ) (f : card_line t 0 ≡ Ok (found (card_numbers p n s l) i)) where
   abbrev begun : Reading
   begun = after_fields p n s l i
 

@@ -1,4 +1,4 @@
-use Rattle.std.proofs.Common.{arith, sym, ap, ◌++◌, List, ℕ, ◌∙◌, drop, replicate, length, take}
+use Rattle.std.proofs.Common.{arith, sym}
 use Rattle.lent_text.proofs.Clearing as clearing
 use Rattle.lent_text.proofs.clear.Goals as goal
 

@@ -1,6 +1,5 @@
 use Rattle.std.proofs.Common.{arith}
 use Rattle.machine_terms.proofs.Laws as laws
-use Rattle.machine_terms.specs.Terms.{line}
 use Rattle.machine_terms.proofs.line_at.Goals as goal
 
 pub overflow_add-at : goal.overflow_add-at
@@ -10,11 +9,3 @@ overflow_add-at c =
       laws.word_fits _ _ _ c.has_word.ensures c.if-has_word.true 18446744073709551615 (omega arith) (omega
           arith),
     )
-
-pub returns-then-has_word : goal.returns-then-has_word
-unfolding line
-returns-then-has_word c = rw (← c.has_word.ensures, c.if-has_word.true) c.pair_at.ensures
-
-pub returns-else-has_word : goal.returns-else-has_word
-unfolding line
-returns-else-has_word c = rw (← c.has_word.ensures, c.if-has_word.false)

@@ -7,8 +7,5 @@ use Rattle.reader.proofs.read_lines.Given as goal
 abbrev pub invariant-loop-k : goal.invariant-loop-k
 invariant-loop-k l =
     (ins_from l.variable_count l.text l.length 0 (program_so_far l.length (replicate 32 no_line) l.start l.first) ≡
-    ins_from l.variable_count l.text (l.count - l.k) l.k (program_so_far l.length l.lines l.at l.number)) ×
-    (l.k ≤ l.count) × (l.number ≤ l.first + l.k) × (list.length l.lines ≡ 32)
-
-abbrev pub decreases-loop-k : goal.decreases-loop-k
-decreases-loop-k l = l.count - l.k
+    ins_from l.variable_count l.text (l.length - l.k) l.k (program_so_far l.length l.lines l.at l.number)) ×
+    (l.number ≤ l.first + l.k) × (list.length l.lines ≡ 32)

@@ -26,14 +26,13 @@ loop-k-preserved c = (
     c.in_default.is,
     add-one,
   ),
-  omega arith,
   omega (
     arith,
     ap (λ (y : ProgramReading). y.line) c.read_program-read.ensures,
     laws.program_line
         c.args.contents.variable_count 32 c.args.text.now c.loop-k.at c.loop-k.number,
   ),
-  simp length-set (c.loop-k.invariant.3),
+  simp length-set (c.loop-k.invariant.2),
 )
 
 pub returns : goal.returns

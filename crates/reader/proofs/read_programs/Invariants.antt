@@ -5,9 +5,5 @@ use Rattle.reader.proofs.read_programs.Given as goal
 
 abbrev pub invariant-loop-k : goal.invariant-loop-k
 invariant-loop-k l =
-    (programs_from l.text l.count 0 (so_far l.contents l.start l.first) ≡ programs_from l.text (l.all - l.k) l.k
-    (so_far (gathered l.contents l.contents.starts l.programs) l.at l.number)) × (l.k ≤ l.all) ×
-    (l.number ≤ l.first + 33 * l.k) × (list.length l.programs ≡ 8)
-
-abbrev pub decreases-loop-k : goal.decreases-loop-k
-decreases-loop-k l = l.all - l.k
+    (programs_from l.text l.count 0 (so_far l.contents l.start l.first) ≡ programs_from l.text (l.count - l.k) l.k
+    (so_far (gathered l.contents l.contents.starts l.programs) l.at l.number)) × (l.number ≤ l.first + 33 * l.k) × (list.length l.programs ≡ 8)

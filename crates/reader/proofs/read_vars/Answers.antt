@@ -3,27 +3,18 @@ use Rattle.construction.specs.Opening.{vars_from}
 use Rattle.reader.proofs.Laws as laws
 use Rattle.reader.proofs.read_vars.Goals as goal
 
-pub returns-in_default : goal.returns-in_default
+pub returns-in-Err : goal.returns-in-Err
 unfolding vars_from
-returns-in_default c =
-    rw (
-      c.refused_at.ensures,
-      c.var_refusal.ensures,
-      c.loop-k.invariant.0,
-      laws.one_less _ _ c.loop-k-test.true,
-      ←
-          c.var_line-line.ensures,
-      c.in_default.is,
-    )
+returns-in-Err c =
+    rw (c.refused_at.ensures, c.loop-k.invariant.0, laws.one_less _ _ c.loop-k-test.true, ← c.var_line.ensures, c.in-Err.is)
 
 pub loop-k-preserved : goal.loop-k-preserved
 unfolding vars_from
 loop-k-preserved c = (
-  rw (c.loop-k.invariant.0, laws.one_less _ _ c.loop-k-test.true, ← c.var_line-line.ensures, c.in-Start.is)
+  rw (c.loop-k.invariant.0, laws.one_less _ _ c.loop-k-test.true, ← c.var_line.ensures, c.in-Ok.is)
       (simp add-one),
   omega arith,
-  omega arith,
-  simp length-set c.loop-k.invariant.3,
+  simp length-set c.loop-k.invariant.2,
 )
 
 pub returns : goal.returns

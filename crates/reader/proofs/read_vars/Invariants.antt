@@ -5,9 +5,5 @@ use Rattle.reader.proofs.read_vars.Given as goal
 
 abbrev pub invariant-loop-k : goal.invariant-loop-k
 invariant-loop-k l =
-    (vars_from l.text l.count 0 (so_far l.contents l.start l.first) ≡ vars_from l.text (l.all - l.k) l.k (so_far
-    (gathered l.contents l.starts l.contents.programs) l.at l.number)) × (l.k ≤ l.all) ×
-    (l.number ≤ l.first + l.k) × (list.length l.starts ≡ 64)
-
-abbrev pub decreases-loop-k : goal.decreases-loop-k
-decreases-loop-k l = l.all - l.k
+    (vars_from l.text l.count 0 (so_far l.contents l.start l.first) ≡ vars_from l.text (l.count - l.k) l.k (so_far
+    (gathered l.contents l.starts l.contents.programs) l.at l.number)) × (l.number ≤ l.first + l.k) × (list.length l.starts ≡ 64)

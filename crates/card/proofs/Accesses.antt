@@ -8,9 +8,9 @@ use Rattle.opening.proofs.Laws.{inside}
 use Rattle.construction.specs.declared.{cells.Gate.Gate, cells.Words.Words, cells.Announcement.Announcement, cells.Record.Record, programs.Program.Program}
 use Rattle.construction.specs.declared.{simulations.Dictionary.Dictionary, simulations.Simulation.Simulation, accesses.GateAccess.GateAccess}
 use Rattle.construction.specs.declared.{accesses.AnnouncementAccess.AnnouncementAccess, accesses.Access.Access, accesses.Control.Control}
-use Rattle.construction.specs.declared.{accesses.GateAccessed.GateAccessed, accesses.AnnouncementAccessed.AnnouncementAccessed, accesses.Begun.Begun}
+use Rattle.construction.specs.declared.{accesses.AccessedCell.AccessedCell, accesses.Begun.Begun}
 use Rattle.construction.specs.declared.{accesses.Helped.Helped, accesses.Writing.Writing, card.Card.Card, answers.Answer.Answer}
-use Rattle.construction.specs.declared.{cells.SwappedRecord.SwappedRecord}
+use Rattle.construction.specs.declared.cells.SwappedCell.{SwappedCell}
 use Rattle.construction.specs.declared.accesses.Label.TheVariants.{P1, P21}
 use Rattle.construction.specs.Cells.{open_announcement, open_record}
 use Rattle.construction.specs.Instructions.{no_program}
@@ -118,7 +118,7 @@ module _ {c : Card} {i n m : ℕ} {a : Access} (h : Accepted c i n m a) where
         (rw (← h.chosen, e)) t told))
 
     pub at_gate_lem :
-        (b : GateAccess) → a ≡ Access.Gate b → (r : GateAccessed) → r ≡ access_gate b i c.gate (local_at c i).gate (local_at c i).control →
+        (b : GateAccess) → a ≡ Access.Gate b → (r : AccessedCell Gate) → r ≡ access_gate b i c.gate (local_at c i).gate (local_at c i).control →
         t ≡ step_answer r.control.place (local_at c i).announcement m →
         left (with_gate c r.cell) (set c.controls i r.control) (set c.gates_read i r.read) c.announcements_read c.simulations
         c.dictionaries c.masks
@@ -133,7 +133,7 @@ module _ {c : Card} {i n m : ℕ} {a : Access} (h : Accepted c i n m a) where
     pub at_announcement_lem :
         (b : AnnouncementAccess) → a ≡ Access.Announcement b → (k : ℕ) → k ≡ whose b c.process_count i (local_at c i).gate →
         (cell : Announcement) → cell ≡ cond (ltb k 8) (get_or c.announcements (k % 8) open_announcement) open_announcement →
-        (r : AnnouncementAccessed) → r ≡ access_announcement b k cell (local_at c i).operation (local_at c i).gate (local_at c i).announcement
+        (r : AccessedCell Announcement) → r ≡ access_announcement b k cell (local_at c i).operation (local_at c i).gate (local_at c i).announcement
         (local_at c i).simulation.yields (local_at c i).control →
         t ≡ step_answer r.control.place r.read m → (row : List Announcement) → row ≡ set c.announcements k r.cell →
         left (with_cells c c.gate row c.records) (set c.controls i r.control) c.gates_read (set c.announcements_read i r.read)
@@ -213,7 +213,7 @@ module _ {c : Card} {i n m : ℕ} {a : Access} (h : Accepted c i n m a) where
         a ≡ Access.Write →
         (w : Writing) → w ≡ writing (local_at c i).gate.seq (local_at c i).control (get_or c.dictionaries i (record { length = 0; items = [] })) →
         (cell : Record) → cell ≡ cond (ltb w.item.variable 64) (get_or c.records (w.item.variable % 64) (open_record 0)) (open_record 0) →
-        (r : SwappedRecord) → r ≡ write cell w.item (local_at c i).gate.seq →
+        (r : SwappedCell Record) → r ≡ write cell w.item (local_at c i).gate.seq →
         t ≡ step_answer w.control.place (local_at c i).announcement m → (row : List Record) → row ≡ set c.records w.item.variable r.cell →
         left (with_cells c c.gate c.announcements row) (set c.controls i w.control) c.gates_read c.announcements_read c.simulations
         c.dictionaries c.masks

@@ -1,137 +1,27 @@
-// The shared cells of document 01 by value: whole-cell equality, swaps, and the new cells that steps store.
+// The shared cells of document 01 by value: the swap, and the new cells that steps store.
 // It rests on the crate construction, which declares the types and defines each result.
 #![tactic(auto)]
 
 ghost use Rattle.std.specs.Prelude.{◌≡◌};
-ghost use Rattle.construction.specs.Cells.{same_holder, same_flag, same_words, same_gate, same_announcement, same_record};
-ghost use Rattle.construction.specs.Cells.{swap_gate, swap_announcement, swap_record, released, current, previous, rewritten, is_done};
+ghost use Rattle.construction.specs.Cells.{swap_by, released, current, previous, rewritten, is_done};
 
-use construction::cells::{
-    Announcement, Flag, Gate, Holder, Record, SwappedAnnouncement, SwappedGate, SwappedRecord,
-    Words,
-};
-
-// Parts of cells, compared.
-pub fn same_holder(a: Holder, b: Holder) -> bool
-    ensures { result ≡ same_holder a b }
-{
-    match a {
-        Holder::Nobody => match b {
-            Holder::Nobody => true,
-            Holder::Process(_) => false,
-        },
-        Holder::Process(m) => match b {
-            Holder::Nobody => false,
-            Holder::Process(n) => m == n,
-        },
-    }
-}
+use construction::cells::{Flag, Gate, Holder, Record, SwappedCell};
 
 pub fn is_done(flag: Flag) -> bool
     ensures { result ≡ is_done flag }
 {
-    match flag {
-        Flag::Done => true,
-        Flag::Active => false,
-        Flag::Exit => false,
-    }
+    matches!(flag, Flag::Done)
 }
 
-pub fn same_flag(a: Flag, b: Flag) -> bool
-    ensures { result ≡ same_flag a b }
+// A swap by value: the cell afterwards, and whether the swap won. It 'compares the whole cell with the expected one, stores the new one if equal,
+// and tells which' (document 01, 'Shared cells').
+pub fn swap<T: PartialEq + Copy>(cell: T, expected: T, new: T) -> SwappedCell<T>
+    ensures { result ≡ swap_by T.eq cell expected new }
 {
-    match a {
-        Flag::Done => match b {
-            Flag::Done => true,
-            Flag::Active => false,
-            Flag::Exit => false,
-        },
-        Flag::Active => match b {
-            Flag::Done => false,
-            Flag::Active => true,
-            Flag::Exit => false,
-        },
-        Flag::Exit => match b {
-            Flag::Done => false,
-            Flag::Active => false,
-            Flag::Exit => true,
-        },
-    }
-}
-
-pub fn same_words(a: Words, b: Words) -> bool
-    ensures { result ≡ same_words a b }
-{
-    a.w0 == b.w0 && (a.w1 == b.w1 && (a.w2 == b.w2 && a.w3 == b.w3))
-}
-
-// Whole cells, compared: 'A swap compares the whole cell with the expected one' (document 01, 'Shared cells').
-pub fn same_gate(a: Gate, b: Gate) -> bool
-    ensures { result ≡ same_gate a b }
-{
-    let left = a.holder;
-    let right = b.holder;
-    same_holder(left, right) && a.seq == b.seq
-}
-
-pub fn same_announcement(a: Announcement, b: Announcement) -> bool
-    ensures { result ≡ same_announcement a b }
-{
-    let flag = a.flag;
-    let other = b.flag;
-    a.program == b.program
-        && (a.seq == b.seq
-            && (same_flag(flag, other)
-                && (a.number == b.number && (a.fault == b.fault && same_words(a.words, b.words)))))
-}
-
-pub fn same_record(a: Record, b: Record) -> bool
-    ensures { result ≡ same_record a b }
-{
-    a.val0 == b.val0 && (a.val1 == b.val1 && (a.toggle == b.toggle && a.seq == b.seq))
-}
-
-// Swaps by value: the cell afterwards, and whether the swap won ('stores the new one if equal, and tells which').
-pub fn swap_gate(cell: Gate, expected: Gate, new: Gate) -> SwappedGate
-    ensures { result ≡ swap_gate cell expected new }
-{
-    if same_gate(cell, expected) {
-        SwappedGate {
-            cell: new,
-            won: true,
-        }
-    } else {
-        SwappedGate { cell, won: false }
-    }
-}
-
-pub fn swap_announcement(
-    cell: Announcement,
-    expected: Announcement,
-    new: Announcement,
-) -> SwappedAnnouncement
-    ensures { result ≡ swap_announcement cell expected new }
-{
-    if same_announcement(cell, expected) {
-        SwappedAnnouncement {
-            cell: new,
-            won: true,
-        }
-    } else {
-        SwappedAnnouncement { cell, won: false }
-    }
-}
-
-pub fn swap_record(cell: Record, expected: Record, new: Record) -> SwappedRecord
-    ensures { result ≡ swap_record cell expected new }
-{
-    if same_record(cell, expected) {
-        SwappedRecord {
-            cell: new,
-            won: true,
-        }
-    } else {
-        SwappedRecord { cell, won: false }
+    let won = cell == expected;
+    SwappedCell {
+        cell: if won { new } else { cell },
+        won,
     }
 }
 

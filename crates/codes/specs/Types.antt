@@ -20,11 +20,10 @@ pub use Rattle.construction.specs.declared.accesses.Label.TheVariants.{Idle, P1,
 pub use Rattle.construction.specs.declared.accesses.Label.TheVariants.{P6}
 pub use Rattle.construction.specs.declared.accesses.GateAccess.{GateAccess}
 pub use Rattle.construction.specs.declared.accesses.Control.{Control}
-pub use Rattle.construction.specs.declared.accesses.GateAccessed.{GateAccessed}
+pub use Rattle.construction.specs.declared.accesses.AccessedCell.{AccessedCell}
 pub use Rattle.construction.specs.declared.card.Operation.{Operation}
 pub use Rattle.construction.specs.declared.card.Card.{Card}
 pub use Rattle.construction.specs.declared.answers.Refusal.TheVariants.{TooLong, Malformed, OutOfRange, UnknownCode, NoProcess, NoProgram, Busy, NotBusy}
 pub use Rattle.construction.specs.declared.answers.Refusal.TheVariants.{NoPlace, LimitReached, ShortBuffer, OperandOutOfRange, UnusedOperand, TooHeavy}
 pub use Rattle.construction.specs.declared.accesses.Access.{Access}
 pub use Rattle.construction.specs.declared.accesses.AnnouncementAccess.{AnnouncementAccess}
-pub use Rattle.construction.specs.declared.accesses.AnnouncementAccessed.{AnnouncementAccessed}

@@ -1,5 +1,6 @@
 -- Laws and theorems, in reading order.
 pub mod Basics
+pub mod Equality
 pub mod Mapping
 -- The card text, both ways: lines, reading, writing, the round trip, and what an opened card is bounded by.
 pub mod Text

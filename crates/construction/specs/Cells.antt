@@ -1,7 +1,6 @@
 -- The shared cells (document 01, 'Shared cells'): opening values, whole-cell equality, and the swap.
 use Rattle.std.specs.Prelude.{ℕ, ◌+◌, ◌%◌, ◌<◌, Bool, true, false, cond, not, ◌&&◌, eqb}
-use Rattle.construction.specs.Types.{Holder, Nobody, Process, Gate, Flag, Done, Active, Exit, Words, Yield, Announcement, Record, SwappedGate}
-use Rattle.construction.specs.Types.{SwappedAnnouncement, SwappedRecord}
+use Rattle.construction.specs.Types.{Holder, Nobody, Process, Gate, Flag, Done, Active, Exit, Words, Yield, Announcement, Record, SwappedCell}
 
 -- four zeros
 abbrev pub zeros : Words
@@ -81,18 +80,18 @@ same_record a b =
     eqb a.val0 b.val0
     && (eqb a.val1 b.val1 && (same_bool a.toggle b.toggle && eqb a.seq b.seq))
 
--- '.. with the expected one, stores the new one if equal, and tells which'
-unfoldable pub swap_gate : Gate → Gate → Gate → SwappedGate
-swap_gate cell expected new =
-    record { cell = cond (same_gate cell expected) new cell; won = same_gate cell expected }
+-- '.. with the expected one, stores the new one if equal, and tells which': of a cell, by the equality of its kind
+abbrev pub swap_by : {A : Type 0} → (A → A → Bool) → A → A → A → SwappedCell A
+swap_by same cell expected new = record { cell = cond (same cell expected) new cell; won = same cell expected }
 
-unfoldable pub swap_announcement : Announcement → Announcement → Announcement → SwappedAnnouncement
-swap_announcement cell expected new =
-    record { cell = cond (same_announcement cell expected) new cell; won = same_announcement cell expected }
+unfoldable pub swap_gate : Gate → Gate → Gate → SwappedCell Gate
+swap_gate = swap_by same_gate
 
-unfoldable pub swap_record : Record → Record → Record → SwappedRecord
-swap_record cell expected new =
-    record { cell = cond (same_record cell expected) new cell; won = same_record cell expected }
+unfoldable pub swap_announcement : Announcement → Announcement → Announcement → SwappedCell Announcement
+swap_announcement = swap_by same_announcement
+
+unfoldable pub swap_record : Record → Record → Record → SwappedCell Record
+swap_record = swap_by same_record
 
 -- lines P21 and F3: nobody, and the next number; numbers have 64 bits
 unfoldable pub released : Gate → Gate

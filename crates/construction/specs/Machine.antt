@@ -4,7 +4,7 @@ use Rattle.std.specs.Option.{is_some, unwrap_or}
 use Rattle.construction.specs.Types.{Holder, Nobody, Process, Gate, Flag, Done, Active, Exit, Words, Yield, Announcement, Record, Program, Item}
 use Rattle.construction.specs.Types.{Dictionary, Simulation, Pause, Ended, Faulted, Lacks, Simulated, Label, Idle, P1, P3, P5, P7, P10, C2, C4, P13, P14}
 use Rattle.construction.specs.Types.{P16, H21, H36, P19, P20, P21, P22, F1, F3, P6, GateAccess, AnnouncementAccess, Access, Cell, Swap, Control}
-use Rattle.construction.specs.Types.{GateAccessed, AnnouncementAccessed, Begun, Helped, Writing, Operation, Card, SwappedRecord, Contents}
+use Rattle.construction.specs.Types.{AccessedCell, Begun, Helped, Writing, Operation, Card, SwappedCell, Contents}
 use Rattle.construction.specs.Cells.{is_done, same_holder, swap_gate, swap_announcement, swap_record, released, rewritten}
 use Rattle.construction.specs.Instructions.{started}
 use Rattle.construction.specs.Dictionary.{no_item, empty, noted, item_of, insert, next_write}
@@ -92,48 +92,51 @@ outcome won = cond won Swap.Won Swap.Lost
 
 -- THE ACCESSES: each is a function of one shared cell and of what its process keeps, and of nothing else.
 
+-- a cell is read, and its process goes on with a control ..
+abbrev pub read_cell : {A : Type 0} → A → Control → AccessedCell A
+read_cell cell control = record { cell = cell; read = cell; control = control; swap = Swap.None }
+
+-- .. or it was swapped, for a process that last read another
+abbrev pub replace_cell : {A : Type 0} → SwappedCell A → A → Control → AccessedCell A
+replace_cell swapped last control = record { cell = swapped.cell; read = last; control = control; swap = outcome swapped.won }
+
 -- the gate, for process i that last read the gate g: it is read ..
-abbrev pub read_gate : Gate → Control → Label → GateAccessed
-read_gate cell control next = record { cell = cell; read = cell; control = go_to control next; swap = Swap.None }
+abbrev pub read_gate : Gate → Control → Label → AccessedCell Gate
+read_gate cell control next = read_cell cell (go_to control next)
 
 -- .. or swapped from g to another
-abbrev pub replace_gate : Gate → Gate → Control → Gate → Label → GateAccessed
-replace_gate cell g control new next =
-    let swapped = swap_gate cell g new in
-    record { cell = swapped.cell; read = g; control = go_to control next; swap = outcome swapped.won }
+abbrev pub replace_gate : Gate → Gate → Control → Gate → Label → AccessedCell Gate
+replace_gate cell g control new next = replace_cell (swap_gate cell g new) g (go_to control next)
 
 -- lines P1, P10, P14: the holder says where the process goes on
-abbrev pub read_holder : Gate → Control → Label → Label → GateAccessed
+abbrev pub read_holder : Gate → Control → Label → Label → AccessedCell Gate
 read_holder cell control held free = read_gate cell control (by_holder cell.holder held free)
 
 -- lines F1, F2, F4
-abbrev pub read_last : Gate → Control → ℕ → GateAccessed
+abbrev pub read_last : Gate → Control → ℕ → AccessedCell Gate
 read_last cell control i = read_gate cell control (after_last cell.holder i)
 
 -- line P13
-abbrev pub nominate : Gate → Gate → Control → GateAccessed
+abbrev pub nominate : Gate → Gate → Control → AccessedCell Gate
 nominate cell g control = replace_gate cell g control (nominated g control.target) P14
 
 -- lines P21 and F3
-abbrev pub release : Gate → Gate → Control → Label → GateAccessed
+abbrev pub release : Gate → Gate → Control → Label → AccessedCell Gate
 release cell g control next = replace_gate cell g control (released g) next
 
-unfoldable pub access_gate : GateAccess → ℕ → Gate → Gate → Control → GateAccessed
+unfoldable pub access_gate : GateAccess → ℕ → Gate → Gate → Control → AccessedCell Gate
 access_gate (GateAccess.Read held free) i cell g control = read_holder cell control held free
 access_gate GateAccess.ReadLast i cell g control = read_last cell control i
 access_gate GateAccess.Nominate i cell g control = nominate cell g control
 access_gate (GateAccess.Release next) i cell g control = release cell g control next
 
 -- the announcement of process m, for a process that last read the announcement a: it is read ..
-abbrev pub read_announcement : Announcement → ℕ → Label → AnnouncementAccessed
-read_announcement cell m next =
-    record { cell = cell; read = cell; control = record { place = next; target = m }; swap = Swap.None }
+abbrev pub read_announcement : Announcement → ℕ → Label → AccessedCell Announcement
+read_announcement cell m next = read_cell cell (record { place = next; target = m })
 
 -- .. or swapped
-abbrev pub replace_announcement : Announcement → Announcement → Control → Announcement → Announcement → Label → AnnouncementAccessed
-replace_announcement cell a control expected new next =
-    let swapped = swap_announcement cell expected new in
-    record { cell = swapped.cell; read = a; control = go_to control next; swap = outcome swapped.won }
+abbrev pub replace_announcement : Announcement → Announcement → Control → Announcement → Announcement → Label → AccessedCell Announcement
+replace_announcement cell a control expected new next = replace_cell (swap_announcement cell expected new) a (go_to control next)
 
 -- whose announcement an access of process i is of, if it last read the gate g: at P3, P6, P7, C4 and P22 its own, at C2 by turn (line C1),
 -- at P19 and P20 that of the gate's holder
@@ -145,24 +148,24 @@ whose AnnouncementAccess.ReadFirst p i g = first_choice g.seq p
 whose (AnnouncementAccess.Finish flag next) p i g = holder_of g.holder
 
 -- lines P2, P3
-abbrev pub announce : Operation → Gate → Control → AnnouncementAccessed
+abbrev pub announce : Operation → Gate → Control → AccessedCell Announcement
 announce operation g control =
     record { cell = announced operation g; read = announced operation g; control = go_to control P5; swap = Swap.None }
 
 -- line P6
-abbrev pub withdraw : Announcement → Operation → Announcement → Control → AnnouncementAccessed
+abbrev pub withdraw : Announcement → Operation → Announcement → Control → AccessedCell Announcement
 withdraw cell operation a control = replace_announcement cell a control a (withdrawn a operation) P7
 
 -- lines P7, C2, C4 with C6, P22: the flag says where the process goes on
-abbrev pub read_flag : Announcement → ℕ → Label → Label → Label → AnnouncementAccessed
+abbrev pub read_flag : Announcement → ℕ → Label → Label → Label → AccessedCell Announcement
 read_flag cell m done active exit = read_announcement cell m (by_flag cell.flag done active exit)
 
 -- lines P19, P20
-abbrev pub finish : Flag → Label → Announcement → Gate → Announcement → Yield → Control → AnnouncementAccessed
+abbrev pub finish : Flag → Label → Announcement → Gate → Announcement → Yield → Control → AccessedCell Announcement
 finish flag next cell g a y control = replace_announcement cell a control (flagged a flag) (finished a g y) next
 
 unfoldable pub access_announcement :
-    AnnouncementAccess → ℕ → Announcement → Operation → Gate → Announcement → Yield → Control → AnnouncementAccessed
+    AnnouncementAccess → ℕ → Announcement → Operation → Gate → Announcement → Yield → Control → AccessedCell Announcement
 access_announcement AnnouncementAccess.Announce m cell operation g a y control = announce operation g control
 access_announcement AnnouncementAccess.Withdraw m cell operation g a y control = withdraw cell operation a control
 access_announcement (AnnouncementAccess.ReadOwn done active exit) m cell operation g a y control = read_flag cell m done active exit
@@ -230,7 +233,7 @@ writing number control d =
     }
 
 -- .. and its record swapped
-abbrev pub write : Record → Item → ℕ → SwappedRecord
+abbrev pub write : Record → Item → ℕ → SwappedCell Record
 write cell e number = swap_record cell e.cell (rewritten e.cell e.value number)
 
 -- ONE STEP: the text and the process decide which cell it touches; these and that cell decide all that it does.

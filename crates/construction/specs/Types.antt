@@ -34,8 +34,7 @@ pub use Rattle.construction.specs.declared.accesses.Access.{Access}
 pub use Rattle.construction.specs.declared.accesses.Cell.{Cell}
 pub use Rattle.construction.specs.declared.accesses.Swap.{Swap}
 pub use Rattle.construction.specs.declared.accesses.Control.{Control}
-pub use Rattle.construction.specs.declared.accesses.GateAccessed.{GateAccessed}
-pub use Rattle.construction.specs.declared.accesses.AnnouncementAccessed.{AnnouncementAccessed}
+pub use Rattle.construction.specs.declared.accesses.AccessedCell.{AccessedCell}
 pub use Rattle.construction.specs.declared.accesses.Begun.{Begun}
 pub use Rattle.construction.specs.declared.accesses.Helped.{Helped}
 pub use Rattle.construction.specs.declared.accesses.Writing.{Writing}
@@ -49,9 +48,7 @@ pub use Rattle.construction.specs.declared.answers.Answer.{Answer}
 pub use Rattle.construction.specs.declared.answers.Answered.{Answered}
 pub use Rattle.construction.specs.declared.answers.Report.{Report}
 pub use Rattle.construction.specs.declared.answers.Traced.{Traced}
-pub use Rattle.construction.specs.declared.cells.SwappedGate.{SwappedGate}
-pub use Rattle.construction.specs.declared.cells.SwappedAnnouncement.{SwappedAnnouncement}
-pub use Rattle.construction.specs.declared.cells.SwappedRecord.{SwappedRecord}
+pub use Rattle.construction.specs.declared.cells.SwappedCell.{SwappedCell}
 pub use Rattle.construction.specs.declared.cells.RowSwap.{RowSwap}
 pub use Rattle.construction.specs.declared.texts.CardNumbers.{CardNumbers}
 pub use Rattle.construction.specs.declared.texts.Contents.{Contents}

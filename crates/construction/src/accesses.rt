@@ -1,5 +1,5 @@
 // The paper's labels, and the shared access of each.
-use crate::cells::{Announcement, Flag, Gate};
+use crate::cells::Flag;
 use crate::simulations::{Dictionary, Item, Simulation};
 
 // A label of the paper, which is both where a process stands, the access that its next step makes, and what is told of a step, the access made (document 01,
@@ -103,20 +103,11 @@ pub struct Control {
     pub target: u8,
 }
 
-// The gate after an access, and what the process goes on with: the gate last read, its control; and the swap.
+// A cell after an access, and what the process goes on with: the cell last read, its control; and the swap.
 #[derive(Clone, Copy)]
-pub struct GateAccessed {
-    pub cell: Gate,
-    pub read: Gate,
-    pub control: Control,
-    pub swap: Swap,
-}
-
-// The same of an announcement.
-#[derive(Clone, Copy)]
-pub struct AnnouncementAccessed {
-    pub cell: Announcement,
-    pub read: Announcement,
+pub struct AccessedCell<T> {
+    pub cell: T,
+    pub read: T,
     pub control: Control,
     pub swap: Swap,
 }

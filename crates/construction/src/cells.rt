@@ -2,21 +2,21 @@
 use crate::answers::Refusal;
 
 // Who holds the gate.
-#[derive(Clone, Copy)]
+#[derive(Clone, Copy, PartialEq, Eq)]
 pub enum Holder {
     Nobody,
     Process(u8),
 }
 
 // The gate: the operation that all processes help, and its number.
-#[derive(Clone, Copy)]
+#[derive(Clone, Copy, PartialEq, Eq)]
 pub struct Gate {
     pub holder: Holder,
     pub seq: u64,
 }
 
 // The state of an announced operation.
-#[derive(Clone, Copy)]
+#[derive(Clone, Copy, PartialEq, Eq)]
 pub enum Flag {
     Done,
     Active,
@@ -24,7 +24,7 @@ pub enum Flag {
 }
 
 // Four words: inputs, outputs or registers.
-#[derive(Clone, Copy)]
+#[derive(Clone, Copy, PartialEq, Eq)]
 pub struct Words {
     pub w0: u32,
     pub w1: u32,
@@ -33,14 +33,14 @@ pub struct Words {
 }
 
 // What an operation yields: four outputs, and whether it ended as a fault (document 02, order 6).
-#[derive(Clone, Copy)]
+#[derive(Clone, Copy, PartialEq, Eq)]
 pub struct Yield {
     pub outputs: Words,
     pub fault: bool,
 }
 
 // The announcement of a process. Its words are the inputs, and the outputs once it is done; it is marked if it was done as a fault. Its number is the gate number under which it was done, 0 while it is active or exit and at opening.
-#[derive(Clone, Copy)]
+#[derive(Clone, Copy, PartialEq, Eq)]
 pub struct Announcement {
     pub program: u8,
     pub flag: Flag,
@@ -51,7 +51,7 @@ pub struct Announcement {
 }
 
 // The record of a variable. The toggle is true for 1.
-#[derive(Clone, Copy)]
+#[derive(Clone, Copy, PartialEq, Eq)]
 pub struct Record {
     pub val0: u32,
     pub val1: u32,
@@ -59,24 +59,10 @@ pub struct Record {
     pub seq: u64,
 }
 
-// A gate after a swap, and whether the swap won.
+// A cell after a swap, and whether the swap won.
 #[derive(Clone, Copy)]
-pub struct SwappedGate {
-    pub cell: Gate,
-    pub won: bool,
-}
-
-// An announcement after a swap, and whether the swap won.
-#[derive(Clone, Copy)]
-pub struct SwappedAnnouncement {
-    pub cell: Announcement,
-    pub won: bool,
-}
-
-// A record after a swap, and whether the swap won.
-#[derive(Clone, Copy)]
-pub struct SwappedRecord {
-    pub cell: Record,
+pub struct SwappedCell<T> {
+    pub cell: T,
     pub won: bool,
 }
 

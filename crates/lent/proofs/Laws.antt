@@ -8,7 +8,7 @@ use lib.Dec.{leb}
 use lib.ListN.{length, get_or, set, length-set}
 use lib.Seq.{get_or-set_same, get_or-set_other, set-get_or}
 use borrow.Author.Tests.{le-leb, lt-leb, leb-false}
-use Rattle.construction.specs.declared.{cells.Record.Record, cells.SwappedRecord.SwappedRecord, cells.RowSwap.RowSwap}
+use Rattle.construction.specs.declared.{cells.Record.Record, cells.SwappedCell.SwappedCell, cells.RowSwap.RowSwap}
 use Rattle.construction.specs.declared.cells.RowSwap.TheVariants.{Won, Refused}
 use Rattle.construction.specs.declared.answers.Refusal.TheVariants.{NoPlace}
 use Rattle.construction.specs.Cells.{open_record, same_record, swap_record}
@@ -82,11 +82,11 @@ module _ (row : List Record) (place : ℕ) (expected new : Record) where
   which false = refl
 
   -- the code after it: the record at the place was swapped by value, and its outcome told
-  pub swapped : (s : SwappedRecord) (r : RowSwap) → place < length row → s ≡ swap_at row place expected new → r ≡ tells s.won →
+  pub swapped : (s : SwappedCell Record) (r : RowSwap) → place < length row → s ≡ swap_at row place expected new → r ≡ tells s.won →
       Said r (set row place s.cell)
   unfolding row_answer row_after swap_fields
   swapped s r h p q = (
-    rw (lt-leb _ _ h) (q ∙ ap (λ (x : SwappedRecord). tells x.won) p),
-    rw (lt-leb _ _ h) (ap (λ (x : SwappedRecord). set row place x.cell) p),
-    rw (lt-leb _ _ h) (ap row_fields q ∙ (which s.won ∙ ap (λ (x : SwappedRecord). cond x.won (fields "won" []) (fields "lost" [])) p)),
+    rw (lt-leb _ _ h) (q ∙ ap (λ (x : SwappedCell Record). tells x.won) p),
+    rw (lt-leb _ _ h) (ap (λ (x : SwappedCell Record). set row place x.cell) p),
+    rw (lt-leb _ _ h) (ap row_fields q ∙ (which s.won ∙ ap (λ (x : SwappedCell Record). cond x.won (fields "won" []) (fields "lost" [])) p)),
   )

@@ -1,7 +1,7 @@
 -- The swap on one place of a lent row of records (document 01, 'Shared cells': 'one that changes at most the named record in a lent row
 -- of records. A place at or past the row's end is refusal 9.')
 use Rattle.std.specs.Prelude.{ℕ, Bool, cond, List, [], leb, length, get_or, set}
-use Rattle.construction.specs.declared.{cells.Record.Record, cells.SwappedRecord.SwappedRecord, cells.RowSwap.RowSwap}
+use Rattle.construction.specs.declared.{cells.Record.Record, cells.SwappedCell.SwappedCell, cells.RowSwap.RowSwap}
 use Rattle.construction.specs.declared.cells.RowSwap.TheVariants.{Won, Lost, Refused}
 use Rattle.construction.specs.declared.answers.Refusal.TheVariants.{NoPlace}
 use Rattle.construction.specs.Cells.{open_record, swap_record}
@@ -12,7 +12,7 @@ abbrev pub tells : Bool → RowSwap
 tells won = cond won Won Lost
 
 -- the named record swapped as 'Shared cells' says; past the end, where nothing is swapped, the opening record stands in for it
-abbrev pub swap_at : List Record → ℕ → Record → Record → SwappedRecord
+abbrev pub swap_at : List Record → ℕ → Record → Record → SwappedCell Record
 swap_at row place expected new = swap_record (get_or row place (open_record 0)) expected new
 
 -- 'A place at or past the row's end is refusal 9'; else the answer tells which

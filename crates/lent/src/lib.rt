@@ -14,8 +14,7 @@ use construction::cells::{Gate, Record, RowSwap};
 pub fn swap_lent_gate(gate: &mut Gate, expected: Gate, new: Gate) -> bool
     ensures { (result ≡ (swap_gate gate.old expected new).won) × (gate.new ≡ (swap_gate gate.old expected new).cell) }
 {
-    let cell = *gate;
-    let after = cells::swap_gate(cell, expected, new);
+    let after = cells::swap(*gate, expected, new);
     *gate = after.cell;
     after.won
 }
@@ -34,8 +33,7 @@ pub fn swap_in_row(row: &mut [Record], place: usize, expected: Record, new: Reco
     if row.len() <= place {
         return RowSwap::Refused(Refusal::NoPlace);
     }
-    let cell = row[place];
-    let after = cells::swap_record(cell, expected, new);
+    let after = cells::swap(row[place], expected, new);
     row[place] = after.cell;
     answer_of(after.won)
 }

@@ -2,15 +2,14 @@
 // compares every cell afterwards, and prints a line for each case. It rests on the crates construction, answers, cells, lent and report.
 #![tactic(auto)]
 
-ghost use Rattle.std.specs.Prelude.{◌≡◌};
+ghost use Rattle.std.specs.Prelude.{◌≡◌, ◌<◌};
 ghost use Rattle.construction.specs.Cells.{swap_gate};
 ghost use Rattle.lent.specs.Row.{row_answer, row_after};
-ghost use Rattle.lent_demo.specs.Rows.{record_of, first_row, new_record, held_gate, free_gate, same_row};
+ghost use Rattle.lent_demo.specs.Rows.{record_of, first_row, new_record, held_gate, free_gate, same_at, same_row};
 
 use answers::put_row_swap;
-use construction::cells::{Gate, Holder, Record, RowSwap, SwappedGate};
+use construction::cells::{Gate, Holder, Record, RowSwap, SwappedCell};
 use host::show;
-use report::same::both;
 
 // A row that came back from a loan, and what the swap answered.
 #[derive(Clone, Copy)]
@@ -33,14 +32,14 @@ fn swap_in_four(mut row: [Record; 4], place: usize, expected: Record, new: Recor
     row_and_answer(row, answer)
 }
 
-fn gate_and_outcome(cell: Gate, won: bool) -> SwappedGate
+fn gate_and_outcome(cell: Gate, won: bool) -> SwappedCell<Gate>
     ensures { (result.cell ≡ cell) × (result.won ≡ won) }
 {
-    SwappedGate { cell, won }
+    SwappedCell { cell, won }
 }
 
 // The gate is lent for one swap.
-fn swap_gate(mut gate: Gate, expected: Gate, new: Gate) -> SwappedGate
+fn swap_gate(mut gate: Gate, expected: Gate, new: Gate) -> SwappedCell<Gate>
     ensures { (result.cell ≡ (swap_gate gate expected new).cell) × (result.won ≡ (swap_gate gate expected new).won) }
 {
     let won = lent::swap_lent_gate(&mut gate, expected, new);
@@ -96,19 +95,17 @@ fn free_gate() -> Gate
     }
 }
 
+fn same_at(a: [Record; 4], b: [Record; 4], k: usize) -> bool
+    requires { k < 4 }
+    ensures { result ≡ same_at a b k }
+{
+    a[k] == b[k]
+}
+
 fn same_row(a: [Record; 4], b: [Record; 4]) -> bool
     ensures { result ≡ same_row a b }
 {
-    both(
-        cells::same_record(a[0], b[0]),
-        both(
-            cells::same_record(a[1], b[1]),
-            both(
-                cells::same_record(a[2], b[2]),
-                cells::same_record(a[3], b[3]),
-            ),
-        ),
-    )
+    same_at(a, b, 0) && (same_at(a, b, 1) && (same_at(a, b, 2) && same_at(a, b, 3)))
 }
 
 fn write_answer(rt: &impl Print, answer: RowSwap) {
@@ -178,7 +175,7 @@ fn gate_case(rt: &impl Print, label: &[u8], expected: Gate, wanted: Gate) {
     } else {
         show(rt, b"lost");
     }
-    write_verdict(rt, cells::same_gate(after.cell, wanted));
+    write_verdict(rt, after.cell == wanted);
 }
 
 fn gate_cases(rt: &impl Print) {

@@ -6,7 +6,7 @@ use mathlib.Core.List.{List}
 use lib.Dec.{ltb}
 use borrow.Author.Tests.{lt-ltb, le-ltb}
 use Rattle.construction.specs.declared.accesses.Swap.{Swap}
-use Rattle.construction.specs.declared.cells.SwappedRecord.{SwappedRecord}
+use Rattle.construction.specs.declared.cells.SwappedCell.{SwappedCell}
 use Rattle.construction.specs.declared.accesses.Writing.{Writing}
 use Rattle.construction.specs.Dictionary.{item_of}
 use Rattle.construction.specs.Machine.{go_to, holder_of, helps, writing, write, outcome}
@@ -74,7 +74,7 @@ module _ (b l : List ℕ) (i : ℕ) {g : Gate} {control : Control} {cell : Recor
 
 -- line H36
 pub written_in_lem :
-    (b l : List ℕ) (i : ℕ) {g : Gate} {control : Control} {x : Writing} {cell : Record} {s : SwappedRecord} {c e : List ℕ} {r : Swap} →
+    (b l : List ℕ) (i : ℕ) {g : Gate} {control : Control} {x : Writing} {cell : Record} {s : SwappedCell Record} {c e : List ℕ} {r : Swap} →
     g ≡ last_gate_in b i → control ≡ control_in b i → x ≡ writing g.seq control (held_dictionary b l i) → cell ≡ record_in b x.item.variable →
     s ≡ write cell x.item g.seq → c ≡ record_swapped b x.item.variable s → e ≡ put_control c i x.control → r ≡ outcome s.won →
     (e ≡ write_step b l i) × (r ≡ outcome (written_in b l i).won)
@@ -84,5 +84,5 @@ written_in_lem b l i {g} {control} {x} {cell} {s} pg pt px pc ps pb pe pr =
     let found = pc ∙ (λ j. record_in b (item j).item.variable) in
     let swapped : s ≡ written_in b l i = ps ∙ (λ j. write (found j) (item j).item (pg j).seq) in (
       pe ∙ (λ j. put_control (pb j) i x.control) ∙ λ j. put_control (record_swapped b (item j).item.variable (swapped j)) i (item j).control,
-      pr ∙ ap (λ (y : SwappedRecord). outcome y.won) swapped,
+      pr ∙ ap (λ (y : SwappedCell Record). outcome y.won) swapped,
     )

@@ -5,7 +5,7 @@ use mathlib.Core.Bool.{Bool, true, false, cond}
 use mathlib.Core.List.{List}
 use native.Mathlib.Omega.{arith}
 use lib.ListN.{length}
-use Rattle.construction.specs.declared.cells.SwappedRecord.{SwappedRecord}
+use Rattle.construction.specs.declared.{cells.Record.Record, cells.SwappedCell.SwappedCell}
 use Rattle.construction.specs.declared.accesses.Writing.{Writing}
 use Rattle.construction.specs.Cells.{same_record, swap_record, rewritten}
 use Rattle.construction.specs.Parts.{local_at, record_at, with_record, with_steps}
@@ -67,7 +67,7 @@ module _ (b l : List ℕ) (i : ℕ) where
         (record_stored b l long v new (rewritten_fits e (number_in b i) item_fits)) (record_same b l v)
 
     -- the card after the access, but for the counts
-    abbrev written_card : Writing → SwappedRecord → Card
+    abbrev written_card : Writing → SwappedCell Record → Card
     written_card x s = control_placed (with_record (card_of b l) x.item.variable s.cell) i x.control
 
     write_placed : i < 256 → card_of (write_step b l i) l ≡ written_card (writing_in b l i) (written_in b l i)
@@ -101,7 +101,7 @@ module _ (b l : List ℕ) (i : ℕ) where
       -- the machine's swap
       pub write_swap_is : (perform Access.Write (card_of b l) i).swap ≡ outcome (written_in b l i).won
       unfolding perform
-      write_swap_is = ap (λ (x : SwappedRecord). outcome x.won) (sym written_named)
+      write_swap_is = ap (λ (x : SwappedCell Record). outcome x.won) (sym written_named)
 
       -- AN ACCEPTED STEP THAT WRITES A RECORD (line H36): the block after it holds what `advance` makes of the card that it held with the loan
       pub write_step_is : card_of (counted (write_step b l i) i) l ≡ with_steps (perform Access.Write (card_of b l) i).card (next (card_of b l).steps)

@@ -3,7 +3,7 @@
 -- the loan.
 use Rattle.std.specs.Prelude.{ℕ, cond, List, ltb}
 use Rattle.construction.specs.declared.accesses.Writing.{Writing}
-use Rattle.construction.specs.declared.cells.SwappedRecord.{SwappedRecord}
+use Rattle.construction.specs.declared.cells.SwappedCell.{SwappedCell}
 use Rattle.construction.specs.Dictionary as construction
 use Rattle.construction.specs.Marks.{with_bit}
 use Rattle.construction.specs.Machine.{go_to, holder_of, helps, after_pause, writing, write, outcome}
@@ -76,11 +76,11 @@ note_loan b l i = cond (ltb (number_in b i) (lacked_in b i).seq) l (noted_loan b
 abbrev pub writing_in : List ℕ → List ℕ → ℕ → Writing
 writing_in b l i = writing (number_in b i) (control_in b i) (held_dictionary b l i)
 
-abbrev pub written_in : List ℕ → List ℕ → ℕ → SwappedRecord
+abbrev pub written_in : List ℕ → List ℕ → ℕ → SwappedCell Record
 written_in b l i = let e = (writing_in b l i).item in write (record_in b e.variable) e (number_in b i)
 
 -- the record of variable v after a swap
-abbrev pub record_swapped : List ℕ → ℕ → SwappedRecord → List ℕ
+abbrev pub record_swapped : List ℕ → ℕ → SwappedCell Record → List ℕ
 record_swapped b v x = if_won (outcome x.won) (put_record b v x.cell) b
 
 unfoldable pub write_step : List ℕ → List ℕ → ℕ → List ℕ

@@ -6,13 +6,13 @@ ghost use Rattle.lent_helping.specs.Helps.{written_in, record_swapped, write_ste
 use block::cells::{put_record, record};
 use block::own::{control, last_gate, put_control};
 use construction::accesses::Swap;
-use construction::cells::SwappedRecord;
+use construction::cells::{Record, SwappedCell};
 use loan::dictionaries::writing;
 use machine::outcome;
 use machine::record::write;
 
 // The record of variable v is stored where its swap won.
-fn put_swapped(b: &mut [u64], v: u8, x: SwappedRecord)
+fn put_swapped(b: &mut [u64], v: u8, x: SwappedCell<Record>)
     ensures { b.new ≡ record_swapped b.old v x }
 {
     if x.won {

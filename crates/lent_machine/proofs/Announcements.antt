@@ -4,7 +4,7 @@ use Rattle.construction.specs.Cells.{FitsWords, same_announcement, swap_announce
 use Rattle.construction.specs.Parts.{local_at, announcement_at, with_announcement, with_steps}
 use Rattle.construction.specs.Machine.{first_choice, holder_of, announced, flagged, withdrawn, finished, announce, replace_announcement, read_flag, whose}
 use Rattle.construction.specs.Machine.{access_announcement, perform}
-use Rattle.codes.specs.Types.{Yield, Gate, Announcement, AnnouncementAccess, AnnouncementAccessed, Access, Operation, Words, Flag, Done, Active, Exit, Label}
+use Rattle.codes.specs.Types.{Yield, Gate, Announcement, AnnouncementAccess, AccessedCell, Access, Operation, Words, Flag, Done, Active, Exit, Label}
 use Rattle.codes.specs.Types.{C4, P7, P13, Card}
 use Rattle.codes.proofs.Values.{FitsAnnouncement, FitsOperation}
 use Rattle.block.specs.Layout.{process_count_in, announcement_in, put_announcement, control_in, operation_in, last_gate_in, last_in, put_last, simulation_in}
@@ -19,7 +19,7 @@ use Rattle.lent_machine.proofs.Own.{control_placed, copy_placed, accepted, contr
 use Rattle.lent_machine.proofs.Keeping.{Kept, kept_twice, kept_if, announcement_kept, last_kept, control_kept}
 
 -- the card after an access of the announcement of process m by process i, but for the counts
-abbrev announcement_card : Card → ℕ → ℕ → AnnouncementAccessed → Card
+abbrev announcement_card : Card → ℕ → ℕ → AccessedCell Announcement → Card
 announcement_card c i m x = copy_placed (with_announcement c m x.cell) i x.read x.control
 
 -- what an access writes fits
@@ -45,7 +45,7 @@ choice_fits seq p h = go (ltb 0 p) refl
     go false e = omega arith
 
 -- the block after an access keeps its length and its text
-module _ (b : List ℕ) (i : ℕ) (x : AnnouncementAccessed) where
+module _ (b : List ℕ) (i : ℕ) (x : AccessedCell Announcement) where
   read_kept : Kept b (announcement_read b i x)
   read_kept = kept_twice (last_kept b i x.read) (control_kept (put_last b i x.read) i x.control)
 
@@ -66,7 +66,7 @@ announcement_step_kept (AnnouncementAccess.Finish flag place) b i =
     swapped_kept b i (announcement_accessed (AnnouncementAccess.Finish flag place) b i) (whose_in (AnnouncementAccess.Finish flag place) b i)
 
 module _ (b l : List ℕ) (i : ℕ) where
-  abbrev on_card : AnnouncementAccess → ℕ → AnnouncementAccessed
+  abbrev on_card : AnnouncementAccess → ℕ → AccessedCell Announcement
   on_card a m =
       let o = local_at (card_of b l) i in
       access_announcement a m (announcement_at (card_of b l) m) o.operation o.gate o.announcement o.simulation.yields o.control
@@ -92,7 +92,7 @@ module _ (b l : List ℕ) (i : ℕ) where
   -- the machine's swap
   pub announcement_swap_is : (a : AnnouncementAccess) → (perform (Access.Announcement a) (card_of b l) i).swap ≡ (announcement_accessed a b i).swap
   unfolding perform
-  announcement_swap_is a = ap (λ (x : AnnouncementAccessed). x.swap) (sym (announcement_named a))
+  announcement_swap_is a = ap (λ (x : AccessedCell Announcement). x.swap) (sym (announcement_named a))
 
   module _ (long : 1456 ≤ length b) where
     -- the announcement of process m is read: it stays as it was

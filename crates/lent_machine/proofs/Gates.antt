@@ -4,7 +4,7 @@ use Rattle.std.proofs.Common.{◌≡◌, ℕ, ◌≤◌, List, length, sym, ap, 
 use Rattle.construction.specs.Cells.{same_gate, swap_gate, released}
 use Rattle.construction.specs.Parts.{local_at, with_gate, with_steps}
 use Rattle.construction.specs.Machine.{by_holder, after_last, nominated, read_gate, replace_gate, access_gate, perform}
-use Rattle.codes.specs.Types.{Gate, GateAccess, GateAccessed, Access, Card, Label, P14}
+use Rattle.codes.specs.Types.{Gate, GateAccess, AccessedCell, Access, Card, Label, P14}
 use Rattle.codes.proofs.Values.{Fits, nobody_fits, process_fits}
 use Rattle.block.specs.Layout.{gate_in, put_gate, control_in, last_gate_in, put_last_gate}
 use Rattle.block.specs.Cards.{card_of}
@@ -16,11 +16,11 @@ use Rattle.lent_machine.proofs.Own.{control_placed, gate_placed, accepted, contr
 use Rattle.lent_machine.proofs.Keeping.{Kept, kept_twice, kept_if, gate_kept, last_gate_kept, control_kept}
 
 -- the card after an access of the gate by process i, but for the counts
-abbrev gate_card : Card → ℕ → GateAccessed → Card
+abbrev gate_card : Card → ℕ → AccessedCell Gate → Card
 gate_card c i x = gate_placed (with_gate c x.cell) i x.read x.control
 
 -- the block after an access keeps its length and its text
-module _ (b : List ℕ) (i : ℕ) (x : GateAccessed) where
+module _ (b : List ℕ) (i : ℕ) (x : AccessedCell Gate) where
   read_kept : Kept b (gate_read b i x)
   read_kept = kept_twice (last_gate_kept b i x.read) (control_kept (put_last_gate b i x.read) i x.control)
 
@@ -46,7 +46,7 @@ module _ (b l : List ℕ) (i : ℕ) where
   -- the machine's swap
   pub gate_swap_is : (a : GateAccess) → (perform (Access.Gate a) (card_of b l) i).swap ≡ (gate_accessed a b i).swap
   unfolding perform
-  gate_swap_is a = ap (λ (x : GateAccessed). x.swap) (sym (gate_named a))
+  gate_swap_is a = ap (λ (x : AccessedCell Gate). x.swap) (sym (gate_named a))
 
   module _ (long : 1456 ≤ length b) where
     -- the gate is read: it stays as it was

@@ -4,19 +4,19 @@ use Rattle.std.specs.Prelude.{ℕ, ◌+◌, ◌%◌, List}
 use Rattle.construction.specs.declared.accesses.Swap.{Swap}
 use Rattle.construction.specs.Machine.{first_choice, holder_of, read_holder, read_last, nominate, release, access_gate, whose, announce, withdraw, read_flag, finish}
 use Rattle.construction.specs.Machine.{access_announcement}
-use Rattle.codes.specs.Types.{Flag, Label, GateAccess, GateAccessed, AnnouncementAccess, AnnouncementAccessed, C4, P13}
+use Rattle.codes.specs.Types.{Gate, Announcement, Flag, Label, GateAccess, AccessedCell, AnnouncementAccess, C4, P13}
 use Rattle.block.specs.Layout.{process_count_in, steps_in, put_steps, gate_in, put_gate, announcement_in, put_announcement, control_in, put_control, operation_in, count_in}
 use Rattle.block.specs.Layout.{put_count, last_gate_in, put_last_gate, last_in, put_last, simulation_in}
 
 -- the access of the gate by process i on what is taken out of a block; ..
-abbrev pub gate_accessed : GateAccess → List ℕ → ℕ → GateAccessed
+abbrev pub gate_accessed : GateAccess → List ℕ → ℕ → AccessedCell Gate
 gate_accessed a b i = access_gate a i (gate_in b) (last_gate_in b i) (control_in b i)
 
 -- .. whose announcement an access is of, and that access
 abbrev pub whose_in : AnnouncementAccess → List ℕ → ℕ → ℕ
 whose_in a b i = whose a (process_count_in b) i (last_gate_in b i)
 
-abbrev pub announcement_accessed : AnnouncementAccess → List ℕ → ℕ → AnnouncementAccessed
+abbrev pub announcement_accessed : AnnouncementAccess → List ℕ → ℕ → AccessedCell Announcement
 announcement_accessed a b i =
     let m = whose_in a b i in
     access_announcement a m (announcement_in b m) (operation_in b i) (last_gate_in b i) (last_in b i) (simulation_in b i).yields (control_in b i)
@@ -28,10 +28,10 @@ if_won Swap.Lost won b = b
 if_won Swap.Won won b = won
 
 -- the gate read, and swapped, by process i
-abbrev pub gate_read : List ℕ → ℕ → GateAccessed → List ℕ
+abbrev pub gate_read : List ℕ → ℕ → AccessedCell Gate → List ℕ
 gate_read b i x = put_control (put_last_gate b i x.read) i x.control
 
-abbrev pub gate_swapped : List ℕ → ℕ → GateAccessed → List ℕ
+abbrev pub gate_swapped : List ℕ → ℕ → AccessedCell Gate → List ℕ
 gate_swapped b i x = put_control (if_won x.swap (put_gate b x.cell) b) i x.control
 
 unfoldable pub gate_step : GateAccess → List ℕ → ℕ → List ℕ
@@ -41,10 +41,10 @@ gate_step GateAccess.Nominate b i = gate_swapped b i (nominate (gate_in b) (last
 gate_step (GateAccess.Release next) b i = gate_swapped b i (release (gate_in b) (last_gate_in b i) (control_in b i) next)
 
 -- the announcement of process m read, and swapped, by process i
-abbrev pub announcement_read : List ℕ → ℕ → AnnouncementAccessed → List ℕ
+abbrev pub announcement_read : List ℕ → ℕ → AccessedCell Announcement → List ℕ
 announcement_read b i x = put_control (put_last b i x.read) i x.control
 
-abbrev pub announcement_swapped : List ℕ → ℕ → ℕ → AnnouncementAccessed → List ℕ
+abbrev pub announcement_swapped : List ℕ → ℕ → ℕ → AccessedCell Announcement → List ℕ
 announcement_swapped b i m x = put_control (if_won x.swap (put_announcement b m x.cell) b) i x.control
 
 -- lines P2 and P3

@@ -6,13 +6,13 @@ ghost use Rattle.lent_machine.specs.Accesses.{announcement_accessed, if_won, ann
 
 use block::cells::{announcement, process_count, put_announcement};
 use block::own::{control, last, last_gate, operation, put_control, put_last, simulation};
-use construction::accesses::{AnnouncementAccess, AnnouncementAccessed, Label, Swap};
+use construction::accesses::{AccessedCell, AnnouncementAccess, Label, Swap};
 use construction::cells::{Announcement, Flag};
 use machine::announcement::{announce, finish, read_flag, withdraw};
 use machine::places::{first_choice, holder_of};
 
 // An announcement was read.
-fn put_read(b: &mut [u64], i: u8, x: AnnouncementAccessed)
+fn put_read(b: &mut [u64], i: u8, x: AccessedCell<Announcement>)
     ensures { b.new ≡ announcement_read b.old i x }
 {
     let read = x.read;
@@ -33,7 +33,7 @@ fn put_won(b: &mut [u64], m: u8, swap: Swap, cell: Announcement)
 }
 
 // The announcement of process m was swapped.
-fn put_swapped(b: &mut [u64], i: u8, m: u8, x: AnnouncementAccessed) -> Swap
+fn put_swapped(b: &mut [u64], i: u8, m: u8, x: AccessedCell<Announcement>) -> Swap
     ensures { (b.new ≡ announcement_swapped b.old i m x) × (result ≡ x.swap) }
 {
     let swap = x.swap;

@@ -6,12 +6,12 @@ ghost use Rattle.lent_machine.specs.Accesses.{gate_accessed, if_won, gate_read, 
 
 use block::cells::{gate, put_gate};
 use block::own::{control, last_gate, put_control, put_last_gate};
-use construction::accesses::{GateAccess, GateAccessed, Label, Swap};
+use construction::accesses::{AccessedCell, GateAccess, Label, Swap};
 use construction::cells::Gate;
 use machine::gate::{nominate, read_holder, read_last, release};
 
 // The gate was read.
-fn put_read(b: &mut [u64], i: u8, x: GateAccessed)
+fn put_read(b: &mut [u64], i: u8, x: AccessedCell<Gate>)
     ensures { b.new ≡ gate_read b.old i x }
 {
     let read = x.read;
@@ -32,7 +32,7 @@ fn put_won(b: &mut [u64], swap: Swap, cell: Gate)
 }
 
 // The gate was swapped.
-fn put_swapped(b: &mut [u64], i: u8, x: GateAccessed) -> Swap
+fn put_swapped(b: &mut [u64], i: u8, x: AccessedCell<Gate>) -> Swap
     ensures { (b.new ≡ gate_swapped b.old i x) × (result ≡ x.swap) }
 {
     let swap = x.swap;

@@ -14,7 +14,7 @@ use Rattle.construction.specs.Answers.{is_refused}
 use Rattle.construction.specs.Marks.{with_bit}
 use Rattle.construction.specs.Machine.{access_of, go_to, holder_of, first_choice, helps, after_pause, outcome, read_holder, read_last, nominate, release, announce}
 use Rattle.construction.specs.Machine.{withdraw, read_flag, finish}
-use Rattle.codes.specs.Types.{Item, Access, GateAccess, GateAccessed, AnnouncementAccess, AnnouncementAccessed, Control, Announcement, Simulation, C4, H21, P13}
+use Rattle.codes.specs.Types.{Gate, Item, Access, GateAccess, AccessedCell, AnnouncementAccess, Control, Announcement, Simulation, C4, H21, P13}
 use Rattle.codes.specs.Types.{P19, P21}
 use Rattle.codes.specs.Parts.{word_at}
 use Rattle.codes.specs.Codes.{byte, gate_words, control_words, announcement_words, record_words, simulation_words}
@@ -83,18 +83,18 @@ module _ (i : ℕ) (b : List ℕ) where
   others_mask k x = others_number 584 8 k x (inr (omega arith))
 
 module _ (i : ℕ) (b : List ℕ) where
-  gate_read_lem : (x : GateAccessed) → Others i b (gate_read b i x)
+  gate_read_lem : (x : AccessedCell Gate) → Others i b (gate_read b i x)
   gate_read_lem x = others_twice (others_row i b 408 8 i (gate_words x.read) (omega arith)) (others_control i (put_last_gate b i x.read) i x.control)
 
-  gate_swapped_lem : (x : GateAccessed) → Others i b (gate_swapped b i x)
+  gate_swapped_lem : (x : AccessedCell Gate) → Others i b (gate_swapped b i x)
   gate_swapped_lem x =
       others_twice (others_if x.swap (others_row i b 5 1 0 (gate_words x.cell) (omega arith)))
       (others_control i (if_won x.swap (put_gate b x.cell) b) i x.control)
 
-  announcement_read_lem : (x : AnnouncementAccessed) → Others i b (announcement_read b i x)
+  announcement_read_lem : (x : AccessedCell Announcement) → Others i b (announcement_read b i x)
   announcement_read_lem x = others_twice (others_last i b x.read) (others_control i (put_last b i x.read) i x.control)
 
-  announcement_swapped_lem : (m : ℕ) (x : AnnouncementAccessed) → Others i b (announcement_swapped b i m x)
+  announcement_swapped_lem : (m : ℕ) (x : AccessedCell Announcement) → Others i b (announcement_swapped b i m x)
   announcement_swapped_lem m x =
       others_twice (others_if x.swap (others_announcement i b m x.cell))
       (others_control i (if_won x.swap (put_announcement b m x.cell) b) i x.control)

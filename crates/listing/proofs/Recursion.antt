@@ -4,7 +4,7 @@ use mathlib.Core.Path.{◌≡◌, refl, sym, subst, ap, ◌∙◌}
 use mathlib.Core.Bool.{Bool, true, false, cond, ◌||◌, false≢true}
 use mathlib.Core.List.{List, [], ◌∷◌, ◌++◌}
 use native.Mathlib.Omega.{arith}
-use native.Mathlib.Nat.{zero-add, suc-mul, pow-suc, pow-le-pow_left, pow-le-pow_right, one-le-pow}
+use native.Mathlib.Nat.{zero-add, suc-mul, pow-le-pow_left, pow-le-pow_right, one-le-pow}
 use native.Mathlib.Numerals.{add-one}
 use lib.ListN.{length, take, length-take, length-append}
 use lib.Dec.{eqb}
@@ -250,15 +250,10 @@ first_lines zero left j c {b} {at} {r} {z} {numbers} {x} {numbers'} {answers} {y
 first_lines (suc first) left j c e L = absurd (omega arith)
 
 -- powers that code can hold
-pub power_more : (b k : ℕ) {r : ℕ} → r ≡ b ^ k → r * b ≡ b ^ (k + 1)
-power_more b k e = ap (λ (n : ℕ). n * b) e ∙ sym (pow-suc b k) ∙ ap (λ (n : ℕ). b ^ n) (sym (add-one k))
-
-pub power_fits : (b k : ℕ) {r : ℕ} → b ≤ 3 → k < 16 → r ≡ b ^ k → r * b < 4294967296
-power_fits b k {r} few h e =
-    let p : r * b ≡ b ^ (k + 1) = power_more b k e in
-    let q : b ^ (k + 1) ≤ 3 ^ (k + 1) = pow-le-pow_left few (k + 1) in
-    let l : k + 1 ≤ 16 = omega arith in
-    let s : 3 ^ (k + 1) ≤ 3 ^ 16 = pow-le-pow_right (omega arith) l in
+pub power_fits : (b k : ℕ) → b ≤ 3 → k ≤ 16 → b ^ k < 4294967296
+power_fits b k few h =
+    let q : b ^ k ≤ 3 ^ k = pow-le-pow_left few k in
+    let s : 3 ^ k ≤ 3 ^ 16 = pow-le-pow_right (omega arith) h in
     omega arith
 
 pub power_some : (b k : ℕ) {r : ℕ} → 0 < b → r ≡ b ^ k → 0 < r

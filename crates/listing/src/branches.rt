@@ -1,6 +1,8 @@
 // 'The listing recurs on the steps still to choose' (document 02, order 13): the text of all executions that go on from a card. What was printed of the
 // steps chosen so far stands in two small buffers, process numbers and answers, as in a line the numbers come before all answers; a branch
 // writes past them, and leaves what stood before. The card is handed on by value, once for each chosen process.
+// The buffers and their places are arguments of their own: a struct of them would be made anew at each step, with other places, and every clause would name
+// its fields. The schedules of runs.rt recur in the same way but on controls alone, with texts of their own, so that one function for both would be no plainer.
 ghost use Rattle.std.specs.Prelude.{◌≡◌, ◌||◌, ◌++◌, ◌∷◌, [], ◌+◌, ◌-◌, ◌<◌, get_or, take, eqb};
 ghost use Rattle.grammar.specs.Writing.{Put};
 ghost use Rattle.construction.specs.Parts.{idle_control};
@@ -8,7 +10,7 @@ ghost use Rattle.construction.specs.Requests.{is_idle, step};
 ghost use Rattle.executions.specs.Listings.{branch_text, text_after};
 ghost use Rattle.listing.specs.Prefixes.{are_idle, Holds, longest, capacity, Lines};
 
-use crate::runs::{put_run, runs_on};
+use crate::runs::{place_at, put_run, runs_on};
 use answers::kinds::is_refused;
 use answers::put_answer;
 use card::step;
@@ -21,22 +23,14 @@ use machine::places::is_idle;
 pub(crate) fn is_idle_at(controls: [Control; 8], k: u8) -> bool
     ensures { result ≡ is_idle (get_or controls k idle_control).place }
 {
-    let at = k as usize;
-    if at < 8 {
-        let control = controls[at];
-        let place = control.place;
-        return is_idle(place);
-    }
-    true
+    is_idle(place_at(controls, k))
 }
 
 // Whether none of the first processes has an operation under way.
 pub(crate) fn are_idle(controls: [Control; 8], count: u8) -> bool
     ensures { result ≡ are_idle controls count }
 {
-    let mut n = count;
-    while n > 0 {
-        n = n - 1;
+    for n in (0..count).rev() {
         if !is_idle_at(controls, n) {
             return false;
         }
@@ -48,10 +42,7 @@ pub(crate) fn are_idle(controls: [Control; 8], count: u8) -> bool
 fn has_ended(left: u8, controls: [Control; 8], count: u8) -> bool
     ensures { result ≡ (eqb left 0 || are_idle controls count) }
 {
-    if left == 0 {
-        return true;
-    }
-    are_idle(controls, count)
+    left == 0 || are_idle(controls, count)
 }
 
 // A line: the process numbers, the answers, byte 10.
@@ -83,14 +74,12 @@ fn put_branch(
         numbers.old x numbers.new answers.old y answers.new }
 {
     let stepped = step(card, k as u32);
-    let answer = stepped.answer;
-    if is_refused(answer) {
+    if is_refused(stepped.answer) {
         return at;
     }
     let i = put_decimal(numbers, x, k as u64);
-    let j = put_answer(answers, y, answer);
-    let next = stepped.card;
-    put_after(buffer, at, left - 1, next, numbers, i, answers, j)
+    let j = put_answer(answers, y, stepped.answer);
+    put_after(buffer, at, left - 1, stepped.card, numbers, i, answers, j)
 }
 
 // All executions that go on from a card for this many steps: the one that ends there where none is left or nothing is under way, else each process in turn. Where no process
@@ -117,17 +106,12 @@ pub(crate) fn put_after(
         return put_line(buffer, at, &numbers[..x], &answers[..y]);
     }
     let mut i = at;
-    let mut k: u8 = 0;
-    while k < count {
-        let process = k;
-        k = k + 1;
-        if runs_on(left, controls, count, process, card.steps, card.limit) {
-            i = put_run(
-                buffer, i, left, controls, count, process, numbers, x, answers, y,
-            );
+    for k in 0..count {
+        if runs_on(left, controls, count, k, card.steps, card.limit) {
+            i = put_run(buffer, i, left, controls, count, k, numbers, x, answers, y);
             continue;
         }
-        i = put_branch(buffer, i, left, card, process, numbers, x, answers, y);
+        i = put_branch(buffer, i, left, card, k, numbers, x, answers, y);
     }
     i
 }

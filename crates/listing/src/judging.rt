@@ -12,13 +12,12 @@ use requests::judging::is_below;
 pub fn request_at(calls: [Request; 8], k: u8) -> Request
     ensures { result ≡ get_or calls k no_request }
 {
-    let at = k as usize;
-    if at < 8 {
-        return calls[at];
-    }
-    Request {
-        program: 0,
-        inputs: zeros(),
+    match calls.get(k as usize) {
+        Some(request) => *request,
+        None => Request {
+            program: 0,
+            inputs: zeros(),
+        },
     }
 }
 
@@ -26,13 +25,10 @@ pub fn request_at(calls: [Request; 8], k: u8) -> Request
 pub fn are_callable(card: Card, calls: [Request; 8]) -> bool
     ensures { result ≡ is_callable card calls }
 {
-    let mut k: u8 = 0;
-    while k < card.process_count {
-        let request = request_at(calls, k);
-        if !is_below(request.program, card.program_count, 8) {
+    for k in 0..card.process_count {
+        if !is_below(request_at(calls, k).program, card.program_count, 8) {
             return false;
         }
-        k = k + 1;
     }
     true
 }
@@ -41,11 +37,5 @@ pub fn are_callable(card: Card, calls: [Request; 8]) -> bool
 pub fn is_listable(card: Card, length: u32) -> bool
     ensures { result ≡ is_listable card length }
 {
-    if card.process_count > 3 {
-        return false;
-    }
-    if length > 16 {
-        return false;
-    }
-    length as u64 <= card.limit
+    card.process_count <= 3 && length <= 16 && length as u64 <= card.limit
 }

@@ -16,23 +16,14 @@ fn power(base: u8, exponent: u8) -> u32
     requires { (base ≤ 3) × (exponent ≤ 16) }
     ensures { result ≡ base ^ exponent }
 {
-    let mut r: u32 = 1;
-    let mut k: u8 = 0;
-    while k < exponent {
-        r = r * base as u32;
-        k = k + 1;
-    }
-    r
+    (base as u32).pow(exponent as u32)
 }
 
 // How many pieces there are with so many first steps; none for more than 3 processes or 16 steps.
 pub fn count_pieces(count: u8, first: u8) -> u32
     ensures { result ≡ pieces_of count first }
 {
-    if count > 3 {
-        return 0;
-    }
-    if first > 16 {
+    if count > 3 || first > 16 {
         return 0;
     }
     power(count, first)
@@ -70,20 +61,18 @@ fn put_from(
     let block = power(count, first - 1);
     let k = j / block;
     let stepped = step(card, k);
-    let answer = stepped.answer;
-    if is_refused(answer) {
+    if is_refused(stepped.answer) {
         return at;
     }
     let i = put_decimal(numbers, x, k as u64);
-    let l = put_answer(answers, y, answer);
-    let next = stepped.card;
+    let l = put_answer(answers, y, stepped.answer);
     put_from(
         buffer,
         at,
         first - 1,
         left,
         j % block,
-        next,
+        stepped.card,
         numbers,
         i,
         answers,
@@ -95,13 +84,7 @@ fn put_from(
 pub fn put_piece(card: Card, first: u8, left: u8, j: u32, buffer: &mut [u8]) -> usize
     ensures { Put buffer.old 0 (piece_text first left j card) result buffer.new × (result ≤ capacity left 2129) }
 {
-    if card.process_count > 3 {
-        return 0;
-    }
-    if left > 16 {
-        return 0;
-    }
-    if first > 16 - left {
+    if card.process_count > 3 || left > 16 || first > 16 - left {
         return 0;
     }
     let mut numbers = [0u8; 16];

@@ -41,37 +41,28 @@ fn distance(place: Label) -> u8
 }
 
 // The place of process k, idle past the last.
-fn place_at(controls: [Control; 8], k: u8) -> Label
+pub(crate) fn place_at(controls: [Control; 8], k: u8) -> Label
     ensures { result ≡ place_at controls k }
 {
-    let at = k as usize;
-    if at < 8 {
-        let control = controls[at];
-        let place = control.place;
-        return place;
+    match controls.get(k as usize) {
+        Some(control) => control.place,
+        None => Label::Idle,
     }
-    Label::Idle
 }
 
 // Whether an operation at a place cannot return with n steps.
 fn is_far(n: u8, place: Label) -> bool
     ensures { result ≡ (is_idle place || ltb n (distance place)) }
 {
-    if is_idle(place) {
-        return true;
-    }
-    n < distance(place)
+    is_idle(place) || n < distance(place)
 }
 
 // Whether none of the first processes can.
 fn are_far(n: u8, controls: [Control; 8], count: u8) -> bool
     ensures { result ≡ are_far n controls count }
 {
-    let mut m = count;
-    while m > 0 {
-        m = m - 1;
-        let place = place_at(controls, m);
-        if !is_far(n, place) {
+    for m in (0..count).rev() {
+        if !is_far(n, place_at(controls, m)) {
             return false;
         }
     }
@@ -167,10 +158,8 @@ fn put_runs(
         return put_line(buffer, at, &numbers[..x], &answers[..y]);
     }
     let mut i = at;
-    let mut k: u8 = 0;
-    while k < count {
+    for k in 0..count {
         i = put_run(buffer, i, left, controls, count, k, numbers, x, answers, y);
-        k = k + 1;
     }
     i
 }

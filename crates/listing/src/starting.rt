@@ -29,15 +29,10 @@ pub(crate) fn reopen(card: Card) -> Card
 pub fn call_all(card: Card, calls: [Request; 8]) -> Card
     ensures { result ≡ (run card (calls_of card calls)).card }
 {
-    let count = card.process_count;
     let mut c = card;
-    let mut k: u8 = 0;
-    while k < count {
+    for k in 0..card.process_count {
         let request = request_at(calls, k);
-        let inputs = request.inputs;
-        let called = call(c, k as u32, request.program, inputs);
-        c = called.card;
-        k = k + 1;
+        c = call(c, k as u32, request.program, request.inputs).card;
     }
     c
 }

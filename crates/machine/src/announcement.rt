@@ -1,12 +1,12 @@
 // The accesses of an announcement (lines P3, P6, P7, C2, C4, P19, P20, P22), and the answer of an operation that returns. `last` is the
 // announcement that the process last read (the paper's a).
 ghost use Rattle.std.specs.Prelude.{◌≡◌};
-ghost use Rattle.construction.specs.Machine.{announced, flagged, withdrawn, finished, read_announcement, replace_announcement, whose, announce, withdraw, read_flag, finish, access_announcement};
+ghost use Rattle.construction.specs.Machine.{announced, flagged, withdrawn, finished, whose, announce, withdraw, read_flag, finish, access_announcement};
 ghost use Rattle.construction.specs.Requests.{returned};
 
-use crate::outcome;
-use crate::places::{by_flag, first_choice, holder_of};
-use construction::accesses::{AnnouncementAccess, AnnouncementAccessed, Control, Label, Swap};
+use crate::cell::{read_cell, replace_cell};
+use crate::places::{by_flag, first_choice, go_to, holder_of};
+use construction::accesses::{AccessedCell, AnnouncementAccess, Control, Label, Swap};
 use construction::answers::Answer;
 use construction::card::Operation;
 use construction::cells::{Announcement, Flag, Gate, Yield};
@@ -72,75 +72,28 @@ pub fn finished(last: Announcement, gate: Gate, yields: Yield) -> Announcement
     }
 }
 
-// The announcement of process m is read.
-fn read_announcement(cell: Announcement, m: u8, next: Label) -> AnnouncementAccessed
-    ensures { result ≡ read_announcement cell m next }
-{
-    AnnouncementAccessed {
-        cell,
-        read: cell,
-        control: Control {
-            place: next,
-            target: m,
-        },
-        swap: Swap::None,
-    }
-}
-
-// An announcement is swapped.
-fn replace_announcement(
-    cell: Announcement,
-    last: Announcement,
-    control: Control,
-    expected: Announcement,
-    new: Announcement,
-    next: Label,
-) -> AnnouncementAccessed
-    ensures { result ≡ replace_announcement cell last control expected new next }
-{
-    let swapped = cells::swap_announcement(cell, expected, new);
-    let after = swapped.cell;
-    AnnouncementAccessed {
-        cell: after,
-        read: last,
-        control: Control {
-            place: next,
-            target: control.target,
-        },
-        swap: outcome(swapped.won),
-    }
-}
-
 // Whose announcement an access of a process is of, on a card of so many processes.
 pub fn whose(access: AnnouncementAccess, process_count: u8, process: u8, gate: Gate) -> u8
     ensures { result ≡ whose access process_count process gate }
 {
-    let holder = gate.holder;
     match access {
         AnnouncementAccess::Announce => process,
         AnnouncementAccess::Withdraw => process,
-        AnnouncementAccess::ReadOwn {
-            done: _,
-            active: _,
-            exit: _,
-        } => process,
+        AnnouncementAccess::ReadOwn { .. } => process,
         AnnouncementAccess::ReadFirst => first_choice(gate.seq, process_count),
-        AnnouncementAccess::Finish { flag: _, next: _ } => holder_of(holder),
+        AnnouncementAccess::Finish { .. } => holder_of(gate.holder),
     }
 }
 
 // Lines P2 and P3: an operation is announced.
-pub fn announce(operation: Operation, gate: Gate, control: Control) -> AnnouncementAccessed
+pub fn announce(operation: Operation, gate: Gate, control: Control) -> AccessedCell<Announcement>
     ensures { result ≡ announce operation gate control }
 {
     let new = announced(operation, gate);
-    AnnouncementAccessed {
+    AccessedCell {
         cell: new,
         read: new,
-        control: Control {
-            place: Label::P5,
-            target: control.target,
-        },
+        control: go_to(control, Label::P5),
         swap: Swap::None,
     }
 }
@@ -151,17 +104,11 @@ pub fn withdraw(
     operation: Operation,
     last: Announcement,
     control: Control,
-) -> AnnouncementAccessed
+) -> AccessedCell<Announcement>
     ensures { result ≡ withdraw cell operation last control }
 {
-    replace_announcement(
-        cell,
-        last,
-        control,
-        last,
-        withdrawn(last, operation),
-        Label::P7,
-    )
+    let new = withdrawn(last, operation);
+    replace_cell(cells::swap(cell, last, new), last, go_to(control, Label::P7))
 }
 
 // Lines P7, C2, C4 and P22: the announcement of process m is read, and its flag says where the process goes on.
@@ -171,11 +118,11 @@ pub fn read_flag(
     done: Label,
     active: Label,
     exit: Label,
-) -> AnnouncementAccessed
+) -> AccessedCell<Announcement>
     ensures { result ≡ read_flag cell m done active exit }
 {
-    let now = cell.flag;
-    read_announcement(cell, m, by_flag(now, done, active, exit))
+    let place = by_flag(cell.flag, done, active, exit);
+    read_cell(cell, Control { place, target: m })
 }
 
 // Lines P19 and P20: the announcement of the gate's holder is swapped to done.
@@ -187,17 +134,12 @@ pub fn finish(
     last: Announcement,
     yields: Yield,
     control: Control,
-) -> AnnouncementAccessed
+) -> AccessedCell<Announcement>
     ensures { result ≡ finish flag next cell gate last yields control }
 {
-    replace_announcement(
-        cell,
-        last,
-        control,
-        flagged(last, flag),
-        finished(last, gate, yields),
-        next,
-    )
+    let expected = flagged(last, flag);
+    let new = finished(last, gate, yields);
+    replace_cell(cells::swap(cell, expected, new), last, go_to(control, next))
 }
 
 // The accesses of the announcement of process m.
@@ -210,7 +152,7 @@ pub fn access_announcement(
     last: Announcement,
     yields: Yield,
     control: Control,
-) -> AnnouncementAccessed
+) -> AccessedCell<Announcement>
     ensures { result ≡ access_announcement access m cell operation gate last yields control }
 {
     match access {

@@ -4,6 +4,7 @@
 #![tactic(auto)]
 
 pub mod announcement; // announcement.rt: the accesses of an announcement, and the announcements that they store
+pub mod cell; // cell.rt: what a process goes on with after an access of a cell of any kind
 pub mod gate; // gate.rt: the accesses of the gate
 pub mod places; // places.rt: the access of each place, and the choices between places
 pub mod record; // record.rt: the swap of a record

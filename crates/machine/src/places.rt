@@ -1,9 +1,9 @@
 // The access of each place (lines P1 to P24, C1 to C6, F1 to F4, H21, H36), and the choices that the lines make between places.
 ghost use Rattle.std.specs.Prelude.{◌≡◌};
-ghost use Rattle.construction.specs.Machine.{access_of, by_holder, by_flag, holder_of, first_choice, after_last};
+ghost use Rattle.construction.specs.Machine.{access_of, go_to, by_holder, by_flag, holder_of, first_choice, after_last};
 ghost use Rattle.construction.specs.Requests.{is_idle};
 
-use construction::accesses::{Access, AnnouncementAccess, GateAccess, Label};
+use construction::accesses::{Access, AnnouncementAccess, Control, GateAccess, Label};
 use construction::cells::{Flag, Holder};
 use labels::same_label;
 
@@ -80,6 +80,13 @@ pub fn is_idle(place: Label) -> bool
     same_label(place, Label::Idle)
 }
 
+// A control at another place, with its target kept.
+pub fn go_to(control: Control, place: Label) -> Control
+    ensures { result ≡ go_to control place }
+{
+    Control { place, ..control }
+}
+
 // Lines P11 and P15.
 pub fn by_holder(holder: Holder, held: Label, free: Label) -> Label
     ensures { result ≡ by_holder holder held free }
@@ -105,7 +112,7 @@ pub fn by_flag(flag: Flag, done: Label, active: Label, exit: Label) -> Label
 pub fn after_last(holder: Holder, process: u8) -> Label
     ensures { result ≡ after_last holder process }
 {
-    if cells::same_holder(holder, Holder::Process(process)) {
+    if holder == Holder::Process(process) {
         Label::F3
     } else {
         Label::Idle

@@ -1,15 +1,14 @@
 // Whether two cards are the same in every field and in every element of every array. Nothing here branches on a comparison: each function is one
 // conjunction, so that its contract follows from those of its calls.
 ghost use Rattle.std.specs.Prelude.{◌≡◌, ◌&&◌, ◌<◌, eqb};
-ghost use Rattle.construction.specs.Cells.{same_bool};
+ghost use Rattle.construction.specs.Cells.{same_bool, same_words, same_gate, same_announcement, same_record};
 ghost use Rattle.report.specs.Same.{same_instruction, same_program, same_starts, same_records, same_item, same_dictionary, same_control, same_operation, same_yield, same_simulation};
 ghost use Rattle.report.specs.Same.{texts_at, same_texts, work_at, same_work, reads_at, same_reads, same_at, same_numbers, same_card};
 
-use cells::{same_announcement, same_gate, same_record, same_words};
 use codes::{instruction_word, place_word};
 use construction::accesses::Control;
 use construction::card::{Card, Operation};
-use construction::cells::{Announcement, Gate, Record, Yield};
+use construction::cells::{Announcement, Gate, Record, Words, Yield};
 use construction::programs::{Instruction, Program};
 use construction::simulations::{Dictionary, Item, Simulation};
 
@@ -56,6 +55,30 @@ fn same_bool(a: bool, b: bool) -> bool
 
 fn same_number(a: u64, b: u64) -> bool
     ensures { result ≡ eqb a b }
+{
+    a == b
+}
+
+fn same_words(a: Words, b: Words) -> bool
+    ensures { result ≡ same_words a b }
+{
+    a == b
+}
+
+fn same_gate(a: Gate, b: Gate) -> bool
+    ensures { result ≡ same_gate a b }
+{
+    a == b
+}
+
+fn same_announcement(a: Announcement, b: Announcement) -> bool
+    ensures { result ≡ same_announcement a b }
+{
+    a == b
+}
+
+fn same_record(a: Record, b: Record) -> bool
+    ensures { result ≡ same_record a b }
 {
     a == b
 }

@@ -1,3 +1,6 @@
+use Rattle.std.proofs.Common.{◌∙◌, get_or}
+use Rattle.construction.specs.Cells.{open_record}
+use Rattle.construction.proofs.Equality.{record_swap}
 use Rattle.lent.proofs.Laws as laws
 use Rattle.lent.proofs.swap_in_row.Goals as goal
 
@@ -6,4 +9,6 @@ returns-then-row-place c = laws.refused c.args.row.now c.args.place c.args.expec
 
 pub returns : goal.returns
 returns c =
-    laws.swapped c.args.row.now c.args.place c.args.expected c.args.new _ _ c.if-row-place.false c.swap_record-after.ensures c.answer_of.ensures
+    laws.swapped c.args.row.now c.args.place c.args.expected c.args.new _ _ c.if-row-place.false
+    (c.swap-after.ensures ∙ record_swap (get_or c.args.row.now c.args.place (open_record 0)) c.args.expected c.args.new)
+    c.answer_of.ensures

@@ -9,9 +9,6 @@ invariant-put_after-loop-k l =
     l.card.process_count (capacity (l.left - 1) (longest l.left l.x l.y)) l.initial.buffer l.at
     l.initial.numbers l.x l.initial.answers l.y l.buffer l.i l.k l.numbers l.answers
 
-abbrev pub decreases-put_after-loop-k : goal.decreases-put_after-loop-k
-decreases-put_after-loop-k l = l.count - l.k
-
 abbrev pub decreases-put_after : goal.decreases-put_after
 decreases-put_after l = 2 * l.left + 1
 

@@ -4,6 +4,3 @@ use Rattle.listing.proofs.branches.are_idle.Given as goal
 
 abbrev pub invariant-loop-n : goal.invariant-loop-n
 invariant-loop-n l = are_idle l.controls l.n ≡ are_idle l.controls l.count
-
-abbrev pub decreases-loop-n : goal.decreases-loop-n
-decreases-loop-n l = l.n

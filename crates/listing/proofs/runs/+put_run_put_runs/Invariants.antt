@@ -12,8 +12,5 @@ invariant-put_runs-loop-k l =
     l.count (capacity (l.left - 1) (longest l.left l.x l.y)) l.initial.buffer l.at l.initial.numbers l.x
     l.initial.answers l.y l.buffer l.i l.k l.numbers l.answers
 
-abbrev pub decreases-put_runs-loop-k : goal.decreases-put_runs-loop-k
-decreases-put_runs-loop-k l = l.count - l.k
-
 abbrev pub decreases-put_runs : goal.decreases-put_runs
 decreases-put_runs l = 2 * l.left + 1

@@ -4,6 +4,3 @@ use Rattle.listing.proofs.runs.are_far.Given as goal
 
 abbrev pub invariant-loop-m : goal.invariant-loop-m
 invariant-loop-m l = are_far l.n l.controls l.m ≡ are_far l.n l.controls l.count
-
-abbrev pub decreases-loop-m : goal.decreases-loop-m
-decreases-loop-m l = l.m

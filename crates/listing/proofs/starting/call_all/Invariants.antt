@@ -1,10 +1,7 @@
-use Rattle.std.proofs.Common.{◌-◌, ◌≤◌, ◌≡◌}
+use Rattle.std.proofs.Common.{◌-◌, ◌≡◌}
 use Rattle.executions.proofs.Runs.{called_from}
 use Rattle.listing.proofs.starting.call_all.Given as goal
 
 abbrev pub invariant-loop-k : goal.invariant-loop-k
 invariant-loop-k l =
-    (called_from l.c l.calls (l.count - l.k) l.k ≡ called_from l.initial.c l.calls l.count 0) × (l.k ≤ l.count)
-
-abbrev pub decreases-loop-k : goal.decreases-loop-k
-decreases-loop-k l = l.count - l.k
+    called_from l.c l.calls (l.fn.card.process_count - l.k) l.k ≡ called_from l.initial.c l.calls l.fn.card.process_count 0

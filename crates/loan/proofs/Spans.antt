@@ -56,9 +56,6 @@ module _ (b l : List ℕ) (i : ℕ) (s : Span) (e : s ≡ span_in b l i) where
   pub item_of : (k : ℕ) (r : Item) → r ≡ get_or (dictionary_at l s.base s.end).items k no_item → r ≡ get_or (held_dictionary b l i).items k no_item
   item_of k r h = h ∙ ap (λ (z : Span). get_or (dictionary_at l z.base z.end).items k no_item) e
 
-  pub next_of : (seq k r : ℕ) → r ≡ next_write seq (dictionary_at l s.base s.end) k → r ≡ next_write seq (held_dictionary b l i) k
-  next_of seq k r h = h ∙ ap (λ (z : Span). next_write seq (dictionary_at l z.base z.end) k) e
-
   pub writing_of :
       (number : ℕ) (control : Control) (x : Item) (t : Control) → x ≡ get_or (dictionary_at l s.base s.end).items control.target no_item →
       t ≡ write_from number (dictionary_at l s.base s.end) (suc control.target) →

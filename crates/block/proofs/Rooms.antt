@@ -6,9 +6,9 @@ use mathlib.Core.List.{List}
 use native.Mathlib.Omega.{arith}
 use lib.Dec.{leb, ltb}
 use lib.ListN.{length, set}
-use Rattle.std.proofs.Math.Nat.{mul-le-mul_left}
 use borrow.Author.Tests.{leb-true, ltb-true, le-leb, lt-ltb}
 use Rattle.codes.specs.Parts.{word_at, part, stores}
+use Rattle.codes.proofs.Blocks as blocks
 use Rattle.block.specs.Layout.{is_room, row_at, put_row, number_at, put_number}
 
 both : (s t : Bool) → s && t ≡ true → (s ≡ true) × (t ≡ true)
@@ -32,7 +32,7 @@ module _ (b : List ℕ) (i n : ℕ) {t : Bool} (e : t ≡ is_room b i n) where
 
   -- so part i ends within the words of all n
   pub ends : (base size : ℕ) → base + size * n ≤ 1456 → t ≡ true → base + size * i + size ≤ 1456
-  ends base size h p = omega (arith, h, mul-le-mul_left {m = i + 1} {n = n} size (omega (arith, (inside p).1)))
+  ends base size h p = omega (arith, h, blocks.inside base size n i (inside p).1)
 
   module _ {A : Type 0} (base size : ℕ) (decode : List ℕ → A) (none x : A) where
     pub row_in : t ≡ true → x ≡ decode (part b (base + size * i) size) → x ≡ row_at b base size n decode none i

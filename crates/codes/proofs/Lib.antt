@@ -2,3 +2,4 @@
 pub mod Blocks
 pub mod Values
 pub mod Programs
+pub mod Lines

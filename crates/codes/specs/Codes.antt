@@ -1,5 +1,5 @@
 -- The parts of a card as words, one field a word: every list of words is some value.
-use Rattle.std.specs.Prelude.{ℕ, suc, ◌+◌, ◌-◌, ◌*◌, ◌/◌, ◌%◌, Bool, cond, List, [], ◌∷◌, eqb, get_or, set}
+use Rattle.std.specs.Prelude.{◌≡◌, refl, ℕ, suc, ◌+◌, ◌-◌, ◌*◌, ◌/◌, ◌%◌, Bool, cond, List, [], ◌∷◌, eqb, length, get_or, set}
 use Rattle.construction.specs.Labels.{label_row}
 use Rattle.construction.specs.Instructions.{encode, no_line}
 use Rattle.codes.specs.Types.{Encoded, Holder, Nobody, Process, Gate, Flag, Done, Active, Exit, Words, Announcement, Record, Label, Idle, P1, P3, P5, P7}
@@ -177,3 +177,8 @@ program_of w = record { length = byte (word_at w 0); lines = table 32 (λ k. rec
 
 abbrev pub program_words : Program → List ℕ
 program_words y = y.length ∷ table 32 (λ k. instruction_word (get_or y.lines k no_line).instruction)
+
+-- always 33 words
+pub program_long : (y : Program) → length (program_words y) ≡ 33
+unfolding table
+program_long y = refl

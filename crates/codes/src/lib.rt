@@ -4,7 +4,10 @@
 #![tactic(auto)]
 
 ghost use Rattle.std.specs.Prelude.{◌≡◌};
-ghost use Rattle.codes.specs.Codes.{byte, half, odd, bit, holder_from, holder_word, flag_from, flag_word, place_from, place_word, instruction_from, packed, instruction_word};
+ghost use Rattle.codes.specs.Codes.{byte, half, odd, bit, holder_from, holder_word, flag_from, flag_word, place_from, place_word, instruction_from, packed, instruction_word, pair, upper};
+
+pub mod parts; // parts.rt: a value in words of its own
+mod kinds; // kinds.rt: the values that stand in more words than one
 
 use construction::accesses::Label;
 use construction::cells::{Flag, Holder};
@@ -33,6 +36,19 @@ pub fn bit(test: bool) -> u64
     ensures { result ≡ bit test }
 {
     if test { 1 } else { 0 }
+}
+
+// Two numbers in a word, and the second of them.
+pub fn pair(low: u32, high: u32) -> u64
+    ensures { result ≡ pair low high }
+{
+    low as u64 + high as u64 * 4294967296
+}
+
+pub fn upper(w: u64) -> u64
+    ensures { result ≡ upper w }
+{
+    w / 4294967296
 }
 
 pub fn holder_from(w: u64) -> Holder

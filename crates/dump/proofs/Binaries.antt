@@ -101,20 +101,6 @@ module _ (t : List ℕ) (i v : ℕ) where
   unfolding bits
   bits_end h = rw (drop_of_length-le t {i = i} h)
 
--- ---- a number by its first byte
-module _ (t : List ℕ) (at first : ℕ) (e : first ≡ get_or t at 0) where
-  pub at_zero : first ≡ 48 → Some (found 0 (at + 1)) ≡ bits_at t at
-  unfolding bits_at
-  at_zero p = rw (← e, eq-eqb _ _ p, add-one)
-
-  pub at_one : {n : Found ℕ} → (first ≡ 48 → ⊥) → first ≡ 49 → n ≡ bits at 0 (drop at t) → Some n ≡ bits_at t at
-  unfolding bits_at
-  at_one p q m = ap Some m ∙ rw (← e, ne_eqb _ _ p, eq-eqb _ _ q)
-
-  pub at_other : (first ≡ 48 → ⊥) → (first ≡ 49 → ⊥) → None ≡ bits_at t at
-  unfolding bits_at
-  at_other p q = rw (← e, ne_eqb _ _ p, ne_eqb _ _ q)
-
 -- ---- a number ends within the text
 bits_within : (l : List ℕ) (at v w j : ℕ) → bits at v l ≡ found w j → (at ≤ j) × (j ≤ at + length l)
 unfolding bits

@@ -4,7 +4,8 @@
 
 use construction::texts::Verdict;
 
-// A line after the header: a time, a value of a variable, each with the place past the line, or neither.
+// A line after the header: a time, a value of a variable, each with the place past the line, or neither. An `Option` of a `Found` around the first two is no
+// plainer: every rule and every theorem on a line (specs/Reading, specs/Judging) takes the three cases side by side, and would take them in two steps.
 #[derive(Clone, Copy)]
 pub enum DumpLine {
     Time {

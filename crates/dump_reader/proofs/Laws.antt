@@ -27,77 +27,7 @@ use Rattle.dump.specs.Reading.{time_of, has_code, value_of, line_at, header_star
 use Rattle.dump.specs.Reading.{read_header}
 use Rattle.dump_reader.specs.Taking.{time_follows, value_follows}
 
--- ---- binary digits
-pub bit_low : (x : ℕ) → x < 48 → false ≡ is_bit x
-bit_low x p = rw (lt-leb 48 x p)
-
-pub bit_not_low : (x : ℕ) → 48 ≤ x → leb x 49 ≡ is_bit x
-bit_not_low x p = rw (le-leb 48 x p)
-
--- ---- tests
-pub time_bare : (now next k : ℕ) → next ≡ 0 → false ≡ time_follows now next k
-time_bare now next k e = rw (eq-eqb next 0 e)
-
-module _ (now next k : ℕ) (some : next ≡ 0 → ⊥) where
-  pub time_low : k ≤ now → false ≡ time_follows now next k
-  time_low h = rw (ne_eqb next 0 some, le-ltb now k h)
-
-  pub time_high : now < k → leb k 1000000000000000000 ≡ time_follows now next k
-  time_high h = rw (ne_eqb next 0 some, lt-ltb now k h)
-
-pub value_low : (n next : ℕ) (values : List ℕ) (v x : ℕ) → v < next → false ≡ value_follows n next values v x
-value_low n next values v x h = rw (lt-leb next v h)
-
-module _ (n next : ℕ) (values : List ℕ) (v x : ℕ) (order : next ≤ v) where
-  pub value_out : n ≤ v → false ≡ value_follows n next values v x
-  value_out h = rw (le-leb next v order, le-ltb v n h)
-
-  pub value_in_lem : v < n → not (eqb x (get_or values v 0)) ≡ value_follows n next values v x
-  value_in_lem h = rw (le-leb next v order, lt-ltb v n h)
-
--- ---- a space, a code and the line's end
-module _ (t : List ℕ) (at : ℕ) {b : Bool} (e : b ≡ has_byte t at 32) where
-  pub code_none : not b ≡ true → false ≡ has_code t at
-  code_none h = rw (← e, not-true b h)
-
-  module _ (h : not b ≡ false) {x : ℕ} (f : x ≡ get_or t (at + 1) 0) where
-    pub code_low : x < 33 → false ≡ has_code t at
-    code_low l = rw (← e, not-false b h, ← f, lt-leb 33 x l)
-
-    pub code_there : {d : Bool} → 33 ≤ x → d ≡ has_byte t (at + 2) 10 → d ≡ has_code t at
-    code_there {d} l g = rw (← e, not-false b h, ← f, le-leb 33 x l) g
-
 -- ---- the lines
-module _ (t : List ℕ) {m : Option (Found ℕ)} where
-  pub time_malformed : (at : ℕ) → m ≡ field t 10 at → m ≡ None → DumpLine.Malformed ≡ time_of (field t 10 at)
-  time_malformed at e f = rw (← e, f)
-
-  pub time_value : {n : Found ℕ} (at : ℕ) → m ≡ field t 10 at → m ≡ Some n → DumpLine.Time n.value n.next ≡ time_of (field t 10 at)
-  time_value at e f = rw (← e, f)
-
-  module _ (at : ℕ) (e : m ≡ bits_at t at) where
-    pub value_malformed : m ≡ None → DumpLine.Malformed ≡ value_of t (bits_at t at)
-    value_malformed f = rw (← e, f)
-
-    module _ {n : Found ℕ} (f : m ≡ Some n) where
-      pub value_long : over ≤ n.value → DumpLine.Malformed ≡ value_of t (bits_at t at)
-      value_long h = rw (← e, f, le-ltb n.value over h)
-
-      module _ (small : n.value < over) {b : Bool} (g : b ≡ has_code t n.next) where
-        pub value_uncoded : not b ≡ true → DumpLine.Malformed ≡ value_of t (bits_at t at)
-        value_uncoded h = rw (← e, f, lt-ltb n.value over small, ← g, not-true b h)
-
-        -- the code of a value is a byte from 33 on, and its line ends within the text
-        pub coded : not b ≡ false → (33 ≤ get_or t (n.next + 1) 0) × (n.next + 2 < length t)
-        coded h =
-            let c = and_true (has_byte t n.next 32) _ (sym g ∙ not-false b h) in
-            let d = and_true (leb 33 (get_or t (n.next + 1) 0)) _ c.1 in
-            let w = byte_true t (n.next + 2) 10 d.1 in
-            (leb-true 33 (get_or t (n.next + 1) 0) d.0, w.within)
-
-        pub value_coded : {y : ℕ} → not b ≡ false → y ≡ get_or t (n.next + 1) 0 → DumpLine.Value (y - 33) n.value (n.next + 3) ≡ value_of t (bits_at t at)
-        value_coded h k = rw (← e, f, lt-ltb n.value over small, ← g, not-false b h, ← k)
-
 module _ (t : List ℕ) (at : ℕ) {b : Bool} (e : b ≡ has_byte t at 35) where
   pub line_time : {r : DumpLine} → b ≡ true → r ≡ time_of (field t 10 (at + 1)) → r ≡ line_at t at
   unfolding line_at
@@ -209,9 +139,6 @@ module _ (t : List ℕ) (at v : ℕ) where
     module _ (na : not a ≡ false) {b : Bool} (eb : b ≡ has_byte t (at + 13) (33 + v)) where
       pub var_code : not b ≡ true → false ≡ has_word t at (var_line v)
       var_code n = sym (var_parts ∙ rw (← ea, not-false a na, ← eb, not-true b n))
-
-      pub var_after_code : not b ≡ false → at + 13 < length t
-      var_after_code n = (byte_true t (at + 13) (33 + v) (sym eb ∙ not-false b n)).within
 
       module _ (nb : not b ≡ false) {c : Bool} (ec : c ≡ has_word t (at + 14) (bytes " v")) where
         pub var_name : not c ≡ true → false ≡ has_word t at (var_line v)
@@ -349,11 +276,3 @@ module _ (t : List ℕ) {h₁ : Header} (e₁ : h₁ ≡ then_word t timescale_l
           pub header_whole : {h₆ : Header} → h₆ ≡ then_word t (35 ∷ 48 ∷ 10 ∷ []) h₅ → h₆ ≡ read_header t
           unfolding read_header
           header_whole e₆ = e₆ ∙ rw (e₅, e₄, e₃, e₂, e₁, zero_line)
-
--- a header that was read: its lines, and that it is short
-pub header_line : (t : List ℕ) {h : Header} → h ≡ read_header t → h.line ≤ 70
-unfolding read_header
-header_line t e =
-    rw e
-    (word_lines t (time_text 0) _ 69 refl
-    (line₅ t {h₁ = then_word t timescale_line header_start} refl {h₂ = then_word t scope_line (then_word t timescale_line header_start)} refl refl refl refl))

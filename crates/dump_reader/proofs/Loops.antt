@@ -134,18 +134,3 @@ pub lines_begun :
     (step : ℕ) (t : List ℕ) (n : ℕ) (s : Progress) {x : Progress} → s.verdict ≡ Verdict.Accepted →
     lines_from step t n (length t) (print_loop s.at s.line s.time s.next s.values s.shown) ≡ x → lines_from step t n (length t) s ≡ x
 lines_begun step t n s a e = ap (λ (y : Progress). lines_from step t n (length t) y) (print_loop_on s a) ∙ e
-
--- a line that is taken is of a variable that there is room for
-pub start_inside : (next : ℕ) (line : DumpLine) {b : Bool} → next < 64 → b ≡ starts_with next line → not b ≡ false → Inside line
-start_inside next (DumpLine.Time k i) h e n = tt
-start_inside next (DumpLine.Value v x i) {b} h e n = let q : v ≡ next = eqb-true v next (sym e ∙ not-false b n) in omega arith
-start_inside next DumpLine.Malformed h e n = tt
-
-pub line_inside :
-    (n time next : ℕ) (values : List ℕ) (line : DumpLine) {b : Bool} → n ≤ 64 → b ≡ takes_line n time next values line → not b ≡ false → Inside line
-line_inside n time next values (DumpLine.Time k i) h e q = tt
-line_inside n time next values (DumpLine.Value v x i) {b} h e q =
-    let t = and_true (leb next v) (ltb v n && not (eqb x (get_or values v 0))) (sym e ∙ not-false b q) in
-    let l = ltb-true v n (and_true (ltb v n) (not (eqb x (get_or values v 0))) t.1).0 in
-    omega arith
-line_inside n time next values DumpLine.Malformed h e q = tt

@@ -98,10 +98,9 @@ fn then_vars(text: &[u8], header: Header) -> Header
     let Verdict::Accepted = verdict else {
         return header;
     };
-    let mut count: u8 = 0;
     let mut at = header.at;
     let mut line = header.line;
-    while count < 64 {
+    for count in 0..64 {
         if !has_var(text, at, count) {
             return Header {
                 verdict: Verdict::Accepted,
@@ -111,12 +110,11 @@ fn then_vars(text: &[u8], header: Header) -> Header
             };
         }
         at = at + 22 + digits(count);
-        line = line + 1;
-        count = count + 1;
+        line += 1;
     }
     Header {
         verdict: Verdict::Accepted,
-        count,
+        count: 64,
         at,
         line,
     }

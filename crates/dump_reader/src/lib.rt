@@ -82,8 +82,7 @@ fn read_starts(text: &[u8], count: u8, step: u64, start: Progress) -> Progress
     let mut shown = start.shown;
     let mut at = start.at;
     let mut number = start.line;
-    let mut next: u8 = 0;
-    while next < count {
+    for next in 0..count {
         let line = line_at(text, at);
         if !starts(next, line) {
             return progress_refused(number);
@@ -91,15 +90,14 @@ fn read_starts(text: &[u8], count: u8, step: u64, start: Progress) -> Progress
         put_value(&mut values, line);
         show_value(&mut shown, time, step, line);
         at = past(line);
-        number = number + 1;
-        next = next + 1;
+        number += 1;
     }
     Progress {
         verdict: Verdict::Accepted,
         at,
         line: number,
         time,
-        next,
+        next: count,
         values,
         shown,
     }
@@ -116,6 +114,7 @@ fn read_lines(text: &[u8], count: u8, step: u64, start: Progress) -> Progress
     let mut number = start.line;
     let mut time = start.time;
     let mut next = start.next;
+    // The place moves by what a line turns out to be, which no range or iterator gives.
     while at < text.len() {
         let line = line_at(text, at);
         if !takes(count, time, next, &values, line) {
@@ -124,7 +123,7 @@ fn read_lines(text: &[u8], count: u8, step: u64, start: Progress) -> Progress
         put_value(&mut values, line);
         show_value(&mut shown, time, step, line);
         at = past(line);
-        number = number + 1;
+        number += 1;
         time = time_after(time, line);
         next = next_after(line);
     }

@@ -16,13 +16,7 @@ fn has_code(text: &[u8], at: usize) -> bool
     requires { at ≤ length text.now }
     ensures { result ≡ has_code text.now at }
 {
-    if !has_byte(text, at, b' ') {
-        return false;
-    }
-    if byte_at(text, at + 1) < 33 {
-        return false;
-    }
-    has_byte(text, at + 2, b'\n')
+    has_byte(text, at, b' ') && 33 <= byte_at(text, at + 1) && has_byte(text, at + 2, b'\n')
 }
 
 // The number, a space and a code.
@@ -32,10 +26,7 @@ fn value_line(text: &[u8], at: usize) -> DumpLine
     let Some(Found { value, next }) = bits_at(text, at) else {
         return DumpLine::Malformed;
     };
-    if OVER <= value {
-        return DumpLine::Malformed;
-    }
-    if !has_code(text, next) {
+    if OVER <= value || !has_code(text, next) {
         return DumpLine::Malformed;
     }
     DumpLine::Value {

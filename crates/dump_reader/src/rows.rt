@@ -13,13 +13,7 @@ use grammar::writing::{put_byte, put_decimal};
 fn few(count: u8) -> u8
     ensures { result ≡ min 64 count }
 {
-    if count < 64 { count } else { 64 }
-}
-
-fn wide(value: u32) -> u64
-    ensures { result ≡ value }
-{
-    value as u64
+    count.min(64)
 }
 
 // A step and the values after it, parted by commas.
@@ -28,12 +22,9 @@ pub fn put_row(buffer: &mut [u8], at: usize, count: u8, step: u64, values: &[u32
 {
     let all = few(count);
     let mut i = put_decimal(buffer, at, step);
-    let mut v: u8 = 0;
-    while v < all {
-        let k = v as usize;
+    for v in 0..all {
         let j = put_byte(buffer, i, b',');
-        i = put_decimal(buffer, j, wide(values[k]));
-        v = v + 1;
+        i = put_decimal(buffer, j, values[v as usize] as u64);
     }
     put_byte(buffer, i, b'\n')
 }
@@ -50,13 +41,8 @@ fn put_ended(
     ensures { Put buffer.old at (ended_text count time values.now line) result buffer.new }
 {
     match line {
-        DumpLine::Time { time: _, next: _ } => put_row(buffer, at, count, time, values),
-        DumpLine::Value {
-            variable: _,
-            value: _,
-            next: _,
-        } => at,
-        DumpLine::Malformed => at,
+        DumpLine::Time { .. } => put_row(buffer, at, count, time, values),
+        DumpLine::Value { .. } | DumpLine::Malformed => at,
     }
 }
 
@@ -64,46 +50,30 @@ fn put_ended(
 fn keep_value(values: &mut [u32; 64], line: DumpLine)
     ensures { values.new ≡ kept_with values.old line }
 {
-    match line {
-        DumpLine::Time { time: _, next: _ } => {}
-        DumpLine::Value {
-            variable,
-            value,
-            next: _,
-        } => {
-            if variable < 64 {
-                let v = variable as usize;
-                values[v] = value;
-            }
+    if let DumpLine::Value {
+        variable, value, ..
+    } = line
+    {
+        if variable < 64 {
+            values[variable as usize] = value;
         }
-        DumpLine::Malformed => {}
     }
 }
 
 fn is_line(line: DumpLine) -> bool
     ensures { result ≡ is_line line }
 {
-    match line {
-        DumpLine::Time { time: _, next: _ } => true,
-        DumpLine::Value {
-            variable: _,
-            value: _,
-            next: _,
-        } => true,
-        DumpLine::Malformed => false,
-    }
+    !matches!(line, DumpLine::Malformed)
 }
 
 // Past the header and `#0`.
 pub fn first_scan(text: &[u8]) -> Scan
     ensures { result ≡ first_scan text.now }
 {
-    let header = read_header(text);
-    let values = [0u32; 64];
     Scan {
-        at: header.at,
+        at: read_header(text).at,
         time: 0,
-        values,
+        values: [0; 64],
     }
 }
 
@@ -116,6 +86,7 @@ pub fn put_rows(text: &[u8], count: u8, start: Scan, buffer: &mut [u8]) -> Shown
     let mut at = start.at;
     let mut length: usize = 0;
     let mut line = line_at(text, at);
+    // As in `read_lines`, the place moves by what a line turns out to be.
     while is_line(line) {
         let end = put_ended(buffer, length, count, time, &values, line);
         if buffer.len() < end {

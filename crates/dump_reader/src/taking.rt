@@ -12,13 +12,8 @@ pub(crate) fn starts(next: u8, line: DumpLine) -> bool
     ensures { result ≡ starts_with next line }
 {
     match line {
-        DumpLine::Value {
-            variable,
-            value: _,
-            next: _,
-        } => variable == next,
-        DumpLine::Time { time: _, next: _ } => false,
-        DumpLine::Malformed => false,
+        DumpLine::Value { variable, .. } => variable == next,
+        DumpLine::Time { .. } | DumpLine::Malformed => false,
     }
 }
 
@@ -26,13 +21,7 @@ pub(crate) fn starts(next: u8, line: DumpLine) -> bool
 fn takes_time(now: u64, next: u8, time: u64) -> bool
     ensures { result ≡ time_follows now next time }
 {
-    if next == 0 {
-        return false;
-    }
-    if time <= now {
-        return false;
-    }
-    time <= LAST
+    next != 0 && now < time && time <= LAST
 }
 
 // A value may follow: in variable order, once within a time, and another than the variable has.
@@ -40,14 +29,7 @@ fn takes_value(count: u8, next: u8, values: &[u32; 64], variable: u8, value: u32
     requires { count ≤ 64 }
     ensures { result ≡ value_follows count next values.now variable value }
 {
-    if variable < next {
-        return false;
-    }
-    if count <= variable {
-        return false;
-    }
-    let v = variable as usize;
-    value != values[v]
+    next <= variable && variable < count && value != values[variable as usize]
 }
 
 pub(crate) fn takes(count: u8, time: u64, next: u8, values: &[u32; 64], line: DumpLine) -> bool
@@ -55,11 +37,9 @@ pub(crate) fn takes(count: u8, time: u64, next: u8, values: &[u32; 64], line: Du
     ensures { result ≡ takes_line count time next values.now line }
 {
     match line {
-        DumpLine::Time { time: k, next: _ } => takes_time(time, next, k),
+        DumpLine::Time { time: k, .. } => takes_time(time, next, k),
         DumpLine::Value {
-            variable,
-            value,
-            next: _,
+            variable, value, ..
         } => takes_value(count, next, values, variable, value),
         DumpLine::Malformed => false,
     }
@@ -70,17 +50,11 @@ pub(crate) fn put_value(values: &mut [u32; 64], line: DumpLine)
     requires { Inside line }
     ensures { values.new ≡ values_with values.old line }
 {
-    match line {
-        DumpLine::Time { time: _, next: _ } => {}
-        DumpLine::Value {
-            variable,
-            value,
-            next: _,
-        } => {
-            let v = variable as usize;
-            values[v] = value;
-        }
-        DumpLine::Malformed => {}
+    if let DumpLine::Value {
+        variable, value, ..
+    } = line
+    {
+        values[variable as usize] = value;
     }
 }
 
@@ -99,12 +73,7 @@ pub(crate) fn past(line: DumpLine) -> usize
     ensures { result ≡ past_line line }
 {
     match line {
-        DumpLine::Time { time: _, next } => next,
-        DumpLine::Value {
-            variable: _,
-            value: _,
-            next,
-        } => next,
+        DumpLine::Time { next, .. } | DumpLine::Value { next, .. } => next,
         DumpLine::Malformed => 0,
     }
 }
@@ -114,13 +83,8 @@ pub(crate) fn time_after(time: u64, line: DumpLine) -> u64
     ensures { result ≡ time_with time line }
 {
     match line {
-        DumpLine::Time { time: k, next: _ } => k,
-        DumpLine::Value {
-            variable: _,
-            value: _,
-            next: _,
-        } => time,
-        DumpLine::Malformed => time,
+        DumpLine::Time { time: k, .. } => k,
+        DumpLine::Value { .. } | DumpLine::Malformed => time,
     }
 }
 
@@ -129,18 +93,7 @@ pub(crate) fn next_after(line: DumpLine) -> u8
     ensures { result ≡ next_with line }
 {
     match line {
-        DumpLine::Time { time: _, next: _ } => 0,
-        DumpLine::Value {
-            variable,
-            value: _,
-            next: _,
-        } => {
-            if variable < 255 {
-                variable + 1
-            } else {
-                variable
-            }
-        }
-        DumpLine::Malformed => 0,
+        DumpLine::Value { variable, .. } => variable.saturating_add(1),
+        DumpLine::Time { .. } | DumpLine::Malformed => 0,
     }
 }

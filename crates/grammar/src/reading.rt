@@ -12,7 +12,7 @@ const MOST: u64 = 1_000_000_000_000_000_001;
 pub fn byte_at(text: &[u8], at: usize) -> u8
     ensures { result ≡ get_or text.now at 0 }
 {
-    if at < text.len() { text[at] } else { 0 }
+    text.get(at).copied().unwrap_or(0)
 }
 
 // Whether a byte stands at a place: none does past the end.
@@ -38,19 +38,13 @@ fn is_digit(byte: u8) -> bool
     byte.is_ascii_digit()
 }
 
-fn wide(byte: u8) -> u64
-    ensures { result ≡ byte }
-{
-    byte as u64
-}
-
 // A number with one more digit, kept at MOST once it is larger.
 fn grown(value: u64, digit: u8) -> u64
     requires { (value ≤ most) × (is_digit digit ≡ true) }
     ensures { result ≡ grow value digit }
 {
-    let more = value * 10 + wide(digit - b'0');
-    if MOST < more { MOST } else { more }
+    let more = value * 10 + (digit - b'0') as u64;
+    more.min(MOST)
 }
 
 // The number that the digits from a place on make, 0 where there are none.

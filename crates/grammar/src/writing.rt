@@ -3,34 +3,23 @@
 // is the same for every buffer: a text put into a buffer of no bytes tells its length. A place past
 // the largest usize is told as that one, which no buffer reaches.
 ghost use Rattle.std.specs.Prelude.{◌≡◌, ◌∷◌, []};
-ghost use Rattle.grammar.specs.Writing.{place_after, decimal, field_text, four_text, Put};
-
-const LARGEST: usize = 18_446_744_073_709_551_615;
-
-fn following(at: usize) -> usize
-    ensures { result ≡ place_after at 1 }
-{
-    if at < LARGEST { at + 1 } else { at }
-}
+ghost use Rattle.grammar.specs.Writing.{decimal, field_text, four_text, Put};
 
 pub fn put_byte(buffer: &mut [u8], at: usize, byte: u8) -> usize
     ensures { Put buffer.old at (byte ∷ []) result buffer.new }
 {
-    let next = following(at);
     if at < buffer.len() {
         buffer[at] = byte;
     }
-    next
+    at.saturating_add(1)
 }
 
 pub fn put_word(buffer: &mut [u8], at: usize, word: &[u8]) -> usize
     ensures { Put buffer.old at word.now result buffer.new }
 {
     let mut i = at;
-    let mut k: usize = 0;
-    while k < word.len() {
-        i = put_byte(buffer, i, word[k]);
-        k = k + 1;
+    for byte in word {
+        i = put_byte(buffer, i, *byte);
     }
     i
 }

@@ -4,9 +4,10 @@ ghost use Rattle.construction.specs.Dictionary.{no_item, next_write};
 ghost use Rattle.construction.specs.Machine.{writing};
 ghost use Rattle.loan.specs.Loans.{loan_words, has_items, span_in, held_dictionary, insert_block, insert_loan};
 
-use crate::items::{Span, put_item};
+use crate::items::Span;
 use block::cells::{process_count, room};
 use block::own::{noted, put_noted};
+use codes::parts::Part;
 use construction::accesses::{Control, Writing};
 use construction::simulations::Item;
 
@@ -72,7 +73,7 @@ pub fn insert(b: &mut [u64], l: &mut [u64], i: u8, item: Item)
         let end = noted(b, i);
         let w = room(b);
         if end < w {
-            put_item(l, (w as usize * (i as usize) + end as usize) * 3, item);
+            item.store(l, (w as usize * i as usize + end as usize) * 3);
             put_noted(b, i, end + 1);
         }
     }

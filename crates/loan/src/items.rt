@@ -2,60 +2,17 @@
 ghost use Rattle.std.specs.Prelude.{◌≡◌, ℕ, suc, ◌+◌, ◌*◌, ◌<◌, ◌≤◌, length, get_or};
 ghost use Rattle.construction.specs.Dictionary.{no_item, next_write};
 ghost use Rattle.construction.specs.Machine.{write_from};
-ghost use Rattle.codes.specs.Parts.{part, stores};
-ghost use Rattle.codes.specs.Codes.{pair, upper, item_of, item_words};
 ghost use Rattle.block.specs.Cards.{dictionary_at};
 ghost use Rattle.helping.specs.Numbers.{no_numbers};
 ghost use Rattle.loan.specs.Items.{numbers_at, put_value, put_values};
 ghost use Rattle.loan.specs.Loans.{Fits};
 
-use codes::{bit, byte, half, odd};
+use codes::parts::Part;
+use codes::{byte, half, pair, upper};
 use construction::accesses::Control;
-use construction::cells::Record;
 use construction::simulations::Item;
 use helping::numbers::Numbers;
 use helping::write_from;
-
-// Two numbers in a word, and the second of them.
-fn pair(low: u32, high: u32) -> u64
-    ensures { result ≡ pair low high }
-{
-    low as u64 + high as u64 * 4294967296
-}
-
-fn upper(w: u64) -> u64
-    ensures { result ≡ upper w }
-{
-    w / 4294967296
-}
-
-fn item_at(l: &[u64], at: usize) -> Item
-    requires { (at < 1000000) × (at + 3 ≤ length l.now) }
-    ensures { result ≡ item_of (part l.now at 3) }
-{
-    let cells = l[at + 1];
-    let own = l[at + 2];
-    Item {
-        variable: byte(upper(own)),
-        value: half(own),
-        cell: Record {
-            val0: half(cells),
-            val1: half(upper(cells)),
-            toggle: odd(upper(own) / 256),
-            seq: l[at],
-        },
-    }
-}
-
-pub(crate) fn put_item(l: &mut [u64], at: usize, item: Item)
-    requires { (at < 1000000) × (at + 3 ≤ length l.old) }
-    ensures { l.new ≡ stores l.old at (item_words item) }
-{
-    let mark = bit(item.cell.toggle) as u32;
-    l[at] = item.cell.seq;
-    l[at + 1] = pair(item.cell.val0, item.cell.val1);
-    l[at + 2] = pair(item.value, item.variable as u32 + mark * 256);
-}
 
 fn put_value(l: &mut [u64], k: usize, value: u32)
     requires { (k < 20000) × (k * 3 + 3 ≤ length l.old) }
@@ -79,7 +36,7 @@ impl Span {
         ensures { result ≡ get_or (dictionary_at l.now self.base self.end).items k no_item }
     {
         if k < self.end {
-            item_at(l, (self.base + k as usize) * 3)
+            Item::read(l, (self.base + k as usize) * 3)
         } else {
             opening::no_item()
         }
@@ -115,7 +72,7 @@ impl Span {
         ensures { result ≡ next_write seq (dictionary_at l.now self.base self.end) from }
     {
         for k in from..self.end {
-            let item = item_at(l, (self.base + k as usize) * 3);
+            let item = Item::read(l, (self.base + k as usize) * 3);
             if dictionary::altered(seq, item) {
                 return k;
             }

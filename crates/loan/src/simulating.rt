@@ -11,8 +11,9 @@ use block::own::{last, put_simulation, simulation};
 use construction::accesses::Control;
 use construction::cells::Announcement;
 use construction::simulations::{Pause, Simulation};
+use helping::after_pause;
 use helping::numbers::Numbers;
-use helping::{after_pause, simulation::simulate};
+use helping::simulation::simulate;
 
 // The program of an announcement, in its text under a gate number, goes on from a state; where it stands still its state is put into the block.
 fn resume(

@@ -5,13 +5,14 @@
 ghost use Rattle.std.specs.Prelude.{◌≡◌, cond, ◌+◌, ◌<◌, ◌≤◌, length};
 ghost use Rattle.construction.specs.Instructions.{no_program, fetch};
 ghost use Rattle.codes.specs.Parts.{part, stores};
-ghost use Rattle.codes.specs.Codes.{instruction_word, program_of, program_words};
+ghost use Rattle.codes.specs.Codes.{program_of};
 ghost use Rattle.block.specs.Layout.{row_at, earlier_text, later_text, keep_later};
 ghost use Rattle.texts.specs.Texts.{text_base, text_at, put_text};
 
 use block::numbers::is_room;
-use codes::{byte, instruction_from, instruction_word};
-use construction::programs::{Instruction, Line, Program};
+use block::parts::{put_row, row_at};
+use codes::{byte, instruction_from};
+use construction::programs::{Instruction, Program};
 
 // Which text of a program: the one that the card was opened with, the one below the number of its last change, or the one from that number on.
 #[derive(Clone, Copy)]
@@ -39,10 +40,8 @@ fn fetch_at(b: &[u64], base: usize, k: u8, counter: u8) -> Instruction
 {
     if is_room(b, k, 8) {
         let at = base + 33 * (k as usize);
-        if counter < byte(b[at]) {
-            if counter < 32 {
-                return instruction_from(b[at + (counter as usize + 1)]);
-            }
+        if counter < byte(b[at]) && counter < 32 {
+            return instruction_from(b[at + (counter as usize + 1)]);
         }
     }
     Instruction::Stop
@@ -79,61 +78,17 @@ pub fn size(b: &[u64], earlier: bool, k: u8) -> u8
     size_at(b, 1192, k)
 }
 
-// A text by value, from word `at` on.
-fn program_at(b: &[u64], at: usize) -> Program
-    requires { (at < 1000000) × (at + 33 ≤ length b.now) }
-    ensures { result ≡ program_of (part b.now at 33) }
-{
-    let line = opening::no_line();
-    let mut lines = [line; 32];
-    let mut k: usize = 0;
-    while k < 32 {
-        let instruction = instruction_from(b[at + (k + 1)]);
-        lines[k] = Line { instruction };
-        k = k + 1;
-    }
-    Program {
-        length: byte(b[at]),
-        lines,
-    }
-}
-
 // A text of program k.
 pub fn program(b: &[u64], text: Text, k: u8) -> Program
     ensures { result ≡ text_at b.now text k }
 {
-    if is_room(b, k, 8) {
-        return program_at(b, base_of(text) + 33 * (k as usize));
-    }
-    opening::no_program()
-}
-
-fn line_word(line: Line) -> u64
-    ensures { result ≡ instruction_word line.instruction }
-{
-    let instruction = line.instruction;
-    instruction_word(instruction)
-}
-
-fn put_program_at(b: &mut [u64], at: usize, y: Program)
-    requires { (at < 1000000) × (at + 33 ≤ length b.old) }
-    ensures { b.new ≡ stores b.old at (program_words y) }
-{
-    b[at] = y.length as u64;
-    let mut k: usize = 0;
-    while k < 32 {
-        let line = y.lines[k];
-        b[at + (k + 1)] = line_word(line);
-        k = k + 1;
-    }
+    row_at(b, base_of(text), 8, k, opening::no_program())
 }
 
 pub fn put_program(b: &mut [u64], text: Text, k: u8, value: Program)
     ensures { b.new ≡ put_text b.old text k value }
 {
-    if is_room(b, k, 8) {
-        put_program_at(b, base_of(text) + 33 * (k as usize), value);
-    }
+    put_row(b, base_of(text), 8, k, value);
 }
 
 // The 33 words of a text copied to words before them.
@@ -141,10 +96,8 @@ fn copy(b: &mut [u64], start: usize, to: usize)
     requires { (start < 1000000) × (to + 33 ≤ start) × (start + 33 ≤ length b.old) }
     ensures { b.new ≡ stores b.old to (part b.old start 33) }
 {
-    let mut k: usize = 0;
-    while k < 33 {
+    for k in 0..33 {
         b[to + k] = b[start + k];
-        k = k + 1;
     }
 }
 

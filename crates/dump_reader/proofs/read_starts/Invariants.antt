@@ -6,9 +6,6 @@ use Rattle.dump_reader.proofs.read_starts.Given as goal
 abbrev pub invariant-loop-next : goal.invariant-loop-next
 invariant-loop-next l =
     (starts_from l.step l.text l.count
-    (print_loop l.initial.at l.initial.number l.time l.initial.next l.initial.values l.initial.shown) ≡
+    (print_loop l.initial.at l.initial.number l.time 0 l.initial.values l.initial.shown) ≡
     starts_from l.step l.text (l.count - l.next) (print_loop l.at l.number l.time l.next l.values l.shown)) ×
-    (l.next ≤ l.count) × (l.number ≤ l.initial.number + l.next)
-
-abbrev pub decreases-loop-next : goal.decreases-loop-next
-decreases-loop-next l = l.count - l.next
+    (l.number ≤ l.initial.number + l.next)

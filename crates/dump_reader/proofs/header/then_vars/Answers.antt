@@ -1,4 +1,4 @@
-use Rattle.std.proofs.Common.{◌∙◌, arith}
+use Rattle.std.proofs.Common.{ℕ, ap, ◌≡◌, ◌∙◌, arith}
 use Rattle.dump_reader.proofs.Laws as laws
 use Rattle.std.proofs.lemmas.Bool.{not_from_false, not_from_true}
 use Rattle.dump_reader.proofs.header.then_vars.Goals as goal
@@ -34,12 +34,13 @@ loop-count-preserved c =
       l.invariant.0 ∙ laws.vars_again c.args.text.now l.count l.at l.line c.loop-count-test.true c.has_var.ensures
           c.digits.ensures (not_from_true _ c.if-not-has_var.false),
       omega arith,
-      omega arith,
     )
 
 pub returns : goal.returns
 returns c =
     let a = c.args in
     let l = c.loop-count in
+    let last : l.count ≡ 64 = omega arith in
     laws.vars_done a.text.now a.header _ c.in-Accepted.is c.requires.0
-    (l.invariant.0 ∙ laws.vars_end a.text.now l.count _ c.loop-count-test.false)
+    (l.invariant.0 ∙ laws.vars_end a.text.now l.count _ c.loop-count-test.false
+    ∙ ap (λ (n : ℕ). laws.header_at n l.at l.line) last)

@@ -1,14 +1,13 @@
-use Rattle.std.proofs.Common.{arith}
+use Rattle.std.proofs.Common.{refl, arith}
 use Rattle.dump_reader.proofs.RowLaws as laws
 use Rattle.dump_reader.proofs.rows.put_row.Goals as goal
 
 pub loop-v-preserved : goal.loop-v-preserved
 loop-v-preserved c =
     let l = c.loop-v in (
-      laws.row_turn _ l.v c.args.values.now l.invariant.0 c.loop-v-test.true c.wide.ensures c.put_byte-j.ensures
+      laws.row_turn _ l.v c.args.values.now l.invariant.0 c.loop-v-test.true refl c.put_byte-j.ensures
           c.put_decimal-i-in-loop-v.ensures,
-      omega arith,
-      l.invariant.2,
+      l.invariant.1,
     )
 
 pub returns : goal.returns

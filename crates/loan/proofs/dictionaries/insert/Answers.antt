@@ -3,8 +3,8 @@ use Rattle.loan.proofs.Spans as spans
 use Rattle.loan.proofs.dictionaries.insert.Goals as goal
 
 -- the place of one item more lies in the loan
-pub put_item-requires : goal.put_item-requires
-put_item-requires c =
+pub store-requires : goal.store-requires
+store-requires c =
     let a = c.args in
     let h =
     spans.insert_fits a.b.now a.l.now a.i _ _ _ c.room-w.ensures c.has_items.ensures c.if-has_items.true
@@ -15,7 +15,7 @@ pub returns-then-end-w : goal.returns-then-end-w
 returns-then-end-w c =
     let a = c.args in
     spans.inserts a.b.now a.l.now a.i _ _ c.has_items.ensures c.if-has_items.true _ c.noted-end.ensures _
-    c.room-w.ensures c.if-end-w.true _ c.put_item.ensures _ c.put_noted.ensures
+    c.room-w.ensures c.if-end-w.true _ c.store.ensures _ c.put_noted.ensures
 
 pub returns-else-end-w : goal.returns-else-end-w
 returns-else-end-w c =

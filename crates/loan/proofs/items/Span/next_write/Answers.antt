@@ -9,7 +9,7 @@ returns-then-altered c =
     (rw (
       loans.item_is c.args.l.now c.args.self.base c.args.self.end c.loop-k.k c.loop-k-test.true,
       ←
-          c.item_at-item.ensures,
+          c.read-item.ensures,
       ← c.altered.ensures,
     ) c.if-altered.true)
 
@@ -19,7 +19,7 @@ loop-k-preserved c = (
     (rw (
       loans.item_is c.args.l.now c.args.self.base c.args.self.end c.loop-k.k c.loop-k-test.true,
       ←
-          c.item_at-item.ensures,
+          c.read-item.ensures,
       ← c.altered.ensures,
     ) c.if-altered.false),
     omega arith,

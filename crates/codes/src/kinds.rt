@@ -1,15 +1,17 @@
-// The kinds of parts that have more than one word, each as its definition in codes lays out its fields.
+// The values that stand in more words than one, each with its fields as specs/Codes lays them out.
 ghost use Rattle.std.specs.Prelude.{◌≡◌, ◌+◌, ◌<◌, ◌≤◌, length, refl};
-ghost use Rattle.codes.specs.Codes.{halves, put_halves, gate_of, gate_words, control_of, control_words, announcement_of, announcement_words, record_of, record_words, operation_of, operation_words, simulation_of, simulation_words};
+ghost use Rattle.codes.specs.Codes.{halves, put_halves, gate_of, gate_words, control_of, control_words, announcement_of, announcement_words, record_of, record_words, operation_of, operation_words, simulation_of, simulation_words, item_of, item_words, program_of, program_words, program_long};
 
 use crate::parts::Part;
-use codes::{
-    bit, byte, flag_from, flag_word, half, holder_from, holder_word, odd, place_from, place_word,
+use crate::{
+    bit, byte, flag_from, flag_word, half, holder_from, holder_word, instruction_from,
+    instruction_word, odd, pair, place_from, place_word, upper,
 };
 use construction::accesses::Control;
 use construction::card::Operation;
 use construction::cells::{Announcement, Gate, Record, Words, Yield};
-use construction::simulations::Simulation;
+use construction::programs::{Instruction, Line, Program};
+use construction::simulations::{Item, Simulation};
 
 // Four numbers of 32 bits each.
 fn words_at(b: &[u64], at: usize) -> Words
@@ -193,5 +195,73 @@ impl Part for Simulation {
         put_words(b, at + 1, self.registers);
         put_words(b, at + 5, self.yields.outputs);
         b[at + 9] = bit(self.yields.fault);
+    }
+}
+
+impl Part for Item {
+    const SIZE: usize = 3;
+
+    ghost SIZE = { 3 };
+
+    ghost of = { item_of };
+
+    ghost words = { item_words };
+
+    ghost long = { λ x. refl };
+
+    fn read(b: &[u64], at: usize) -> Item {
+        let cells = b[at + 1];
+        let own = b[at + 2];
+        Item {
+            variable: byte(upper(own)),
+            value: half(own),
+            cell: Record {
+                val0: half(cells),
+                val1: half(upper(cells)),
+                toggle: odd(upper(own) / 256),
+                seq: b[at],
+            },
+        }
+    }
+
+    fn store(self, b: &mut [u64], at: usize) {
+        let mark = bit(self.cell.toggle) as u32;
+        b[at] = self.cell.seq;
+        b[at + 1] = pair(self.cell.val0, self.cell.val1);
+        b[at + 2] = pair(self.value, self.variable as u32 + mark * 256);
+    }
+}
+
+impl Part for Program {
+    const SIZE: usize = 33;
+
+    ghost SIZE = { 33 };
+
+    ghost of = { program_of };
+
+    ghost words = { program_words };
+
+    ghost long = { program_long };
+
+    fn read(b: &[u64], at: usize) -> Program {
+        let mut lines = [Line {
+            instruction: Instruction::Stop,
+        }; 32];
+        for k in 0..32 {
+            lines[k] = Line {
+                instruction: instruction_from(b[at + (k + 1)]),
+            };
+        }
+        Program {
+            length: byte(b[at]),
+            lines,
+        }
+    }
+
+    fn store(self, b: &mut [u64], at: usize) {
+        b[at] = self.length as u64;
+        for k in 0..32 {
+            b[at + (k + 1)] = instruction_word(self.lines[k].instruction);
+        }
     }
 }

@@ -12,8 +12,8 @@ ghost use Rattle.construction.specs.declared.answers.Answer.{Answer as AnswerOf}
 ghost use Rattle.construction.specs.Answers.{number_of, refused_with, fields, bytes, word_text, done_word, output_numbers, answer_fields, verdict_fields, written_fields, row_fields, numbers_text, fields_text};
 
 use construction::answers::{Answer, Refusal};
-use construction::cells::{RowSwap, Words, Yield};
-use construction::texts::{Verdict, Written};
+use construction::cells::{Words, Yield};
+use construction::texts::RefusedAt;
 use grammar::writing::{put_decimal, put_word};
 
 // The number of a refusal.
@@ -117,32 +117,32 @@ pub fn put_answer(buffer: &mut [u8], at: usize, answer: Answer) -> usize
 }
 
 // The verdict on a card text.
-pub fn put_verdict(buffer: &mut [u8], at: usize, verdict: Verdict) -> usize
+pub fn put_verdict(buffer: &mut [u8], at: usize, verdict: Result<(), RefusedAt>) -> usize
     ensures { Put buffer.old at (fields_text (verdict_fields verdict)) result buffer.new × (result ≤ at + 50) }
 {
     match verdict {
-        Verdict::Accepted => put_word(buffer, at, b",accepted"),
-        Verdict::Refused { refusal, line } => put_refused_at(buffer, at, refusal, line),
+        Ok(()) => put_word(buffer, at, b",accepted"),
+        Err(RefusedAt { refusal, line }) => put_refused_at(buffer, at, refusal, line),
     }
 }
 
 // The answer of the writer.
-pub fn put_written(buffer: &mut [u8], at: usize, written: Written) -> usize
+pub fn put_written(buffer: &mut [u8], at: usize, written: Result<usize, Refusal>) -> usize
     ensures { Put buffer.old at (fields_text (written_fields written)) result buffer.new × (result ≤ at + 29) }
 {
     match written {
-        Written::Bytes(length) => put_number(buffer, at, b",", length as u64),
-        Written::Refused(refusal) => put_refusal(buffer, at, refusal),
+        Ok(length) => put_number(buffer, at, b",", length as u64),
+        Err(refusal) => put_refusal(buffer, at, refusal),
     }
 }
 
 // The answer to a swap on a lent row.
-pub fn put_row_swap(buffer: &mut [u8], at: usize, answer: RowSwap) -> usize
+pub fn put_row_swap(buffer: &mut [u8], at: usize, answer: Result<bool, Refusal>) -> usize
     ensures { Put buffer.old at (fields_text (row_fields answer)) result buffer.new × (result ≤ at + 29) }
 {
     match answer {
-        RowSwap::Won => put_word(buffer, at, b",won"),
-        RowSwap::Lost => put_word(buffer, at, b",lost"),
-        RowSwap::Refused(refusal) => put_refusal(buffer, at, refusal),
+        Ok(true) => put_word(buffer, at, b",won"),
+        Ok(false) => put_word(buffer, at, b",lost"),
+        Err(refusal) => put_refusal(buffer, at, refusal),
     }
 }

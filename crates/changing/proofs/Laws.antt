@@ -1,4 +1,5 @@
 -- A change by the tests that judge it, and the card that code puts together
+use Rattle.std.specs.Prelude.{Ok, Err}
 use Prim.Native.Nat.{ℕ, ◌%◌, ◌<◌, min}
 use mathlib.Core.Bool.{Bool, true, false, cond, not, ◌||◌, true≢false}
 use mathlib.Core.List.{List}
@@ -6,7 +7,7 @@ use mathlib.Core.Path.{◌≡◌, refl, sym, ◌∙◌}
 use native.Mathlib.Nat.{mod-eq_of_lt}
 use lib.Dec.{ltb}
 use lib.ListN.{length, get_or, set}
-use Rattle.construction.specs.declared.{programs.Program.Program, card.Card.Card, answers.Answer.Answer, answers.Answered.Answered, texts.Verdict.Verdict}
+use Rattle.construction.specs.declared.{programs.Program.Program, card.Card.Card, answers.Answer.Answer, answers.Answered.Answered}
 use Rattle.construction.specs.declared.{texts.ProgramReading.ProgramReading}
 use Rattle.construction.specs.declared.answers.Refusal.TheVariants.{NoProgram, NotAhead, Unsettled}
 use Rattle.construction.specs.Weight.{heaviest}
@@ -15,6 +16,7 @@ use Rattle.construction.specs.Parts.{with_texts, contents_of, with_revision}
 use Rattle.construction.specs.Requests.{is_program}
 use Rattle.construction.specs.Answers.{is_refused}
 use Rattle.construction.specs.Changes.{program_text, change_read, some_behind, is_unsettled, unchanged, if_read, change}
+use Rattle.construction.specs.Types.{Verdict}
 use Rattle.opening.proofs.Laws.{inside}
 use Rattle.requests.specs.Judging.{if_text_accepted, change_judged}
 use Rattle.requests.proofs.Arrays.{in_room, judged_there}
@@ -35,19 +37,19 @@ module _ (c : Card) where
       (a : Bool) (v : Verdict) (b u : Bool) (x : Answer) (y : Answered) → x ≡ answered a v b u → is_refused x ≡ true →
       record { card = c; answer = x } ≡ by a v b u y
   refuses false v b u x y e h = rw e
-  refuses true (Verdict.Refused why line) b u x y e h = rw e
-  refuses true Verdict.Accepted false u x y e h = rw e
-  refuses true Verdict.Accepted true true x y e h = rw e
-  refuses true Verdict.Accepted true false x y e h = absurd (true≢false (sym (rw e at h)))
+  refuses true (Err said) b u x y e h = rw e
+  refuses true (Ok _) false u x y e h = rw e
+  refuses true (Ok _) true true x y e h = rw e
+  refuses true (Ok _) true false x y e h = absurd (true≢false (sym (rw e at h)))
 
   takes :
       (a : Bool) (v : Verdict) (b u : Bool) (x : Answer) → x ≡ answered a v b u → is_refused x ≡ false →
       (d after : Card) → (a ≡ true → d ≡ after) → record { card = d; answer = x } ≡ by a v b u (record { card = after; answer = Answer.Taken })
   takes false v b u x e h d after p = absurd (true≢false (rw e at h))
-  takes true (Verdict.Refused why line) b u x e h d after p = absurd (true≢false (rw e at h))
-  takes true Verdict.Accepted false u x e h d after p = absurd (true≢false (rw e at h))
-  takes true Verdict.Accepted true true x e h d after p = absurd (true≢false (rw e at h))
-  takes true Verdict.Accepted true false x e h d after p = rw (e, p refl)
+  takes true (Err said) b u x e h d after p = absurd (true≢false (rw e at h))
+  takes true (Ok _) false u x e h d after p = absurd (true≢false (rw e at h))
+  takes true (Ok _) true true x e h d after p = absurd (true≢false (rw e at h))
+  takes true (Ok _) true false x e h d after p = rw (e, p refl)
 
 -- code judges by the number of the last change that stands at place k mod 8, and by what it read, weighed and compared
 module _

@@ -10,6 +10,7 @@ ghost use Rattle.construction.specs.Changes.{change};
 use construction::answers::{Answer, Answered};
 use construction::card::Card;
 use construction::programs::Program;
+use construction::texts::RefusedAt;
 use programs::weights::heaviest;
 use reader::changes::read_change;
 use requests::behind::some_behind;
@@ -35,7 +36,7 @@ pub fn change(card: Card, program: u32, from: u64, text: &[u8]) -> Answered
     let last = c.from[at];
     let read = read_change(c.variable_count, most_weight(c.programs), text);
     let behind = some_behind(c.controls, c.gates_read, c.process_count, last);
-    if let Err((refusal, line)) = judge_change(
+    if let Err(RefusedAt { refusal, line }) = judge_change(
         program,
         c.program_count,
         read.verdict,

@@ -7,7 +7,7 @@ ghost use Rattle.std.specs.Prelude.{◌≡◌};
 ghost use Rattle.codes.specs.Codes.{byte, half, odd, bit, holder_from, holder_word, flag_from, flag_word, place_from, place_word, instruction_from, packed, instruction_word, pair, upper};
 
 pub mod parts; // parts.rt: a value in words of its own
-mod kinds; // kinds.rt: the values that stand in more words than one
+mod kinds; // kinds.rt: the values that stand in words
 
 use construction::accesses::Label;
 use construction::cells::{Flag, Holder};
@@ -51,6 +51,7 @@ pub fn upper(w: u64) -> u64
     w / 4294967296
 }
 
+#[tactic(auto, unfolding(crate::specs::Codes::holder_from))]
 pub fn holder_from(w: u64) -> Holder
     ensures { result ≡ holder_from w }
 {
@@ -69,6 +70,7 @@ pub fn holder_word(holder: Holder) -> u64
     }
 }
 
+#[tactic(auto, unfolding(crate::specs::Codes::flag_from))]
 pub fn flag_from(w: u64) -> Flag
     ensures { result ≡ flag_from w }
 {
@@ -89,6 +91,7 @@ pub fn flag_word(flag: Flag) -> u64
     }
 }
 
+#[tactic(auto, unfolding(crate::specs::Codes::place_from))]
 pub fn place_from(w: u64) -> Label
     ensures { result ≡ place_from w }
 {
@@ -119,10 +122,10 @@ pub fn place_from(w: u64) -> Label
 pub fn place_word(place: Label) -> u64
     ensures { result ≡ place_word place }
 {
-    let row = label_row(place);
-    row.word
+    label_row(place).word
 }
 
+#[tactic(auto, unfolding(crate::specs::Codes::instruction_from))]
 pub fn instruction_from(w: u64) -> Instruction
     ensures { result ≡ instruction_from w }
 {
@@ -130,8 +133,7 @@ pub fn instruction_from(w: u64) -> Instruction
     let x = half(w / 4294967296);
     let b = byte(w / 4294967296);
     let c = byte(w / 65536);
-    let code = byte(w);
-    match code {
+    match byte(w) {
         1 => Instruction::Input {
             register: a,
             input: b,
@@ -195,6 +197,5 @@ fn packed(line: Encoded) -> u64
 pub fn instruction_word(x: Instruction) -> u64
     ensures { result ≡ instruction_word x }
 {
-    let line = writer::encode(x);
-    packed(line)
+    packed(writer::encode(x))
 }

@@ -5,10 +5,11 @@ use lib.ListN.{length}
 use native.Mathlib.Omega.{arith}
 use Rattle.grammar.specs.Writing.{decimal, largest, Put}
 use Rattle.grammar.proofs.Puts.{Room, rest_all, rest_step, rest_last, put_both}
-use Rattle.construction.specs.declared.{answers.Answer.Answer, answers.Report.Report, texts.Verdict.Verdict}
+use Rattle.construction.specs.declared.{answers.Answer.Answer, answers.Report.Report}
 use Rattle.construction.specs.declared.answers.Refusal.TheVariants.{TooLong}
 use Rattle.construction.specs.Answers.{bytes, Fields, number_of, refused_with, answer_fields, verdict_fields, numbers_text, fields_text}
 use Rattle.construction.specs.Reports.{report_text}
+use Rattle.construction.specs.Types.{Verdict}
 use Rattle.answers.proofs.Texts.{PutWithin, put_short}
 use Rattle.commands.specs.declared.Command.{Command}
 use Rattle.commands.specs.Printing.{verb_of, first_of, head_text, line_with, line_text, longest, card_refusal, calls_refusal}

@@ -1,9 +1,10 @@
 -- The printed lines (document 01, 'The bench program'): 'the verb and first number, then' the fields of the answer, as construction's
 -- specs/Answers gives them. Byte 10 ends each line.
 use Rattle.std.specs.Prelude.{ℕ, Bool, true, false, List, [], ◌∷◌, ◌++◌, get_or}
-use Rattle.construction.specs.declared.{answers.Answer.Answer, answers.Report.Report, texts.Verdict.Verdict}
+use Rattle.construction.specs.declared.{answers.Answer.Answer, answers.Report.Report}
 use Rattle.construction.specs.Answers.{bytes, Fields, fields, refused_with, answer_fields, verdict_fields, numbers_text, fields_text}
 use Rattle.construction.specs.Reports.{report_text}
+use Rattle.construction.specs.Types.{Verdict}
 use Rattle.commands.specs.declared.Command.{Command}
 use Rattle.commands.specs.CommandFields.{command_fields}
 

@@ -2,14 +2,13 @@
 // the text all the same. The fields of answers are those of the crate answers.
 ghost use Rattle.std.specs.Prelude.{◌≡◌, ◌+◌, ◌≤◌};
 ghost use Rattle.grammar.specs.Writing.{Put};
-ghost use Rattle.construction.specs.declared.texts.Verdict.{Verdict as VerdictOf};
 ghost use Rattle.commands.specs.Printing.{is_malformed, verb_of, first_of, head_text, line_text, longest, card_refusal, calls_refusal};
 
 use crate::Command;
 use answers::reports::put_report;
 use answers::{put_answer, put_number, put_refusal, put_verdict};
 use construction::answers::{Answer, Refusal, Report};
-use construction::texts::Verdict;
+use construction::texts::RefusedAt;
 use grammar::writing::{put_byte, put_word};
 
 // Whether a command is malformed.
@@ -76,12 +75,11 @@ pub fn put_line(
 }
 
 // The line of a refused card.
-pub fn put_card_refusal(buffer: &mut [u8], refusal: Refusal, line: u64) -> usize
-    ensures { Put buffer.old 0 (card_refusal (VerdictOf.Refused refusal line)) result buffer.new × (result ≤ longest) }
+pub fn put_card_refusal(buffer: &mut [u8], refused: RefusedAt) -> usize
+    ensures { Put buffer.old 0 (card_refusal (Err refused)) result buffer.new × (result ≤ longest) }
 {
     let next = put_word(buffer, 0, b"card");
-    let verdict = Verdict::Refused { refusal, line };
-    let end = put_verdict(buffer, next, verdict);
+    let end = put_verdict(buffer, next, Err(refused));
     put_byte(buffer, end, b'\n')
 }
 

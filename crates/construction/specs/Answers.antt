@@ -89,19 +89,19 @@ is_refused (Answer.RefusedAt r line) = true
 
 -- a card text: accepted, or '`card,refused,number,line`'
 unfoldable pub verdict_fields : Verdict → Fields
-verdict_fields Verdict.Accepted = fields "accepted" []
-verdict_fields (Verdict.Refused r line) = fields "refused" (number_of r ∷ line ∷ [])
+verdict_fields (Ok _) = fields "accepted" []
+verdict_fields (Err e) = fields "refused" (number_of e.refusal ∷ e.line ∷ [])
 
 -- the writer 'tells the length', or is refused
 unfoldable pub written_fields : Written → Fields
-written_fields (Written.Bytes n) = fields "" (n ∷ [])
-written_fields (Written.Refused r) = refused_with (number_of r)
+written_fields (Ok n) = fields "" (n ∷ [])
+written_fields (Err r) = refused_with (number_of r)
 
 -- a swap on a lent row 'tells which', or is refused
 unfoldable pub row_fields : RowSwap → Fields
-row_fields RowSwap.Won = fields "won" []
-row_fields RowSwap.Lost = fields "lost" []
-row_fields (RowSwap.Refused r) = refused_with (number_of r)
+row_fields (Ok true) = fields "won" []
+row_fields (Ok false) = fields "lost" []
+row_fields (Err r) = refused_with (number_of r)
 
 -- 'each line yields either its fields or a refusal number'; the place past the line is none of the paper's numbers
 unfoldable pub card_line_fields : CardLine → Fields

@@ -1,5 +1,5 @@
 -- A program changed while the machine runs (document 02, order 11): 'A change names a sheet and a gate number G and brings that sheet's lines as a card has them.'
-use Rattle.std.specs.Prelude.{ℕ, zero, suc, min, Bool, false, cond, not, ◌&&◌, ◌||◌, List, length, get_or, eqb, ltb}
+use Rattle.std.specs.Prelude.{ℕ, zero, suc, min, Bool, false, cond, not, ◌&&◌, ◌||◌, List, length, get_or, eqb, ltb, Ok, Err}
 use Rattle.construction.specs.Types.{Gate, Program, Label, Idle, P1, Control, Card, Refusal, TooLong, Malformed, NoProgram, NotAhead, Unsettled, Answer}
 use Rattle.construction.specs.Types.{Answered, Contents, Verdict, ProgramReading}
 use Rattle.construction.specs.Labels.{same_label}
@@ -10,8 +10,8 @@ use Rattle.construction.specs.Opening.{program_refused_at, read_program}
 
 -- a refusal ends the reading; else 'nothing follows': a line left over is refusal 2
 abbrev pub if_program_accepted : Verdict → ProgramReading → ProgramReading → ProgramReading
-if_program_accepted Verdict.Accepted r x = x
-if_program_accepted (Verdict.Refused why line) r x = r
+if_program_accepted (Ok _) r x = x
+if_program_accepted (Err e) r x = r
 
 abbrev pub program_then_end : List ℕ → ProgramReading → ProgramReading
 program_then_end t r =
@@ -56,8 +56,8 @@ abbrev pub changed : Card → ℕ → ℕ → Program → Answered
 changed c k from y = record { card = with_revision c k from y; answer = Answer.Taken }
 
 abbrev pub if_read : Verdict → Card → Answered → Answered
-if_read Verdict.Accepted c r = r
-if_read (Verdict.Refused why line) c r = unchanged c why line
+if_read (Ok _) c r = r
+if_read (Err e) c r = unchanged c e.refusal e.line
 
 -- change: refusals 6; 1, 2, 3, 4, 12, 13, 14 of the text; 15, 16
 unfoldable pub change : Card → ℕ → ℕ → List ℕ → Answered

@@ -1,7 +1,7 @@
 -- What a card text opens to (document 01, 'The card text' and 'Turned back'): judged by its length, then line by line.
 use Rattle.std.specs.Prelude.{ℕ, zero, suc, ◌+◌, false, cond, List, map, length, set, replicate, eqb, ltb, Ok, Err}
 use Rattle.construction.specs.Types.{Instruction, Line, Program, Card, Refusal, TooLong, Malformed, TooHeavy, CardLine, VarLine, SheetLine, InsLine}
-use Rattle.construction.specs.Types.{Contents, Verdict, ProgramReading, Reading, Opened}
+use Rattle.construction.specs.Types.{Contents, Verdict, ProgramReading, Reading, Opened, told_at}
 use Rattle.construction.specs.Cells.{open_gate, open_announcement, open_record}
 use Rattle.construction.specs.Instructions.{no_line, no_program, started}
 use Rattle.construction.specs.Weight.{weight}
@@ -67,17 +67,17 @@ fresh x =
 
 -- 'A refused text gives its line, counted from 1 (0 for refusal 1)'
 abbrev pub refused_at : Refusal → ℕ → Reading
-refused_at why line = record { verdict = Verdict.Refused why line; contents = no_contents; at = 0; line = line }
+refused_at why line = record { verdict = Err (told_at why line); contents = no_contents; at = 0; line = line }
 
 abbrev pub program_refused_at : Refusal → ℕ → ProgramReading
-program_refused_at why line = record { verdict = Verdict.Refused why line; program = no_program; at = 0; line = line }
+program_refused_at why line = record { verdict = Err (told_at why line); program = no_program; at = 0; line = line }
 
 -- what has been read so far of a program and of a card, the place of the next line and its number
 abbrev pub program_so_far : ℕ → List Line → ℕ → ℕ → ProgramReading
-program_so_far m lines at line = record { verdict = Verdict.Accepted; program = record { length = m; lines = lines }; at = at; line = line }
+program_so_far m lines at line = record { verdict = Ok tt; program = record { length = m; lines = lines }; at = at; line = line }
 
 abbrev pub so_far : Contents → ℕ → ℕ → Reading
-so_far x at line = record { verdict = Verdict.Accepted; contents = x; at = at; line = line }
+so_far x at line = record { verdict = Ok tt; contents = x; at = at; line = line }
 
 -- the next m `ins` lines, the first for place k of the program
 abbrev pub with_line : ProgramReading → ℕ → Instruction → ℕ → ProgramReading
@@ -94,8 +94,8 @@ ins_from n t (suc m) k r = next_ins (ins_line n t r.at) r k (λ x. ins_from n t 
 -- 'A sheet with more than 32 by that count is refused with 14, at its last line, after 13' (document 02, order 9): its lines are good by then.
 -- `most` is 32 in a card, and in a change the card's own weight, if that is less (order 11).
 abbrev pub judge_weight : ℕ → Verdict → ℕ → ProgramReading → ProgramReading
-judge_weight most Verdict.Accepted last r = cond (ltb most (weight r.program)) (program_refused_at TooHeavy last) r
-judge_weight most (Verdict.Refused why line) last r = r
+judge_weight most (Ok _) last r = cond (ltb most (weight r.program)) (program_refused_at TooHeavy last) r
+judge_weight most (Err e) last r = r
 
 abbrev pub weighed : ℕ → ℕ → ProgramReading → ProgramReading
 weighed most last r = judge_weight most r.verdict last r
@@ -115,8 +115,8 @@ with_program r k x =
     let y = r.contents in so_far (gathered y y.starts (set y.programs k x.program)) x.at x.line
 
 abbrev pub next_program : Verdict → ProgramReading → Reading → ℕ → (Reading → Reading) → Reading
-next_program Verdict.Accepted x r k go = go (with_program r k x)
-next_program (Verdict.Refused why line) x r k go = refused_at why line
+next_program (Ok _) x r k go = go (with_program r k x)
+next_program (Err e) x r k go = refused_at e.refusal e.line
 
 unfoldable pub programs_from : List ℕ → ℕ → ℕ → Reading → Reading
 programs_from t zero k r = r
@@ -138,8 +138,8 @@ vars_from t (suc m) k r = next_var (var_line t r.at) r k (λ x. vars_from t m (s
 
 -- a refusal ends the reading
 abbrev pub if_accepted : Verdict → Reading → (Reading → Reading) → Reading
-if_accepted Verdict.Accepted r go = go r
-if_accepted (Verdict.Refused why line) r go = r
+if_accepted (Ok _) r go = go r
+if_accepted (Err e) r go = r
 
 -- 'Nothing follows': a line left over is refusal 2
 abbrev pub at_end : List ℕ → Reading → Reading

@@ -21,7 +21,7 @@ pub record Overweight (x : Contents) (t : List ℕ) (line : ℕ) : Type 0 where
   pub m : ℕ
   pub i : ℕ
   pub sheet : sheet_line t 0 ≡ Ok (found m i)
-  pub good : (instructions_read x t m i).verdict ≡ Verdict.Accepted
+  pub good : (instructions_read x t m i).verdict ≡ Ok tt
   pub heavy : (32 < weight (instructions_read x t m i).program) ⊎ (card_weight x < weight (instructions_read x t m i).program)
   pub last : line ≡ suc m
 

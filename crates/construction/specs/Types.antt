@@ -1,5 +1,5 @@
 -- The types of this crate, which src/ declares, and the variants that stand under their own names, for one `use` line a file
-use Rattle.std.specs.Prelude.{ℕ, Result}
+use Rattle.std.specs.Prelude.{ℕ, Bool, Result}
 use Rattle.grammar.specs.declared.Found.{Found}
 pub use Rattle.construction.specs.declared.cells.Holder.{Holder}
 pub use Rattle.construction.specs.declared.cells.Holder.TheVariants.{Nobody, Process}
@@ -49,14 +49,12 @@ pub use Rattle.construction.specs.declared.answers.Answered.{Answered}
 pub use Rattle.construction.specs.declared.answers.Report.{Report}
 pub use Rattle.construction.specs.declared.answers.Traced.{Traced}
 pub use Rattle.construction.specs.declared.cells.SwappedCell.{SwappedCell}
-pub use Rattle.construction.specs.declared.cells.RowSwap.{RowSwap}
 pub use Rattle.construction.specs.declared.texts.CardNumbers.{CardNumbers}
 pub use Rattle.construction.specs.declared.texts.Contents.{Contents}
-pub use Rattle.construction.specs.declared.texts.Verdict.{Verdict}
+pub use Rattle.construction.specs.declared.texts.RefusedAt.{RefusedAt}
 pub use Rattle.construction.specs.declared.texts.ProgramReading.{ProgramReading}
 pub use Rattle.construction.specs.declared.texts.Reading.{Reading}
 pub use Rattle.construction.specs.declared.texts.Opened.{Opened}
-pub use Rattle.construction.specs.declared.texts.Written.{Written}
 
 -- an instruction that was decoded, or why there is none
 abbrev pub Decoded : Type 0
@@ -74,3 +72,18 @@ SheetLine = Result (Found ℕ) Refusal
 
 abbrev pub InsLine : Type 0
 InsLine = Result (Found Instruction) Refusal
+
+-- the answer of the writer: how many bytes it wrote, or why it is refused
+abbrev pub Written : Type 0
+Written = Result ℕ Refusal
+
+-- the answer to a swap on a lent row: whether it won, or why it is refused
+abbrev pub RowSwap : Type 0
+RowSwap = Result Bool Refusal
+
+-- the verdict on a text: it is accepted, or why and at which line it is refused
+abbrev pub Verdict : Type 0
+Verdict = Result (Unit {0}) RefusedAt
+
+abbrev pub told_at : Refusal → ℕ → RefusedAt
+told_at why line = record { refusal = why; line = line }

@@ -1,5 +1,5 @@
 -- The text of a card, and what the writer answers and leaves in a lent buffer (document 01, 'Turned back').
-use Rattle.std.specs.Prelude.{ℕ, zero, suc, cond, List, [], ◌++◌, length, get_or, drop, eqb, leb}
+use Rattle.std.specs.Prelude.{ℕ, zero, suc, cond, List, [], ◌++◌, length, get_or, drop, eqb, leb, Ok, Err}
 use Rattle.construction.specs.Types.{Line, Program, Card, ShortBuffer, Written}
 use Rattle.construction.specs.Instructions.{no_line, no_program}
 use Rattle.construction.specs.Lines.{card_text, var_text, sheet_text, ins_text}
@@ -29,7 +29,7 @@ text_of c =
 
 -- refusal 11, or the length; and the buffer: the text, then the bytes past it as they were
 unfoldable pub written : Card → List ℕ → Written
-written c b = cond (leb (length (text_of c)) (length b)) (Written.Bytes (length (text_of c))) (Written.Refused ShortBuffer)
+written c b = cond (leb (length (text_of c)) (length b)) (Ok (length (text_of c))) (Err ShortBuffer)
 
 unfoldable pub written_into : Card → List ℕ → List ℕ
 written_into c b = cond (leb (length (text_of c)) (length b)) (text_of c ++ drop (length (text_of c)) b) b

@@ -1,5 +1,4 @@
 // The shared cells, and what a swap of one gives back.
-use crate::answers::Refusal;
 
 // Who holds the gate.
 #[derive(Clone, Copy, PartialEq, Eq)]
@@ -64,12 +63,4 @@ pub struct Record {
 pub struct SwappedCell<T> {
     pub cell: T,
     pub won: bool,
-}
-
-// The answer to a swap on a lent row.
-#[derive(Clone, Copy)]
-pub enum RowSwap {
-    Won,
-    Lost,
-    Refused(Refusal),
 }

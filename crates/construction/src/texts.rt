@@ -23,17 +23,17 @@ pub struct Contents {
     pub programs: [Program; 8],
 }
 
-// Whether a text is accepted; if not, why and at which line.
+// Why a text is refused, and at which line.
 #[derive(Clone, Copy)]
-pub enum Verdict {
-    Accepted,
-    Refused { refusal: Refusal, line: u64 },
+pub struct RefusedAt {
+    pub refusal: Refusal,
+    pub line: u64,
 }
 
 // A program read so far, the place of the next line and its number.
 #[derive(Clone, Copy)]
 pub struct ProgramReading {
-    pub verdict: Verdict,
+    pub verdict: Result<(), RefusedAt>,
     pub program: Program,
     pub at: usize,
     pub line: u64,
@@ -42,7 +42,7 @@ pub struct ProgramReading {
 // A card text read so far, the place of the next line and its number.
 #[derive(Clone, Copy)]
 pub struct Reading {
-    pub verdict: Verdict,
+    pub verdict: Result<(), RefusedAt>,
     pub contents: Contents,
     pub at: usize,
     pub line: u64,
@@ -52,12 +52,5 @@ pub struct Reading {
 #[derive(Clone, Copy)]
 pub struct Opened {
     pub card: Card,
-    pub verdict: Verdict,
-}
-
-// The answer of the writer: how many bytes it wrote.
-#[derive(Clone, Copy)]
-pub enum Written {
-    Bytes(usize),
-    Refused(Refusal),
+    pub verdict: Result<(), RefusedAt>,
 }

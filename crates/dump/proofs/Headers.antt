@@ -1,4 +1,6 @@
 -- The header: what is written reads back, and a header that was taken stands at the front of the text as it is written.
+use Rattle.construction.specs.Types.{Verdict}
+use Rattle.std.specs.Prelude.{Ok, Err}
 use mathlib.Core.Bool.{Bool, true, false, cond}
 use mathlib.Core.Path.{◌≡◌, refl, sym, ◌∙◌, ap, subst}
 use mathlib.Core.List.{List, [], ◌++◌, append_assoc, append-nil}
@@ -11,17 +13,16 @@ use borrow.Author.Tests.{lt-ltb}
 use Rattle.grammar.specs.Reading.{has_word}
 use Rattle.grammar.proofs.Cases.{on_test, clash}
 use Rattle.grammar.proofs.Bytes.{drop_head, drop_past, word_reads, word_text_lem}
-use Rattle.construction.specs.declared.texts.Verdict.{Verdict}
 use Rattle.dump.specs.declared.Header.{Header}
 use Rattle.dump.specs.Dump.{timescale_line, scope_line, var_line, upscope_line, definitions_line, time_text, vars_text, header_text}
 use Rattle.dump.specs.Reading.{header_start, header_refused, on_header, past_word, then_word, vars_from, then_vars, read_header}
 
 abbrev Taken : Header → Type 0
-Taken h = h.verdict ≡ Verdict.Accepted
+Taken h = h.verdict ≡ Ok tt
 
 -- a header read so far
 abbrev pub header_at : ℕ → ℕ → ℕ → Header
-header_at n at line = record { verdict = Verdict.Accepted; count = n; at = at; line = line }
+header_at n at line = record { verdict = Ok tt; count = n; at = at; line = line }
 
 -- the bytes before a place, with what stands there
 pub record Front (t text : List ℕ) (at : ℕ) : Type 0 where
@@ -119,18 +120,18 @@ module _ (t : List ℕ) where
   unfolding then_word
   before_word w h = by h.verdict refl
     where
-      by : (v : Verdict) → h.verdict ≡ v → (on_header v h (cond (has_word t h.at w) (past_word h w) (header_refused h.line))).verdict ≡ Verdict.Accepted →
-          h.verdict ≡ Verdict.Accepted
-      by Verdict.Accepted e f = e
-      by (Verdict.Refused why line) e f = f
+      by : (v : Verdict) → h.verdict ≡ v → (on_header v h (cond (has_word t h.at w) (past_word h w) (header_refused h.line))).verdict ≡ Ok tt →
+          h.verdict ≡ Ok tt
+      by (Ok _) e f = e
+      by (Err said) e f = f
 
   before_vars : (h : Header) → Taken (then_vars t h) → Taken h
   unfolding then_vars
   before_vars h = by h.verdict refl
     where
-      by : (v : Verdict) → h.verdict ≡ v → (on_header v h (vars_from t 64 h)).verdict ≡ Verdict.Accepted → h.verdict ≡ Verdict.Accepted
-      by Verdict.Accepted e f = e
-      by (Verdict.Refused why line) e f = f
+      by : (v : Verdict) → h.verdict ≡ v → (on_header v h (vars_from t 64 h)).verdict ≡ Ok tt → h.verdict ≡ Ok tt
+      by (Ok _) e f = e
+      by (Err said) e f = f
 
   read_word :
       {text : List ℕ} {n line : ℕ} {h : Header} (w : List ℕ) → Read text n line h → Taken (then_word t w h) → Read (text ++ w) n (line + 1) (then_word t w h)

@@ -1,5 +1,6 @@
 -- Writer and reader are inverse (specs/Inverse): the reader takes the dump of every history that fits and shows its values, and a text that it takes is
 -- the dump of the history that it shows.
+use Rattle.std.specs.Prelude.{Ok}
 use mathlib.Core.Path.{◌≡◌, refl, sym, ◌∙◌, ap}
 use mathlib.Core.Logic.{inr}
 use mathlib.Core.List.{List, [], ◌∷◌, ◌++◌}
@@ -8,7 +9,6 @@ use lib.ListN.{get_or, length}
 use native.Mathlib.Omega.{arith}
 use native.Mathlib.Nat.{sub-zero}
 use native.Mathlib.Decide.{dec_le}
-use Rattle.construction.specs.declared.texts.Verdict.{Verdict}
 use Rattle.dump.specs.declared.Readings.{Readings}
 use Rattle.dump.specs.Binary.{over}
 use Rattle.dump.specs.Dump.{Change, values_text, changes_from, lines_text, opening_text, dump}
@@ -151,7 +151,7 @@ module _ {n last : ℕ} {row : List ℕ} {cs : List Change} {t : List ℕ} (h : 
       ∙ rw (values_agree n 0 row first (λ w p q. sym (first_row_lem w (omega arith))))
       (rw (read_length t last 0) (ap (λ (x : List Change). opening_text n first ++ lines_text 0 last x) changes_same))
 
-pub one_spelling : (t : List ℕ) (step : ℕ) → (readings t step).verdict ≡ Verdict.Accepted → OneSpelling t (readings t step)
+pub one_spelling : (t : List ℕ) (step : ℕ) → (readings t step).verdict ≡ Ok tt → OneSpelling t (readings t step)
 one_spelling t step a =
     let s = shape_there t step a in
     record { text = one_dump s.shape; fits = history_fits s.shape }

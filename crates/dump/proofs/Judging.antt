@@ -1,5 +1,6 @@
 -- A dump is judged line by line (specs/Judging): the verdict on a text gives the line of the first one that breaks the forms, and accepts a dump; and a text
 -- has no other verdict.
+use Rattle.std.specs.Prelude.{Ok, Err}
 use mathlib.Core.Bool.{Bool, true, false}
 use mathlib.Core.Path.{◌≡◌, refl, sym, ◌∙◌, ap, subst}
 use mathlib.Core.List.{List, []}
@@ -11,10 +12,10 @@ use native.Mathlib.Decide.{dec_lt}
 use borrow.Author.Tests.{lt-ltb, ltb-true, ltb-false, eq-eqb, ne_eqb, eqb-true, eqb-false}
 use Rattle.grammar.specs.Reading.{has_word}
 use Rattle.grammar.proofs.Bytes.{word_text_lem}
-use Rattle.construction.specs.declared.texts.Verdict.{Verdict}
 use Rattle.construction.specs.declared.answers.Refusal.TheVariants.{Malformed}
 use Rattle.construction.specs.Answers.{Fields, fields, verdict_fields}
 use Rattle.construction.specs.TextJudging.{refused_in}
+use Rattle.construction.specs.Types.{Verdict, told_at}
 use Rattle.construction.proofs.Basics.{cond_true}
 use Rattle.dump.specs.declared.{DumpLine.DumpLine, Header.Header, Progress.Progress}
 use Rattle.dump.specs.Dump.{timescale_line, scope_line, var_line, upscope_line, definitions_line, time_text}
@@ -59,8 +60,8 @@ module _ (step : ℕ) (t : List ℕ) where
   Open (NextLine.var n at) = n ≤ 64
   Open (NextLine.definitions n at) = Unit {0}
   Open (NextLine.zero n at) = Unit {0}
-  Open (NextLine.start n m s) = s.verdict ≡ Verdict.Accepted
-  Open (NextLine.line n s) = s.verdict ≡ Verdict.Accepted
+  Open (NextLine.start n m s) = s.verdict ≡ Ok tt
+  Open (NextLine.line n s) = s.verdict ≡ Ok tt
 
   word_good : (w : List ℕ) (n at line : ℕ) → has_word t at w ≡ true → word w (header_at n at line) ≡ header_at n (at + length w) (line + 1)
   unfolding then_word
@@ -95,7 +96,7 @@ module _ (step : ℕ) (t : List ℕ) where
       by (yes l) = let k : 64 - n ≡ suc (63 - n) = omega arith in rw (k, f l)
       by (no l) = let k : 64 - n ≡ 0 = omega arith in rw k
 
-  goes : (s next : Progress) → s.verdict ≡ Verdict.Accepted → on_progress s.verdict s next ≡ next
+  goes : (s next : Progress) → s.verdict ≡ Ok tt → on_progress s.verdict s next ≡ next
   goes s next e = rw e
 
   line_good :
@@ -160,14 +161,14 @@ module _ (step : ℕ) (t : List ℕ) where
       )
 
   -- ---- what the verdict says
-  refused_at_lem : {p : Progress} (line : ℕ) → progress step t ≡ p → p.verdict ≡ Verdict.Refused Malformed line →
+  refused_at_lem : {p : Progress} (line : ℕ) → progress step t ≡ p → p.verdict ≡ Err (told_at Malformed line) →
       verdict_fields (readings t step).verdict ≡ refused_in line 2
   unfolding readings verdict_fields
   refused_at_lem {p} line e f =
       ap (λ (q : Progress). verdict_fields (readings_of q.verdict (read_header t).count q).verdict) e
       ∙ ap (λ (v : Verdict). verdict_fields (readings_of v (read_header t).count p).verdict) f
 
-  accepted_at : {p : Progress} → progress step t ≡ p → p.verdict ≡ Verdict.Accepted → verdict_fields (readings t step).verdict ≡ fields "accepted" []
+  accepted_at : {p : Progress} → progress step t ≡ p → p.verdict ≡ Ok tt → verdict_fields (readings t step).verdict ≡ fields "accepted" []
   unfolding readings verdict_fields
   accepted_at {p} e f =
       ap (λ (q : Progress). verdict_fields (readings_of q.verdict (read_header t).count q).verdict) e

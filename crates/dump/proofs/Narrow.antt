@@ -1,5 +1,6 @@
 -- What a read shows has 32 bits (document 01: 'Variables, inputs, outputs and the registers r0 to r3 are unsigned 32-bit words'): the words of the
 -- sequential run stay so, if the inputs of every call are.
+use Rattle.std.specs.Prelude.{Ok, Err}
 use Prim.Native.Nat.{ℕ, zero, suc, ◌+◌, ◌≤◌, ◌<◌, min}
 use mathlib.Core.Bool.{true, cond, not, ◌&&◌}
 use mathlib.Core.Path.{◌≡◌, refl, ◌∙◌, ap, subst}
@@ -9,11 +10,10 @@ use lib.Dec.{eqb, leb, ltb}
 use lib.ListN.{length, get_or, set, take}
 use borrow.Author.Tests.{ltb-true, not-false}
 use Rattle.grammar.proofs.Cases.{on_test, and_true, clash}
-use Rattle.std.specs.Prelude.{Ok}
 use Rattle.construction.specs.Types.{Decoded, CardLine}
 use Rattle.construction.specs.declared.{cells.Words.Words, programs.Instruction.Instruction, programs.Encoded.Encoded}
 use Rattle.construction.specs.declared.{programs.Line.Line, programs.Program.Program, simulations.Simulation.Simulation, card.Card.Card}
-use Rattle.construction.specs.declared.{texts.Contents.Contents, texts.Verdict.Verdict, texts.ProgramReading.ProgramReading}
+use Rattle.construction.specs.declared.{texts.Contents.Contents, texts.ProgramReading.ProgramReading}
 use Rattle.construction.specs.declared.{texts.Reading.Reading}
 use Rattle.construction.specs.declared.answers.Refusal.{Refusal}
 use Rattle.construction.specs.declared.answers.Refusal.TheVariants.{TooLong, Malformed}
@@ -29,6 +29,7 @@ use Rattle.construction.specs.Weight.{card_weight}
 use Rattle.construction.specs.Changes.{change_read, if_program_accepted}
 use Rattle.construction.specs.History.{Entry, FitsEntry, FitEntries, act, Invocation, Replacement, History, Event, event_of, latest_call, text_at, finishing, with_finish, with_finishes}
 use Rattle.construction.specs.History.{with_response, with_entry, Observation, observe, observe_all, opening, run}
+use Rattle.construction.specs.Types.{Verdict}
 use Rattle.construction.proofs.Basics.{set_keeps, get_or_replicate_same}
 use Rattle.construction.proofs.Text.Lines.{card_read, ins_read, var_read}
 use Rattle.construction.proofs.Text.Decoding.{decoded_encodes}
@@ -93,8 +94,8 @@ read_narrow n most t at line small =
 
 ended_narrow : (t : List ℕ) (v : Verdict) (r : ProgramReading) → NarrowReading r →
     NarrowReading (if_program_accepted v r (cond (eqb r.at (length t)) r (program_refused_at Malformed r.line)))
-ended_narrow t Verdict.Accepted r h = on_test NarrowReading (eqb r.at (length t)) (λ _. h) (λ _. none_narrow)
-ended_narrow t (Verdict.Refused why line) r h = h
+ended_narrow t (Ok _) r h = on_test NarrowReading (eqb r.at (length t)) (λ _. h) (λ _. none_narrow)
+ended_narrow t (Err e) r h = h
 
 change_narrow : (x : Contents) (t : List ℕ) → x.variable_count ≤ 256 → NarrowReading (change_read x t)
 unfolding change_read

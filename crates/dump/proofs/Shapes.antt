@@ -1,4 +1,6 @@
 -- A whole dump: the reader takes every dump of a proper trail and shows its values, and a text that it takes is the dump of one.
+use Rattle.construction.specs.Types.{Verdict}
+use Rattle.std.specs.Prelude.{Ok, Err}
 use mathlib.Core.Path.{◌≡◌, refl, sym, ◌∙◌, ap, subst}
 use mathlib.Core.Logic.{◌⊎◌, inl, inr}
 use mathlib.Core.List.{List, [], ◌∷◌, ◌++◌, append_assoc}
@@ -9,7 +11,6 @@ use native.Mathlib.Omega.{arith}
 use native.Mathlib.Decide.{ℕ_discrete, dec_lt}
 use Rattle.grammar.proofs.Cases.{clash}
 use Rattle.grammar.proofs.Bytes.{drop_past}
-use Rattle.construction.specs.declared.texts.Verdict.{Verdict}
 use Rattle.construction.proofs.Basics.{get_or_replicate_same}
 use Rattle.dump.specs.declared.{Header.Header, Progress.Progress, Readings.Readings}
 use Rattle.dump.specs.Binary.{over}
@@ -31,10 +32,10 @@ pub record Shape (n last : ℕ) (row : List ℕ) (cs : List Change) (t : List �
   pub some : n ≡ 0 → last ≡ 0
 
 abbrev pub shown_readings : ℕ → ℕ → List ℕ → Readings
-shown_readings n last values = record { verdict = Verdict.Accepted; count = n; last = last; values = values }
+shown_readings n last values = record { verdict = Ok tt; count = n; last = last; values = values }
 
 -- what was read is given
-given : (n last : ℕ) (values : List ℕ) (s : Progress) → s.verdict ≡ Verdict.Accepted → s.time ≡ last → s.shown ≡ values →
+given : (n last : ℕ) (values : List ℕ) (s : Progress) → s.verdict ≡ Ok tt → s.time ≡ last → s.shown ≡ values →
     readings_of s.verdict n s ≡ shown_readings n last values
 given n last values s a b c = rw (a, b, c)
 
@@ -70,28 +71,28 @@ shape_reads {n} {last} {row} {cs} {t} h step =
 
 -- ---- a text that is taken
 record Both (s next : Progress) : Type 0 where
-  first : s.verdict ≡ Verdict.Accepted
-  second : next.verdict ≡ Verdict.Accepted
+  first : s.verdict ≡ Ok tt
+  second : next.verdict ≡ Ok tt
   is : on_progress s.verdict s next ≡ next
 
-both : (s next : Progress) → (on_progress s.verdict s next).verdict ≡ Verdict.Accepted → Both s next
+both : (s next : Progress) → (on_progress s.verdict s next).verdict ≡ Ok tt → Both s next
 both s next = by s.verdict refl
   where
-    by : (v : Verdict) → s.verdict ≡ v → (on_progress v s next).verdict ≡ Verdict.Accepted → Both s next
-    by Verdict.Accepted e a = record { first = e; second = a; is = rw e }
-    by (Verdict.Refused why line) e a = clash (let z : Verdict.Refused why line ≡ Verdict.Accepted = sym e ∙ a in cc)
+    by : (v : Verdict) → s.verdict ≡ v → (on_progress v s next).verdict ≡ Ok tt → Both s next
+    by (Ok _) e a = record { first = e; second = a; is = rw e }
+    by (Err said) e a = clash (let z : Err said ≡ Ok tt = sym e ∙ a in cc)
 
 pub record Shaped (t : List ℕ) (r : Readings) : Type 0 where
   pub row : List ℕ
   pub changes : List Change
   pub shape : Shape r.count r.last row changes t
 
-read_accepted : (n : ℕ) (s : Progress) → (readings_of s.verdict n s).verdict ≡ Verdict.Accepted → s.verdict ≡ Verdict.Accepted
+read_accepted : (n : ℕ) (s : Progress) → (readings_of s.verdict n s).verdict ≡ Ok tt → s.verdict ≡ Ok tt
 read_accepted n s = by s.verdict refl
   where
-    by : (v : Verdict) → s.verdict ≡ v → (readings_of v n s).verdict ≡ Verdict.Accepted → s.verdict ≡ Verdict.Accepted
-    by Verdict.Accepted e a = e
-    by (Verdict.Refused why line) e a = clash (cc)
+    by : (v : Verdict) → s.verdict ≡ v → (readings_of v n s).verdict ≡ Ok tt → s.verdict ≡ Ok tt
+    by (Ok _) e a = e
+    by (Err said) e a = clash (cc)
 
 -- the values read at time 0 are what a reader has after them
 row_same : (n : ℕ) (row : List ℕ) → n ≤ 64 → length row ≡ 64 → ((w : ℕ) → 0 + n ≤ w → get_or row w 0 ≡ get_or no_values w 0) → start_row n row ≡ row
@@ -148,7 +149,7 @@ module _ (t : List ℕ) (step : ℕ) where
       last_none [] e z p = e
       last_none (c ∷ cs) e z p = absurd (omega (arith, p.0.within))
 
-  pub shape_there : (readings t step).verdict ≡ Verdict.Accepted → Shaped t (readings t step)
+  pub shape_there : (readings t step).verdict ≡ Ok tt → Shaped t (readings t step)
   unfolding readings progress
   shape_there a =
       let s₁ : Progress = begun hd in
@@ -161,14 +162,14 @@ module _ (t : List ℕ) (step : ℕ) where
       let there = header_there t b₁.first in
       let start : s₁ ≡ print_loop hd.at (n + 6) 0 0 no_values no_values = ap begun there.is in
       let st = starts_there step t n 0 hd.at (n + 6) no_values (omega (arith, there.few))
-      (subst (λ (s : Progress). (starts_from step t n s).verdict ≡ Verdict.Accepted) start b₁.second) in
+      (subst (λ (s : Progress). (starts_from step t n s).verdict ≡ Ok tt) start b₁.second) in
       let s₅ : Progress = starts_from step t n (print_loop hd.at (n + 6) 0 0 no_values no_values) in
       let e₅ : s₃ ≡ s₅ = b₁.is ∙ ap (λ (s : Progress). starts_from step t n s) start in
       let time : s₅.time ≡ 0 = ap (λ (p : Progress). p.time) st.is in
       let tr = trail_there step t n (length t) s₅ (omega arith) (omega arith)
-      (subst (λ (s : Progress). (lines_from step t n (length t) s).verdict ≡ Verdict.Accepted) e₅ b₂.second) in
+      (subst (λ (s : Progress). (lines_from step t n (length t) s).verdict ≡ Ok tt) e₅ b₂.second) in
       let r : Progress = lines_from step t n (length t) s₅ in
       let er : progress step t ≡ r = b₂.is ∙ ap (λ (s : Progress). lines_from step t n (length t) s) e₅ in
-      let v : r.verdict ≡ Verdict.Accepted = subst (λ (s : Progress). s.verdict ≡ Verdict.Accepted) er a₄ in
+      let v : r.verdict ≡ Ok tt = subst (λ (s : Progress). s.verdict ≡ Ok tt) er a₄ in
       subst (λ (x : Readings). Shaped t x) (sym (given n r.time r.shown r v refl refl) ∙ ap (λ (s : Progress). readings_of s.verdict n s) (sym er))
       (shaped there.few there.front.whole st r tr)

@@ -1,4 +1,5 @@
 -- The values at time 0: what is written reads back, and values that were taken stand there as they are written.
+use Rattle.std.specs.Prelude.{Ok}
 use mathlib.Core.Bool.{Bool, true, false}
 use mathlib.Core.Path.{◌≡◌, refl, sym, ◌∙◌, ap}
 use mathlib.Core.List.{List, ◌++◌, append_assoc}
@@ -11,7 +12,6 @@ use native.Mathlib.Nat.{add-zero}
 use borrow.Author.Tests.{le-leb, eq-eqb, eqb-true}
 use Rattle.grammar.proofs.Cases.{on_test, clash}
 use Rattle.grammar.proofs.Bytes.{drop_past}
-use Rattle.construction.specs.declared.texts.Verdict.{Verdict}
 use Rattle.construction.proofs.Basics.{get_or_replicate_same}
 use Rattle.dump.specs.declared.{DumpLine.DumpLine, Progress.Progress}
 use Rattle.dump.specs.Binary.{over}
@@ -103,10 +103,10 @@ module _ (step : ℕ) (t : List ℕ) where
     pub size : length row ≡ length values
 
   abbrev Accepts : ℕ → ℕ → ℕ → ℕ → List ℕ → Progress → Type 0
-  Accepts m v at line values s = s.verdict ≡ Verdict.Accepted → StartsThere m v at line values s
+  Accepts m v at line values s = s.verdict ≡ Ok tt → StartsThere m v at line values s
 
   pub starts_there :
-      (m v at line : ℕ) (values : List ℕ) → v + m ≤ length values → (starts_from step t m (print_loop at line 0 v values values)).verdict ≡ Verdict.Accepted →
+      (m v at line : ℕ) (values : List ℕ) → v + m ≤ length values → (starts_from step t m (print_loop at line 0 v values values)).verdict ≡ Ok tt →
       StartsThere m v at line values (starts_from step t m (print_loop at line 0 v values values))
   unfolding starts_from values_text
   starts_there zero v at line values fits = λ a.
@@ -159,7 +159,7 @@ module _ (step : ℕ) (t : List ℕ) where
       by :
           (z : DumpLine) → line_at t at ≡ z →
           ((x i : ℕ) → v + 1 + m ≤ length (set values v x) → (starts_from step t m (print_loop i (line + 1) 0 (v + 1) (set values v x) (set values v x))).verdict ≡
-          Verdict.Accepted →
+          (Ok tt) →
           StartsThere m (v + 1) i (line + 1) (set values v x) (starts_from step t m (print_loop i (line + 1) 0 (v + 1) (set values v x) (set values v x)))) →
           Accepts (suc m) v at line values (next_start step (print_loop at line 0 v values values) z (λ r. starts_from step t m r))
       by (DumpLine.Value u x i) e more =
@@ -170,7 +170,7 @@ module _ (step : ℕ) (t : List ℕ) where
           taken :
               (u x i : ℕ) → line_at t at ≡ DumpLine.Value u x i → u ≡ v →
               ((x i : ℕ) → v + 1 + m ≤ length (set values v x) → (starts_from step t m (print_loop i (line + 1) 0 (v + 1) (set values v x) (set values v x))).verdict
-              ≡ Verdict.Accepted →
+              ≡ Ok tt →
               StartsThere m (v + 1) i (line + 1) (set values v x) (starts_from step t m (print_loop i (line + 1) 0 (v + 1) (set values v x) (set values v x)))) →
               Accepts (suc m) v at line values (starts_from step t m (with_value step (print_loop at line 0 v values values) u x i))
           taken u x i e q more =

@@ -1,4 +1,5 @@
 -- The times and values of a dump as a trail of changes: what is written of a trail reads back, and lines that were taken are those of a trail.
+use Rattle.std.specs.Prelude.{Ok}
 use mathlib.Core.Bool.{Bool, true, false, cond, not, ◌&&◌}
 use mathlib.Core.Path.{◌≡◌, refl, sym, ◌∙◌, ap, subst}
 use mathlib.Core.Logic.{◌⊎◌, inl, inr, ⊎_elim}
@@ -11,7 +12,6 @@ use native.Mathlib.Decide.{dec_lt}
 use borrow.Author.Tests.{lt-ltb, le-ltb, ltb-true, ltb-false, le-leb, leb-true, ne_eqb, eqb-false, not-true}
 use Rattle.grammar.proofs.Cases.{on_test, and_true, clash}
 use Rattle.grammar.proofs.Bytes.{drop_past}
-use Rattle.construction.specs.declared.texts.Verdict.{Verdict}
 use Rattle.dump.specs.declared.{DumpLine.DumpLine, Progress.Progress}
 use Rattle.dump.specs.Binary.{over}
 use Rattle.dump.specs.Dump.{time_text, value_text, Change, change, time_above, changes_text, told_after, lines_text}
@@ -38,7 +38,7 @@ shown_after step shown (c ∷ cs) = shown_after step (shown_at step c.time shown
 -- a reading that goes on
 abbrev pub print_loop : ℕ → ℕ → ℕ → ℕ → List ℕ → List ℕ → Progress
 print_loop at line time next values shown =
-    record { verdict = Verdict.Accepted; at = at; line = line; time = time; next = next; values = values; shown = shown }
+    record { verdict = Ok tt; at = at; line = line; time = time; next = next; values = values; shown = shown }
 
 -- ---- tests
 takes_time_lem : (s : Progress) (k : ℕ) → 0 < s.next → s.time < k → k ≤ 1000000000000000000 → takes_time s k ≡ true
@@ -151,7 +151,7 @@ module _ (step : ℕ) (t : List ℕ) (n : ℕ) where
 
   -- the reading of a trail: accepted, its last time, and what is shown
   pub record TrailRead (last : ℕ) (shown : List ℕ) (s : Progress) : Type 0 where
-    pub verdict : s.verdict ≡ Verdict.Accepted
+    pub verdict : s.verdict ≡ Ok tt
     pub time : s.time ≡ last
     pub shows : s.shown ≡ shown
 
@@ -324,29 +324,29 @@ trail_time t n s r k i e taken h =
 
 module _ (step : ℕ) (t : List ℕ) (n : ℕ) where
   pub trail_there :
-      (f : ℕ) (s : Progress) → length t - s.at ≤ f → s.time ≤ 1000000000000000000 → (lines_from step t n f s).verdict ≡ Verdict.Accepted →
+      (f : ℕ) (s : Progress) → length t - s.at ≤ f → s.time ≤ 1000000000000000000 → (lines_from step t n f s).verdict ≡ Ok tt →
       Trail t n s (lines_from step t n f s)
   unfolding lines_from
   trail_there zero s fuel bounded = λ a. trail_none t n s (omega arith)
   trail_there (suc f) s fuel bounded =
-      on_test (λ (z : Progress). z.verdict ≡ Verdict.Accepted → Trail t n s z) (ltb s.at (length t))
+      on_test (λ (z : Progress). z.verdict ≡ Ok tt → Trail t n s z) (ltb s.at (length t))
       (λ h. line (line_at t s.at) refl (λ x l b. trail_there f x l b))
       (λ h _. trail_none t n s (ltb-false s.at (length t) h))
     where
       line :
           (z : DumpLine) → line_at t s.at ≡ z →
-          ((x : Progress) → length t - x.at ≤ f → x.time ≤ 1000000000000000000 → (lines_from step t n f x).verdict ≡ Verdict.Accepted →
+          ((x : Progress) → length t - x.at ≤ f → x.time ≤ 1000000000000000000 → (lines_from step t n f x).verdict ≡ Ok tt →
           Trail t n x (lines_from step t n f x))
           →
-          (next_line step n s z (λ y. lines_from step t n f y)).verdict ≡ Verdict.Accepted → Trail t n s (next_line step n s z (λ y. lines_from step t n f y))
+          (next_line step n s z (λ y. lines_from step t n f y)).verdict ≡ Ok tt → Trail t n s (next_line step n s z (λ y. lines_from step t n f y))
       line (DumpLine.Time k i) e more =
           let l = (time_there t s.at k i e).later in
-          on_test (λ (z : Progress). z.verdict ≡ Verdict.Accepted → Trail t n s z) (takes_time s k)
+          on_test (λ (z : Progress). z.verdict ≡ Ok tt → Trail t n s z) (takes_time s k)
           (λ w a. trail_time t n s (lines_from step t n f (with_time s k i)) k i e w (more (with_time s k i) (omega arith) (time_taken s k w).bounded a))
           (λ w a. clash (cc))
       line (DumpLine.Value v x i) e more =
           let l = (value_there t s.at v x i e).later in
-          on_test (λ (z : Progress). z.verdict ≡ Verdict.Accepted → Trail t n s z) (takes_value n s v x)
+          on_test (λ (z : Progress). z.verdict ≡ Ok tt → Trail t n s z) (takes_value n s v x)
           (λ w a. trail_value t n step s (lines_from step t n f (with_value step s v x i)) v x i e w bounded
           (more (with_value step s v x i) (omega arith) bounded a))
           (λ w a. clash (cc))

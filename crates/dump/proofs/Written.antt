@@ -6,8 +6,8 @@ use lib.ListN.{length, drop}
 use lib.Dec.{leb}
 use borrow.Author.Tests.{le-leb, lt-leb, leb-false}
 use Rattle.grammar.proofs.Cases.{on_test, clash}
-use Rattle.construction.specs.declared.texts.Written.{Written}
 use Rattle.construction.specs.Answers.{Fields, bytes, fields, refused_with, written_fields}
+use Rattle.construction.specs.Types.{Written}
 use Rattle.dump.specs.Dump.{written, written_into}
 
 module _ (text b : List ℕ) where

@@ -1,11 +1,11 @@
 -- The value change dump of a history (document 02, order 7), line by line and byte by byte. A history is the number n of variables, the row of their
 -- values at time 0 and the rows after 1, 2, .. accepted steps.
-use Rattle.std.specs.Prelude.{ℕ, zero, suc, ◌+◌, cond, List, [], ◌∷◌, ◌++◌, length, get_or, drop, eqb, leb, ltb}
+use Rattle.std.specs.Prelude.{ℕ, zero, suc, ◌+◌, cond, List, [], ◌∷◌, ◌++◌, length, get_or, drop, eqb, leb, ltb, Ok, Err}
 use Prim.Native.String.{String}
 use Rattle.grammar.specs.Writing.{decimal, field_text}
-use Rattle.construction.specs.declared.texts.Written.{Written}
 use Rattle.construction.specs.declared.answers.Refusal.TheVariants.{ShortBuffer}
 use Rattle.construction.specs.Answers.{bytes}
+use Rattle.construction.specs.Types.{Written}
 use Rattle.dump.specs.Binary.{binary}
 
 -- a line of these characters
@@ -100,7 +100,7 @@ dump n row rows = opening_text n row ++ lines_text 0 (length rows) (changes_from
 
 -- 'A lent buffer too small is refused with 11 and keeps its bytes': the answer, and the buffer: the dump, then the bytes past it as they were
 unfoldable pub written : List ℕ → List ℕ → Written
-written text b = cond (leb (length text) (length b)) (Written.Bytes (length text)) (Written.Refused ShortBuffer)
+written text b = cond (leb (length text) (length b)) (Ok (length text)) (Err ShortBuffer)
 
 unfoldable pub written_into : List ℕ → List ℕ → List ℕ
 written_into text b = cond (leb (length text) (length b)) (text ++ drop (length text) b) b

@@ -1,7 +1,6 @@
 -- Writer and reader are inverse (document 02, order 7: 'From the dump it gives the looked value of every variable after every step; a step past the last
 -- gets the last values').
-use Rattle.std.specs.Prelude.{ℕ, zero, suc, ◌≤◌, ◌<◌, min, ◌≡◌, List, [], ◌∷◌, length, get_or}
-use Rattle.construction.specs.declared.texts.Verdict.{Verdict}
+use Rattle.std.specs.Prelude.{ℕ, zero, suc, ◌≤◌, ◌<◌, min, ◌≡◌, List, [], ◌∷◌, length, get_or, Ok}
 use Rattle.dump.specs.declared.Readings.{Readings}
 use Rattle.dump.specs.Dump.{dump}
 use Rattle.dump.specs.Reading.{readings}
@@ -20,7 +19,7 @@ row_after row rows step = get_or (row ∷ rows) (min step (length rows)) []
 
 -- what a reader gives of a history for a step: how many variables, the last time, and every value; 'values past n .. are 0'
 pub record Shows (n : ℕ) (row : List ℕ) (rows : List (List ℕ)) (step : ℕ) (r : Readings) : Type 0 where
-  pub verdict : r.verdict ≡ Verdict.Accepted
+  pub verdict : r.verdict ≡ Ok tt
   pub count : r.count ≡ n
   pub last : r.last ≡ length rows
   pub values : (v : ℕ) → v < n → get_or r.values v 0 ≡ get_or (row_after row rows step) v 0

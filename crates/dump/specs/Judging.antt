@@ -1,8 +1,7 @@
 -- How a dump is judged (document 02, order 7): 'the reader refuses with 2 and its line the first line that breaks these forms or their order'. A missing line
 -- breaks them too, and is numbered one past the last, as in a card text.
-use Rattle.std.specs.Prelude.{ℕ, suc, ◌+◌, ◌≤◌, ◌<◌, ◌≡◌, true, false, ◌≢◌, List, [], length}
+use Rattle.std.specs.Prelude.{ℕ, suc, ◌+◌, ◌≤◌, ◌<◌, ◌≡◌, true, false, ◌≢◌, List, [], length, Ok}
 use Rattle.grammar.specs.Reading.{has_word}
-use Rattle.construction.specs.declared.texts.Verdict.{Verdict}
 use Rattle.construction.specs.Answers.{Fields, fields}
 use Rattle.construction.specs.TextJudging.{refused_in}
 use Rattle.dump.specs.declared.{DumpLine.DumpLine, Progress.Progress}
@@ -23,7 +22,7 @@ pub data NextLine : Type 0 where
 -- what is read after `#0`, for the step that is asked for
 abbrev pub start_at : ℕ → ℕ → Progress
 start_at n at =
-    record { verdict = Verdict.Accepted; at = at; line = n + 6; time = 0; next = 0; values = no_values; shown = no_values }
+    record { verdict = Ok tt; at = at; line = n + 6; time = 0; next = 0; values = no_values; shown = no_values }
 
 -- every line before it is good
 pub data GoodUntil (step : ℕ) (t : List ℕ) : NextLine → Type 0 where

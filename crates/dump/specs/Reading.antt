@@ -1,10 +1,10 @@
 -- The reader of a dump (document 02, order 7): from the bytes to the number of variables, the last time and the values after a step, or refusal 2 with
 -- the line of the first line that breaks the forms or their order. It goes through the text once.
-use Rattle.std.specs.Prelude.{ℕ, zero, suc, ◌+◌, ◌-◌, Bool, cond, not, ◌&&◌, List, length, get_or, set, replicate, eqb, leb, ltb, Option, Some, None}
+use Rattle.std.specs.Prelude.{ℕ, zero, suc, ◌+◌, ◌-◌, Bool, cond, not, ◌&&◌, List, length, get_or, set, replicate, eqb, leb, ltb, Ok, Err, Option, Some, None}
 use Rattle.grammar.specs.declared.Found.{Found}
 use Rattle.grammar.specs.Reading.{has_byte, has_word, field}
-use Rattle.construction.specs.declared.texts.Verdict.{Verdict}
 use Rattle.construction.specs.declared.answers.Refusal.TheVariants.{Malformed}
+use Rattle.construction.specs.Types.{Verdict, told_at}
 use Rattle.dump.specs.declared.{DumpLine.DumpLine, Header.Header, Progress.Progress, Readings.Readings}
 use Rattle.dump.specs.Binary.{over, bits_at}
 use Rattle.dump.specs.Dump.{timescale_line, scope_line, var_line, upscope_line, definitions_line, time_text}
@@ -31,17 +31,17 @@ line_at t at =
 
 -- ---- the header: each of its lines is one that the writer writes there
 abbrev pub header_start : Header
-header_start = record { verdict = Verdict.Accepted; count = 0; at = 0; line = 1 }
+header_start = record { verdict = Ok tt; count = 0; at = 0; line = 1 }
 
 abbrev pub header_refused : ℕ → Header
-header_refused line = record { verdict = Verdict.Refused Malformed line; count = 0; at = 0; line = line }
+header_refused line = record { verdict = Err (told_at Malformed line); count = 0; at = 0; line = line }
 
 abbrev pub on_header : Verdict → Header → Header → Header
-on_header Verdict.Accepted h next = next
-on_header (Verdict.Refused why line) h next = h
+on_header (Ok _) h next = next
+on_header (Err e) h next = h
 
 abbrev pub past_word : Header → List ℕ → Header
-past_word h w = record { verdict = Verdict.Accepted; count = h.count; at = h.at + length w; line = h.line + 1 }
+past_word h w = record { verdict = Ok tt; count = h.count; at = h.at + length w; line = h.line + 1 }
 
 -- a line that is these bytes
 unfoldable pub then_word : List ℕ → List ℕ → Header → Header
@@ -50,7 +50,7 @@ then_word t w h = on_header h.verdict h (cond (has_word t h.at w) (past_word h w
 -- the variables, 0 to 64 of them: `left` more are allowed
 abbrev pub with_var : Header → Header
 with_var h =
-    record { verdict = Verdict.Accepted; count = h.count + 1; at = h.at + length (var_line h.count); line = h.line + 1 }
+    record { verdict = Ok tt; count = h.count + 1; at = h.at + length (var_line h.count); line = h.line + 1 }
 
 unfoldable pub vars_from : List ℕ → ℕ → Header → Header
 vars_from t zero h = h
@@ -71,7 +71,7 @@ no_values = replicate 64 0
 
 abbrev pub progress_refused : ℕ → Progress
 progress_refused line =
-    record { verdict = Verdict.Refused Malformed line; at = 0; line = line; time = 0; next = 0; values = no_values; shown = no_values }
+    record { verdict = Err (told_at Malformed line); at = 0; line = line; time = 0; next = 0; values = no_values; shown = no_values }
 
 -- after `#0`, or refused with the header
 abbrev pub begun : Header → Progress
@@ -84,7 +84,7 @@ shown_at step time shown v x = cond (leb time step) (set shown v x) shown
 abbrev pub with_value : ℕ → Progress → ℕ → ℕ → ℕ → Progress
 with_value step s v x i =
     record {
-      verdict = Verdict.Accepted;
+      verdict = Ok tt;
       at = i;
       line = s.line + 1;
       time = s.time;
@@ -97,7 +97,7 @@ with_value step s v x i =
 abbrev pub with_time : Progress → ℕ → ℕ → Progress
 with_time s k i =
     record {
-      verdict = Verdict.Accepted;
+      verdict = Ok tt;
       at = i;
       line = s.line + 1;
       time = k;
@@ -137,8 +137,8 @@ lines_from step t n (suc fuel) s =
 
 -- ---- the whole
 abbrev pub on_progress : Verdict → Progress → Progress → Progress
-on_progress Verdict.Accepted s next = next
-on_progress (Verdict.Refused why line) s next = s
+on_progress (Ok _) s next = next
+on_progress (Err e) s next = s
 
 abbrev pub then_starts : ℕ → List ℕ → ℕ → Progress → Progress
 then_starts step t n s = on_progress s.verdict s (starts_from step t n s)
@@ -151,9 +151,9 @@ progress step t = let h = read_header t in then_lines step t h.count (then_start
 
 -- 'values past n, and all on refusal, are 0', and so are n and the last time on refusal
 abbrev pub readings_of : Verdict → ℕ → Progress → Readings
-readings_of Verdict.Accepted n s = record { verdict = Verdict.Accepted; count = n; last = s.time; values = s.shown }
-readings_of (Verdict.Refused why line) n s =
-    record { verdict = Verdict.Refused why line; count = 0; last = 0; values = no_values }
+readings_of (Ok _) n s = record { verdict = Ok tt; count = n; last = s.time; values = s.shown }
+readings_of (Err e) n s =
+    record { verdict = Err e; count = 0; last = 0; values = no_values }
 
 -- what the reader gives of a dump for a step: 'a step past the last gets the last values'
 unfoldable pub readings : List ℕ → ℕ → Readings

@@ -2,7 +2,7 @@
 // proofs/; there is no function. It rests on the crates grammar (decimals, words at a place) and construction (the card and its runs).
 #![tactic(auto)]
 
-use construction::texts::Verdict;
+use construction::texts::RefusedAt;
 
 // A line after the header: a time, a value of a variable, each with the place past the line, or neither. An `Option` of a `Found` around the first two is no
 // plainer: every rule and every theorem on a line (specs/Reading, specs/Judging) takes the three cases side by side, and would take them in two steps.
@@ -23,7 +23,7 @@ pub enum DumpLine {
 // What is read of the header so far: the variables, the place of the next line and its number.
 #[derive(Clone, Copy)]
 pub struct Header {
-    pub verdict: Verdict,
+    pub verdict: Result<(), RefusedAt>,
     pub count: u8,
     pub at: usize,
     pub line: u64,
@@ -33,7 +33,7 @@ pub struct Header {
 // the values at this time, and those after the step that was asked for.
 #[derive(Clone, Copy)]
 pub struct Progress {
-    pub verdict: Verdict,
+    pub verdict: Result<(), RefusedAt>,
     pub at: usize,
     pub line: u64,
     pub time: u64,
@@ -45,7 +45,7 @@ pub struct Progress {
 // What the reader gives: how many variables there are, the last time, and the values after the step that was asked for.
 #[derive(Clone, Copy)]
 pub struct Readings {
-    pub verdict: Verdict,
+    pub verdict: Result<(), RefusedAt>,
     pub count: u8,
     pub last: u64,
     pub values: [u32; 64],

@@ -1,4 +1,5 @@
 -- What each test of the reader comes to, by what the code has found.
+use Rattle.std.specs.Prelude.{Ok, Err}
 use mathlib.Core.Bool.{Bool, true, false, cond, not, ◌&&◌}
 use mathlib.Core.Path.{◌≡◌, refl, sym, ◌∙◌, ap}
 use mathlib.Core.List.{List, [], ◌∷◌, ◌++◌}
@@ -17,9 +18,9 @@ use Rattle.grammar.specs.Writing.{decimal}
 use Rattle.grammar.proofs.Decimals.{decimal_one, decimal_more}
 use Rattle.grammar.proofs.Bytes.{byte_true, word_within}
 use Rattle.grammar.proofs.Cases.{on_test, and_true}
-use Rattle.construction.specs.declared.texts.Verdict.{Verdict}
 use Rattle.construction.specs.Answers.{bytes}
-use Rattle.construction.specs.declared.answers.Refusal.{Refusal}
+use Rattle.construction.specs.Types.{Verdict}
+use Rattle.construction.specs.declared.texts.RefusedAt.{RefusedAt}
 use Rattle.dump.specs.declared.{DumpLine.DumpLine, Header.Header}
 use Rattle.dump.specs.Binary.{over, is_bit, bits_at}
 use Rattle.dump.specs.Dump.{line_of, timescale_line, scope_line, upscope_line, definitions_line, code_of, var_line, time_text}
@@ -44,16 +45,16 @@ module _ (t : List ℕ) (at : ℕ) {b : Bool} (e : b ≡ has_byte t at 35) where
 
 -- ---- the header
 module _ (t w : List ℕ) (h : Header) where
-  pub word_refused : {why : Refusal} {line : ℕ} → h.verdict ≡ Verdict.Refused why line → h ≡ then_word t w h
+  pub word_refused : {refused : RefusedAt} → h.verdict ≡ Err refused → h ≡ then_word t w h
   unfolding then_word
   word_refused e = rw e
 
-  module _ (a : h.verdict ≡ Verdict.Accepted) {b : Bool} (e : b ≡ has_word t h.at w) where
+  module _ (a : h.verdict ≡ Ok tt) {b : Bool} (e : b ≡ has_word t h.at w) where
     pub word_other : {r : Header} → not b ≡ true → r ≡ header_refused h.line → r ≡ then_word t w h
     unfolding then_word
     word_other n f = rw (a, ← e, not-true b n) f
 
-    pub word_there : not b ≡ false → record { verdict = Verdict.Accepted; count = h.count; at = h.at + length w; line = h.line + 1 } ≡ then_word t w h
+    pub word_there : not b ≡ false → record { verdict = Ok tt; count = h.count; at = h.at + length w; line = h.line + 1 } ≡ then_word t w h
     unfolding then_word
     word_there n = rw (a, ← e, not-false b n)
 
@@ -160,7 +161,7 @@ var_long v = omega (arith, length-append (decimal v) (line_of " $end"))
 
 -- ---- the variables
 abbrev pub header_at : ℕ → ℕ → ℕ → Header
-header_at n at line = record { verdict = Verdict.Accepted; count = n; at = at; line = line }
+header_at n at line = record { verdict = Ok tt; count = n; at = at; line = line }
 
 module _ (t : List ℕ) (n at line : ℕ) (few : n < 64) {b : Bool} (e : b ≡ has_word t at (var_line n)) where
   left_more : (m : ℕ) → vars_from t (suc m) (header_at n at line) ≡ cond b (vars_from t m (with_var (header_at n at line))) (header_at n at line)
@@ -187,11 +188,11 @@ pub vars_end : (t : List ℕ) (n : ℕ) (h : Header) → 64 ≤ n → vars_from 
 unfolding vars_from
 vars_end t n h l = let k : 64 - n ≡ 0 = omega arith in rw k
 
-pub vars_refused : (t : List ℕ) (h : Header) {why : Refusal} {line : ℕ} → h.verdict ≡ Verdict.Refused why line → h ≡ then_vars t h
+pub vars_refused : (t : List ℕ) (h : Header) {refused : RefusedAt} → h.verdict ≡ Err refused → h ≡ then_vars t h
 unfolding then_vars
 vars_refused t h e = rw e
 
-pub vars_done : (t : List ℕ) (h r : Header) → h.verdict ≡ Verdict.Accepted → h.count ≡ 0 → vars_from t 64 (header_at 0 h.at h.line) ≡ r → r ≡ then_vars t h
+pub vars_done : (t : List ℕ) (h r : Header) → h.verdict ≡ Ok tt → h.count ≡ 0 → vars_from t 64 (header_at 0 h.at h.line) ≡ r → r ≡ then_vars t h
 unfolding then_vars
 vars_done t h r a z e =
     let same : header_at 0 h.at h.line ≡ h = λ i. record { verdict = sym a i; count = sym z i; at = h.at; line = h.line } in
@@ -203,8 +204,8 @@ unfolding then_word
 word_line t w h = by h.verdict
   where
     by : (v : Verdict) → (on_header v h (cond (has_word t h.at w) (past_word h w) (header_refused h.line))).line ≤ h.line + 1
-    by Verdict.Accepted = on_test (λ (k : Header). k.line ≤ h.line + 1) (has_word t h.at w) (λ _. omega arith) (λ _. omega arith)
-    by (Verdict.Refused why line) = omega arith
+    by (Ok _) = on_test (λ (k : Header). k.line ≤ h.line + 1) (has_word t h.at w) (λ _. omega arith) (λ _. omega arith)
+    by (Err e) = omega arith
 
 vars_line : (t : List ℕ) (m : ℕ) (h : Header) → (vars_from t m h).line ≤ h.line + m
 unfolding vars_from
@@ -218,8 +219,8 @@ unfolding then_vars
 then_vars_line t h = by h.verdict
   where
     by : (v : Verdict) → (on_header v h (vars_from t 64 h)).line ≤ h.line + 64
-    by Verdict.Accepted = vars_line t 64 h
-    by (Verdict.Refused why line) = omega arith
+    by (Ok _) = vars_line t 64 h
+    by (Err e) = omega arith
 
 pub word_lines : (t w : List ℕ) (h : Header) {r : Header} (n : ℕ) → r ≡ then_word t w h → h.line ≤ n → r.line ≤ n + 1
 word_lines t w h n e l = rw e (omega (arith, word_line t w h))
@@ -232,8 +233,8 @@ unfolding then_word
 word_count t w h z = by h.verdict
   where
     by : (v : Verdict) → (on_header v h (cond (has_word t h.at w) (past_word h w) (header_refused h.line))).count ≡ 0
-    by Verdict.Accepted = on_test (λ (k : Header). k.count ≡ 0) (has_word t h.at w) (λ _. z) (λ _. refl)
-    by (Verdict.Refused why line) = z
+    by (Ok _) = on_test (λ (k : Header). k.count ≡ 0) (has_word t h.at w) (λ _. z) (λ _. refl)
+    by (Err e) = z
 
 pub word_counts : (t w : List ℕ) (h : Header) {r : Header} → r ≡ then_word t w h → h.count ≡ 0 → r.count ≡ 0
 word_counts t w h e z = rw e (word_count t w h z)

@@ -1,4 +1,5 @@
 -- The loops of the reader: a turn takes a line or refuses it.
+use Rattle.std.specs.Prelude.{Ok}
 use mathlib.Core.Bool.{Bool, true, false, cond, not, ◌&&◌}
 use mathlib.Core.Path.{◌≡◌, refl, sym, ◌∙◌, ap}
 use mathlib.Core.List.{List}
@@ -8,7 +9,6 @@ use lib.ListN.{get_or, length}
 use native.Mathlib.Omega.{arith}
 use borrow.Author.Tests.{lt-ltb, eqb-true, ltb-true, not-true, not-false}
 use Rattle.grammar.proofs.Cases.{and_true, clash}
-use Rattle.construction.specs.declared.texts.Verdict.{Verdict}
 use Rattle.dump.specs.declared.{DumpLine.DumpLine, Progress.Progress}
 use Rattle.dump.specs.Reading.{line_at, progress_refused, next_start, starts_from, next_line, lines_from}
 use Rattle.dump.proofs.DumpLines.{time_there, value_there}
@@ -118,12 +118,12 @@ module _ (step : ℕ) (t : List ℕ) (n : ℕ) where
   lines_end_lem at s h = let k : length t - at ≡ 0 = omega arith in rw k
 
 -- a reading that goes on, by its parts
-pub print_loop_on : (s : Progress) → s.verdict ≡ Verdict.Accepted → s ≡ print_loop s.at s.line s.time s.next s.values s.shown
+pub print_loop_on : (s : Progress) → s.verdict ≡ Ok tt → s ≡ print_loop s.at s.line s.time s.next s.values s.shown
 print_loop_on s a = λ i. record { verdict = a i; at = s.at; line = s.line; time = s.time; next = s.next; values = s.values; shown = s.shown }
 
 -- where the loops begin, and what they come to
 pub starts_begun :
-    (step : ℕ) (t : List ℕ) (n : ℕ) (s : Progress) {x : Progress} → s.verdict ≡ Verdict.Accepted → s.next ≡ 0 →
+    (step : ℕ) (t : List ℕ) (n : ℕ) (s : Progress) {x : Progress} → s.verdict ≡ Ok tt → s.next ≡ 0 →
     starts_from step t n (print_loop s.at s.line s.time 0 s.values s.shown) ≡ x → starts_from step t n s ≡ x
 starts_begun step t n s {x} a z e =
     let same : s ≡ print_loop s.at s.line s.time 0 s.values s.shown =
@@ -131,6 +131,6 @@ starts_begun step t n s {x} a z e =
     ap (λ (y : Progress). starts_from step t n y) same ∙ e
 
 pub lines_begun :
-    (step : ℕ) (t : List ℕ) (n : ℕ) (s : Progress) {x : Progress} → s.verdict ≡ Verdict.Accepted →
+    (step : ℕ) (t : List ℕ) (n : ℕ) (s : Progress) {x : Progress} → s.verdict ≡ Ok tt →
     lines_from step t n (length t) (print_loop s.at s.line s.time s.next s.values s.shown) ≡ x → lines_from step t n (length t) s ≡ x
 lines_begun step t n s a e = ap (λ (y : Progress). lines_from step t n (length t) y) (print_loop_on s a) ∙ e

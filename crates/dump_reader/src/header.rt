@@ -2,12 +2,11 @@
 ghost use Rattle.std.specs.Prelude.{◌≡◌, ◌≤◌, ◌<◌, ◌+◌, length};
 ghost use Rattle.grammar.specs.Reading.{has_word};
 ghost use Rattle.grammar.specs.Writing.{decimal};
-ghost use Rattle.construction.specs.declared.texts.Verdict.{Verdict};
 ghost use Rattle.dump.specs.Dump.{var_line};
 ghost use Rattle.dump.specs.Reading.{header_refused, then_word, then_vars, read_header};
 
 use construction::answers::Refusal;
-use construction::texts::Verdict;
+use construction::texts::RefusedAt;
 use dump::Header;
 use grammar::reading::{has_byte, has_word};
 
@@ -15,10 +14,10 @@ fn header_refused(line: u64) -> Header
     ensures { result ≡ header_refused line }
 {
     Header {
-        verdict: Verdict::Refused {
+        verdict: Err(RefusedAt {
             refusal: Refusal::Malformed,
             line,
-        },
+        }),
         count: 0,
         at: 0,
         line,
@@ -30,8 +29,7 @@ fn then_word(text: &[u8], word: &[u8], header: Header) -> Header
     requires { (0 < length word.now) × (header.line ≤ 100) }
     ensures { result ≡ then_word text.now word.now header }
 {
-    let verdict = header.verdict;
-    let Verdict::Accepted = verdict else {
+    let Ok(()) = header.verdict else {
         return header;
     };
     let at = header.at;
@@ -40,7 +38,7 @@ fn then_word(text: &[u8], word: &[u8], header: Header) -> Header
         return header_refused(line);
     }
     Header {
-        verdict: Verdict::Accepted,
+        verdict: Ok(()),
         count: header.count,
         at: at + word.len(),
         line: line + 1,
@@ -94,8 +92,7 @@ fn then_vars(text: &[u8], header: Header) -> Header
     requires { (header.count ≡ 0) × (header.line ≤ 10) }
     ensures { result ≡ then_vars text.now header }
 {
-    let verdict = header.verdict;
-    let Verdict::Accepted = verdict else {
+    let Ok(()) = header.verdict else {
         return header;
     };
     let mut at = header.at;
@@ -103,7 +100,7 @@ fn then_vars(text: &[u8], header: Header) -> Header
     for count in 0..64 {
         if !has_var(text, at, count) {
             return Header {
-                verdict: Verdict::Accepted,
+                verdict: Ok(()),
                 count,
                 at,
                 line,
@@ -113,7 +110,7 @@ fn then_vars(text: &[u8], header: Header) -> Header
         line += 1;
     }
     Header {
-        verdict: Verdict::Accepted,
+        verdict: Ok(()),
         count: 64,
         at,
         line,
@@ -125,7 +122,7 @@ pub fn read_header(text: &[u8]) -> Header
     ensures { result ≡ read_header text.now }
 {
     let first = Header {
-        verdict: Verdict::Accepted,
+        verdict: Ok(()),
         count: 0,
         at: 0,
         line: 1,

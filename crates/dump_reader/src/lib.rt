@@ -10,14 +10,13 @@ pub mod rows; // rows.rt: the values in decimal, a line for each time
 mod taking; // taking.rt: whether a line may follow, and what is left once it is taken
 
 ghost use Rattle.std.specs.Prelude.{◌≡◌, ◌≤◌, length};
-ghost use Rattle.construction.specs.declared.texts.Verdict.{Verdict};
 ghost use Rattle.dump.specs.Reading.{no_values, progress_refused, begun as begun_as, starts_from, lines_from, readings};
 
 use crate::header::read_header;
 use crate::lines::line_at;
 use crate::taking::{next_after, past, put_value, show_value, starts, takes, time_after};
 use construction::answers::Refusal;
-use construction::texts::Verdict;
+use construction::texts::RefusedAt;
 use dump::{Header, Progress, Readings};
 
 // A dump that is gone through: the place of the next line, the time, and the values so far.
@@ -41,10 +40,10 @@ fn progress_refused(line: u64) -> Progress
     let values = [0u32; 64];
     let shown = [0u32; 64];
     Progress {
-        verdict: Verdict::Refused {
+        verdict: Err(RefusedAt {
             refusal: Refusal::Malformed,
             line,
-        },
+        }),
         at: 0,
         line,
         time: 0,
@@ -58,11 +57,10 @@ fn progress_refused(line: u64) -> Progress
 fn begun(header: Header) -> Progress
     ensures { result ≡ begun_as header }
 {
-    let verdict = header.verdict;
     let values = [0u32; 64];
     let shown = [0u32; 64];
     Progress {
-        verdict,
+        verdict: header.verdict,
         at: header.at,
         line: header.line,
         time: 0,
@@ -74,7 +72,7 @@ fn begun(header: Header) -> Progress
 
 // The values at time 0, as many as there are variables.
 fn read_starts(text: &[u8], count: u8, step: u64, start: Progress) -> Progress
-    requires { (count ≤ 64) × (start.line ≤ 200) × (start.next ≡ 0) × (start.verdict ≡ Verdict.Accepted) }
+    requires { (count ≤ 64) × (start.line ≤ 200) × (start.next ≡ 0) × (start.verdict ≡ Ok tt) }
     ensures { result ≡ starts_from step text.now count start }
 {
     let time = start.time;
@@ -93,7 +91,7 @@ fn read_starts(text: &[u8], count: u8, step: u64, start: Progress) -> Progress
         number += 1;
     }
     Progress {
-        verdict: Verdict::Accepted,
+        verdict: Ok(()),
         at,
         line: number,
         time,
@@ -105,7 +103,7 @@ fn read_starts(text: &[u8], count: u8, step: u64, start: Progress) -> Progress
 
 // The lines that are left.
 fn read_lines(text: &[u8], count: u8, step: u64, start: Progress) -> Progress
-    requires { (count ≤ 64) × (start.line ≤ start.at) × (start.verdict ≡ Verdict.Accepted) }
+    requires { (count ≤ 64) × (start.line ≤ start.at) × (start.verdict ≡ Ok tt) }
     ensures { result ≡ lines_from step text.now count (length text.now) start }
 {
     let mut values = start.values;
@@ -128,7 +126,7 @@ fn read_lines(text: &[u8], count: u8, step: u64, start: Progress) -> Progress
         next = next_after(line);
     }
     Progress {
-        verdict: Verdict::Accepted,
+        verdict: Ok(()),
         at,
         line: number,
         time,
@@ -138,12 +136,12 @@ fn read_lines(text: &[u8], count: u8, step: u64, start: Progress) -> Progress
     }
 }
 
-fn refused_readings(refusal: Refusal, line: u64) -> Readings
-    ensures { result ≡ record { verdict = Verdict.Refused refusal line; count = 0; last = 0; values = no_values } }
+fn refused_readings(refused: RefusedAt) -> Readings
+    ensures { result ≡ record { verdict = Err refused; count = 0; last = 0; values = no_values } }
 {
     let values = [0u32; 64];
     Readings {
-        verdict: Verdict::Refused { refusal, line },
+        verdict: Err(refused),
         count: 0,
         last: 0,
         values,
@@ -155,25 +153,22 @@ pub fn read(text: &[u8], step: u64) -> Readings
     ensures { result ≡ readings text.now step }
 {
     let header = read_header(text);
-    let verdict = header.verdict;
-    if let Verdict::Refused { refusal, line } = verdict {
-        return refused_readings(refusal, line);
+    if let Err(refused) = header.verdict {
+        return refused_readings(refused);
     }
     let count = header.count;
     let first = begun(header);
     let started = read_starts(text, count, step, first);
-    let verdict = started.verdict;
-    if let Verdict::Refused { refusal, line } = verdict {
-        return refused_readings(refusal, line);
+    if let Err(refused) = started.verdict {
+        return refused_readings(refused);
     }
     let whole = read_lines(text, count, step, started);
-    let verdict = whole.verdict;
-    if let Verdict::Refused { refusal, line } = verdict {
-        return refused_readings(refusal, line);
+    if let Err(refused) = whole.verdict {
+        return refused_readings(refused);
     }
     let values = whole.shown;
     Readings {
-        verdict,
+        verdict: whole.verdict,
         count,
         last: whole.time,
         values,

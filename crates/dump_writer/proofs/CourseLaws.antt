@@ -1,4 +1,5 @@
 -- The course of a session: what is left of it, command by command, and what is put of it into a buffer.
+use Rattle.std.specs.Prelude.{Ok, Err}
 use mathlib.Core.Bool.{Bool, true, false, cond, not}
 use mathlib.Core.Path.{◌≡◌, refl, sym, ◌∙◌, ap, subst}
 use mathlib.Core.List.{List, [], ◌∷◌, ◌++◌, append_assoc}
@@ -9,7 +10,7 @@ use native.Mathlib.Nat.{add-zero}
 use borrow.Author.Tests.{le-leb, lt-leb, not-true, not-false}
 use Rattle.grammar.specs.Writing.{place_after, largest, Put}
 use Rattle.grammar.proofs.Puts.{Room, Rest, rest_all, rest_step, rest_last, put_both, put_front, put_fits}
-use Rattle.construction.specs.declared.{card.Card.Card, answers.Answer.Answer, texts.Written.Written, texts.Opened.Opened}
+use Rattle.construction.specs.declared.{card.Card.Card, answers.Answer.Answer, texts.Opened.Opened}
 use Rattle.construction.specs.declared.answers.Refusal.TheVariants.{ShortBuffer}
 use Rattle.construction.specs.Answers.{is_refused}
 use Rattle.construction.specs.Opening.{fresh, opened}
@@ -321,9 +322,9 @@ module _ (text b : List ℕ) {d : List ℕ} (same : d ≡ b) {e y : List ℕ} {n
     fits : (length text ≤ length b) × (n ≡ length text)
     fits = (put_fits (length b) room p).0 (rw same at h)
 
-    pub written_bytes : Written.Bytes n ≡ written text b
+    pub written_bytes : Ok n ≡ written text b
     unfolding written
-    written_bytes = rw (le-leb _ _ fits.0) (ap (λ (m : ℕ). Written.Bytes m) fits.1)
+    written_bytes = rw (le-leb _ _ fits.0) (ap (λ (m : ℕ). Ok m) fits.1)
 
     pub text_there : {m : ℕ} {z : List ℕ} → Put d 0 text m z → z ≡ written_into text b
     unfolding written_into
@@ -333,7 +334,7 @@ module _ (text b : List ℕ) {d : List ℕ} (same : d ≡ b) {e y : List ℕ} {n
     long : length b < length text
     long = (put_fits (length b) room p).1 (rw same at h)
 
-    pub written_short : Written.Refused ShortBuffer ≡ written text b
+    pub written_short : Err ShortBuffer ≡ written text b
     unfolding written
     written_short = rw (lt-leb _ _ long)
 

@@ -1,11 +1,12 @@
 -- A session as a dump (document 02, order 7): the course of its commands from the opening, and what is put of it into a buffer, whole or in pieces.
 use Rattle.std.specs.Prelude.{ℕ, zero, suc, ◌+◌, ◌≤◌, ◌<◌, min, Bool, true, false, cond, not, ◌&&◌, List, [], ◌∷◌, ◌++◌, ◌≡◌, length, get_or, set, take, eqb}
 use Rattle.grammar.specs.Writing.{place_after, Put}
-use Rattle.construction.specs.declared.{cells.Gate.Gate, cells.Announcement.Announcement, cells.Record.Record, answers.Answer.Answer, texts.Written.Written}
+use Rattle.construction.specs.declared.{cells.Gate.Gate, cells.Announcement.Announcement, cells.Record.Record, answers.Answer.Answer}
 use Rattle.construction.specs.Answers.{is_refused}
 use Rattle.construction.specs.Cells.{open_record}
 use Rattle.construction.specs.Requests.{shown}
 use Rattle.construction.specs.Opening.{opened}
+use Rattle.construction.specs.Types.{Written}
 use Rattle.commands.specs.declared.{Command.Command, Parsed.Parsed}
 use Rattle.commands.specs.Commands.{commands}
 use Rattle.session.specs.declared.State.{State}

@@ -11,7 +11,6 @@ use crate::{Course, Piece};
 use answers::kinds::is_refused;
 use commands::Command;
 use construction::answers::{Answer, Refusal};
-use construction::texts::Written;
 use session::State;
 use session::running::advance;
 
@@ -181,14 +180,14 @@ fn put_dump(card: &[u8], calls: &[u8], buffer: &mut [u8]) -> usize
 }
 
 // The length of the dump is learnt from a buffer of no bytes; then the dump is put where it fits.
-pub fn write(card: &[u8], calls: &[u8], buffer: &mut [u8]) -> Written
+pub fn write(card: &[u8], calls: &[u8], buffer: &mut [u8]) -> Result<usize, Refusal>
     ensures { Writes card.now calls.now buffer.old result buffer.new }
 {
     let length = put_dump(card, calls, &mut buffer[..0]);
     if length <= buffer.len() {
         put_dump(card, calls, buffer);
-        Written::Bytes(length)
+        Ok(length)
     } else {
-        Written::Refused(Refusal::ShortBuffer)
+        Err(Refusal::ShortBuffer)
     }
 }

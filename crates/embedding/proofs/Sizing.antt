@@ -6,9 +6,9 @@ use mathlib.Core.Bool.{Bool, true, false, cond, ◌&&◌}
 use native.Mathlib.Omega.{arith}
 use lib.Dec.{ltb, leb}
 use borrow.Author.Tests.{le-leb, lt-leb, le-ltb, ltb-true, ltb-false}
+use Rattle.std.specs.Prelude.{None}
 use Rattle.block.specs.Layout.{process_count_in, room_in}
 use Rattle.loan.specs.Loans.{loan_words}
-use Rattle.wait_table.specs.declared.Wait.{Wait}
 use Rattle.wait_table.specs.Table.{wait_for}
 use Rattle.embedding.specs.Sizes.{loan_size, wait_number}
 
@@ -37,11 +37,11 @@ pub loan_size_lem : (b : List ℕ) → process_count_in b ≤ 8 → loan_words b
 loan_size_lem b h = inside (process_count_in b) (room_in b) h (omega arith)
 
 -- a number past 255 is in no table, and neither is 255
-wide : (p w : ℕ) → 8 < p → wait_for p w ≡ Wait.Outside
+wide : (p w : ℕ) → 8 < p → wait_for p w ≡ None
 unfolding wait_for
 wide p w h = rw (le-ltb p 9 (omega arith)) (not_both (ltb 0 p) _ _)
 
-laden : (p w : ℕ) → 32 < w → wait_for p w ≡ Wait.Outside
+laden : (p w : ℕ) → 32 < w → wait_for p w ≡ None
 unfolding wait_for
 laden p w h = rw (le-ltb w 33 (omega arith), and_false (ltb p 9)) (not_both (ltb 0 p) _ _)
 

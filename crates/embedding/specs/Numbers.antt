@@ -1,11 +1,12 @@
 -- What a program in another language is handed of an answer (document 01: 'If an answer is an enum, a definition gives this paper's number and values for
 -- every case of the enum'): a status, which is 0 where a request is taken and else the number of its refusal, and numbers that go into an array that
 -- the caller lends. A refusal and a value never stand in one place, so no number is both.
-use Rattle.std.specs.Prelude.{ℕ, Bool, cond, List, [], ◌∷◌, eqb}
-use Rattle.construction.specs.declared.{answers.Answer.Answer, accesses.Cell.Cell, answers.Report.Report, texts.Verdict.Verdict, texts.Written.Written}
+use Rattle.std.specs.Prelude.{ℕ, Bool, cond, List, [], ◌∷◌, eqb, Ok, Err}
+use Rattle.construction.specs.declared.{answers.Answer.Answer, accesses.Cell.Cell, answers.Report.Report}
 use Rattle.construction.specs.Answers.{number_of, output_numbers}
 use Rattle.construction.specs.Labels.{label_row}
 use Rattle.construction.specs.Reports.{swap_byte}
+use Rattle.construction.specs.Types.{Written, Verdict}
 use Rattle.codes.specs.Parts.{stores}
 use Rattle.lent_sweep.specs.declared.Counts.{Counts}
 
@@ -39,21 +40,21 @@ numbers_of (Answer.RefusedAt r line) = line ∷ []
 
 -- an opening: its line where the text is refused
 abbrev pub verdict_status : Verdict → ℕ
-verdict_status Verdict.Accepted = 0
-verdict_status (Verdict.Refused r line) = number_of r
+verdict_status (Ok _) = 0
+verdict_status (Err e) = number_of e.refusal
 
 abbrev pub verdict_numbers : Verdict → List ℕ
-verdict_numbers Verdict.Accepted = []
-verdict_numbers (Verdict.Refused r line) = line ∷ []
+verdict_numbers (Ok _) = []
+verdict_numbers (Err e) = e.line ∷ []
 
 -- the writer: the length of the text
 abbrev pub written_status : Written → ℕ
-written_status (Written.Bytes n) = 0
-written_status (Written.Refused r) = number_of r
+written_status (Ok n) = 0
+written_status (Err r) = number_of r
 
 abbrev pub written_numbers : Written → List ℕ
-written_numbers (Written.Bytes n) = n ∷ []
-written_numbers (Written.Refused r) = []
+written_numbers (Ok n) = n ∷ []
+written_numbers (Err r) = []
 
 -- a report (document 02, order 1) as it is printed: the letter of the label and the number of its line, the cell's letter and number (71 is G, 65 A, 82 R,
 -- 45 none; G and none have 0), the byte of the swap, the gate number last read, the word of noted variables and their count; nothing of no access

@@ -1,7 +1,6 @@
 -- How many words a caller lends, and the longest wait (document 02, orders 10 and 3).
-use Rattle.std.specs.Prelude.{ℕ, ◌*◌, cond, ◌&&◌, List, leb}
+use Rattle.std.specs.Prelude.{ℕ, ◌*◌, cond, ◌&&◌, List, leb, Option, unwrap_or}
 use Rattle.block.specs.Layout.{process_count_in, room_in}
-use Rattle.wait_table.specs.declared.Wait.{Wait}
 use Rattle.wait_table.specs.Table.{wait_for}
 
 -- the words of a block
@@ -13,9 +12,8 @@ unfoldable pub loan_size : ℕ → ℕ → ℕ
 loan_size p w = cond (leb p 8 && leb w 32) (3 * p * w) 0
 
 -- the longest wait, 0 where the table has none (no entry is 0)
-abbrev pub wait_number : Wait → ℕ
-wait_number (Wait.Steps n) = n
-wait_number Wait.Outside = 0
+abbrev pub wait_number : Option ℕ → ℕ
+wait_number wait = unwrap_or wait 0
 
 -- that of the card in a block
 unfoldable pub wait_in : List ℕ → ℕ

@@ -11,7 +11,7 @@ use answers::reports::swap_byte;
 use construction::accesses::{Cell, LabelRow};
 use construction::answers::{Answer, Refusal, Report};
 use construction::cells::{Words, Yield};
-use construction::texts::{Verdict, Written};
+use construction::texts::RefusedAt;
 use labels::label_row;
 use lent_steps::tracing::Told;
 use lent_sweep::Counts;
@@ -115,12 +115,12 @@ pub(crate) fn status_of(answer: Answer) -> u32
 }
 
 // The verdict on a card text.
-pub(crate) fn tell_verdict(out: &mut [u64], verdict: Verdict) -> u32
+pub(crate) fn tell_verdict(out: &mut [u64], verdict: Result<(), RefusedAt>) -> u32
     ensures { (result ≡ verdict_status verdict) × (out.new ≡ told out.old (verdict_numbers verdict)) }
 {
     match verdict {
-        Verdict::Accepted => 0,
-        Verdict::Refused { refusal, line } => {
+        Ok(()) => 0,
+        Err(RefusedAt { refusal, line }) => {
             put(out, 0, line);
             status(refusal)
         }
@@ -128,15 +128,15 @@ pub(crate) fn tell_verdict(out: &mut [u64], verdict: Verdict) -> u32
 }
 
 // The answer of the writer.
-pub(crate) fn tell_written(out: &mut [u64], written: Written) -> u32
+pub(crate) fn tell_written(out: &mut [u64], written: Result<usize, Refusal>) -> u32
     ensures { (result ≡ written_status written) × (out.new ≡ told out.old (written_numbers written)) }
 {
     match written {
-        Written::Bytes(length) => {
+        Ok(length) => {
             put(out, 0, length as u64);
             0
         }
-        Written::Refused(refusal) => status(refusal),
+        Err(refusal) => status(refusal),
     }
 }
 

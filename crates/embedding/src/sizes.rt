@@ -7,7 +7,7 @@ ghost use Rattle.embedding.specs.Sizes.{block_words, loan_size, wait_number, wai
 use block::cells::{process_count, room};
 use lent_card::narrow::narrow;
 use loan::dictionaries::loan_words;
-use wait_table::{Wait, wait_for};
+use wait_table::wait_for;
 
 // The words of a block.
 #[unsafe(no_mangle)]
@@ -39,21 +39,12 @@ pub extern "C" fn lace_loan_words(block: &[u64]) -> usize
     loan_words(block)
 }
 
-fn wait_number(wait: Wait) -> u64
-    ensures { result ≡ wait_number wait }
-{
-    match wait {
-        Wait::Steps(n) => n,
-        Wait::Outside => 0,
-    }
-}
-
 // The longest wait by p and w, 0 where the table has none.
 #[unsafe(no_mangle)]
 pub extern "C" fn lace_wait_for(processes: u32, weight: u32) -> u64
     ensures { result ≡ wait_number (wait_for processes weight) }
 {
-    wait_number(wait_for(narrow(processes), narrow(weight)))
+    wait_for(narrow(processes), narrow(weight)).unwrap_or(0)
 }
 
 // The longest wait on the card in a block.
@@ -61,5 +52,5 @@ pub extern "C" fn lace_wait_for(processes: u32, weight: u32) -> u64
 pub extern "C" fn lace_wait(block: &[u64]) -> u64
     ensures { result ≡ wait_in block.now }
 {
-    wait_number(wait_for(process_count(block), room(block)))
+    wait_for(process_count(block), room(block)).unwrap_or(0)
 }

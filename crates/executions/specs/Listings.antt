@@ -1,13 +1,15 @@
 -- The text of a listing (document 02, order 13), its refusals, and what is put into a lent buffer.
 use Rattle.std.specs.Prelude.{ℕ, zero, suc, ◌/◌, ◌%◌, ◌^◌, ◌≤◌, ◌<◌, ◌≡◌, Bool, true, cond, not, ◌&&◌, List, [], ◌∷◌, ◌++◌, length, get_or, drop, eqb, leb}
+use Rattle.std.specs.Prelude.{Ok, Err}
 use Rattle.grammar.specs.Writing.{decimal}
 use Rattle.executions.specs.declared.Request.{Request}
-use Rattle.construction.specs.declared.{card.Card.Card, answers.Answer.Answer, answers.Answered.Answered, texts.Written.Written}
+use Rattle.construction.specs.declared.{card.Card.Card, answers.Answer.Answer, answers.Answered.Answered}
 use Rattle.construction.specs.declared.answers.Refusal.TheVariants.{NoProgram, ShortBuffer, TooLarge}
 use Rattle.construction.specs.Parts.{contents_of}
 use Rattle.construction.specs.Answers.{answer_fields, fields_text, is_refused}
 use Rattle.construction.specs.Requests.{is_program, step}
 use Rattle.construction.specs.Opening.{fresh}
+use Rattle.construction.specs.Types.{Written}
 use Rattle.executions.specs.Schedules.{no_request, Execution, is_quiet, schedules}
 
 -- 'a line holds the process numbers run together, then each step's answer fields after commas'
@@ -81,16 +83,16 @@ is_listable o L = leb o.process_count 3 && (leb L 16 && leb L o.limit)
 unfoldable pub measured : Card → List Request → ℕ → Written
 measured c calls L =
     let o = reopened c in
-    cond (not (is_callable o calls)) (Written.Refused NoProgram)
-    (cond (not (is_listable o L)) (Written.Refused TooLarge) (Written.Bytes (length (listing_text o calls L))))
+    cond (not (is_callable o calls)) (Err NoProgram)
+    (cond (not (is_listable o L)) (Err TooLarge) (Ok (length (listing_text o calls L))))
 
 -- 6, then 17, then 11; and the length else
 unfoldable pub listed : Card → List Request → ℕ → List ℕ → Written
 listed c calls L b =
     let o = reopened c in
     let t = listing_text o calls L in
-    cond (not (is_callable o calls)) (Written.Refused NoProgram) (cond (not (is_listable o L)) (Written.Refused TooLarge)
-    (cond (leb (length t) (length b)) (Written.Bytes (length t)) (Written.Refused ShortBuffer)))
+    cond (not (is_callable o calls)) (Err NoProgram) (cond (not (is_listable o L)) (Err TooLarge)
+    (cond (leb (length t) (length b)) (Ok (length t)) (Err ShortBuffer)))
 
 -- the buffer then: the text and the bytes past it as they were; or all of them
 unfoldable pub listed_into : Card → List Request → ℕ → List ℕ → List ℕ

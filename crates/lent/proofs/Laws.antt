@@ -8,11 +8,12 @@ use lib.Dec.{leb}
 use lib.ListN.{length, get_or, set, length-set}
 use lib.Seq.{get_or-set_same, get_or-set_other, set-get_or}
 use borrow.Author.Tests.{le-leb, lt-leb, leb-false}
-use Rattle.construction.specs.declared.{cells.Record.Record, cells.SwappedCell.SwappedCell, cells.RowSwap.RowSwap}
-use Rattle.construction.specs.declared.cells.RowSwap.TheVariants.{Won, Refused}
+use Rattle.construction.specs.declared.{cells.Record.Record, cells.SwappedCell.SwappedCell}
+use Rattle.std.specs.Prelude.{Ok, Err}
 use Rattle.construction.specs.declared.answers.Refusal.TheVariants.{NoPlace}
 use Rattle.construction.specs.Cells.{open_record, same_record, swap_record}
 use Rattle.construction.specs.Answers.{fields, row_fields}
+use Rattle.construction.specs.Types.{RowSwap}
 use Rattle.lent.specs.Row.{tells, swap_at, row_answer, row_after, swap_fields}
 
 module _ (row : List Record) (place : ℕ) (expected new : Record) where
@@ -27,7 +28,7 @@ module _ (row : List Record) (place : ℕ) (expected new : Record) where
   after t s = cond t row (set row place (cond s new (get_or row place (open_record 0))))
 
   abbrev answer : Bool → Bool → RowSwap
-  answer t s = cond t (Refused NoPlace) (tells s)
+  answer t s = cond t (Err NoPlace) (tells s)
 
   -- every other record is kept
   others_at : (j : ℕ) (d : Record) → j ≢ place → (t s : Bool) → get_or (after t s) j d ≡ get_or row j d
@@ -48,22 +49,22 @@ module _ (row : List Record) (place : ℕ) (expected new : Record) where
   length_kept = length_at past same
 
   -- a lost or refused swap keeps all
-  kept_at : (t s : Bool) → answer t s ≢ Won → after t s ≡ row
+  kept_at : (t s : Bool) → answer t s ≢ Ok true → after t s ≡ row
   kept_at true s f = refl
   kept_at false true f = absurd (f refl)
   kept_at false false f = set-get_or row place (open_record 0)
 
-  pub all_kept : row_answer row place expected new ≢ Won → row_after row place expected new ≡ row
+  pub all_kept : row_answer row place expected new ≢ Ok true → row_after row place expected new ≡ row
   unfolding row_answer row_after swap_record
   all_kept = kept_at past same
 
   -- a won swap puts the new record there
-  new_at : (d : Record) (t s : Bool) → past ≡ t → answer t s ≡ Won → get_or (after t s) place d ≡ new
+  new_at : (d : Record) (t s : Bool) → past ≡ t → answer t s ≡ Ok true → get_or (after t s) place d ≡ new
   new_at d true s p q = cc
   new_at d false false p q = cc
   new_at d false true p q = get_or-set_same row place new d (leb-false _ _ p)
 
-  pub new_there : (d : Record) → row_answer row place expected new ≡ Won → get_or (row_after row place expected new) place d ≡ new
+  pub new_there : (d : Record) → row_answer row place expected new ≡ Ok true → get_or (row_after row place expected new) place d ≡ new
   unfolding row_answer row_after swap_record
   new_there d = new_at d past same refl
 
@@ -72,7 +73,7 @@ module _ (row : List Record) (place : ℕ) (expected new : Record) where
   Said r exit = (r ≡ row_answer row place expected new) × (exit ≡ row_after row place expected new) × (row_fields r ≡ swap_fields row place expected new)
 
   -- the guard's arm: no such place
-  pub refused : length row ≤ place → Said (Refused NoPlace) row
+  pub refused : length row ≤ place → Said (Err NoPlace) row
   unfolding row_answer row_after row_fields swap_fields
   refused h = (rw (le-leb _ _ h), rw (le-leb _ _ h), rw (le-leb _ _ h))
 
@@ -82,11 +83,10 @@ module _ (row : List Record) (place : ℕ) (expected new : Record) where
   which false = refl
 
   -- the code after it: the record at the place was swapped by value, and its outcome told
-  pub swapped : (s : SwappedCell Record) (r : RowSwap) → place < length row → s ≡ swap_at row place expected new → r ≡ tells s.won →
-      Said r (set row place s.cell)
+  pub swapped : (s : SwappedCell Record) → place < length row → s ≡ swap_at row place expected new → Said (Ok s.won) (set row place s.cell)
   unfolding row_answer row_after swap_fields
-  swapped s r h p q = (
-    rw (lt-leb _ _ h) (q ∙ ap (λ (x : SwappedCell Record). tells x.won) p),
+  swapped s h p = (
+    rw (lt-leb _ _ h) (ap (λ (x : SwappedCell Record). tells x.won) p),
     rw (lt-leb _ _ h) (ap (λ (x : SwappedCell Record). set row place x.cell) p),
-    rw (lt-leb _ _ h) (ap row_fields q ∙ (which s.won ∙ ap (λ (x : SwappedCell Record). cond x.won (fields "won" []) (fields "lost" [])) p)),
+    rw (lt-leb _ _ h) (which s.won ∙ ap (λ (x : SwappedCell Record). cond x.won (fields "won" []) (fields "lost" [])) p),
   )

@@ -1,5 +1,6 @@
 -- THE REQUESTS ON A BLOCK ARE THOSE ON THE CARD THAT STANDS THERE (document 02, order 10), for every block, also one that is too short, and every loan: the
 -- block after a request holds the card after it, and the answers are the same.
+use Rattle.std.specs.Prelude.{Ok, Err}
 use Prim.Native.Nat.{ℕ, zero, suc, ◌+◌, ◌<◌, ◌≤◌}
 use mathlib.Core.Path.{◌≡◌, refl, sym, ◌∙◌, ap}
 use mathlib.Core.Bool.{Bool, true, false, cond, not, ◌&&◌, ◌||◌}
@@ -9,7 +10,7 @@ use lib.Dec.{leb, ltb}
 use lib.ListN.{length, set}
 use lib.Seq.{set-get_or}
 use borrow.Author.Tests.{ltb-true, leb-true}
-use Rattle.construction.specs.declared.{answers.Refusal.Refusal, answers.Answer.Answer, texts.Verdict.Verdict}
+use Rattle.construction.specs.declared.{answers.Refusal.Refusal, answers.Answer.Answer}
 use Rattle.construction.specs.declared.answers.Refusal.TheVariants.{NoProcess, NoProgram, Busy, NotBusy, NoPlace, NotAhead, Unsettled}
 use Rattle.construction.specs.Parts.{idle_control, no_operation, announcement_at, contents_of, local_at, with_own, with_local, with_revision}
 use Rattle.construction.specs.Machine.{holder_of}
@@ -22,6 +23,7 @@ use Rattle.codes.specs.Types.{Words, Gate, Control, Operation, Card, P1}
 use Rattle.codes.specs.Parts.{word_at}
 use Rattle.codes.specs.Codes.{byte, bit, control_words, operation_words}
 use Rattle.construction.specs.Cells.{FitsWords}
+use Rattle.construction.specs.Types.{Verdict}
 use Rattle.codes.proofs.Values.{FitsOperation}
 use Rattle.block.specs.Layout.{is_room, number_at, process_count_in, variable_count_in, program_count_in, gate_in, control_in, from_in, put_control, put_operation, put_exit}
 use Rattle.block.specs.Cards.{card_of, with_operation, with_exit, with_count}
@@ -160,10 +162,10 @@ module _ (b l : List ℕ) where
       ≡ cond (not t) (unchanged c NoProgram 0)
       (if_read v c (cond (not ahead) (unchanged c NotAhead 0) (cond unsettled (unchanged c Unsettled 0) (record { card = d; answer = Answer.Taken }))))
   changed_by false v ahead unsettled after d p x e = rw e
-  changed_by true (Verdict.Refused why line) ahead unsettled after d p x e = rw e
-  changed_by true Verdict.Accepted false unsettled after d p x e = rw e
-  changed_by true Verdict.Accepted true true after d p x e = rw e
-  changed_by true Verdict.Accepted true false after d p x e = let q = p refl in rw e (λ j. record { card = q j; answer = Answer.Taken })
+  changed_by true (Err said) ahead unsettled after d p x e = rw e
+  changed_by true (Ok _) false unsettled after d p x e = rw e
+  changed_by true (Ok _) true true after d p x e = rw e
+  changed_by true (Ok _) true false after d p x e = let q = p refl in rw e (λ j. record { card = q j; answer = Answer.Taken })
 
   pub change_is :
       RoomKept b l → (k from : ℕ) (t : List ℕ) →

@@ -7,12 +7,13 @@ use native.Mathlib.Omega.{arith}
 use lib.Dec.{leb, ltb}
 use lib.ListN.{length}
 use borrow.Author.Tests.{ltb-true, ltb-false, lt-ltb, le-ltb}
-use Rattle.construction.specs.declared.{answers.Refusal.Refusal, answers.Answer.Answer, texts.Verdict.Verdict, texts.ProgramReading.ProgramReading}
+use Rattle.construction.specs.declared.{answers.Refusal.Refusal, answers.Answer.Answer, texts.ProgramReading.ProgramReading}
 use Rattle.construction.specs.declared.answers.Refusal.TheVariants.{NoProcess, NoProgram, Busy, NotBusy, NoPlace}
 use Rattle.construction.specs.Machine.{holder_of}
 use Rattle.construction.specs.Requests.{is_idle, shown}
 use Rattle.construction.specs.Answers.{is_refused}
 use Rattle.construction.specs.Changes.{program_text, is_behind}
+use Rattle.construction.specs.Types.{Verdict}
 use Rattle.requests.specs.Judging.{judged, call_judged, exit_judged, change_judged}
 use Rattle.requests.proofs.Arrays.{in_room}
 use Rattle.codes.specs.Types.{Words, Gate, Announcement, Record, Control}

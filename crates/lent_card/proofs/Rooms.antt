@@ -1,4 +1,5 @@
 -- w of the block stays that of the opening text: no call, exit request or change alters it, or the text that the card was opened with.
+use Rattle.std.specs.Prelude.{Ok, Err}
 use Prim.Native.Nat.{ℕ, ◌+◌, ◌*◌, ◌≤◌, min}
 use mathlib.Core.Path.{◌≡◌, refl, sym, ◌∙◌, ap}
 use mathlib.Core.Logic.{inl}
@@ -7,7 +8,7 @@ use mathlib.Core.List.{List}
 use native.Mathlib.Omega.{arith}
 use lib.Dec.{ltb}
 use lib.ListN.{length}
-use Rattle.construction.specs.declared.{answers.Answered.Answered, texts.Contents.Contents, texts.Verdict.Verdict}
+use Rattle.construction.specs.declared.{answers.Answered.Answered, texts.Contents.Contents}
 use Rattle.construction.specs.Weight.{card_weight}
 use Rattle.construction.specs.Parts.{contents_of}
 use Rattle.construction.specs.Answers.{is_refused}
@@ -18,6 +19,7 @@ use Rattle.codes.specs.Types.{Words, Control, Operation, Card, P1}
 use Rattle.codes.specs.Parts.{part, table}
 use Rattle.codes.specs.Codes.{bit, control_words, operation_words, program_words}
 use Rattle.construction.specs.Cells.{FitsWords}
+use Rattle.construction.specs.Types.{Verdict}
 use Rattle.block.specs.Layout.{put_row, put_number, room_in, put_control, put_operation, put_exit, put_from, keep_later}
 use Rattle.block.specs.Cards.{card_of}
 use Rattle.block.proofs.Standing.{number_same}
@@ -94,8 +96,8 @@ change_contents c k from t =
     (on_test (Same c) (not (ltb c.gate.seq from)) (λ _. refl) (λ _. on_test (Same c) (is_unsettled c k) (λ _. refl) (λ _. refl))))
   where
     by : (v : Verdict) (y : Answered) → Same c y → Same c (if_read v c y)
-    by Verdict.Accepted y h = h
-    by (Verdict.Refused why line) y h = refl
+    by (Ok _) y h = h
+    by (Err e) y h = refl
 
 -- RoomKept IS KEPT
 module _ (b l : List ℕ) (kept : RoomKept b l) where

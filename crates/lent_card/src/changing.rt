@@ -9,9 +9,9 @@ use crate::narrow::narrow;
 use block::cells::{gate, process_count, program_count, room, variable_count};
 use block::own::{control, last_gate};
 use block::texts::put_from;
-use construction::answers::{Answer, Refusal};
+use construction::answers::Answer;
 use construction::programs::Program;
-use construction::texts::Verdict;
+use construction::texts::RefusedAt;
 use reader::changes::read_change;
 use requests::behind::is_behind;
 use requests::judging::judge_change;
@@ -36,8 +36,8 @@ fn judge_change_in(
     b: &[u64],
     program: u32,
     from: u64,
-    verdict: Verdict,
-) -> Result<(), (Refusal, u64)>
+    verdict: Result<(), RefusedAt>,
+) -> Result<(), RefusedAt>
     ensures { answer_of_change result ≡ change_judged program (program_count_in b.now) verdict (gate_in b.now).seq from (from_in b.now program) (behind_in b.now (from_in b.now program) 8) }
 {
     let last = block::texts::from(b, narrow(program));
@@ -66,7 +66,7 @@ pub fn change(b: &mut [u64], program: u32, from: u64, text: &[u8]) -> Answer
     ensures { (result ≡ change_answer b.old program from text.now) × (b.new ≡ change_block b.old program from text.now) }
 {
     let read = read_change(variable_count(b), room(b), text);
-    if let Err((refusal, line)) = judge_change_in(b, program, from, read.verdict) {
+    if let Err(RefusedAt { refusal, line }) = judge_change_in(b, program, from, read.verdict) {
         return Answer::RefusedAt { refusal, line };
     }
     put_change(b, narrow(program), from, read.program);

@@ -8,17 +8,18 @@ ghost use Rattle.lent.specs.Row.{row_answer, row_after};
 ghost use Rattle.lent_demo.specs.Rows.{record_of, first_row, new_record, held_gate, free_gate, same_at, same_row};
 
 use answers::put_row_swap;
-use construction::cells::{Gate, Holder, Record, RowSwap, SwappedCell};
+use construction::answers::Refusal;
+use construction::cells::{Gate, Holder, Record, SwappedCell};
 use host::show;
 
 // A row that came back from a loan, and what the swap answered.
 #[derive(Clone, Copy)]
 struct Returned {
     row: [Record; 4],
-    answer: RowSwap,
+    answer: Result<bool, Refusal>,
 }
 
-fn row_and_answer(row: [Record; 4], answer: RowSwap) -> Returned
+fn row_and_answer(row: [Record; 4], answer: Result<bool, Refusal>) -> Returned
     ensures { (result.row ≡ row) × (result.answer ≡ answer) }
 {
     Returned { row, answer }
@@ -108,7 +109,7 @@ fn same_row(a: [Record; 4], b: [Record; 4]) -> bool
     same_at(a, b, 0) && (same_at(a, b, 1) && (same_at(a, b, 2) && same_at(a, b, 3)))
 }
 
-fn write_answer(rt: &impl Print, answer: RowSwap) {
+fn write_answer(rt: &impl Print, answer: Result<bool, Refusal>) {
     let mut text = [0u8; 29];
     let length = put_row_swap(&mut text, 0, answer);
     show(rt, &text[..length]);

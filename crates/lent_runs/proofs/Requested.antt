@@ -1,4 +1,5 @@
 -- What a call, an exit request and a change leave of a block: every word but those of the parts that they put. None of them, and no read, answers 11.
+use Rattle.std.specs.Prelude.{Ok, Err}
 use Prim.Native.Nat.{ℕ, ◌+◌, ◌*◌, ◌<◌, ◌≤◌, min}
 use mathlib.Core.Path.{◌≡◌, refl, ◌∙◌, ap}
 use mathlib.Core.Logic.{◌⊎◌, inl, inr}
@@ -8,10 +9,11 @@ use native.Mathlib.Omega.{arith}
 use lib.Dec.{leb, ltb}
 use lib.ListN.{length}
 use borrow.Author.Tests.{ltb-true}
-use Rattle.construction.specs.declared.{answers.Answer.Answer, texts.Verdict.Verdict}
+use Rattle.construction.specs.declared.{answers.Answer.Answer}
 use Rattle.construction.specs.declared.answers.Refusal.TheVariants.{NoProcess, NoProgram, Busy, NotBusy, NoPlace, NotAhead, Unsettled}
 use Rattle.construction.specs.Answers.{is_refused}
 use Rattle.construction.specs.Requests.{is_idle}
+use Rattle.construction.specs.Types.{Verdict}
 use Rattle.requests.specs.Judging.{judged, if_text_accepted}
 use Rattle.codes.specs.Types.{Words, Control, Operation, P1}
 use Rattle.codes.specs.Parts.{word_at, part, table}
@@ -144,10 +146,10 @@ change_by :
     (if_text_accepted v (cond (not q) (Answer.RefusedAt NotAhead 0) (cond r (Answer.RefusedAt Unsettled 0) Answer.Taken))))
     ≡ false
 change_by false v q r = refl
-change_by true (Verdict.Refused why line) q r = refl
-change_by true Verdict.Accepted false r = refl
-change_by true Verdict.Accepted true true = refl
-change_by true Verdict.Accepted true false = refl
+change_by true (Err e) q r = refl
+change_by true (Ok _) false r = refl
+change_by true (Ok _) true true = refl
+change_by true (Ok _) true false = refl
 
 module _ (b : List ℕ) where
   pub call_numbers : (i k : ℕ) → is_eleven (call_answer b i k) ≡ false

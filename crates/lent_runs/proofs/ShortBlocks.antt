@@ -1,5 +1,6 @@
 -- 11 of `open`, by its number: a text is refused with 11 exactly if it is accepted and the block has fewer than 1456 words, which then stay as they were. A
 -- text's own refusals come first, and none of them is 11.
+use Rattle.std.specs.Prelude.{Ok, Err, Option, None, Some}
 use Prim.Native.Nat.{ℕ, ◌+◌, ◌<◌}
 use mathlib.Core.Path.{◌≡◌, refl, sym, ◌∙◌, ap}
 use mathlib.Core.Bool.{Bool, true, false, not}
@@ -10,8 +11,6 @@ use lib.ListN.{length, get_or}
 use borrow.Author.Tests.{lt-leb, leb-false}
 use Rattle.grammar.specs.declared.{Found.Found, Four.Four}
 use Rattle.grammar.specs.Reading.{has_word, four, field}
-use Rattle.construction.specs.declared.{texts.Verdict.Verdict}
-use Rattle.std.specs.Prelude.{Option, None, Some, Ok, Err}
 use Rattle.construction.specs.declared.{programs.Encoded.Encoded, programs.Format.Format}
 use Rattle.construction.specs.Types.{Decoded, CardLine, VarLine, SheetLine, InsLine}
 use Rattle.construction.specs.Answers.{Fields, refused_with, verdict_fields, card_line_fields, var_line_fields, sheet_line_fields, ins_line_fields, decoded_fields}
@@ -20,6 +19,7 @@ use Rattle.construction.specs.Lines.{card_word, var_word, sheet_word, ins_word, 
 use Rattle.construction.specs.Lines.{judge_ins, ins_line}
 use Rattle.construction.specs.Opening.{opened}
 use Rattle.construction.specs.TextJudging.{refused_in, Judged}
+use Rattle.construction.specs.Types.{Verdict}
 use Rattle.construction.proofs.Basics.{on_test}
 use Rattle.construction.proofs.Statements.TextRefusals.{text_judged}
 use Rattle.lent_text.specs.Opened.{opened_block, judged}
@@ -109,19 +109,19 @@ text_other t (Judged.accepted d h) line e = let z : ◌≡◌ {A = ℕ} 0 11 = a
 
 module _ (t b : List ℕ) where
   pub block_too_short :
-      (opened t).verdict ≡ Verdict.Accepted → length b < 1456 → (verdict_fields (judged (opened t).verdict b) ≡ refused_in 0 11) × (opened_block t b ≡ b)
+      (opened t).verdict ≡ Ok tt → length b < 1456 → (verdict_fields (judged (opened t).verdict b) ≡ refused_in 0 11) × (opened_block t b ≡ b)
   unfolding verdict_fields
   block_too_short e p = (rw (e, lt-leb 1456 (length b) p), opened_short t b p)
 
   pub block_too_short_only :
       (line : ℕ) → verdict_fields (judged (opened t).verdict b) ≡ refused_in line 11 →
-      ((opened t).verdict ≡ Verdict.Accepted) × (length b < 1456) × (line ≡ 0)
+      ((opened t).verdict ≡ Ok tt) × (length b < 1456) × (line ≡ 0)
   unfolding verdict_fields
   block_too_short_only line e = by (opened t).verdict refl (leb 1456 (length b)) refl e
     where
       by :
           (v : Verdict) → (opened t).verdict ≡ v → (s : Bool) → leb 1456 (length b) ≡ s → verdict_fields (judged v b) ≡ refused_in line 11 →
-          ((opened t).verdict ≡ Verdict.Accepted) × (length b < 1456) × (line ≡ 0)
-      by (Verdict.Refused why at) q s r h = absurd (text_other t (text_judged t) line (ap verdict_fields q ∙ h))
-      by Verdict.Accepted q true r h = absurd (let z : ◌≡◌ {A = ℕ} 0 11 = ap first_number (rw r at h) in omega arith)
-      by Verdict.Accepted q false r h = (q, leb-false 1456 (length b) r, sym (ap (λ (f : Fields). get_or f.numbers 1 0) (rw r at h)))
+          ((opened t).verdict ≡ Ok tt) × (length b < 1456) × (line ≡ 0)
+      by (Err e) q s r h = absurd (text_other t (text_judged t) line (ap verdict_fields q ∙ h))
+      by (Ok _) q true r h = absurd (let z : ◌≡◌ {A = ℕ} 0 11 = ap first_number (rw r at h) in omega arith)
+      by (Ok _) q false r h = (q, leb-false 1456 (length b) r, sym (ap (λ (f : Fields). get_or f.numbers 1 0) (rw r at h)))

@@ -1,11 +1,12 @@
 -- EVERY THEOREM OVER A LIST OF ENTRIES SPEAKS OF BLOCK AND LOAN (document 02, order 10): what construction says of every run of the card holds of the card that
 -- stands in block and loan and of what is noted beside them, if the loan is handed back unaltered at each step. Each corollary has the name of its theorem.
+use Rattle.std.specs.Prelude.{Ok}
 use Prim.Native.Nat.{ℕ, ◌<◌, ◌≤◌}
 use mathlib.Core.Path.{◌≡◌, refl, sym, ◌∙◌, ap, subst}
 use mathlib.Core.Bool.{Bool, true, false, cond, true≢false}
 use mathlib.Core.List.{List, [], ◌∷◌, ◌++◌}
 use lib.ListN.{length, get_or, take}
-use Rattle.construction.specs.declared.{answers.Answer.Answer, answers.Answered.Answered, card.Card.Card, texts.Verdict.Verdict}
+use Rattle.construction.specs.declared.{answers.Answer.Answer, answers.Answered.Answered, card.Card.Card}
 use Rattle.construction.specs.Parts.{local_at}
 use Rattle.construction.specs.Requests.{read}
 use Rattle.construction.specs.Changes.{change}
@@ -151,7 +152,7 @@ module _
     runs_by_number_lent = speaks (runs_by_number t)
 
     -- the writer's promise
-    pub given_back_after_lent : (opened t).verdict ≡ Verdict.Accepted → text_of (lent_run t b l xs).card ≡ t
+    pub given_back_after_lent : (opened t).verdict ≡ Ok tt → text_of (lent_run t b l xs).card ≡ t
     given_back_after_lent a = holds (λ m. text_of m.card ≡ t) (given_back_after t a)
 
 -- the entries of a list and of what follows it

@@ -1,4 +1,5 @@
 -- The lines of a session, by what is put into a buffer.
+use Rattle.std.specs.Prelude.{Ok, Err}
 use Prim.Native.Nat.{ℕ, ◌<◌, ◌≤◌}
 use mathlib.Core.List.{List, []}
 use mathlib.Core.Path.{◌≡◌, refl, sym, ◌∙◌, ap}
@@ -8,7 +9,9 @@ use lib.ListN.{length, take}
 use lib.Seq.{length-take-le, length-sets}
 use Rattle.grammar.specs.Writing.{Put}
 use Rattle.grammar.specs.Pieces.{Gathered}
-use Rattle.construction.specs.declared.{card.Card.Card, answers.Refusal.Refusal, texts.Verdict.Verdict}
+use Rattle.construction.specs.declared.{card.Card.Card, answers.Refusal.Refusal}
+use Rattle.construction.specs.Types.{Verdict}
+use Rattle.construction.specs.declared.texts.RefusedAt.{RefusedAt}
 use Rattle.commands.specs.declared.Command.{Command}
 use Rattle.commands.specs.Printing.{line_text, longest, card_refusal, calls_refusal}
 use Rattle.session.specs.declared.State.{State}
@@ -22,14 +25,14 @@ use Rattle.lent_session.specs.Printing.{lent_beginning, Starts, Prints}
 -- what is printed before any command
 module _ (calls : List ℕ) (x : Card) {w : Verdict} where
   after_refusal :
-      {why : Refusal} {line : ℕ} → w ≡ Verdict.Refused why line →
-      verdict_beginning calls x w ≡ record { text = card_refusal (Verdict.Refused why line); state = over_state calls x }
+      {refused : RefusedAt} → w ≡ Err refused →
+      verdict_beginning calls x w ≡ record { text = card_refusal (Err refused); state = over_state calls x }
   after_refusal e = rw e
 
-  after_long : w ≡ Verdict.Accepted → 65536 < length calls → verdict_beginning calls x w ≡ record { text = calls_refusal; state = over_state calls x }
+  after_long : w ≡ Ok tt → 65536 < length calls → verdict_beginning calls x w ≡ record { text = calls_refusal; state = over_state calls x }
   after_long e h = rw (e, lt-ltb 65536 (length calls) h)
 
-  after_opening : w ≡ Verdict.Accepted → length calls ≤ 65536 → verdict_beginning calls x w ≡ record { text = []; state = first_state x }
+  after_opening : w ≡ Ok tt → length calls ≤ 65536 → verdict_beginning calls x w ≡ record { text = []; state = first_state x }
   after_opening e h = rw (e, le-ltb 65536 (length calls) h)
 
 module _ (card calls b u : List ℕ) {v : Verdict} {c : List ℕ} (o : Opens card b v c) where
@@ -45,16 +48,16 @@ module _ (card calls b u : List ℕ) {v : Verdict} {c : List ℕ} (o : Opens car
       }
 
   pub starts_refused :
-      {why : Refusal} {line n : ℕ} {z : List ℕ} → v ≡ Verdict.Refused why line → Put u 0 (card_refusal (Verdict.Refused why line)) n z × (n ≤ longest) →
+      {refused : RefusedAt} {n : ℕ} {z : List ℕ} → v ≡ Err refused → Put u 0 (card_refusal (Err refused)) n z × (n ≤ longest) →
       Starts card calls b u (record { length = n; at = length calls }) c z
   starts_refused e p = starts_with (after_refusal calls (card_of (opened_block card b) []) (sym o.answer ∙ e)) p.0 p.1 refl
 
   pub starts_long :
-      {n : ℕ} {z : List ℕ} → v ≡ Verdict.Accepted → 65536 < length calls → Put u 0 calls_refusal n z × (n ≤ longest) →
+      {n : ℕ} {z : List ℕ} → v ≡ Ok tt → 65536 < length calls → Put u 0 calls_refusal n z × (n ≤ longest) →
       Starts card calls b u (record { length = n; at = length calls }) c z
   starts_long e h p = starts_with (after_long calls (card_of (opened_block card b) []) (sym o.answer ∙ e) h) p.0 p.1 refl
 
-  pub starts : v ≡ Verdict.Accepted → length calls ≤ 65536 → Starts card calls b u (record { length = 0; at = 0 }) c u
+  pub starts : v ≡ Ok tt → length calls ≤ 65536 → Starts card calls b u (record { length = 0; at = 0 }) c u
   starts e h =
       starts_with (after_opening calls (card_of (opened_block card b) []) (sym o.answer ∙ e) h) (record { place = refl; bytes = refl }) (omega arith) refl
 

@@ -6,7 +6,6 @@ use crate::Begun;
 use crate::answering::execute;
 use commands::Command;
 use commands::printing::{put_calls_refusal, put_card_refusal, put_line};
-use construction::texts::Verdict;
 
 // The most bytes of calls that are read.
 const LIMIT: usize = 65_536;
@@ -16,9 +15,9 @@ pub(crate) fn put_start(card: &[u8], calls: &[u8], b: &mut [u64], buffer: &mut [
     ensures { Starts card.now calls.now b.old buffer.old result b.new buffer.new }
 {
     let verdict = lent_text::open(card, b);
-    if let Verdict::Refused { refusal, line } = verdict {
+    if let Err(refused) = verdict {
         return Begun {
-            length: put_card_refusal(buffer, refusal, line),
+            length: put_card_refusal(buffer, refused),
             at: calls.len(),
         };
     }

@@ -1,5 +1,5 @@
 // The counts of a run, answer by answer.
-ghost use Rattle.std.specs.Prelude.{◌≡◌, ◌<◌, max};
+ghost use Rattle.std.specs.Prelude.{◌≡◌, ◌<◌};
 ghost use Rattle.lent_sweep.specs.Sweeps.{none, with_run, with_done, with_exited, with_answer, is_return, Below};
 
 use crate::Counts;
@@ -15,13 +15,6 @@ pub fn none() -> Counts
         exited: 0,
         longest: 0,
     }
-}
-
-// The larger of two numbers.
-pub fn larger(a: u64, b: u64) -> u64
-    ensures { result ≡ max a b }
-{
-    if a < b { b } else { a }
 }
 
 // Whether an answer tells that an operation has returned.
@@ -53,10 +46,7 @@ fn with_run(c: Counts) -> Counts
 {
     Counts {
         accepted: c.accepted + 1,
-        done: c.done,
-        faulted: c.faulted,
-        exited: c.exited,
-        longest: c.longest,
+        ..c
     }
 }
 
@@ -65,22 +55,19 @@ fn with_done(c: Counts, fault: bool, steps: u64) -> Counts
     requires { Below c }
     ensures { result ≡ with_done c fault steps }
 {
-    let longest = larger(c.longest, steps);
+    let c = Counts {
+        longest: c.longest.max(steps),
+        ..with_run(c)
+    };
     if fault {
         return Counts {
-            accepted: c.accepted + 1,
-            done: c.done,
             faulted: c.faulted + 1,
-            exited: c.exited,
-            longest,
+            ..c
         };
     }
     Counts {
-        accepted: c.accepted + 1,
         done: c.done + 1,
-        faulted: c.faulted,
-        exited: c.exited,
-        longest,
+        ..c
     }
 }
 
@@ -90,11 +77,9 @@ fn with_exited(c: Counts, steps: u64) -> Counts
     ensures { result ≡ with_exited c steps }
 {
     Counts {
-        accepted: c.accepted + 1,
-        done: c.done,
-        faulted: c.faulted,
         exited: c.exited + 1,
-        longest: larger(c.longest, steps),
+        longest: c.longest.max(steps),
+        ..with_run(c)
     }
 }
 
@@ -104,19 +89,9 @@ pub(crate) fn with_answer(c: Counts, answer: Answer) -> Counts
     ensures { result ≡ with_answer c answer }
 {
     match answer {
-        Answer::Taken => c,
         Answer::Run => with_run(c),
-        Answer::Done {
-            number: _,
-            yields,
-            steps,
-        } => with_done(c, yields.fault, steps),
+        Answer::Done { yields, steps, .. } => with_done(c, yields.fault, steps),
         Answer::Exited { steps } => with_exited(c, steps),
-        Answer::Value(_) => c,
-        Answer::Refused(_) => c,
-        Answer::RefusedAt {
-            refusal: _,
-            line: _,
-        } => c,
+        Answer::Taken | Answer::Value(_) | Answer::Refused(_) | Answer::RefusedAt { .. } => c,
     }
 }

@@ -22,9 +22,7 @@ fn is_accepted(b: &[u64], i: u8) -> bool
     if !is_below(i as u32, process_count(b), 8) {
         return false;
     }
-    let control = control(b, i);
-    let place = control.place;
-    if is_idle(place) {
+    if is_idle(control(b, i).place) {
         return false;
     }
     steps(b) < limit(b)
@@ -34,10 +32,7 @@ fn is_accepted(b: &[u64], i: u8) -> bool
 fn is_again(calls: &[u32], i: u8, answer: Answer) -> bool
     ensures { result ≡ is_again calls.now i answer }
 {
-    if is_return(answer) {
-        return has_request(calls, i);
-    }
-    false
+    is_return(answer) && has_request(calls, i)
 }
 
 // Where its operation has returned, a process is called again at once; one whose five words are not all in the table is left idle.
@@ -46,8 +41,7 @@ fn call_again(b: &mut [u64], calls: &[u32], i: u8, answer: Answer)
 {
     if is_again(calls, i, answer) {
         let request = request_in(calls, i);
-        let inputs = request.inputs;
-        call(b, i as u32, request.program, inputs);
+        call(b, i as u32, request.program, request.inputs);
     }
 }
 
@@ -74,10 +68,8 @@ pub fn run(b: &mut [u64], l: &mut [u64], calls: &[u32], schedule: &[u8]) -> Coun
     if l.len() < loan_words(b) {
         return counts;
     }
-    let mut k: usize = 0;
-    while k < schedule.len() {
-        counts = turn(b, l, calls, schedule[k], counts);
-        k = k + 1;
+    for &i in schedule {
+        counts = turn(b, l, calls, i, counts);
     }
     counts
 }

@@ -8,11 +8,12 @@ use native.Mathlib.Numerals.{add-one}
 use lib.Dec.{leb}
 use lib.ListN.{length, get_or, set, take}
 use lib.Seq.{take_all, take-suc-set, ext_get_or}
-use Rattle.construction.specs.declared.{texts.Contents.Contents, programs.Program.Program, texts.Written.Written}
+use Rattle.construction.specs.declared.{texts.Contents.Contents, programs.Program.Program}
 use Rattle.construction.specs.Instructions.{no_program}
 use Rattle.construction.specs.Opening.{fresh, no_contents}
 use Rattle.construction.specs.Parts.{contents_of}
 use Rattle.construction.specs.Writing.{text_of, written, written_into}
+use Rattle.construction.specs.Types.{Written}
 use Rattle.codes.specs.Types.{Card}
 use Rattle.codes.specs.Parts.{table, part, word_at}
 use Rattle.codes.specs.Codes.{half, program_of}

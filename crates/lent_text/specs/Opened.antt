@@ -1,11 +1,12 @@
 -- What a card text leaves in a block of 1456 words that its owner lends, and what is told of it (document 02, order 10). Each part stands where specs/Layout of the crate block has it.
-use Rattle.std.specs.Prelude.{ℕ, zero, suc, cond, List, ◌++◌, ◌≡◌, leb, length, get_or, drop, replicate}
-use Rattle.construction.specs.declared.{texts.Contents.Contents, programs.Program.Program, texts.Verdict.Verdict}
+use Rattle.std.specs.Prelude.{ℕ, zero, suc, cond, List, ◌++◌, ◌≡◌, leb, length, get_or, drop, replicate, Ok, Err}
+use Rattle.construction.specs.declared.{texts.Contents.Contents, programs.Program.Program}
 use Rattle.construction.specs.declared.answers.Refusal.TheVariants.{ShortBuffer}
 use Rattle.construction.specs.Cells.{open_gate, open_record}
 use Rattle.construction.specs.Instructions.{no_program}
 use Rattle.construction.specs.Opening.{read_card}
 use Rattle.construction.specs.Weight.{card_weight}
+use Rattle.construction.specs.Types.{Verdict, told_at}
 use Rattle.block.specs.Layout.{put_room, put_process_count, put_variable_count, put_program_count, put_limit, put_gate, put_start, put_record, put_opening, put_earlier}
 use Rattle.block.specs.Layout.{put_later}
 
@@ -52,8 +53,8 @@ opened_block t b = contents_block b (read_card t).contents
 
 -- a text's own refusals come first; then a block that is too short is refused with 11, at line 0
 abbrev pub judged : Verdict → List ℕ → Verdict
-judged Verdict.Accepted b = cond (leb 1456 (length b)) Verdict.Accepted (Verdict.Refused ShortBuffer 0)
-judged (Verdict.Refused why line) b = Verdict.Refused why line
+judged (Ok _) b = cond (leb 1456 (length b)) (Ok tt) (Err (told_at ShortBuffer 0))
+judged (Err e) b = Err e
 
 -- the answer r, and the words z that a block of the words b has then
 pub record Opens (t b : List ℕ) (r : Verdict) (z : List ℕ) : Type 0 where

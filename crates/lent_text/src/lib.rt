@@ -20,7 +20,7 @@ use block::texts::{put_start, start};
 use construction::answers::Refusal;
 use construction::cells::{Gate, Holder};
 use construction::programs::Program;
-use construction::texts::{Contents, Verdict, Written};
+use construction::texts::{Contents, RefusedAt};
 use programs::weights::heaviest;
 use texts::Text;
 
@@ -101,23 +101,21 @@ fn put_contents(b: &mut [u64], contents: Contents)
 }
 
 // The verdict on a text, then on the block.
-fn judge(verdict: Verdict, b: &[u64]) -> Verdict
+fn judge(verdict: Result<(), RefusedAt>, b: &[u64]) -> Result<(), RefusedAt>
     ensures { result ≡ judged verdict b.now }
 {
-    let Verdict::Accepted = verdict else {
-        return verdict;
-    };
-    if SIZE <= b.len() {
-        return Verdict::Accepted;
+    verdict?;
+    if b.len() < SIZE {
+        return Err(RefusedAt {
+            refusal: Refusal::ShortBuffer,
+            line: 0,
+        });
     }
-    Verdict::Refused {
-        refusal: Refusal::ShortBuffer,
-        line: 0,
-    }
+    Ok(())
 }
 
 // The card that a text opens to, in a block: a refused text leaves the empty card, and a block that is too short is left as it was.
-pub fn open(text: &[u8], b: &mut [u64]) -> Verdict
+pub fn open(text: &[u8], b: &mut [u64]) -> Result<(), RefusedAt>
     ensures { Opens text.now b.old result b.new }
 {
     let read = reader::read_card(text);
@@ -161,7 +159,7 @@ pub fn contents_of(b: &[u64]) -> Contents
 }
 
 // The text of the card in a block.
-pub fn write(b: &[u64], buffer: &mut [u8]) -> Written
+pub fn write(b: &[u64], buffer: &mut [u8]) -> Result<usize, Refusal>
     ensures { Writes (card_of b.now []) buffer.old result buffer.new }
 {
     writer::write_contents(contents_of(b), buffer)

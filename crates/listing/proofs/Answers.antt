@@ -1,4 +1,5 @@
 -- What the listing answers and leaves, from its length and its text by the recursion of code.
+use Rattle.std.specs.Prelude.{Ok, Err}
 use Prim.Native.Nat.{ℕ, ◌+◌, ◌≤◌, ◌<◌}
 use mathlib.Core.Path.{◌≡◌, refl, sym, subst, ap, ◌∙◌}
 use mathlib.Core.Bool.{Bool, true, false, cond, not, ◌&&◌}
@@ -9,9 +10,10 @@ use lib.Dec.{leb}
 use borrow.Author.Tests.{le-leb, lt-leb}
 use Rattle.grammar.specs.Writing.{Put}
 use Rattle.grammar.proofs.Puts.{put_front}
-use Rattle.construction.specs.declared.{card.Card.Card, answers.Refusal.Refusal, texts.Written.Written}
+use Rattle.construction.specs.declared.{card.Card.Card, answers.Refusal.Refusal}
 use Rattle.construction.specs.declared.answers.Refusal.TheVariants.{NoProgram, TooLarge, ShortBuffer}
 use Rattle.construction.specs.History.{run}
+use Rattle.construction.specs.Types.{Written}
 use Rattle.construction.proofs.Basics.{clash}
 use Rattle.executions.specs.declared.{Request.Request}
 use Rattle.executions.specs.Schedules.{calls_of}
@@ -75,7 +77,7 @@ module _ (c : Card) (calls : List Request) (L : ℕ) {o : Card} (opens : o ≡ r
   callable : is_callable (reopened c) calls ≡ a
   callable = ap (λ (d : Card). is_callable d calls) (sym opens) ∙ sym calling
 
-  pub measured_six : a ≡ false → Written.Refused NoProgram ≡ measured c calls L
+  pub measured_six : a ≡ false → Err NoProgram ≡ measured c calls L
   unfolding measured
   measured_six f = rw (callable ∙ f)
 
@@ -83,42 +85,42 @@ module _ (c : Card) (calls : List Request) (L : ℕ) {o : Card} (opens : o ≡ r
     pub listable : is_listable (reopened c) L ≡ b
     listable = ap (λ (d : Card). is_listable d L) (sym opens) ∙ sym fitting
 
-    pub measured_seventeen : b ≡ false → Written.Refused TooLarge ≡ measured c calls L
+    pub measured_seventeen : b ≡ false → Err TooLarge ≡ measured c calls L
     unfolding measured
     measured_seventeen f = rw (callable ∙ t, listable ∙ f)
 
     pub measured_length :
         b ≡ true → {s : Card} → s ≡ (run o (calls_of o calls)).card → {e z : List ℕ} {n : ℕ} → Put e 0 (text_after L s [] []) n z → n ≤ capacity L 2129 →
-        Written.Bytes n ≡ measured c calls L
+        Ok n ≡ measured c calls L
     unfolding measured
     measured_length u {s} starts {e} {z} {n} p within =
         rw (callable ∙ t, listable ∙ u)
-        (ap Written.Bytes (length_from c calls L opens starts (few_processes c calls L opens starts (listable ∙ u)).1 p within))
+        (ap Ok (length_from c calls L opens starts (few_processes c calls L opens starts (listable ∙ u)).1 p within))
 
 -- what the answer without a buffer says
 abbrev judged : Bool → Bool → ℕ → Written
-judged a b n = cond (not a) (Written.Refused NoProgram) (cond (not b) (Written.Refused TooLarge) (Written.Bytes n))
+judged a b n = cond (not a) (Err NoProgram) (cond (not b) (Err TooLarge) (Ok n))
 
-judged_bytes : (a b : Bool) (n size : ℕ) → Written.Bytes size ≡ judged a b n → (a ≡ true) × (b ≡ true) × (size ≡ n)
+judged_bytes : (a b : Bool) (n size : ℕ) → Ok size ≡ judged a b n → (a ≡ true) × (b ≡ true) × (size ≡ n)
 judged_bytes false b n size e = clash (cc)
 judged_bytes true false n size e = clash (cc)
 judged_bytes true true n size e = (refl, refl, cc)
 
-judged_refused : (a b f : Bool) (n : ℕ) (r : Refusal) (t l : List ℕ) → Written.Refused r ≡ judged a b n →
-    (Written.Refused r ≡ cond (not a) (Written.Refused NoProgram)
-    (cond (not b) (Written.Refused TooLarge) (cond f (Written.Bytes n) (Written.Refused ShortBuffer))))
+judged_refused : (a b f : Bool) (n : ℕ) (r : Refusal) (t l : List ℕ) → Err r ≡ judged a b n →
+    (Err r ≡ cond (not a) (Err NoProgram)
+    (cond (not b) (Err TooLarge) (cond f (Ok n) (Err ShortBuffer))))
     × (l ≡ cond (a && (b && f)) t l)
 judged_refused false b f n r t l e = (e, refl)
 judged_refused true false f n r t l e = (e, refl)
 judged_refused true true f n r t l e = clash (cc)
 
-module _ (c : Card) (calls : List Request) (L : ℕ) {w : Written} {size : ℕ} (m : w ≡ measured c calls L) (e : w ≡ Written.Bytes size) where
+module _ (c : Card) (calls : List Request) (L : ℕ) {w : Written} {size : ℕ} (m : w ≡ measured c calls L) (e : w ≡ Ok size) where
   pub said : (is_callable (reopened c) calls ≡ true) × (is_listable (reopened c) L ≡ true) × (size ≡ length (listing_text (reopened c) calls L))
   unfolding measured
   said = judged_bytes (is_callable (reopened c) calls) (is_listable (reopened c) L) (length (listing_text (reopened c) calls L)) size (sym e ∙ m)
 
 module _ (c : Card) (calls : List Request) (L : ℕ) (l : List ℕ) where
-  pub listed_refused : {w : Written} {r : Refusal} → w ≡ measured c calls L → w ≡ Written.Refused r → Lists c calls L l w l
+  pub listed_refused : {w : Written} {r : Refusal} → w ≡ measured c calls L → w ≡ Err r → Lists c calls L l w l
   unfolding measured listed listed_into
   listed_refused {w} {r} m e =
       let o = reopened c in
@@ -126,8 +128,8 @@ module _ (c : Card) (calls : List Request) (L : ℕ) (l : List ℕ) where
       let h = judged_refused (is_callable o calls) (is_listable o L) (leb (length t) (length l)) (length t) r (t ++ drop (length t) l) l (sym e ∙ m) in
       record { answer = e ∙ h.0; bytes = h.1 }
 
-  module _ {w : Written} {size : ℕ} (m : w ≡ measured c calls L) (e : w ≡ Written.Bytes size) where
-    pub listed_short : length l < size → Lists c calls L l (Written.Refused ShortBuffer) l
+  module _ {w : Written} {size : ℕ} (m : w ≡ measured c calls L) (e : w ≡ Ok size) where
+    pub listed_short : length l < size → Lists c calls L l (Err ShortBuffer) l
     unfolding listed listed_into
     listed_short h =
         let s = said c calls L m e in
@@ -137,7 +139,7 @@ module _ (c : Card) (calls : List Request) (L : ℕ) (l : List ℕ) where
 
     pub listed_fits :
         {o d : Card} → o ≡ reopened c → d ≡ (run o (calls_of o calls)).card → {z : List ℕ} {n : ℕ} → size ≤ length l → Put l 0 (text_after L d [] []) n z →
-        Lists c calls L l (Written.Bytes size) z
+        Lists c calls L l (Ok size) z
     unfolding listed listed_into
     listed_fits {o} {d} opens starts {z} {n} h p =
         let s = said c calls L m e in
@@ -145,6 +147,6 @@ module _ (c : Card) (calls : List Request) (L : ℕ) (l : List ℕ) where
         le-leb (length (listing_text (reopened c) calls L)) (length l) (omega (arith, s.2)) in
         let x = text_from c calls L opens starts in
         record {
-          answer = rw (s.0, s.1, f) (ap Written.Bytes s.2);
+          answer = rw (s.0, s.1, f) (ap Ok s.2);
           bytes = rw (s.0, s.1, f) (put_front (omega (arith, s.2)) (subst (λ (t : List ℕ). Put l 0 t n z) x p));
         }

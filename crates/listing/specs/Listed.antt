@@ -1,6 +1,7 @@
 -- The answer of the listing and the buffer lent to it, together (executions, specs/Listings).
 use Rattle.std.specs.Prelude.{ℕ, ◌≡◌, List}
-use Rattle.construction.specs.declared.{card.Card.Card, texts.Written.Written}
+use Rattle.construction.specs.declared.{card.Card.Card}
+use Rattle.construction.specs.Types.{Written}
 use Rattle.executions.specs.declared.{Request.Request}
 use Rattle.executions.specs.Listings.{listed, listed_into}
 

@@ -20,7 +20,6 @@ use crate::judging::{are_callable, is_listable};
 use crate::starting::{call_all, reopen};
 use construction::answers::Refusal;
 use construction::card::Card;
-use construction::texts::Written;
 use executions::Request;
 
 // The listing of a card with its calls made, at the front of a buffer, as far as it fits; the place told is its length. 16 process numbers and 16
@@ -35,34 +34,31 @@ fn put_listing(buffer: &mut [u8], card: Card, length: u8) -> usize
 }
 
 // The length of the listing, which no buffer is needed for; or 6 or 17.
-pub fn measure(card: Card, calls: [Request; 8], length: u32) -> Written
+pub fn measure(card: Card, calls: [Request; 8], length: u32) -> Result<usize, Refusal>
     ensures { result ≡ measured card calls length }
 {
     let opened = reopen(card);
     if !are_callable(opened, calls) {
-        return Written::Refused(Refusal::NoProgram);
+        return Err(Refusal::NoProgram);
     }
     if !is_listable(opened, length) {
-        return Written::Refused(Refusal::TooLarge);
+        return Err(Refusal::TooLarge);
     }
     let mut none = [0u8; 1];
     let start = call_all(opened, calls);
-    Written::Bytes(put_listing(&mut none[..0], start, length as u8))
+    Ok(put_listing(&mut none[..0], start, length as u8))
 }
 
 // The listing in a lent buffer: 6, 17, or 11 where the buffer is shorter, and it keeps its bytes; else the length.
-pub fn list(card: Card, calls: [Request; 8], length: u32, buffer: &mut [u8]) -> Written
+pub fn list(card: Card, calls: [Request; 8], length: u32, buffer: &mut [u8]) -> Result<usize, Refusal>
     ensures { Lists card calls length buffer.old result buffer.new }
 {
-    let told = measure(card, calls, length);
-    let Written::Bytes(size) = told else {
-        return told;
-    };
+    let size = measure(card, calls, length)?;
     if size > buffer.len() {
-        return Written::Refused(Refusal::ShortBuffer);
+        return Err(Refusal::ShortBuffer);
     }
     let opened = reopen(card);
     let start = call_all(opened, calls);
     put_listing(buffer, start, length as u8);
-    told
+    Ok(size)
 }

@@ -7,9 +7,10 @@ use lib.ListN.{length}
 use native.Mathlib.Omega.{arith}
 use Rattle.grammar.specs.Writing.{decimal, largest, Put}
 use Rattle.grammar.proofs.Puts.{Room, rest_all, rest_step, rest_last, put_both}
-use Rattle.construction.specs.declared.{answers.Answer.Answer, answers.Report.Report, texts.Verdict.Verdict}
+use Rattle.construction.specs.declared.{answers.Answer.Answer, answers.Report.Report}
 use Rattle.construction.specs.Answers.{bytes, answer_fields, verdict_fields, numbers_text, fields_text}
 use Rattle.construction.specs.Reports.{report_text}
+use Rattle.construction.specs.Types.{Verdict}
 use Rattle.answers.proofs.Texts.{PutWithin, put_short, put_as_within}
 use Rattle.commands.specs.declared.Command.{Command}
 use Rattle.commands.specs.Printing.{is_malformed, verb_of, first_of}

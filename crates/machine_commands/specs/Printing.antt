@@ -1,9 +1,10 @@
 -- The printed lines (document 02, order 14; docs/FORMATS.md): 'the verb, M, the first number, then the answer as the bench program has it', `turn,taken`; those
 -- of refused terms and of a refused card. Byte 10 ends each line.
 use Rattle.std.specs.Prelude.{ℕ, cond, List, [], ◌∷◌, ◌++◌}
-use Rattle.construction.specs.declared.{answers.Answer.Answer, answers.Report.Report, texts.Verdict.Verdict}
+use Rattle.construction.specs.declared.{answers.Answer.Answer, answers.Report.Report}
 use Rattle.construction.specs.Answers.{bytes, answer_fields, verdict_fields, numbers_text}
 use Rattle.construction.specs.Reports.{report_text}
+use Rattle.construction.specs.Types.{Verdict}
 use Rattle.commands.specs.declared.Command.{Command}
 use Rattle.commands.specs.Printing.{is_malformed, verb_of, first_of, line_with}
 use Rattle.machine_commands.specs.declared.Request.{Request}

@@ -1,7 +1,6 @@
 // The printed lines, put into a buffer at a place as the crate grammar does: bytes that do not fit fall away, and the place told is past the text all the same.
 ghost use Rattle.std.specs.Prelude.{◌+◌, ◌≤◌};
 ghost use Rattle.grammar.specs.Writing.{Put};
-ghost use Rattle.construction.specs.declared.texts.Verdict.{Verdict as VerdictOf};
 ghost use Rattle.machine_commands.specs.Printing.{machine_text, to_text, head_text, line_text, longest, terms_refusal, card_refusal};
 
 use crate::Request;
@@ -10,7 +9,7 @@ use answers::{put_answer, put_number, put_verdict};
 use commands::Command;
 use commands::printing::{first_of, is_malformed, put_verb};
 use construction::answers::{Answer, Refusal, Report};
-use construction::texts::Verdict;
+use construction::texts::RefusedAt;
 use grammar::writing::{put_byte, put_word};
 
 // The number of a command's machine, but of a malformed one.
@@ -60,21 +59,19 @@ pub fn put_line(
 }
 
 // The line of refused terms.
-pub fn put_terms_refusal(buffer: &mut [u8], refusal: Refusal, line: u64) -> usize
-    ensures { Put buffer.old 0 (terms_refusal (VerdictOf.Refused refusal line)) result buffer.new × (result ≤ longest) }
+pub fn put_terms_refusal(buffer: &mut [u8], refused: RefusedAt) -> usize
+    ensures { Put buffer.old 0 (terms_refusal (Err refused)) result buffer.new × (result ≤ longest) }
 {
     let next = put_word(buffer, 0, b"machines");
-    let verdict = Verdict::Refused { refusal, line };
-    let end = put_verdict(buffer, next, verdict);
+    let end = put_verdict(buffer, next, Err(refused));
     put_byte(buffer, end, b'\n')
 }
 
 // The line of a refused card, that of a machine.
-pub fn put_card_refusal(buffer: &mut [u8], machine: u32, refusal: Refusal, line: u64) -> usize
-    ensures { Put buffer.old 0 (card_refusal machine (VerdictOf.Refused refusal line)) result buffer.new × (result ≤ longest) }
+pub fn put_card_refusal(buffer: &mut [u8], machine: u32, refused: RefusedAt) -> usize
+    ensures { Put buffer.old 0 (card_refusal machine (Err refused)) result buffer.new × (result ≤ longest) }
 {
     let next = put_number(buffer, 0, b"card,", machine as u64);
-    let verdict = Verdict::Refused { refusal, line };
-    let end = put_verdict(buffer, next, verdict);
+    let end = put_verdict(buffer, next, Err(refused));
     put_byte(buffer, end, b'\n')
 }

@@ -1,5 +1,6 @@
 -- THE MACHINES OF A SESSION (document 02, order 14): where neither the terms nor a card nor the calls are refused, the program prints the replies of machines
 -- that share a processor, each of them opened with its card; so that the theorems of the crate shared_runs speak of what it prints.
+use Rattle.std.specs.Prelude.{Ok, Err}
 use Prim.Native.Nat.{ℕ, zero, suc, ◌+◌, ◌*◌, ◌≤◌, ◌<◌}
 use mathlib.Core.Path.{◌≡◌, refl, ap, ◌∙◌}
 use mathlib.Core.Bool.{Bool, true, false, cond, ◌||◌}
@@ -11,11 +12,12 @@ use lib.Dec.{ltb}
 use lib.ListN.{length, get_or, replicate, length-replicate}
 use borrow.Author.Tests.{lt-ltb, le-ltb}
 use Rattle.grammar.proofs.Cases.{on_test, clash}
-use Rattle.construction.specs.declared.{answers.Answer.Answer, card.Card.Card, texts.Verdict.Verdict}
+use Rattle.construction.specs.declared.{answers.Answer.Answer, card.Card.Card}
 use Rattle.construction.specs.declared.answers.Refusal.TheVariants.{BadTerms}
 use Rattle.construction.specs.Answers.{answer_fields, refused_with}
 use Rattle.construction.specs.Opening.{fresh, opened}
 use Rattle.construction.specs.History.{Entry}
+use Rattle.construction.specs.Types.{Verdict}
 use Rattle.construction.proofs.Text.Bounds.{opened_bounded}
 use Rattle.block.proofs.Gets.{process_count_is}
 use Rattle.loan.specs.Loans.{loan_words}
@@ -35,7 +37,7 @@ use Rattle.shared_runs.specs.Runs.{Shared, shared_reply, shared_run, shared_repl
 use Rattle.shared_runs.proofs.Statements.{as_alone}
 use Rattle.shared_runs.proofs.Numbers.{ceilings_shared, turn_shared, share_shared}
 use Rattle.machine_commands.specs.Requests.{requests}
-use Rattle.std.specs.Prelude.{Option, Some, None, Result, Ok, Err}
+use Rattle.std.specs.Prelude.{Option, Some, None, Result}
 use Rattle.grammar.specs.declared.Found.{Found}
 use Rattle.machine_terms.specs.declared.{Pair.Pair, Terms.Terms}
 use Rattle.machine_terms.specs.Terms.{line, machines_word, Quotas, quotas_read, refused, judged_as, with_quotas, with_head, terms}
@@ -48,12 +50,12 @@ use Rattle.machine_session.proofs.Runs.{machines_run, machines_replies, named_fi
 -- ---- terms that are accepted are those of an opening
 on_terms :
     (t : List ℕ) (P : Allowance → Type 0) → ((count steps : ℕ) (qs : List Quota) → is_accepted count steps qs ≡ true → P (allowance count steps qs)) →
-    (terms t).verdict ≡ Verdict.Accepted → P (terms t).allowance
+    (terms t).verdict ≡ Ok tt → P (terms t).allowance
 unfolding terms refused judged_as allowance_from
 on_terms t P f = on_test Q (ltb 16384 (length t)) (λ _ h. clash (cc)) (λ _. head (line t 0 machines_word))
   where
     Q : Terms → Type 0
-    Q w = w.verdict ≡ Verdict.Accepted → P w.allowance
+    Q w = w.verdict ≡ Ok tt → P w.allowance
 
     judged : (count steps : ℕ) (qs : List Quota) (b : Bool) → is_accepted count steps qs ≡ b →
         Q (judged_as (record { allowance = cond b (allowance count steps qs) (allowance 0 0 qs); answer = cond b Answer.Taken (Answer.Refused BadTerms) }))
@@ -75,21 +77,21 @@ module _ (count : ℕ) where
   one_other : (k : ℕ) (text bs : List ℕ) (j : ℕ) → j ≢ k → part 1456 (one_blocks count k text bs) j ≡ part 1456 bs j
   one_other k text bs j ne = on_test (λ (x : List ℕ). part 1456 x j ≡ part 1456 bs j) (ltb k count) (λ _. opened_others text bs k j ne) (λ _. refl)
 
-  next : (k : ℕ) (text : List ℕ) (texts : List (List ℕ)) (bs : List ℕ) → (opened_cards count k (text ∷ texts) bs).opened.verdict ≡ Verdict.Accepted →
+  next : (k : ℕ) (text : List ℕ) (texts : List (List ℕ)) (bs : List ℕ) → (opened_cards count k (text ∷ texts) bs).opened.verdict ≡ Ok tt →
       (opened_cards count k (text ∷ texts) bs ≡ opened_cards count (suc k) texts (one_blocks count k text bs))
-      × ((opened_cards count (suc k) texts (one_blocks count k text bs)).opened.verdict ≡ Verdict.Accepted)
+      × ((opened_cards count (suc k) texts (one_blocks count k text bs)).opened.verdict ≡ Ok tt)
   unfolding opened_cards
   next k text texts bs = go (one_verdict count k text bs)
     where
       rest : Cards
       rest = opened_cards count (suc k) texts (one_blocks count k text bs)
 
-      go : (v : Verdict) → (with_verdict k v (one_blocks count k text bs) rest).opened.verdict ≡ Verdict.Accepted →
-          (with_verdict k v (one_blocks count k text bs) rest ≡ rest) × (rest.opened.verdict ≡ Verdict.Accepted)
-      go Verdict.Accepted h = (refl, h)
-      go (Verdict.Refused why n) h = clash (cc)
+      go : (v : Verdict) → (with_verdict k v (one_blocks count k text bs) rest).opened.verdict ≡ Ok tt →
+          (with_verdict k v (one_blocks count k text bs) rest ≡ rest) × (rest.opened.verdict ≡ Ok tt)
+      go (Ok _) h = (refl, h)
+      go (Err e) h = clash (cc)
 
-  below : (texts : List (List ℕ)) (k : ℕ) (bs : List ℕ) → (opened_cards count k texts bs).opened.verdict ≡ Verdict.Accepted →
+  below : (texts : List (List ℕ)) (k : ℕ) (bs : List ℕ) → (opened_cards count k texts bs).opened.verdict ≡ Ok tt →
       (j : ℕ) → j < k → part 1456 (opened_cards count k texts bs).blocks j ≡ part 1456 bs j
   unfolding opened_cards
   below [] k bs h j l = refl
@@ -99,7 +101,7 @@ module _ (count : ℕ) where
       ∙ (below texts (suc k) (one_blocks count k text bs) e.1 j (omega arith)
       ∙ one_other k text bs j (λ q. omega arith))
 
-  there : (texts : List (List ℕ)) (k : ℕ) (bs : List ℕ) → (opened_cards count k texts bs).opened.verdict ≡ Verdict.Accepted →
+  there : (texts : List (List ℕ)) (k : ℕ) (bs : List ℕ) → (opened_cards count k texts bs).opened.verdict ≡ Ok tt →
       (i j : ℕ) → j ≡ k + i → i < length texts → j < count →
       part 1456 (opened_cards count k texts bs).blocks j ≡ opened_block (get_or texts i []) (part 1456 bs j)
   there [] k bs h i j q l m = absurd (omega arith)
@@ -131,13 +133,13 @@ whole size n m h l =
     let g : size * m ≤ size * 3 = mul-le-mul_left size (omega arith) in
     omega arith
 
-module _ (text : List ℕ) (cards : List (List ℕ)) (agreed : (terms text).verdict ≡ Verdict.Accepted) where
+module _ (text : List ℕ) (cards : List (List ℕ)) (agreed : (terms text).verdict ≡ Ok tt) where
   abbrev sharing : Allowance → Shared
   sharing a = record { allowance = a; blocks = (cards_of text cards).blocks; loans = replicate 3072 0 }
 
   -- machine m has its card, and a loan that is long enough
   pub session_opened :
-      (cards_of text cards).opened.verdict ≡ Verdict.Accepted → (m : ℕ) → m < (terms text).allowance.count → m < length cards →
+      (cards_of text cards).opened.verdict ≡ Ok tt → (m : ℕ) → m < (terms text).allowance.count → m < length cards →
       OpenedWith 768 (get_or cards m []) (part 1456 (replicate 5824 0) m) (opened_shared text cards) m
   session_opened h m p l =
       let four = on_terms text (λ a. a.count ≤ 4) (λ count steps qs q. (accepted_terms count steps qs q).four) agreed in

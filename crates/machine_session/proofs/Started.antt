@@ -1,4 +1,5 @@
 -- Where a session starts, by what is opened and put into a buffer.
+use Rattle.std.specs.Prelude.{Ok, Err}
 use Prim.Native.Nat.{ℕ, suc, ◌<◌, ◌≤◌}
 use mathlib.Core.List.{List, [], ◌∷◌}
 use mathlib.Core.Path.{◌≡◌, refl, sym, ◌∙◌, ap}
@@ -7,7 +8,9 @@ use borrow.Author.Tests.{lt-ltb, le-ltb}
 use lib.ListN.{length, take}
 use lib.Seq.{length-take-le, length-sets}
 use Rattle.grammar.specs.Writing.{Put}
-use Rattle.construction.specs.declared.{answers.Refusal.Refusal, texts.Verdict.Verdict}
+use Rattle.construction.specs.declared.{answers.Refusal.Refusal}
+use Rattle.construction.specs.Types.{Verdict}
+use Rattle.construction.specs.declared.texts.RefusedAt.{RefusedAt}
 use Rattle.commands.specs.Printing.{calls_refusal}
 use Rattle.shared_processor.specs.Opening.{card_verdict, with_card}
 use Rattle.machine_commands.specs.Printing.{longest, terms_refusal, card_refusal}
@@ -18,7 +21,7 @@ use Rattle.machine_session.specs.Starting.{one_verdict, one_blocks, Cards, opene
 
 -- the card of one machine
 module _ (count m : ℕ) (text bs : List ℕ) where
-  pub no_card : count ≤ m → (Verdict.Accepted ≡ one_verdict count m text bs) × (bs ≡ one_blocks count m text bs)
+  pub no_card : count ≤ m → ((Ok tt) ≡ one_verdict count m text bs) × (bs ≡ one_blocks count m text bs)
   no_card h = (rw (le-ltb m count h), rw (le-ltb m count h))
 
   pub one_card :
@@ -30,17 +33,17 @@ module _ (count m : ℕ) (text bs : List ℕ) where
 module _ (count m : ℕ) (text : List ℕ) (texts : List (List ℕ)) (bs : List ℕ) {v : Verdict} {z : List ℕ}
     (o : (v ≡ one_verdict count m text bs) × (z ≡ one_blocks count m text bs)) where
   pub refused_card :
-      {why : Refusal} {line : ℕ} → v ≡ Verdict.Refused why line →
+      {refused : RefusedAt} → v ≡ Err refused →
       opened_cards count m (text ∷ texts) bs ≡ record { opened = record { machine = m; verdict = v }; blocks = z }
   unfolding opened_cards
   refused_card e = rw (← o.0, ← o.1, e)
 
-  pub next_card : v ≡ Verdict.Accepted → opened_cards count m (text ∷ texts) bs ≡ opened_cards count (suc m) texts z
+  pub next_card : v ≡ Ok tt → opened_cards count m (text ∷ texts) bs ≡ opened_cards count (suc m) texts z
   unfolding opened_cards
   next_card e = rw (← o.0, ← o.1, e)
 
 pub no_more_cards :
-    (count m : ℕ) (bs : List ℕ) {v : Verdict} → v ≡ Verdict.Accepted →
+    (count m : ℕ) (bs : List ℕ) {v : Verdict} → v ≡ Ok tt →
     opened_cards count m [] bs ≡ record { opened = record { machine = m; verdict = v }; blocks = bs }
 unfolding opened_cards
 no_more_cards count m bs e = rw e
@@ -67,23 +70,23 @@ module _ (text : List ℕ) (cards : List (List ℕ)) (calls bs : List ℕ) {w : 
       })
 
   pub terms_refused :
-      {why : Refusal} {line : ℕ} → w.verdict ≡ Verdict.Refused why line → {b : List ℕ} {r : Printed} {n : ℕ} {z : List ℕ} →
-      Put b 0 (terms_refusal (Verdict.Refused why line)) n z × (n ≤ longest) →
+      {refused : RefusedAt} → w.verdict ≡ Err refused → {b : List ℕ} {r : Printed} {n : ℕ} {z : List ℕ} →
+      Put b 0 (terms_refusal (Err refused)) n z × (n ≤ longest) →
       r ≡ record { state = record { allowance = w.allowance; at = length calls; line = 1 }; length = n } → Starts text cards calls bs b r bs z
   terms_refused e p f = starts_with (begins ∙ rw e) p.0 p.1 f
 
-  module _ (v : w.verdict ≡ Verdict.Accepted) {o : CardsOpened} {bs' : List ℕ}
+  module _ (v : w.verdict ≡ Ok tt) {o : CardsOpened} {bs' : List ℕ}
       (x : (o ≡ (opened_cards w.allowance.count 0 cards bs).opened) × (bs' ≡ (opened_cards w.allowance.count 0 cards bs).blocks)) where
     opens : beginning text cards calls bs ≡ opened_beginning calls w.allowance (record { opened = o; blocks = bs' })
     opens = begins ∙ rw (v, ← x.0, ← x.1)
 
     pub card_refused :
-        {why : Refusal} {line : ℕ} → o.verdict ≡ Verdict.Refused why line → {b : List ℕ} {r : Printed} {n : ℕ} {z : List ℕ} →
-        Put b 0 (card_refusal o.machine (Verdict.Refused why line)) n z × (n ≤ longest) →
+        {refused : RefusedAt} → o.verdict ≡ Err refused → {b : List ℕ} {r : Printed} {n : ℕ} {z : List ℕ} →
+        Put b 0 (card_refusal o.machine (Err refused)) n z × (n ≤ longest) →
         r ≡ record { state = record { allowance = w.allowance; at = length calls; line = 1 }; length = n } → Starts text cards calls bs b r bs' z
     card_refused e p f = starts_with (opens ∙ rw e) p.0 p.1 f
 
-    module _ (u : o.verdict ≡ Verdict.Accepted) where
+    module _ (u : o.verdict ≡ Ok tt) where
       pub calls_refused :
           65536 < length calls → {b : List ℕ} {r : Printed} {n : ℕ} {z : List ℕ} → Put b 0 calls_refusal n z × (n ≤ 269) →
           r ≡ record { state = record { allowance = w.allowance; at = length calls; line = 1 }; length = n } → Starts text cards calls bs b r bs' z

@@ -1,8 +1,8 @@
 -- A session of the program `machines` as a list of requests to machines that share a processor (document 02, order 14; crate shared_runs), and its printed
 -- lines by their replies.
-use Rattle.std.specs.Prelude.{ℕ, ◌≤◌, ◌≡◌, List, [], ◌∷◌, ◌++◌, map, length, get_or, take, drop, replicate}
+use Rattle.std.specs.Prelude.{ℕ, ◌≤◌, ◌≡◌, List, [], ◌∷◌, ◌++◌, map, length, get_or, take, drop, replicate, Ok}
 use Rattle.grammar.specs.Writing.{place_after}
-use Rattle.construction.specs.declared.{answers.Answer.Answer, texts.Verdict.Verdict}
+use Rattle.construction.specs.declared.{answers.Answer.Answer}
 use Rattle.construction.specs.declared.answers.Refusal.TheVariants.{Malformed}
 use Rattle.construction.specs.History.{Entry}
 use Rattle.session.specs.Session.{entries_of}
@@ -52,6 +52,6 @@ opened_shared text cards = shared_in (first_stage text cards)
 
 -- neither the terms nor a card nor the length of the calls is refused
 pub record Accepted (text : List ℕ) (cards : List (List ℕ)) (calls : List ℕ) : Type 0 where
-  pub agreed : (terms text).verdict ≡ Verdict.Accepted
-  pub opened : (cards_of text cards).opened.verdict ≡ Verdict.Accepted
+  pub agreed : (terms text).verdict ≡ Ok tt
+  pub opened : (cards_of text cards).opened.verdict ≡ Ok tt
   pub short : length calls ≤ 65536

@@ -1,8 +1,8 @@
 -- Where a session of the program `machines` starts (document 02, order 14; docs/FORMATS.md): the terms, then the cards of the machines from 0 on, then the length
 -- of the calls. What is refused prints only its line, past which no request is left.
-use Rattle.std.specs.Prelude.{ℕ, suc, ◌≤◌, cond, ◌≡◌, List, [], ◌∷◌, ◌++◌, length, replicate, ltb}
+use Rattle.construction.specs.Types.{Verdict}
+use Rattle.std.specs.Prelude.{ℕ, suc, ◌≤◌, cond, ◌≡◌, List, [], ◌∷◌, ◌++◌, length, replicate, ltb, Ok, Err}
 use Rattle.grammar.specs.Writing.{Put}
-use Rattle.construction.specs.declared.texts.Verdict.{Verdict}
 use Rattle.allowance.specs.declared.Allowance.{Allowance}
 use Rattle.commands.specs.Printing.{calls_refusal}
 use Rattle.shared_processor.specs.Opening.{card_verdict, with_card}
@@ -13,7 +13,7 @@ use Rattle.machine_session.specs.Session.{stage, lines_text}
 
 -- the card of machine m, if it is there
 abbrev pub one_verdict : ℕ → ℕ → List ℕ → List ℕ → Verdict
-one_verdict count m text bs = cond (ltb m count) (card_verdict text bs m) Verdict.Accepted
+one_verdict count m text bs = cond (ltb m count) (card_verdict text bs m) (Ok tt)
 
 abbrev pub one_blocks : ℕ → ℕ → List ℕ → List ℕ → List ℕ
 one_blocks count m text bs = cond (ltb m count) (with_card text bs m) bs
@@ -24,12 +24,12 @@ pub record Cards : Type 0 where
   pub blocks : List ℕ
 
 abbrev pub with_verdict : ℕ → Verdict → List ℕ → Cards → Cards
-with_verdict m Verdict.Accepted bs rest = rest
-with_verdict m (Verdict.Refused why line) bs rest = record { opened = record { machine = m; verdict = Verdict.Refused why line }; blocks = bs }
+with_verdict m (Ok _) bs rest = rest
+with_verdict m (Err e) bs rest = record { opened = record { machine = m; verdict = Err e }; blocks = bs }
 
 -- the cards of machines m, m + 1 and so on; 'the first refused one' ends it
 unfoldable pub opened_cards : ℕ → ℕ → List (List ℕ) → List ℕ → Cards
-opened_cards count m [] bs = record { opened = record { machine = m; verdict = Verdict.Accepted }; blocks = bs }
+opened_cards count m [] bs = record { opened = record { machine = m; verdict = Ok tt }; blocks = bs }
 opened_cards count m (text ∷ texts) bs =
     with_verdict m (one_verdict count m text bs) (one_blocks count m text bs) (opened_cards count (suc m) texts (one_blocks count m text bs))
 
@@ -48,15 +48,15 @@ calls_beginning calls a bs =
     (record { text = []; state = record { allowance = a; at = 0; line = 1 }; blocks = bs })
 
 abbrev pub cards_beginning : List ℕ → Allowance → ℕ → Verdict → List ℕ → Beginning
-cards_beginning calls a m Verdict.Accepted bs = calls_beginning calls a bs
-cards_beginning calls a m (Verdict.Refused why line) bs = over calls a bs (card_refusal m (Verdict.Refused why line))
+cards_beginning calls a m (Ok _) bs = calls_beginning calls a bs
+cards_beginning calls a m (Err e) bs = over calls a bs (card_refusal m (Err e))
 
 abbrev pub opened_beginning : List ℕ → Allowance → Cards → Beginning
 opened_beginning calls a x = cards_beginning calls a x.opened.machine x.opened.verdict x.blocks
 
 abbrev pub terms_beginning : List (List ℕ) → List ℕ → Allowance → Verdict → List ℕ → Beginning
-terms_beginning cards calls a Verdict.Accepted bs = opened_beginning calls a (opened_cards a.count 0 cards bs)
-terms_beginning cards calls a (Verdict.Refused why line) bs = over calls a bs (terms_refusal (Verdict.Refused why line))
+terms_beginning cards calls a (Ok _) bs = opened_beginning calls a (opened_cards a.count 0 cards bs)
+terms_beginning cards calls a (Err e) bs = over calls a bs (terms_refusal (Err e))
 
 unfoldable pub beginning : List ℕ → List (List ℕ) → List ℕ → List ℕ → Beginning
 beginning text cards calls bs = terms_beginning cards calls (terms text).allowance (terms text).verdict bs

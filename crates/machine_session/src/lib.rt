@@ -9,7 +9,7 @@ pub mod starting; // starting.rt: where a session starts
 pub mod running; // running.rt: its lines, as many at a time as a buffer has room for
 
 use allowance::Allowance;
-use construction::texts::Verdict;
+use construction::texts::RefusedAt;
 
 // A session under way, besides its words: the allowance, the place of the next request and the number of its line.
 #[derive(Clone, Copy)]
@@ -30,5 +30,5 @@ pub struct Printed {
 #[derive(Clone, Copy)]
 pub struct CardsOpened {
     pub machine: u32,
-    pub verdict: Verdict,
+    pub verdict: Result<(), RefusedAt>,
 }

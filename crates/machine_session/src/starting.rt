@@ -5,7 +5,7 @@ ghost use Rattle.machine_session.specs.Starting.{one_verdict, one_blocks, opened
 use crate::{CardsOpened, Printed, State};
 use allowance::Allowance;
 use commands::printing::put_calls_refusal;
-use construction::texts::Verdict;
+use construction::texts::RefusedAt;
 use machine_commands::printing::{put_card_refusal, put_terms_refusal};
 use machine_terms::read_terms;
 use shared_processor::cards::open_card;
@@ -14,11 +14,11 @@ use shared_processor::cards::open_card;
 const LIMIT: usize = 65_536;
 
 // Opens the card of machine m, if it is there.
-fn open_one(blocks: &mut [u64], count: u64, m: u32, text: &[u8]) -> Verdict
+fn open_one(blocks: &mut [u64], count: u64, m: u32, text: &[u8]) -> Result<(), RefusedAt>
     ensures { (result ≡ one_verdict count m text.now blocks.old) × (blocks.new ≡ one_blocks count m text.now blocks.old) }
 {
     if count <= m as u64 {
-        return Verdict::Accepted;
+        return Ok(());
     }
     open_card(blocks, m, text)
 }
@@ -35,44 +35,28 @@ fn open_cards(
     ensures { (result ≡ (opened_cards count 0 (card0.now ∷ card1.now ∷ card2.now ∷ card3.now ∷ []) blocks.old).opened) × (blocks.new ≡ (opened_cards count 0 (card0.now ∷ card1.now ∷ card2.now ∷ card3.now ∷ []) blocks.old).blocks) }
 {
     let first = open_one(blocks, count, 0, card0);
-    if let Verdict::Refused {
-        refusal: _,
-        line: _,
-    } = first
-    {
+    if let Err(_) = first {
         return CardsOpened {
             machine: 0,
             verdict: first,
         };
     }
     let second = open_one(blocks, count, 1, card1);
-    if let Verdict::Refused {
-        refusal: _,
-        line: _,
-    } = second
-    {
+    if let Err(_) = second {
         return CardsOpened {
             machine: 1,
             verdict: second,
         };
     }
     let third = open_one(blocks, count, 2, card2);
-    if let Verdict::Refused {
-        refusal: _,
-        line: _,
-    } = third
-    {
+    if let Err(_) = third {
         return CardsOpened {
             machine: 2,
             verdict: third,
         };
     }
     let fourth = open_one(blocks, count, 3, card3);
-    if let Verdict::Refused {
-        refusal: _,
-        line: _,
-    } = fourth
-    {
+    if let Err(_) = fourth {
         return CardsOpened {
             machine: 3,
             verdict: fourth,
@@ -111,15 +95,13 @@ pub fn start(
 {
     let read = read_terms(terms);
     let allowance = read.allowance;
-    let verdict = read.verdict;
-    if let Verdict::Refused { refusal, line } = verdict {
-        let length = put_terms_refusal(buffer, refusal, line);
+    if let Err(refused) = read.verdict {
+        let length = put_terms_refusal(buffer, refused);
         return begun(allowance, calls.len(), length);
     }
     let opened = open_cards(blocks, allowance.count, card0, card1, card2, card3);
-    let verdict = opened.verdict;
-    if let Verdict::Refused { refusal, line } = verdict {
-        let length = put_card_refusal(buffer, opened.machine, refusal, line);
+    if let Err(refused) = opened.verdict {
+        let length = put_card_refusal(buffer, opened.machine, refused);
         return begun(allowance, calls.len(), length);
     }
     if LIMIT < calls.len() {

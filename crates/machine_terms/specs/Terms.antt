@@ -5,9 +5,10 @@
 use Rattle.std.specs.Prelude.{ℕ, zero, suc, ◌+◌, cond, ◌||◌, List, [], ◌∷◌, length, set, replicate, ltb, Option, Some, None, Result, Ok, Err}
 use Rattle.grammar.specs.declared.Found.{Found}
 use Rattle.grammar.specs.Reading.{found, with_found, field, has_word}
-use Rattle.construction.specs.declared.{answers.Refusal.Refusal, texts.Verdict.Verdict}
+use Rattle.construction.specs.declared.{answers.Refusal.Refusal}
 use Rattle.construction.specs.declared.answers.Refusal.TheVariants as refusals
 use Rattle.construction.specs.Answers.{is_refused}
+use Rattle.construction.specs.Types.{told_at}
 use Rattle.allowance.specs.declared.{Quota.Quota, Opened.Opened}
 use Rattle.allowance.specs.Opening.{allowance_from, opened_as}
 use Rattle.machine_terms.specs.declared.{Pair.Pair, Terms.Terms}
@@ -52,11 +53,11 @@ quotas_read t at count = quotas_from t count 0 at (replicate 4 (quota_of 0 0))
 
 -- 'which leaves no machines'
 unfoldable pub refused : Refusal → ℕ → Terms
-refused why n = record { allowance = allowance_from 0 0 (replicate 4 (quota_of 0 0)); verdict = Verdict.Refused why n }
+refused why n = record { allowance = allowance_from 0 0 (replicate 4 (quota_of 0 0)); verdict = Err (told_at why n) }
 
 -- what opening answers
 unfoldable pub judged_as : Opened → Terms
-judged_as o = cond (is_refused o.answer) (refused refusals.BadTerms 0) (record { allowance = o.allowance; verdict = Verdict.Accepted })
+judged_as o = cond (is_refused o.answer) (refused refusals.BadTerms 0) (record { allowance = o.allowance; verdict = Ok tt })
 
 abbrev pub with_quotas : ℕ → ℕ → Quotas → Terms
 with_quotas count steps (Ok quotas) = judged_as (opened_as count steps quotas)

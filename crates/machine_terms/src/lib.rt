@@ -9,7 +9,7 @@ ghost use Rattle.machine_terms.specs.Terms.{pair, line, quota_of, quotas_read, r
 use allowance::{Allowance, Opened, Quota, open};
 use answers::kinds::is_refused;
 use construction::answers::Refusal;
-use construction::texts::Verdict;
+use construction::texts::RefusedAt;
 use grammar::Found;
 use grammar::reading::{field_at, has_word};
 
@@ -24,7 +24,7 @@ pub struct Pair {
 #[derive(Clone, Copy)]
 pub struct Terms {
     pub allowance: Allowance,
-    pub verdict: Verdict,
+    pub verdict: Result<(), RefusedAt>,
 }
 
 // The most bytes of the text.
@@ -108,7 +108,7 @@ fn refused_with(refusal: Refusal, line: u64) -> Terms
     let opened = open(0, 0, [quota_of(0, 0); 4]);
     Terms {
         allowance: opened.allowance,
-        verdict: Verdict::Refused { refusal, line },
+        verdict: Err(RefusedAt { refusal, line }),
     }
 }
 
@@ -122,7 +122,7 @@ fn judged(opened: Opened) -> Terms
     }
     Terms {
         allowance: opened.allowance,
-        verdict: Verdict::Accepted,
+        verdict: Ok(()),
     }
 }
 

@@ -55,12 +55,9 @@ pub fn open_record(start: u32) -> Record
 fn open_records(starts: [u32; 64]) -> [Record; 64]
     ensures { result ≡ map open_record starts }
 {
-    let record = open_record(0);
-    let mut records = [record; 64];
-    let mut k: usize = 0;
-    while k < 64 {
+    let mut records = [open_record(0); 64];
+    for k in 0..64usize {
         records[k] = open_record(starts[k]);
-        k = k + 1;
     }
     records
 }

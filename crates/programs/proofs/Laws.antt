@@ -1,17 +1,14 @@
 -- The definitions of the instructions by the tests that decide them, over plain values
 use Prim.Native.Nat.{ℕ, zero, suc, ◌%◌, ◌<◌, ◌≤◌}
-use mathlib.Core.Bool.{Bool, true, false, cond, not}
-use mathlib.Core.Path.{◌≡◌, refl, sym, ◌∙◌}
+use mathlib.Core.Bool.{Bool, true, false, cond}
+use mathlib.Core.Path.{◌≡◌, refl}
 use native.Mathlib.Omega.{arith}
-use lib.Dec.{eqb, leb, ltb}
+use lib.Dec.{eqb, ltb}
 use lib.ListN.{length, get_or, get_or-eq_default}
 use borrow.Author.Tests.{ne_eqb, lt-ltb, le-ltb, ltb-true, ltb-false}
 use Rattle.construction.specs.declared.{cells.Words.Words, programs.Instruction.Instruction, programs.Line.Line, programs.Program.Program}
-use Rattle.construction.specs.declared.{programs.Effect.Effect}
-use Rattle.construction.specs.Instructions.{with_word, load, store, is_cell, free, no_line, fetch}
-use Rattle.construction.proofs.Basics.{and_true}
+use Rattle.construction.specs.Instructions.{with_word, no_line, fetch}
 use Rattle.programs.specs.Fetching.{instruction_at}
-use Rattle.programs.specs.Cells.{is_astray}
 
 module _ (f : Words) (x : ℕ) where
   -- four words of which the one at place k is x
@@ -42,50 +39,6 @@ module _ (f : Words) (x : ℕ) where
       d ≡ cond (ltb 2 k) x f.w3 → ◌≡◌ {A = Words} (record { w0 = a; w1 = b; w2 = c; w3 = d }) (with_word f k x)
   unfolding placed
   with_word_lem k a b c d p q r s = rw (p, q, r, s) (placed_is k)
-
-module _ (n a v : ℕ) where
-  pub load_there : v < n → Effect.Load a v ≡ load n a v
-  unfolding load
-  load_there p = rw (lt-ltb _ _ p)
-
-  pub load_none : n ≤ v → Effect.Fault ≡ load n a v
-  unfolding load
-  load_none p = rw (le-ltb _ _ p)
-
-module _ (n v x : ℕ) where
-  pub store_there : v < n → Effect.Store v x ≡ store n v x
-  unfolding store
-  store_there p = rw (lt-ltb _ _ p)
-
-  pub store_none : n ≤ v → Effect.Fault ≡ store n v x
-  unfolding store
-  store_none p = rw (le-ltb _ _ p)
-
--- a number that a cell can have
-module _ (n c : ℕ) where
-  pub cell_some : (c ≡ 0 → ⊥) → ltb c n ≡ is_cell n c
-  cell_some p = rw (ne_eqb c 0 p)
-
-  pub cell_none : c ≡ 0 → not (eqb c 0) ≡ is_cell n c
-  cell_none p = rw p
-
-  pub astray_some : (c ≡ 0 → ⊥) → leb n c ≡ is_astray n c
-  astray_some p = rw (ne_eqb c 0 p)
-
-  pub astray_none : c ≡ 0 → not (eqb c 0) ≡ is_astray n c
-  astray_none p = rw p
-
-  module _ {t : Bool} (e : t ≡ is_cell n c) where
-    pub cell_below : t ≡ true → c < n
-    cell_below p = ltb-true c n (and_true (not (eqb c 0)) (ltb c n) (sym e ∙ p)).1
-
-    pub free_there : t ≡ true → Effect.Free c ≡ free n c
-    unfolding free
-    free_there p = rw (← e, p)
-
-    pub free_none : t ≡ false → Effect.Fault ≡ free n c
-    unfolding free
-    free_none p = rw (← e, p)
 
 module _ (size k : ℕ) (line : Line) where
   pub at_there : k < size → k < 32 → line.instruction ≡ instruction_at size k line

@@ -15,6 +15,7 @@ use construction::programs::{Effect, Instruction, Line};
 use construction::simulations::Simulation;
 
 // Word `place` of four.
+#[tactic(auto, unfolding(construction::specs::Instructions::word))]
 pub fn word(words: Words, place: u8) -> u32
     ensures { result ≡ word words place }
 {
@@ -45,6 +46,7 @@ pub fn with_word(words: Words, place: u8, value: u32) -> Words
 }
 
 // Code 7: a sum past the end of a word is that end.
+#[tactic(auto, unfolding(construction::specs::Instructions::sum))]
 pub fn sum(x: u32, y: u32) -> u32
     ensures { result ≡ sum x y }
 {
@@ -53,6 +55,7 @@ pub fn sum(x: u32, y: u32) -> u32
 }
 
 // Code 8: a difference below 0 is 0.
+#[tactic(auto, unfolding(construction::specs::Instructions::difference))]
 pub fn difference(x: u32, y: u32) -> u32
     ensures { result ≡ difference x y }
 {
@@ -60,6 +63,7 @@ pub fn difference(x: u32, y: u32) -> u32
 }
 
 // A load of a variable, which is a fault where the variable is not below n.
+#[tactic(auto, unfolding(construction::specs::Instructions::load))]
 pub fn load(n: u8, register: u8, variable: u32) -> Effect
     ensures { result ≡ load n register variable }
 {
@@ -73,6 +77,7 @@ pub fn load(n: u8, register: u8, variable: u32) -> Effect
 }
 
 // A store to a variable, which is a fault where the variable is not below n.
+#[tactic(auto, unfolding(construction::specs::Instructions::store))]
 pub fn store(n: u8, variable: u32, value: u32) -> Effect
     ensures { result ≡ store n variable value }
 {
@@ -100,6 +105,7 @@ pub fn is_astray(n: u8, number: u32) -> bool
 }
 
 // Code 14: the cell of a number given back, a fault where there is no such cell.
+#[tactic(auto, unfolding(construction::specs::Instructions::free))]
 pub fn free(n: u8, number: u32) -> Effect
     ensures { result ≡ free n number }
 {
@@ -132,6 +138,7 @@ fn set(register: u8, value: u32) -> Effect
 }
 
 // What an instruction does on a card of n variables, with the registers r and so many instructions behind it.
+#[tactic(auto, unfolding(construction::specs::Instructions::effect_of))]
 pub fn effect_of(n: u8, inputs: Words, r: Words, remaining: u8, instruction: Instruction) -> Effect
     ensures { result ≡ effect_of n inputs r (shortened remaining instruction) }
 {
@@ -171,68 +178,61 @@ pub fn effect_of(n: u8, inputs: Words, r: Words, remaining: u8, instruction: Ins
 }
 
 // The place after the next one and `count` more, at most the end.
+#[tactic(auto, unfolding(construction::specs::Instructions::forward))]
 pub fn forward(counter: u8, count: u8) -> u8
     ensures { result ≡ forward counter count }
 {
-    if counter < 31 {
-        if count < 31 - counter {
-            return counter + count + 1;
-        }
+    if counter < 31 && count < 31 - counter {
+        counter + count + 1
+    } else {
+        32
     }
-    32
 }
 
 // The state after a register took a value.
+#[tactic(auto, unfolding(construction::specs::Instructions::with_register))]
 pub fn with_register(simulation: Simulation, register: u8, value: u32) -> Simulation
     ensures { result ≡ with_register simulation register value }
 {
-    let registers = simulation.registers;
-    let yields = simulation.yields;
     Simulation {
         counter: forward(simulation.counter, 0),
-        registers: with_word(registers, register, value),
-        yields,
+        registers: with_word(simulation.registers, register, value),
+        ..simulation
     }
 }
 
 // The state after an output took a value.
+#[tactic(auto, unfolding(construction::specs::Instructions::with_output))]
 pub fn with_output(simulation: Simulation, output: u8, value: u32) -> Simulation
     ensures { result ≡ with_output simulation output value }
 {
-    let registers = simulation.registers;
-    let yields = simulation.yields;
-    let outputs = yields.outputs;
     Simulation {
         counter: forward(simulation.counter, 0),
-        registers,
         yields: Yield {
-            outputs: with_word(outputs, output, value),
-            fault: yields.fault,
+            outputs: with_word(simulation.yields.outputs, output, value),
+            ..simulation.yields
         },
+        ..simulation
     }
 }
 
 // The state after `count` instructions were skipped.
+#[tactic(auto, unfolding(construction::specs::Instructions::skipped))]
 pub fn skipped(simulation: Simulation, count: u8) -> Simulation
     ensures { result ≡ skipped simulation count }
 {
-    let registers = simulation.registers;
-    let yields = simulation.yields;
     Simulation {
         counter: forward(simulation.counter, count),
-        registers,
-        yields,
+        ..simulation
     }
 }
 
 // The state that a fault leaves: it yields zeros and the mark.
+#[tactic(auto, unfolding(construction::specs::Instructions::faulted))]
 pub fn faulted(simulation: Simulation) -> Simulation
     ensures { result ≡ faulted simulation }
 {
-    let registers = simulation.registers;
     Simulation {
-        counter: simulation.counter,
-        registers,
         yields: Yield {
             outputs: Words {
                 w0: 0,
@@ -242,6 +242,7 @@ pub fn faulted(simulation: Simulation) -> Simulation
             },
             fault: true,
         },
+        ..simulation
     }
 }
 
@@ -260,11 +261,9 @@ pub fn remaining_after(length: u8, counter: u8) -> u8
 pub fn instruction_at(length: u8, counter: u8, line: Line) -> Instruction
     ensures { result ≡ instruction_at length counter line }
 {
-    let instruction = line.instruction;
-    if counter < length {
-        if counter < 32 {
-            return instruction;
-        }
+    if counter < length && counter < 32 {
+        line.instruction
+    } else {
+        Instruction::Stop
     }
-    Instruction::Stop
 }

@@ -10,55 +10,12 @@ pub fn weight_of(instruction: Instruction) -> u8
     ensures { result ≡ weight_of instruction }
 {
     match instruction {
-        Instruction::Stop => 0,
-        Instruction::Input {
-            register: _,
-            input: _,
-        } => 0,
-        Instruction::Constant {
-            register: _,
-            constant: _,
-        } => 0,
-        Instruction::Load {
-            register: _,
-            variable: _,
-        } => 1,
-        Instruction::Store {
-            variable: _,
-            register: _,
-        } => 1,
-        Instruction::LoadAt {
-            register: _,
-            address: _,
-        } => 1,
-        Instruction::StoreAt {
-            address: _,
-            register: _,
-        } => 1,
-        Instruction::Add {
-            register: _,
-            operand: _,
-        } => 0,
-        Instruction::Subtract {
-            register: _,
-            operand: _,
-        } => 0,
-        Instruction::SkipEqual {
-            left: _,
-            right: _,
-            skip: _,
-        } => 0,
-        Instruction::SkipLess {
-            left: _,
-            right: _,
-            skip: _,
-        } => 0,
-        Instruction::Output {
-            output: _,
-            register: _,
-        } => 0,
-        Instruction::Allocate { register: _ } => 2,
-        Instruction::Free { register: _ } => 2,
+        Instruction::Load { .. }
+        | Instruction::Store { .. }
+        | Instruction::LoadAt { .. }
+        | Instruction::StoreAt { .. } => 1,
+        Instruction::Allocate { .. } | Instruction::Free { .. } => 2,
+        _ => 0,
     }
 }
 
@@ -67,12 +24,9 @@ pub fn weight(program: Program) -> u8
     ensures { result ≡ weight program }
 {
     let mut total: u8 = 0;
-    let mut k: u8 = 0;
-    while k < 32 {
-        let line = program.lines[k as usize];
-        let instruction = instruction_at(program.length, k, line);
-        total = total + weight_of(instruction);
-        k = k + 1;
+    for k in 0..32u8 {
+        let instruction = instruction_at(program.length, k, program.lines[k as usize]);
+        total += weight_of(instruction);
     }
     total
 }
@@ -82,11 +36,8 @@ pub fn heaviest(programs: [Program; 8]) -> u8
     ensures { result ≡ heaviest programs }
 {
     let mut most: u8 = 0;
-    let mut k: u8 = 8;
-    while 0 < k {
-        k = k - 1;
-        let program = programs[k as usize];
-        let one = weight(program);
+    for k in (0..8usize).rev() {
+        let one = weight(programs[k]);
         if most < one {
             most = one;
         }

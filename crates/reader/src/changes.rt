@@ -5,14 +5,14 @@ ghost use Rattle.construction.specs.Changes.{program_then_end, program_text};
 use crate::read_program;
 use crate::refusals::program_refused_at;
 use construction::answers::Refusal;
-use construction::texts::{ProgramReading, Verdict};
+use construction::texts::ProgramReading;
 
 // Nothing follows a program that was read.
 fn ended(text: &[u8], read: ProgramReading) -> ProgramReading
     ensures { result ≡ program_then_end text.now read }
 {
     let verdict = read.verdict;
-    let Verdict::Accepted = verdict else {
+    let Ok(()) = verdict else {
         return read;
     };
     if read.at == text.len() {

@@ -13,7 +13,7 @@ ghost use Rattle.construction.specs.Instructions.{no_line};
 use crate::refusals::{program_refused_at, refused_at};
 use construction::answers::Refusal;
 use construction::programs::{Line, Program};
-use construction::texts::{CardNumbers, Contents, Opened, ProgramReading, Reading, Verdict};
+use construction::texts::{CardNumbers, Contents, Opened, ProgramReading, Reading, RefusedAt};
 use programs::weights::weight;
 
 // The contents after the `card` line alone.
@@ -62,7 +62,7 @@ fn read_lines(
     }
     let program = Program { length, lines };
     ProgramReading {
-        verdict: Verdict::Accepted,
+        verdict: Ok(()),
         program,
         at,
         line: number,
@@ -74,7 +74,7 @@ fn weigh(most: u8, read: ProgramReading, last: u64) -> ProgramReading
     ensures { result ≡ weighed most last read }
 {
     let verdict = read.verdict;
-    let Verdict::Accepted = verdict else {
+    let Ok(()) = verdict else {
         return read;
     };
     let program = read.program;
@@ -114,7 +114,7 @@ fn read_programs(text: &[u8], count: u8, contents: Contents, start: usize, first
     for k in 0..count as usize {
         let read = read_program(contents.variable_count, 32, text, at, number);
         let verdict = read.verdict;
-        if let Verdict::Refused { refusal, line } = verdict {
+        if let Err(RefusedAt { refusal, line }) = verdict {
             return refused_at(refusal, line);
         }
         programs[k] = read.program;
@@ -126,7 +126,7 @@ fn read_programs(text: &[u8], count: u8, contents: Contents, start: usize, first
         ..contents
     };
     Reading {
-        verdict: Verdict::Accepted,
+        verdict: Ok(()),
         contents,
         at,
         line: number,
@@ -152,7 +152,7 @@ fn read_vars(text: &[u8], count: u8, contents: Contents, start: usize, first: u6
     }
     let contents = Contents { starts, ..contents };
     Reading {
-        verdict: Verdict::Accepted,
+        verdict: Ok(()),
         contents,
         at,
         line: number,
@@ -172,13 +172,13 @@ fn read_body(
 {
     let vars = read_vars(text, variable_count, contents, at, 2);
     let verdict = vars.verdict;
-    let Verdict::Accepted = verdict else {
+    let Ok(()) = verdict else {
         return vars;
     };
     let started = vars.contents;
     let all = read_programs(text, program_count, started, vars.at, vars.line);
     let verdict = all.verdict;
-    let Verdict::Accepted = verdict else {
+    let Ok(()) = verdict else {
         return all;
     };
     if all.at == text.len() {

@@ -5,7 +5,6 @@
 ghost use Rattle.std.specs.Prelude.{◌≡◌, length};
 
 use arguments::decimal_of;
-use construction::texts::Verdict;
 use dump_reader::rows::{first_scan, put_row, put_rows};
 use grammar::writing::{put_byte, put_decimal, put_word};
 use host::{argument, argument_count, fail, print, read_file};
@@ -62,9 +61,8 @@ fn print_readings(rt: &impl Print, text: &[u8], all: bool, step: u64) -> io::Res
         return print_refusal(rt, 1, 0);
     }
     let readings = dump_reader::read(text, step);
-    let verdict = readings.verdict;
-    if let Verdict::Refused { refusal: _, line } = verdict {
-        return print_refusal(rt, 2, line);
+    if let Err(refused) = readings.verdict {
+        return print_refusal(rt, 2, refused.line);
     }
     let count = readings.count;
     if all {

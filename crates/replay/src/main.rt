@@ -31,25 +31,20 @@ fn find(text: &[u8], byte: u8, start: usize) -> usize
     requires { start ≤ length text.now }
     ensures { Finds text.now byte start result }
 {
-    let mut i = start;
-    while i < text.len() {
+    for i in start..text.len() {
         if text[i] == byte {
             return i;
         }
-        i = i + 1;
     }
-    i
+    text.len()
 }
 
 // Prints the lines of a session from a state on, and compares the cards before and after them.
 fn play(state: State, calls: &[u8], buffer: &mut [u8]) -> Played
     ensures { Plays calls.now state buffer.old result buffer.new }
 {
-    let before = state.card;
     let printed = put_lines(state, calls, buffer);
-    let next = printed.state;
-    let after = next.card;
-    let same = same_card(before, after);
+    let same = same_card(state.card, printed.state.card);
     Played { printed, same }
 }
 
@@ -76,22 +71,19 @@ fn play_commands(rt: &impl Print, first: Card, calls: &[u8]) {
         line: 1,
     };
     let mut at: usize = 0;
+    // The next place is known when a command is read, so no range gives it.
     while at < calls.len() {
         let parsed = command_at(calls, at);
-        let command = parsed.command;
-        let end = parsed.next;
-        if calls.len() < end {
+        if calls.len() < parsed.next {
             return;
         }
         let mut buffer = host::buffer();
-        let played = play(state, &calls[..end], &mut buffer);
-        let printed = played.printed;
-        let length = printed.length;
+        let played = play(state, &calls[..parsed.next], &mut buffer);
+        let length = played.printed.length;
         show_line(rt, played.same, &buffer[..length]);
-        state = printed.state;
-        let card = state.card;
-        show_looked(rt, command, card);
-        at = end;
+        state = played.printed.state;
+        show_looked(rt, parsed.command, state.card);
+        at = parsed.next;
     }
 }
 
@@ -99,17 +91,15 @@ fn play_schedule(rt: &impl Print, title: &[u8], card: &[u8], calls: &[u8]) {
     show(rt, title);
     let mut buffer = host::buffer();
     let started = start(card, calls, &mut buffer);
-    let length = started.length;
-    show(rt, &buffer[..length]);
-    let state = started.state;
-    let first = state.card;
-    play_commands(rt, first, calls);
+    show(rt, &buffer[..started.length]);
+    play_commands(rt, started.state.card, calls);
 }
 
 fn play_all(rt: &impl Print, input: &[u8]) {
     let mut card_start: usize = 0;
     let mut card_end: usize = 0;
     let mut at: usize = 0;
+    // The next place is known when a heading is found, so no range gives it.
     while at < input.len() {
         let title_end = find(input, b'\n', at);
         if input.len() <= title_end {

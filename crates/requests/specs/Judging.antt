@@ -2,18 +2,19 @@
 -- `request_exit`, `step` and `change` of construction without the card that those give: the functions that judge have none. `call_refused`, `call_taken`
 -- and their like for the others (card/proofs/Requests, changing/proofs/Laws) say that the two agree.
 use Rattle.std.specs.Prelude.{ℕ, Result, Ok, Err, Bool, cond, not, ◌&&◌, ◌||◌, ltb}
-use Rattle.construction.specs.declared.{accesses.Label.Label, answers.Refusal.Refusal, answers.Answer.Answer, texts.Verdict.Verdict}
+use Rattle.construction.specs.declared.{accesses.Label.Label, answers.Refusal.Refusal, answers.Answer.Answer}
 use Rattle.construction.specs.declared.answers.Refusal.TheVariants.{NoProcess, NoProgram, Busy, NotBusy, LimitReached, NotAhead, Unsettled}
 use Rattle.construction.specs.Requests.{is_idle}
+use Rattle.construction.specs.Types.{Verdict}
 
 -- code judges a request with a Result: the answer that it stands for, of a request but a change, and of a change, whose refusals have a line
 abbrev pub answer_of_judged : Result (Unit {0}) Refusal → Answer
 answer_of_judged (Ok x) = Answer.Taken
 answer_of_judged (Err r) = Answer.Refused r
 
-abbrev pub answer_of_change : Result (Unit {0}) (Refusal × ℕ) → Answer
+abbrev pub answer_of_change : Verdict → Answer
 answer_of_change (Ok x) = Answer.Taken
-answer_of_change (Err (r, line)) = Answer.RefusedAt r line
+answer_of_change (Err e) = Answer.RefusedAt e.refusal e.line
 
 -- the first of three tests that fails gives its refusal
 abbrev pub judged : Bool → Refusal → Bool → Refusal → Bool → Refusal → Answer
@@ -35,8 +36,8 @@ step_judged i p place steps limit =
 -- a change of program k (document 02, order 11): a text that is refused gives the refusal with its line; the gate has this number, the program's last
 -- change holds from `last`, and an operation under way may be behind that
 abbrev pub if_text_accepted : Verdict → Answer → Answer
-if_text_accepted Verdict.Accepted x = x
-if_text_accepted (Verdict.Refused why line) x = Answer.RefusedAt why line
+if_text_accepted (Ok _) x = x
+if_text_accepted (Err e) x = Answer.RefusedAt e.refusal e.line
 
 abbrev pub change_judged : ℕ → ℕ → Verdict → ℕ → ℕ → ℕ → Bool → Answer
 change_judged k s verdict number from last behind =

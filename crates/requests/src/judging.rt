@@ -7,7 +7,7 @@ ghost use Rattle.requests.specs.Judging.{answer_of_judged, answer_of_change, cal
 use construction::accesses::{Control, Label};
 use construction::answers::{Answer, Refusal};
 use construction::cells::Announcement;
-use construction::texts::Verdict;
+use construction::texts::RefusedAt;
 use machine::announcement::returned;
 use machine::places::is_idle;
 
@@ -75,25 +75,34 @@ pub fn judge_step(
 pub fn judge_change(
     program: u32,
     program_count: u8,
-    verdict: Verdict,
+    verdict: Result<(), RefusedAt>,
     number: u64,
     from: u64,
     last: u64,
     behind: bool,
-) -> Result<(), (Refusal, u64)>
+) -> Result<(), RefusedAt>
     ensures { answer_of_change result ≡ change_judged program program_count verdict number from last behind }
 {
     if !is_below(program, program_count, 8) {
-        return Err((Refusal::NoProgram, 0));
+        return Err(RefusedAt {
+            refusal: Refusal::NoProgram,
+            line: 0,
+        });
     }
-    if let Verdict::Refused { refusal, line } = verdict {
-        return Err((refusal, line));
+    if let Err(refused) = verdict {
+        return Err(refused);
     }
     if from <= number {
-        return Err((Refusal::NotAhead, 0));
+        return Err(RefusedAt {
+            refusal: Refusal::NotAhead,
+            line: 0,
+        });
     }
     if number < last || behind {
-        return Err((Refusal::Unsettled, 0));
+        return Err(RefusedAt {
+            refusal: Refusal::Unsettled,
+            line: 0,
+        });
     }
     Ok(())
 }

@@ -1,4 +1,5 @@
 -- The printed line, and what the files come to.
+use Rattle.std.specs.Prelude.{Ok, Err}
 use Prim.Native.Nat.{ℕ, ◌<◌, ◌≤◌}
 use mathlib.Core.Path.{◌≡◌, refl, sym, subst, ap, ◌∙◌}
 use mathlib.Core.Bool.{Bool, true, false}
@@ -8,10 +9,12 @@ use lib.ListN.{length}
 use borrow.Author.Tests.{lt-ltb, le-ltb}
 use Rattle.grammar.specs.Writing.{Put}
 use Rattle.grammar.proofs.Puts.{Room, rest_all, rest_step, rest_last}
-use Rattle.construction.specs.declared.{card.Card.Card, texts.Opened.Opened, texts.Verdict.Verdict, answers.Refusal.Refusal}
+use Rattle.construction.specs.declared.{card.Card.Card, texts.Opened.Opened}
 use Rattle.construction.specs.Answers.{bytes, refused_with, fields_text}
 use Rattle.construction.specs.Opening.{opened}
 use Rattle.construction.specs.History.{run}
+use Rattle.construction.specs.Types.{Verdict}
+use Rattle.construction.specs.declared.texts.RefusedAt.{RefusedAt}
 use Rattle.commands.specs.Printing.{card_refusal, calls_refusal}
 use Rattle.executions.specs.Schedules.{calls_of}
 use Rattle.executions.specs.Listings.{is_callable, is_listable}
@@ -44,13 +47,13 @@ module _ (card calls : List ℕ) (L : ℕ) {o : Opened} (opens : o ≡ opened ca
       subst (λ (q : Prepared). PreparedAs (refused_by t o.card) b q z) (sym e) (record { put = p; short = h; ready = refl; card = refl })
 
   pub card_refused :
-      {why : Refusal} {line : ℕ} → o.verdict ≡ Verdict.Refused why line → {b : List ℕ} {n : ℕ} {z : List ℕ} {r : Prepared} →
-      Put b 0 (card_refusal (Verdict.Refused why line)) n z → n ≤ 269 → r ≡ record { ready = false; card = o.card; length = n } →
+      {refused : RefusedAt} → o.verdict ≡ Err refused → {b : List ℕ} {n : ℕ} {z : List ℕ} {r : Prepared} →
+      Put b 0 (card_refusal (Err refused)) n z → n ≤ 269 → r ≡ record { ready = false; card = o.card; length = n } →
       PreparedAs (preparation card calls L) b r z
-  card_refused {why} {line} v p h e = judged_as_lem (ap (λ (x : Verdict). judged_card x o.card calls L) v) (refused_with_lem p h e)
+  card_refused v p h e = judged_as_lem (ap (λ (x : Verdict). judged_card x o.card calls L) v) (refused_with_lem p h e)
 
-  module _ (v : o.verdict ≡ Verdict.Accepted) where
-    accepted : judged_card o.verdict o.card calls L ≡ judged_card Verdict.Accepted o.card calls L
+  module _ (v : o.verdict ≡ Ok tt) where
+    accepted : judged_card o.verdict o.card calls L ≡ judged_card (Ok tt) o.card calls L
     accepted = ap (λ (x : Verdict). judged_card x o.card calls L) v
 
     pub calls_refused : 65536 < length calls → {b : List ℕ} {n : ℕ} {z : List ℕ} {r : Prepared} → Put b 0 calls_refusal n z → n ≤ 269 →

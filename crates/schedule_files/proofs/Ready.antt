@@ -1,12 +1,14 @@
 -- A listing that is made has at most 16 steps: every other is refused with 17.
+use Rattle.std.specs.Prelude.{Ok, Err}
 use Prim.Native.Nat.{ℕ, ◌≤◌}
 use mathlib.Core.Path.{◌≡◌, refl, sym, ◌∙◌}
 use mathlib.Core.Bool.{Bool, true, false, cond, not, true≢false}
 use mathlib.Core.List.{List}
 use lib.ListN.{length}
 use lib.Dec.{ltb}
-use Rattle.construction.specs.declared.{card.Card.Card, texts.Verdict.Verdict}
+use Rattle.construction.specs.declared.{card.Card.Card}
 use Rattle.construction.specs.Opening.{opened}
+use Rattle.construction.specs.Types.{Verdict}
 use Rattle.executions.specs.Listings.{is_callable, is_listable}
 use Rattle.executions.proofs.Statements.Listings.{listable_true}
 use Rattle.calls.specs.declared.Calls.{Calls}
@@ -29,8 +31,8 @@ calls_short c r L h =
     (listable_true c L (listed (is_listable c L) _ _ refl listable)).steps
 
 card_short_lem : (v : Verdict) (c : Card) (calls : List ℕ) (L : ℕ) → (judged_card v c calls L).ready ≡ true → L ≤ 16
-card_short_lem Verdict.Accepted c calls L h = calls_short c (calls_in calls c.process_count) L (not_refused (ltb 65536 (length calls)) _ _ refl h)
-card_short_lem (Verdict.Refused r line) c calls L h = absurd (true≢false (sym h))
+card_short_lem (Ok _) c calls L h = calls_short c (calls_in calls c.process_count) L (not_refused (ltb 65536 (length calls)) _ _ refl h)
+card_short_lem (Err e) c calls L h = absurd (true≢false (sym h))
 
 pub ready_short : (card calls : List ℕ) (L : ℕ) → (preparation card calls L).ready ≡ true → L ≤ 16
 unfolding preparation

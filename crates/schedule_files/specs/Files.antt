@@ -1,10 +1,11 @@
 -- What the program prints instead of a listing, in the sequence in which the files are judged, and the card of one that is made.
-use Rattle.std.specs.Prelude.{ℕ, ◌≤◌, ◌≡◌, Bool, true, false, cond, not, List, [], ◌∷◌, ◌++◌, length, ltb}
+use Rattle.std.specs.Prelude.{ℕ, ◌≤◌, ◌≡◌, Bool, true, false, cond, not, List, [], ◌∷◌, ◌++◌, length, ltb, Ok, Err}
 use Rattle.grammar.specs.Writing.{Put}
-use Rattle.construction.specs.declared.{card.Card.Card, texts.Verdict.Verdict}
+use Rattle.construction.specs.declared.{card.Card.Card}
 use Rattle.construction.specs.Answers.{bytes, refused_with, fields_text}
 use Rattle.construction.specs.Opening.{opened}
 use Rattle.construction.specs.History.{run}
+use Rattle.construction.specs.Types.{Verdict}
 use Rattle.commands.specs.Printing.{card_refusal, calls_refusal}
 use Rattle.executions.specs.Schedules.{calls_of}
 use Rattle.executions.specs.Listings.{is_callable, is_listable}
@@ -34,9 +35,9 @@ judged_calls c r L =
     (record { text = []; ready = true; card = (run c (calls_of c (requests_in r.words))).card })))
 
 abbrev pub judged_card : Verdict → Card → List ℕ → ℕ → Preparation
-judged_card Verdict.Accepted c calls L =
+judged_card (Ok _) c calls L =
     cond (ltb 65536 (length calls)) (refused_by calls_refusal c) (judged_calls c (calls_in calls c.process_count) L)
-judged_card (Verdict.Refused r line) c calls L = refused_by (card_refusal (Verdict.Refused r line)) c
+judged_card (Err e) c calls L = refused_by (card_refusal (Err e)) c
 
 unfoldable pub preparation : List ℕ → List ℕ → ℕ → Preparation
 preparation card calls L = judged_card (opened card).verdict (opened card).card calls L

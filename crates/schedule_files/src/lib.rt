@@ -14,12 +14,11 @@ use calls::requests_in;
 use commands::printing::{put_calls_refusal, put_card_refusal};
 use construction::answers::Refusal;
 use construction::card::Card;
-use construction::texts::Verdict;
 use grammar::writing::{put_byte, put_word};
 use listing::judging::{are_callable, is_listable};
 use listing::starting::call_all;
 
-// Whether there is a listing, the card with its calls made, and the length of what is printed instead.
+// Whether there is a listing, the card with its calls made, and the length of what is printed instead. It is no Result, as `Prepares` tells the card of a refusal too.
 #[derive(Clone, Copy)]
 pub struct Prepared {
     pub ready: bool,
@@ -39,6 +38,7 @@ fn put_refusal_line(buffer: &mut [u8], refusal: Refusal) -> usize
     put_byte(buffer, j, b'\n')
 }
 
+// No listing: a line is printed.
 fn over(card: Card, length: usize) -> Prepared
     ensures { result ≡ record { ready = false; card = card; length = length } }
 {
@@ -55,9 +55,8 @@ pub fn prepare(card: &[u8], calls: &[u8], length: u32, buffer: &mut [u8]) -> Pre
 {
     let opened = reader::open(card);
     let first = opened.card;
-    let verdict = opened.verdict;
-    if let Verdict::Refused { refusal, line } = verdict {
-        let end = put_card_refusal(buffer, refusal, line);
+    if let Err(refused) = opened.verdict {
+        let end = put_card_refusal(buffer, refused);
         return over(first, end);
     }
     if LIMIT < calls.len() {

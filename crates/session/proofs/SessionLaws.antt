@@ -1,4 +1,5 @@
 -- The lines of a session one after the other, and the pieces that a buffer takes of them.
+use Rattle.std.specs.Prelude.{Ok, Err}
 use mathlib.Core.Path.{◌≡◌, refl, sym, ◌∙◌, ap}
 use mathlib.Core.List.{List, [], ◌∷◌, ◌++◌, append_assoc, append-nil}
 use Prim.Native.Nat.{ℕ, ◌+◌, ◌-◌, ◌<◌, ◌≤◌}
@@ -9,9 +10,10 @@ use borrow.Author.Tests.{lt-ltb}
 use Rattle.grammar.specs.Writing.{place_after, largest, Put}
 use Rattle.grammar.proofs.Puts.{front_text}
 use Rattle.grammar.proofs.Pieces as pieces
-use Rattle.construction.specs.declared.{card.Card.Card, answers.Refusal.Refusal, answers.Traced.Traced, texts.Verdict.Verdict, texts.Opened.Opened}
+use Rattle.construction.specs.declared.{card.Card.Card, answers.Refusal.Refusal, answers.Traced.Traced, texts.Opened.Opened}
 use Rattle.construction.specs.Opening.{opened}
 use Rattle.construction.specs.Answers.{answer_fields}
+use Rattle.construction.specs.Types.{told_at}
 use Rattle.commands.specs.declared.{Command.Command, Parsed.Parsed}
 use Rattle.commands.specs.Commands.{Inside, command, commands}
 use Rattle.commands.specs.CommandFields.{command_fields}
@@ -142,11 +144,11 @@ module _ (card calls : List ℕ) where
   over c = rw (commands_end calls (length calls) (omega arith))
 
   pub only_card_refusal :
-      {why : Refusal} {line : ℕ} → (opened card).verdict ≡ Verdict.Refused why line → session card calls ≡ card_refusal (Verdict.Refused why line)
+      {why : Refusal} {line : ℕ} → (opened card).verdict ≡ Err (told_at why line) → session card calls ≡ card_refusal (Err (told_at why line))
   unfolding session beginning
-  only_card_refusal {why} {line} e = rw (e, over) (append-nil (card_refusal (Verdict.Refused why line)))
+  only_card_refusal {why} {line} e = rw (e, over) (append-nil (card_refusal (Err (told_at why line))))
 
-  pub only_calls_refusal : (opened card).verdict ≡ Verdict.Accepted → 65536 < length calls → session card calls ≡ calls_refusal
+  pub only_calls_refusal : (opened card).verdict ≡ Ok tt → 65536 < length calls → session card calls ≡ calls_refusal
   unfolding session beginning
   only_calls_refusal e h = rw (e, lt-ltb 65536 (length calls) h, over) (append-nil calls_refusal)
 

@@ -1,13 +1,14 @@
 -- A session of the bench program (document 01, 'The bench program'): from a card text and a calls text to the printed text.
-use Rattle.std.specs.Prelude.{ℕ, ◌≤◌, ◌<◌, cond, ◌≡◌, List, [], ◌∷◌, ◌++◌, length, take, ltb}
+use Rattle.std.specs.Prelude.{ℕ, ◌≤◌, ◌<◌, cond, ◌≡◌, List, [], ◌∷◌, ◌++◌, length, take, ltb, Ok, Err}
 use Rattle.grammar.specs.Writing.{place_after, Put}
 use Rattle.grammar.specs.Pieces.{Gathered, fitting, piece_into}
-use Rattle.construction.specs.declared.{card.Card.Card, answers.Answered.Answered, answers.Report.Report, answers.Traced.Traced, texts.Verdict.Verdict}
+use Rattle.construction.specs.declared.{card.Card.Card, answers.Answered.Answered, answers.Report.Report, answers.Traced.Traced}
 use Rattle.construction.specs.declared.answers.Refusal.TheVariants.{Malformed}
 use Rattle.construction.specs.Requests.{refused}
 use Rattle.construction.specs.Tracing.{no_report, trace}
 use Rattle.construction.specs.History.{Entry, act}
 use Rattle.construction.specs.Opening.{opened}
+use Rattle.construction.specs.Types.{Verdict}
 use Rattle.commands.specs.declared.{Command.Command, Parsed.Parsed}
 use Rattle.commands.specs.Commands.{part, command, commands}
 use Rattle.commands.specs.Printing.{line_text, longest, card_refusal, calls_refusal}
@@ -91,9 +92,9 @@ calls_beginning calls c =
     (record { text = []; state = first_state c })
 
 abbrev pub verdict_beginning : List ℕ → Card → Verdict → Gathered State
-verdict_beginning calls c Verdict.Accepted = calls_beginning calls c
-verdict_beginning calls c (Verdict.Refused r line) =
-    record { text = card_refusal (Verdict.Refused r line); state = over_state calls c }
+verdict_beginning calls c (Ok _) = calls_beginning calls c
+verdict_beginning calls c (Err e) =
+    record { text = card_refusal (Err e); state = over_state calls c }
 
 unfoldable pub beginning : List ℕ → List ℕ → Gathered State
 beginning card calls = verdict_beginning calls (opened card).card (opened card).verdict

@@ -11,7 +11,6 @@ use commands::printing::{put_calls_refusal, put_card_refusal, put_line};
 use commands::reading::command_at;
 use construction::answers::{Answer, Answered, Refusal, Traced};
 use construction::card::Card;
-use construction::texts::Verdict;
 
 // The most bytes of calls that are read.
 const LIMIT: usize = 65_536;
@@ -137,9 +136,8 @@ pub fn start(card: &[u8], calls: &[u8], buffer: &mut [u8]) -> Printed
 {
     let opened = reader::open(card);
     let first = opened.card;
-    let verdict = opened.verdict;
-    if let Verdict::Refused { refusal, line } = verdict {
-        let length = put_card_refusal(buffer, refusal, line);
+    if let Err(refused) = opened.verdict {
+        let length = put_card_refusal(buffer, refused);
         return begun(first, calls.len(), length);
     }
     if LIMIT < calls.len() {

@@ -9,8 +9,8 @@ use borrow.Author.Tests.{leb-true, leb-false}
 use Rattle.construction.proofs.Basics.{true_or_false}
 use native.Mathlib.Omega.{arith}
 use lib.ListN.{length}
-use Rattle.construction.specs.declared.texts.Verdict.{Verdict}
 use Rattle.construction.specs.Opening.{read_card}
+use Rattle.construction.specs.Types.{Verdict}
 use Rattle.lent_text.specs.Opened.{Opens, opened_block, judged}
 use Rattle.lent_text.proofs.Theorems.{opened_short}
 use Rattle.lent_text.proofs.Theorems as lent-text

@@ -1,7 +1,7 @@
 -- A card text opened into the block of machine m (document 02, order 14: 'an opened card of its own'); the other blocks keep their words.
 use Rattle.std.specs.Prelude.{ℕ, List}
-use Rattle.construction.specs.declared.texts.Verdict.{Verdict}
 use Rattle.construction.specs.Opening.{read_card}
+use Rattle.construction.specs.Types.{Verdict}
 use Rattle.lent_text.specs.Opened.{opened_block, judged}
 use Rattle.shared_processor.specs.Parts.{part, with_part}
 

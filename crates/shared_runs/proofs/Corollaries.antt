@@ -1,9 +1,10 @@
 -- WHAT IS PROVED OF EVERY RUN OF ONE CARD IS SAID OF EACH MACHINE: demand 3, the waits and the other orders, of its own entries less the steps that got 19.
+use Rattle.std.specs.Prelude.{Ok}
 use Prim.Native.Nat.{ℕ, ◌<◌, ◌≤◌}
 use mathlib.Core.Path.{◌≡◌, ap, ◌∙◌}
 use mathlib.Core.List.{List}
 use lib.ListN.{length, get_or}
-use Rattle.construction.specs.declared.{answers.Answer.Answer, answers.Answered.Answered, card.Card.Card, texts.Verdict.Verdict}
+use Rattle.construction.specs.declared.{answers.Answer.Answer, answers.Answered.Answered, card.Card.Card}
 use Rattle.construction.specs.Parts.{local_at}
 use Rattle.construction.specs.Requests.{read}
 use Rattle.construction.specs.Tracing.{TellsNoted}
@@ -130,5 +131,5 @@ module _
     runs_by_number_shared = speaks_of (runs_by_number t)
 
     -- the writer's promise
-    pub given_back_after_shared : (opened t).verdict ≡ Verdict.Accepted → Says (λ es. text_of (run (opened t).card es).card ≡ t)
+    pub given_back_after_shared : (opened t).verdict ≡ Ok tt → Says (λ es. text_of (run (opened t).card es).card ≡ t)
     given_back_after_shared a = speaks_of (given_back_after t a)

@@ -1,4 +1,5 @@
 -- Ceilings and turns on the words of the machines; and refusals 5 and 19 by their numbers, both ways
+use Rattle.std.specs.Prelude.{Ok, Err}
 use Prim.Native.Nat.{ℕ, ◌<◌, ◌≤◌}
 use mathlib.Core.Path.{◌≡◌, refl, sym, ap, subst, ◌∙◌}
 use mathlib.Core.Bool.{Bool, true, false, not, cond, ◌&&◌, ◌||◌, true≢false}
@@ -8,12 +9,12 @@ use mathlib.Core.List.{List}
 use lib.Dec.{eqb, ltb}
 use borrow.Author.Tests.{ltb-false}
 use Rattle.construction.specs.declared.{answers.Answer.Answer, cells.Announcement.Announcement, cells.Flag.Flag, accesses.Label.Label, answers.Refusal.Refusal}
-use Rattle.construction.specs.declared.{texts.Verdict.Verdict}
 use Rattle.construction.specs.declared.cells.Flag.TheVariants.{Done, Active, Exit}
 use Rattle.construction.specs.declared.answers.Refusal.TheVariants as refusals
 use Rattle.construction.specs.Answers.{refused_with, number_of, is_refused, answer_fields}
 use Rattle.construction.specs.Requests.{is_idle, returned, step_answer}
 use Rattle.construction.specs.History.{Entry}
+use Rattle.construction.specs.Types.{Verdict}
 use Rattle.construction.proofs.Basics.{clash}
 use Rattle.construction.proofs.Statements.AnswerFields.{answer_known}
 use Rattle.requests.specs.Judging.{judged, if_text_accepted}
@@ -106,10 +107,10 @@ change_by :
     is_nineteen (cond (not p) (Answer.RefusedAt refusals.NoProgram 0)
     (if_text_accepted v (cond (not q) (Answer.RefusedAt refusals.NotAhead 0) (cond r (Answer.RefusedAt refusals.Unsettled 0) Answer.Taken)))) ≡ false
 change_by false v q r = refl
-change_by true (Verdict.Refused why line) q r = refl
-change_by true Verdict.Accepted false r = refl
-change_by true Verdict.Accepted true true = refl
-change_by true Verdict.Accepted true false = refl
+change_by true (Err e) q r = refl
+change_by true (Ok _) false r = refl
+change_by true (Ok _) true true = refl
+change_by true (Ok _) true false = refl
 
 own_numbers : (b l : List ℕ) (e : Entry) → is_nineteen (reply_in b l e).answer ≡ false
 unfolding call_answer exit_answer read_answer change_answer

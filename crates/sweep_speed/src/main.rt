@@ -68,7 +68,8 @@ fn open(b: &mut [u64], limit: u64) {
         b"var,7\nsheet,4\nins,1,0,0,0\nins,3,1,0,0\nins,4,0,0,0\nins,11,0,1,0\n",
     );
     if k <= 4096 {
-        lent_text::open(&text[..k], b);
+        // this text is accepted
+        let _ = lent_text::open(&text[..k], b);
     }
 }
 

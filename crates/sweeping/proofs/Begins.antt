@@ -1,5 +1,6 @@
 -- WHERE NOTHING IS PRINTED THE SWEEP BEGINS (document 02, order 12): the files then leave every process called, so that the pieces of the sweep are one
 -- sweep, from the card text and the calls on.
+use Rattle.std.specs.Prelude.{Ok, Err}
 use Prim.Native.Nat.{ℕ, zero, suc, ◌+◌, ◌*◌, ◌<◌, ◌≤◌}
 use mathlib.Core.Path.{◌≡◌, refl, sym, ◌∙◌, ap, subst}
 use mathlib.Core.Bool.{Bool, true, false, not}
@@ -13,7 +14,7 @@ use borrow.Author.Tests.{lt-ltb, le-leb, eqb-false}
 use Rattle.grammar.specs.Reading.{has_word}
 use Rattle.grammar.specs.Writing.{largest, place_after}
 use Rattle.grammar.proofs.Cases.{on_test, clash}
-use Rattle.construction.specs.declared.{answers.Answered.Answered, card.Card.Card, texts.Contents.Contents, accesses.Control.Control, texts.Verdict.Verdict}
+use Rattle.construction.specs.declared.{answers.Answered.Answered, card.Card.Card, texts.Contents.Contents, accesses.Control.Control}
 use Rattle.construction.specs.declared.accesses.Label.TheVariants.{P1}
 use Rattle.construction.specs.Answers.{is_refused}
 use Rattle.construction.specs.Parts.{idle_control, contents_of}
@@ -27,6 +28,7 @@ use Rattle.construction.proofs.Text.Bounds.{opened_bounded}
 use Rattle.construction.proofs.Text.RoundTrip.{given_back_lem}
 use Rattle.construction.proofs.Observing.Entries.{on_call}
 use Rattle.construction.specs.Cells.{FitsWords}
+use Rattle.construction.specs.Types.{Verdict}
 use Rattle.block.specs.Layout.{process_count_in, room_in}
 use Rattle.block.specs.Cards.{card_of}
 use Rattle.block.proofs.Gets.{process_count_is}
@@ -114,7 +116,7 @@ module _ (o : Card) (few : o.process_count ≤ 8) {table : List ℕ} (h : Table 
       record { to = rest.to; memory = rest.memory })
 
 -- an accepted text has processes: the card writes it again byte for byte, a card without processes writes no bytes, and no bytes are no card text
-pub some_process : (t : List ℕ) → (opened t).verdict ≡ Verdict.Accepted → 0 < (opened t).card.process_count
+pub some_process : (t : List ℕ) → (opened t).verdict ≡ Ok tt → 0 < (opened t).card.process_count
 unfolding text_of opened read_card card_line has_word
 some_process t a = by (eqb (opened t).card.process_count 0) refl
   where
@@ -163,7 +165,7 @@ module _ (card b l : List ℕ) (long : 1456 ≤ length b) (lent : loan_words (op
       rw (opened_card card b long l) (record { text = refl; controls = refl; busy = λ j lt. absurd (omega arith); programs = λ j lt. absurd (omega arith) })
 
   -- after the calls
-  all_called : {table : List ℕ} → Table table → (opened card).verdict ≡ Verdict.Accepted → (called table first.block).text ≡ [] →
+  all_called : {table : List ℕ} → Table table → (opened card).verdict ≡ Ok tt → (called table first.block).text ≡ [] →
       Begins card b l (called table first.block).block table
   all_called {table} h a e =
       let block = (called table first.block).block in
@@ -195,11 +197,11 @@ module _ (card b l : List ℕ) (long : 1456 ≤ length b) (lent : loan_words (op
       x = calls_of calls (process_count_in (opened_block card b))
 
       by : (v : Verdict) → (read_card card).verdict ≡ v → P (card_starting calls (opened_block card b) (judged v b))
-      by Verdict.Accepted a =
+      by (Ok _) a =
           rw (le-leb 1456 (length b) long)
           (on_test P (ltb 65536 (length calls)) (λ _ e. clash (cc))
           (λ _. on_test P (ltb 0 x.line) (λ _ e. clash (cc)) (λ _. all_called (table_read calls _) a)))
-      by (Verdict.Refused why line) a = λ e. clash (cc)
+      by (Err said) a = λ e. clash (cc)
 
   -- THE WHOLE SWEEP, from its two files on: where nothing is printed of them, its pieces come to the fold of the single requests over the whole drawn schedule
   pub whole_sweep :

@@ -1,11 +1,14 @@
 -- The files of a sweep judged one after the other.
+use Rattle.std.specs.Prelude.{Ok, Err}
 use Prim.Native.Nat.{ℕ, ◌<◌, ◌≤◌}
 use mathlib.Core.Path.{◌≡◌, refl}
 use mathlib.Core.List.{List}
 use lib.ListN.{length}
 use borrow.Author.Tests.{lt-ltb, le-ltb}
 use Rattle.grammar.specs.Writing.{Put}
-use Rattle.construction.specs.declared.{answers.Refusal.Refusal, texts.Verdict.Verdict}
+use Rattle.construction.specs.declared.{answers.Refusal.Refusal}
+use Rattle.construction.specs.Types.{Verdict}
+use Rattle.construction.specs.declared.texts.RefusedAt.{RefusedAt}
 use Rattle.calls.specs.declared.Calls.{Calls as CallsOf}
 use Rattle.calls.specs.Texts.{calls_of, line_refusal}
 use Rattle.commands.specs.Printing.{longest, card_refusal, calls_refusal}
@@ -24,25 +27,25 @@ stops :
 stops text e p er = rw er (record { put = rw e p.0; short = p.1; block = rw e refl; table = rw e refl })
 
 module _ {card b buffer b₁ z : List ℕ} (calls : List ℕ) {v : Verdict} {n : ℕ} (o : Opens card b v b₁) where
-  pub card_refused : {why : Refusal} {line : ℕ} {r : Started} → v ≡ Verdict.Refused why line → Line buffer (card_refusal (Verdict.Refused why line)) n z →
+  pub card_refused : {refused : RefusedAt} {r : Started} → v ≡ Err refused → Line buffer (card_refusal (Err refused)) n z →
       r ≡ over n → Starts card calls b buffer r b₁ z
   unfolding starting
-  card_refused {why} {line} e p er = stops (card_refusal (Verdict.Refused why line)) (rw (← o.answer, e, ← o.words) refl) p er
+  card_refused {refused} e p er = stops (card_refusal (Err refused)) (rw (← o.answer, e, ← o.words) refl) p er
 
-  pub calls_long : {r : Started} → v ≡ Verdict.Accepted → 65536 < length calls → Line buffer calls_refusal n z → r ≡ over n → Starts card calls b buffer r b₁ z
+  pub calls_long : {r : Started} → v ≡ Ok tt → 65536 < length calls → Line buffer calls_refusal n z → r ≡ over n → Starts card calls b buffer r b₁ z
   unfolding starting
   calls_long e h p er = stops calls_refusal (rw (← o.answer, e, ← o.words, lt-ltb 65536 (length calls) h) refl) p er
 
 -- the lines of the calls
 read :
-    {card b b₁ : List ℕ} (calls : List ℕ) {v : Verdict} {k : ℕ} {x : CallsOf} → Opens card b v b₁ → v ≡ Verdict.Accepted → length calls ≤ 65536 →
+    {card b b₁ : List ℕ} (calls : List ℕ) {v : Verdict} {k : ℕ} {x : CallsOf} → Opens card b v b₁ → v ≡ Ok tt → length calls ≤ 65536 →
     k ≡ process_count_in b₁ →
     x ≡ calls_of calls k → starting card calls b ≡ calls_starting b₁ x
 unfolding starting
 read calls o e h ek ex = rw (← o.answer, e, ← o.words, le-ltb 65536 (length calls) h, ← ek, ← ex) refl
 
 module _
-    {card b buffer b₁ z : List ℕ} (calls : List ℕ) {v : Verdict} {n k : ℕ} {x : CallsOf} (o : Opens card b v b₁) (e : v ≡ Verdict.Accepted)
+    {card b buffer b₁ z : List ℕ} (calls : List ℕ) {v : Verdict} {n k : ℕ} {x : CallsOf} (o : Opens card b v b₁) (e : v ≡ Ok tt)
     (h : length calls ≤ 65536)
     (ek : k ≡ process_count_in b₁) (ex : x ≡ calls_of calls k)
   where

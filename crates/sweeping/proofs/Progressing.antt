@@ -1,5 +1,5 @@
 -- A piece of a sweep: its schedule drawn and run, and what is left after it.
-use Prim.Native.Nat.{ℕ, zero, suc, ◌-◌, ◌<◌, ◌≤◌, min}
+use Prim.Native.Nat.{ℕ, zero, suc, ◌+◌, ◌-◌, ◌^◌, ◌<◌, ◌≤◌, min}
 use mathlib.Core.Path.{◌≡◌, refl, sym, ◌∙◌, ap}
 use mathlib.Core.Bool.{Bool, true, false, cond}
 use mathlib.Core.List.{List}
@@ -7,6 +7,7 @@ use native.Mathlib.Omega.{arith}
 use lib.Dec.{eqb}
 use lib.ListN.{length}
 use borrow.Author.Tests.{eq-eqb, ne_eqb}
+use Rattle.grammar.specs.Writing.{place_after}
 use Rattle.construction.proofs.Basics.{cond_true, cond_false}
 use Rattle.block.specs.Layout.{process_count_in}
 use Rattle.xorshift.specs.Xorshift.{Draws}
@@ -14,6 +15,10 @@ use Rattle.lent_sweep.specs.declared.Counts.{Counts}
 use Rattle.lent_sweep.specs.Sweeps.{Sweeps}
 use Rattle.sweeping.specs.declared.{Progress.Progress, pieces.Piece.Piece}
 use Rattle.sweeping.specs.Pieces.{added, left_after, run_drawn, Runs, Advances, Stage, stage, next_stage, in_pieces, Finishes}
+
+-- a sum that stops at the largest number of 64 bits
+pub saturated : (a b : ℕ) {r : ℕ} → r ≡ min (a + b) (2 ^ 64 - 1) → r ≡ place_after a b
+saturated a b e = omega arith
 
 pub runs_drawn :
     {calls : List ℕ} {b l s : List ℕ} {x p y : ℕ} {z : List ℕ} {c : Counts} {b' l' : List ℕ} → p ≡ process_count_in b → Draws s x p y z →

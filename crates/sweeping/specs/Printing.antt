@@ -1,11 +1,10 @@
 -- What a sweep prints (document 02, order 12): `steps,COUNT`, `done,COUNT` and `fault,COUNT` (answers `done` and `fault`), `wait,LONGEST,BOUND` (the most own steps that a
 -- returned operation told, beside order 3's number for this card), `gate,SEQ`, then `look,V,VALUE` for every variable.
-use Rattle.std.specs.Prelude.{ℕ, zero, suc, List, [], ◌++◌}
+use Rattle.std.specs.Prelude.{ℕ, zero, suc, List, [], ◌++◌, unwrap_or}
 use Prim.Native.String.{String}
 use Rattle.grammar.specs.Writing.{field_text}
 use Rattle.construction.specs.Answers.{bytes}
 use Rattle.construction.specs.Tracing.{no_report}
-use Rattle.wait_table.specs.declared.Wait.{Wait}
 use Rattle.wait_table.specs.Table.{wait_for}
 use Rattle.commands.specs.declared.Command.{Command}
 use Rattle.commands.specs.Printing.{line_text}
@@ -14,12 +13,8 @@ use Rattle.lent_card.specs.Requests.{read_answer}
 use Rattle.lent_sweep.specs.declared.Counts.{Counts}
 
 -- the longest wait on the card in a block; a card that opened is in the table
-abbrev pub bound_of : Wait → ℕ
-bound_of (Wait.Steps n) = n
-bound_of Wait.Outside = 0
-
 abbrev pub bound_in : List ℕ → ℕ
-bound_in b = bound_of (wait_for (process_count_in b) (room_in b))
+bound_in b = unwrap_or (wait_for (process_count_in b) (room_in b)) 0
 
 abbrev pub count_text : String → ℕ → List ℕ
 count_text word n = bytes word ++ field_text 10 n

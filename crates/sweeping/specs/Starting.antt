@@ -1,11 +1,11 @@
 -- What the files of a sweep come to (document 02, order 12): the card is judged first, then the length of the calls, then their lines, of which there is one for each
 -- process; then 'every process is called', and the first call that is refused is printed. Where nothing is printed the sweep begins.
-use Rattle.std.specs.Prelude.{ℕ, zero, suc, ◌≤◌, ◌≡◌, cond, List, [], ltb, length, replicate}
+use Rattle.std.specs.Prelude.{ℕ, zero, suc, ◌≤◌, ◌≡◌, cond, List, [], ltb, length, replicate, Ok, Err}
 use Rattle.grammar.specs.Writing.{Put}
-use Rattle.construction.specs.declared.texts.Verdict.{Verdict}
 use Rattle.construction.specs.Answers.{is_refused}
 use Rattle.construction.specs.Opening.{read_card}
 use Rattle.construction.specs.Tracing.{no_report}
+use Rattle.construction.specs.Types.{Verdict}
 use Rattle.calls.specs.declared.Calls.{Calls as CallsOf}
 use Rattle.calls.specs.Tables.{request_in}
 use Rattle.calls.specs.Texts.{calls_of, line_refusal}
@@ -64,9 +64,9 @@ calls_starting b x =
     (record { text = (called x.words b).text; block = (called x.words b).block; table = x.words })
 
 abbrev pub card_starting : List ℕ → List ℕ → Verdict → Starting
-card_starting calls b Verdict.Accepted =
+card_starting calls b (Ok _) =
     cond (ltb 65536 (length calls)) (stopped calls_refusal b) (calls_starting b (calls_of calls (process_count_in b)))
-card_starting calls b (Verdict.Refused why line) = stopped (card_refusal (Verdict.Refused why line)) b
+card_starting calls b (Err e) = stopped (card_refusal (Err e)) b
 
 unfoldable pub starting : List ℕ → List ℕ → List ℕ → Starting
 starting card calls b = card_starting calls (opened_block card b) (judged (read_card card).verdict b)

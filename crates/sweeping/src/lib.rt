@@ -9,7 +9,8 @@ pub mod starting; // starting.rt: the files judged, every process called
 
 use lent_sweep::Counts;
 
-// What the files come to: the length of the line that is printed instead of a sweep, 0 where there is one, and the table of calls.
+// What the files come to: the length of the line that is printed instead of a sweep, 0 where there is one, and the table of calls. It is no Result, as `Starts`
+// tells the table of a refusal too, and `started_sweep` speaks of the length.
 #[derive(Clone, Copy)]
 pub struct Started {
     pub length: usize,

@@ -11,17 +11,13 @@ use grammar::writing::{put_field, put_word};
 use lent_card::requesting::read;
 use lent_sweep::Counts;
 use reports::no_report;
-use wait_table::{Wait, wait_for};
+use wait_table::wait_for;
 
 // The longest wait on the card in a block; 0 outside the table.
 fn bound(b: &[u64]) -> u64
     ensures { result ≡ bound_in b.now }
 {
-    let wait = wait_for(process_count(b), room(b));
-    match wait {
-        Wait::Steps(n) => n,
-        Wait::Outside => 0,
-    }
+    wait_for(process_count(b), room(b)).unwrap_or(0)
 }
 
 // A word and a number.
@@ -66,11 +62,9 @@ fn put_reads(buffer: &mut [u8], at: usize, b: &[u64]) -> usize
 {
     let count = variable_count(b);
     let mut i = at;
-    let mut v: u8 = 0;
-    while v < count {
+    for v in 0..count {
         let command = Command::Read { variable: v as u32 };
         i = put_line(buffer, i, 0, command, no_report(), read(b, v as u32));
-        v = v + 1;
     }
     i
 }

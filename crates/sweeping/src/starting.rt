@@ -9,7 +9,6 @@ use calls::reading::{put_line_refusal, read_calls};
 use calls::request_in;
 use commands::Command;
 use commands::printing::{put_calls_refusal, put_card_refusal, put_line};
-use construction::texts::Verdict;
 use lent_card::requesting::call;
 use reports::no_report;
 
@@ -31,21 +30,17 @@ fn call_all(b: &mut [u64], calls: &[u32], buffer: &mut [u8]) -> usize
     ensures { Calls calls.now b.old buffer.old result b.new buffer.new }
 {
     let count = process_count(b);
-    let mut i: u8 = 0;
-    while i < count {
+    for i in 0..count {
         let request = request_in(calls, i);
-        let program = request.program;
-        let inputs = request.inputs;
-        let answer = call(b, i as u32, program, inputs);
+        let answer = call(b, i as u32, request.program, request.inputs);
         if is_refused(answer) {
             let command = Command::Call {
                 process: i as u32,
-                program,
-                inputs,
+                program: request.program,
+                inputs: request.inputs,
             };
             return put_line(buffer, 0, 0, command, no_report(), answer);
         }
-        i = i + 1;
     }
     0
 }
@@ -55,8 +50,8 @@ pub fn start(card: &[u8], calls: &[u8], b: &mut [u64], buffer: &mut [u8]) -> Sta
     ensures { Starts card.now calls.now b.old buffer.old result b.new buffer.new }
 {
     let verdict = lent_text::open(card, b);
-    if let Verdict::Refused { refusal, line } = verdict {
-        return over(put_card_refusal(buffer, refusal, line));
+    if let Err(refused) = verdict {
+        return over(put_card_refusal(buffer, refused));
     }
     if LIMIT < calls.len() {
         return over(put_calls_refusal(buffer));

@@ -7,7 +7,8 @@ use lib.ListN.{length, take, drop, replicate, length-append, length-take, length
 use native.Mathlib.Omega.{arith}
 use Rattle.grammar.specs.Writing.{Put}
 use Rattle.grammar.proofs.Puts.{Room, rest_all, rest_step, rest_last}
-use Rattle.construction.specs.declared.{card.Card.Card, texts.Written.Written}
+use Rattle.construction.specs.declared.{card.Card.Card}
+use Rattle.construction.specs.Types.{Written}
 use Rattle.writer.specs.Written.{Writes}
 use Rattle.text_cases.specs.declared.Outcome.{Outcome}
 use Rattle.text_cases.specs.Comparing.{filler, agrees_with, bytes_of, outcome_in}

@@ -1,7 +1,8 @@
 -- What the writer does in a buffer, and the buffer compared with the text that is wanted ('Turned back': bytes past a written text remain as they were)
-use Rattle.std.specs.Prelude.{ℕ, ◌+◌, ◌-◌, Bool, cond, List, ◌++◌, length, get_or, take, drop, replicate, eqb, ltb}
-use Rattle.construction.specs.declared.{card.Card.Card, texts.Written.Written}
+use Rattle.std.specs.Prelude.{ℕ, ◌+◌, ◌-◌, Bool, cond, List, ◌++◌, length, get_or, take, drop, replicate, eqb, ltb, Ok, Err}
+use Rattle.construction.specs.declared.{card.Card.Card}
 use Rattle.construction.specs.Writing.{written, written_into}
+use Rattle.construction.specs.Types.{Written}
 use Rattle.report.specs.Same.{all_below}
 use Rattle.text_cases.specs.declared.{Outcome.Outcome, Outcomes.Outcomes}
 
@@ -21,8 +22,8 @@ agrees_with b text told = all_below (length b) (agrees_at b text told)
 
 -- how many bytes the writer told
 abbrev pub bytes_of : Written → ℕ
-bytes_of (Written.Bytes n) = n
-bytes_of (Written.Refused r) = 0
+bytes_of (Ok n) = n
+bytes_of (Err r) = 0
 
 -- a buffer after its first bytes were lent to the writer
 abbrev pub lent_after : Card → ℕ → List ℕ → List ℕ

@@ -4,7 +4,7 @@ ghost use Rattle.text_cases.specs.Comparing.{expected_at, agrees_with, bytes_of,
 
 use crate::{Outcome, Outcomes};
 use construction::card::Card;
-use construction::texts::Written;
+use construction::answers::Refusal;
 use grammar::reading::byte_at;
 use report::same::both;
 
@@ -37,12 +37,12 @@ fn agrees(buffer: &[u8], text: &[u8], told: usize) -> bool
 }
 
 // How many bytes were written.
-fn bytes_of(written: Written) -> usize
+fn bytes_of(written: Result<usize, Refusal>) -> usize
     ensures { result ≡ bytes_of written }
 {
     match written {
-        Written::Bytes(told) => told,
-        Written::Refused(_) => 0,
+        Ok(told) => told,
+        Err(_) => 0,
     }
 }
 

@@ -11,7 +11,7 @@ mod case_lines; // case_lines.rt: the line of a case
 
 use crate::case_lines::put_case;
 use crate::cases::case_at;
-use construction::texts::Written;
+use construction::answers::Refusal;
 use host::{read_input, show};
 
 // Where a text stands in the input.
@@ -24,7 +24,7 @@ enum Case {
 // What the writer answered, and whether its buffer then holds the text that is wanted.
 #[derive(Clone, Copy)]
 struct Outcome {
-    written: Written,
+    written: Result<usize, Refusal>,
     same: bool,
 }
 

@@ -1,5 +1,6 @@
 -- What is read of a program's text fits words, so that it can be put into a block: in a card text and in the text of a change, also where it is refused.
 -- A card has less than 256 variables.
+use Rattle.std.specs.Prelude.{Ok, Err, Option, None, Some}
 use Prim.Native.Nat.{ℕ, zero, suc, ◌+◌, ◌≤◌, ◌<◌}
 use mathlib.Core.Path.{◌≡◌, refl, subst}
 use mathlib.Core.Bool.{true, cond, not}
@@ -9,14 +10,13 @@ use lib.Dec.{ltb, eqb}
 use lib.ListN.{length, length-set}
 use borrow.Author.Tests.{ltb-true, not-false}
 use Rattle.construction.specs.declared.{programs.Format.Format, programs.Encoded.Encoded, programs.Instruction.Instruction}
-use Rattle.construction.specs.declared.{programs.Line.Line, texts.Verdict.Verdict, texts.ProgramReading.ProgramReading}
-use Rattle.std.specs.Prelude.{Option, None, Some, Ok}
-use Rattle.construction.specs.Types.{Decoded}
+use Rattle.construction.specs.declared.{programs.Line.Line, texts.ProgramReading.ProgramReading}
 use Rattle.construction.specs.declared.answers.Refusal.TheVariants.{Malformed}
 use Rattle.construction.specs.Instructions.{no_line, codes, row_of, instruction_of, ranged, unused_zero, each_operand, decode_as, decode}
 use Rattle.construction.specs.Lines.{sheet_line, ins_line}
 use Rattle.construction.specs.Opening.{program_refused_at, with_line, ins_from, read_program}
 use Rattle.construction.specs.Changes.{if_program_accepted, program_text}
+use Rattle.construction.specs.Types.{Verdict, Decoded}
 use Rattle.construction.proofs.Basics.{on_test, and_true, clash, set_keeps}
 use Rattle.construction.proofs.Text.Lines.{range_true, sheet_read, ins_read}
 use Rattle.construction.proofs.Text.Reading.{after_length, on_ins, on_sheet, on_weighed}
@@ -144,5 +144,5 @@ module _ (n : ℕ) (small : n ≤ 256) where
         r = read_program n most t 0 1
 
         by : (v : Verdict) → Fits (if_program_accepted v r (cond (eqb r.at (length t)) r (program_refused_at Malformed r.line)))
-        by Verdict.Accepted = on_test Fits (eqb r.at (length t)) (λ _. program_read_fits most 0 1) (λ _. no_program_fits)
-        by (Verdict.Refused why line) = program_read_fits most 0 1
+        by (Ok _) = on_test Fits (eqb r.at (length t)) (λ _. program_read_fits most 0 1) (λ _. no_program_fits)
+        by (Err e) = program_read_fits most 0 1

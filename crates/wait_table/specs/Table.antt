@@ -1,22 +1,22 @@
 -- The table of the longest wait (document 02, order 3): 'for p from 1 to 8 and w from 0 to 32', and its text: 'a line for each p, w rising, parted by
 -- commas'
-use Rattle.std.specs.Prelude.{ℕ, zero, suc, Bool, cond, ◌&&◌, List, [], ◌∷◌, ◌++◌, ltb}
+use Rattle.std.specs.Prelude.{ℕ, zero, suc, Bool, cond, ◌&&◌, List, [], ◌∷◌, ◌++◌, ltb, Option, Some, None}
 use Rattle.grammar.specs.Writing.{field_text}
 use Rattle.construction.specs.Answers.{Fields, fields}
 use Rattle.construction.specs.Waits.{longest_wait}
-use Rattle.wait_table.specs.declared.Wait.{Wait}
 
 -- the table has a number for p and w
 abbrev pub in_table : ℕ → ℕ → Bool
 in_table p w = ltb 0 p && (ltb p 9 && ltb w 33)
 
-unfoldable pub wait_for : ℕ → ℕ → Wait
-wait_for p w = cond (in_table p w) (Wait.Steps (longest_wait p w)) Wait.Outside
+-- the longest wait, in own steps of the operation and without an exit request, or that the table has none
+unfoldable pub wait_for : ℕ → ℕ → Option ℕ
+wait_for p w = cond (in_table p w) (Some (longest_wait p w)) None
 
 -- the number of an answer, and none outside the table
-unfoldable pub wait_fields : Wait → Fields
-wait_fields (Wait.Steps n) = fields "" (n ∷ [])
-wait_fields Wait.Outside = fields "" []
+unfoldable pub wait_fields : Option ℕ → Fields
+wait_fields (Some n) = fields "" (n ∷ [])
+wait_fields None = fields "" []
 
 -- what stands after the number of the weight w: a comma, or byte 10 after the last
 abbrev pub separator : ℕ → ℕ

@@ -13,13 +13,6 @@ use construction::card::Card;
 use grammar::writing::put_field;
 use programs::weights::heaviest;
 
-// The longest wait, in own steps of the operation and without an exit request, or that the table has none.
-#[derive(Clone, Copy)]
-pub enum Wait {
-    Steps(u64),
-    Outside,
-}
-
 // A line for each p, with w rising.
 const WAITS: [u64; 264] = [
     // p = 1
@@ -56,28 +49,21 @@ fn entry(row: u8, weight: u8) -> u64
     WAITS[row as usize * 33 + weight as usize]
 }
 
-// The longest wait for so many processes and a weight.
-pub fn wait_for(process_count: u8, weight: u8) -> Wait
+// The longest wait for so many processes and a weight, in own steps of the operation and without an exit request; the table may have none.
+pub fn wait_for(process_count: u8, weight: u8) -> Option<u64>
     ensures { result ≡ wait_for process_count weight }
 {
-    if process_count == 0 {
-        return Wait::Outside;
+    if process_count == 0 || 8 < process_count || 32 < weight {
+        return None;
     }
-    if 8 < process_count {
-        return Wait::Outside;
-    }
-    if 32 < weight {
-        return Wait::Outside;
-    }
-    Wait::Steps(entry(process_count - 1, weight))
+    Some(entry(process_count - 1, weight))
 }
 
 // The longest wait on a card.
-pub fn wait_of(card: Card) -> Wait
+pub fn wait_of(card: Card) -> Option<u64>
     ensures { result ≡ wait_for card.process_count (card_weight (contents_of card)) }
 {
-    let programs = card.programs;
-    wait_for(card.process_count, heaviest(programs))
+    wait_for(card.process_count, heaviest(card.programs))
 }
 
 // What stands after the number of a weight: a comma, or the end of the line.
@@ -92,10 +78,8 @@ fn put_row(buffer: &mut [u8], at: usize, row: u8) -> usize
     ensures { Put buffer.old at (row_text (row + 1) 33 0) result buffer.new }
 {
     let mut i = at;
-    let mut weight: u8 = 0;
-    while weight < 33 {
+    for weight in 0..33u8 {
         i = put_field(buffer, i, separator(weight), entry(row, weight));
-        weight = weight + 1;
     }
     i
 }
@@ -105,10 +89,8 @@ pub fn put_table(buffer: &mut [u8], at: usize) -> usize
     ensures { Put buffer.old at table_text result buffer.new }
 {
     let mut i = at;
-    let mut row: u8 = 0;
-    while row < 8 {
+    for row in 0..8u8 {
         i = put_row(buffer, i, row);
-        row = row + 1;
     }
     i
 }

@@ -1,7 +1,8 @@
 -- What the writer does (document 01, 'Turned back').
 use Rattle.std.specs.Prelude.{ℕ, List, ◌≡◌}
-use Rattle.construction.specs.declared.{card.Card.Card, texts.Written.Written}
+use Rattle.construction.specs.declared.{card.Card.Card}
 use Rattle.construction.specs.Writing.{written, written_into}
+use Rattle.construction.specs.Types.{Written}
 
 -- the answer r and the bytes z that the writer gives for a card and the bytes b of a lent buffer: the length and the text, or refusal 11 and
 -- every byte as it was ('bytes past a written text do too')

@@ -4,7 +4,7 @@
 
 ghost use Rattle.std.specs.Prelude.{◌≡◌, get_or};
 ghost use Rattle.grammar.specs.Writing.{Put};
-ghost use Rattle.construction.specs.Instructions.{no_line, no_program, encoded as encodedAs, encode as encodedOf};
+ghost use Rattle.construction.specs.Instructions.{encoded as encodedAs, encode as encodedOf};
 ghost use Rattle.construction.specs.Lines.{var_text, ins_text};
 ghost use Rattle.construction.specs.Opening.{fresh};
 ghost use Rattle.construction.specs.Writing.{vars_text, lines_text, program_text, programs_text, text_of};
@@ -13,7 +13,7 @@ ghost use Rattle.writer.specs.Written.{Writes};
 use construction::answers::Refusal;
 use construction::card::Card;
 use construction::programs::{Encoded, Instruction, Line, Program};
-use construction::texts::{Contents, Written};
+use construction::texts::Contents;
 use grammar::writing::{put_field, put_four, put_word};
 
 fn encoded(code: u64, a: u8, b: u8, c: u8) -> Encoded
@@ -28,6 +28,7 @@ fn encoded(code: u64, a: u8, b: u8, c: u8) -> Encoded
 }
 
 // The code and the operands of an instruction.
+#[tactic(auto, unfolding(construction::specs::Instructions::encode))]
 pub fn encode(x: Instruction) -> Encoded
     ensures { result ≡ encodedOf x }
 {
@@ -54,24 +55,11 @@ pub fn encode(x: Instruction) -> Encoded
     }
 }
 
-fn start_at(starts: [u32; 64], k: u8) -> u32
-    ensures { result ≡ get_or starts k 0 }
+// The value at place k, and another past the end.
+fn value_at<T: Copy>(values: &[T], k: u8, past: T) -> T
+    ensures { result ≡ get_or values.now k past }
 {
-    let at = k as usize;
-    if at < 64 { starts[at] } else { 0 }
-}
-
-fn line_at(lines: [Line; 32], k: u8) -> Line
-    ensures { result ≡ get_or lines k no_line }
-{
-    let at = k as usize;
-    if at < 32 {
-        lines[at]
-    } else {
-        Line {
-            instruction: Instruction::Stop,
-        }
-    }
+    values.get(k as usize).copied().unwrap_or(past)
 }
 
 fn put_var(buffer: &mut [u8], at: usize, value: u32) -> usize
@@ -85,10 +73,8 @@ fn put_vars(buffer: &mut [u8], at: usize, count: u8, starts: [u32; 64]) -> usize
     ensures { Put buffer.old at (vars_text count 0 starts) result buffer.new }
 {
     let mut i = at;
-    let mut k: u8 = 0;
-    while k < count {
-        i = put_var(buffer, i, start_at(starts, k));
-        k = k + 1;
+    for k in 0..count {
+        i = put_var(buffer, i, value_at(&starts, k, 0));
     }
     i
 }
@@ -105,46 +91,27 @@ fn put_lines(buffer: &mut [u8], at: usize, count: u8, lines: [Line; 32]) -> usiz
     ensures { Put buffer.old at (lines_text count 0 lines) result buffer.new }
 {
     let mut i = at;
-    let mut k: u8 = 0;
-    while k < count {
-        let line = line_at(lines, k);
-        let instruction = line.instruction;
-        i = put_instruction(buffer, i, instruction);
-        k = k + 1;
+    for k in 0..count {
+        let line = value_at(&lines, k, opening::no_line());
+        i = put_instruction(buffer, i, line.instruction);
     }
     i
-}
-
-// Program k, one of no lines past the end.
-fn program_at(programs: [Program; 8], k: u8) -> Program
-    ensures { result ≡ get_or programs k no_program }
-{
-    let at = k as usize;
-    if at < 8 {
-        return programs[at];
-    }
-    opening::no_program()
 }
 
 fn put_program(buffer: &mut [u8], at: usize, x: Program) -> usize
     ensures { Put buffer.old at (program_text x) result buffer.new }
 {
-    let length = x.length;
-    let lines = x.lines;
     let i = put_word(buffer, at, b"sheet,");
-    let j = put_field(buffer, i, b'\n', length as u64);
-    put_lines(buffer, j, length, lines)
+    let j = put_field(buffer, i, b'\n', x.length as u64);
+    put_lines(buffer, j, x.length, x.lines)
 }
 
 fn put_programs(buffer: &mut [u8], at: usize, count: u8, programs: [Program; 8]) -> usize
     ensures { Put buffer.old at (programs_text count 0 programs) result buffer.new }
 {
     let mut i = at;
-    let mut k: u8 = 0;
-    while k < count {
-        let program = program_at(programs, k);
-        i = put_program(buffer, i, program);
-        k = k + 1;
+    for k in 0..count {
+        i = put_program(buffer, i, value_at(&programs, k, opening::no_program()));
     }
     i
 }
@@ -153,42 +120,37 @@ fn put_programs(buffer: &mut [u8], at: usize, count: u8, programs: [Program; 8])
 fn put_text(buffer: &mut [u8], contents: Contents) -> usize
     ensures { Put buffer.old 0 (text_of (fresh contents)) result buffer.new }
 {
-    let process_count = contents.process_count;
-    if process_count == 0 {
+    if contents.process_count == 0 {
         return 0;
     }
-    let variable_count = contents.variable_count;
-    let program_count = contents.program_count;
-    let starts = contents.starts;
-    let programs = contents.programs;
     let i = put_word(buffer, 0, b"card,");
     let j = put_four(
         buffer,
         i,
-        process_count as u64,
-        variable_count as u64,
-        program_count as u64,
+        contents.process_count as u64,
+        contents.variable_count as u64,
+        contents.program_count as u64,
         contents.limit,
     );
-    let k = put_vars(buffer, j, variable_count, starts);
-    put_programs(buffer, k, program_count, programs)
+    let k = put_vars(buffer, j, contents.variable_count, contents.starts);
+    put_programs(buffer, k, contents.program_count, contents.programs)
 }
 
 // The text of a card with these contents. The length of the text is learnt from a buffer of no bytes; then the text is put where it fits.
-pub fn write_contents(contents: Contents, buffer: &mut [u8]) -> Written
+pub fn write_contents(contents: Contents, buffer: &mut [u8]) -> Result<usize, Refusal>
     ensures { Writes (fresh contents) buffer.old result buffer.new }
 {
     let length = put_text(&mut buffer[..0], contents);
     if length <= buffer.len() {
         put_text(buffer, contents);
-        Written::Bytes(length)
+        Ok(length)
     } else {
-        Written::Refused(Refusal::ShortBuffer)
+        Err(Refusal::ShortBuffer)
     }
 }
 
 // The text of a card: that of what it was opened with.
-pub fn write(card: Card, buffer: &mut [u8]) -> Written
+pub fn write(card: Card, buffer: &mut [u8]) -> Result<usize, Refusal>
     ensures { Writes card buffer.old result buffer.new }
 {
     let starts = card.starts;

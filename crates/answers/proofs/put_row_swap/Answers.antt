@@ -3,14 +3,14 @@ use Rattle.answers.proofs.Texts as laws
 use Rattle.construction.specs.Answers.{row_fields, numbers_text, fields_text}
 use Rattle.answers.proofs.put_row_swap.Goals as goal
 
-pub returns-in-Won : goal.returns-in-Won
+pub returns-in-Ok-true : goal.returns-in-Ok-true
 unfolding fields_text row_fields numbers_text
-returns-in-Won c = laws.put_as 29 c.put_word.ensures (omega arith) (rw (c.in-Won.is))
+returns-in-Ok-true c = laws.put_as 29 c.put_word.ensures (omega arith) (rw (c.in-Ok-true.is, c.in-Ok-true.field-0-test))
 
-pub returns-in-Lost : goal.returns-in-Lost
+pub returns-in-Ok-false : goal.returns-in-Ok-false
 unfolding fields_text row_fields numbers_text
-returns-in-Lost c = laws.put_as 29 c.put_word-in-Lost.ensures (omega arith) (rw (c.in-Lost.is))
+returns-in-Ok-false c = laws.put_as 29 c.put_word-in-Ok-false.ensures (omega arith) (rw (c.in-Ok-false.is, c.in-Ok-false.field-0-test))
 
-pub returns-in-Refused : goal.returns-in-Refused
+pub returns-in-Err : goal.returns-in-Err
 unfolding row_fields
-returns-in-Refused c = laws.put_as_within 29 c.put_refusal.ensures (omega arith) (rw (c.in-Refused.is))
+returns-in-Err c = laws.put_as_within 29 c.put_refusal.ensures (omega arith) (rw (c.in-Err.is))

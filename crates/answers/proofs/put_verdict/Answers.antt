@@ -3,10 +3,10 @@ use Rattle.answers.proofs.Texts as laws
 use Rattle.construction.specs.Answers.{verdict_fields, numbers_text, fields_text}
 use Rattle.answers.proofs.put_verdict.Goals as goal
 
-pub returns-in-Accepted : goal.returns-in-Accepted
+pub returns-in-Ok : goal.returns-in-Ok
 unfolding fields_text verdict_fields numbers_text
-returns-in-Accepted c = laws.put_as 50 c.put_word.ensures (omega arith) (rw (c.in-Accepted.is))
+returns-in-Ok c = laws.put_as 50 c.put_word.ensures (omega arith) (rw (c.in-Ok.is))
 
-pub returns-in-Refused : goal.returns-in-Refused
+pub returns-in-Err : goal.returns-in-Err
 unfolding verdict_fields
-returns-in-Refused c = rw (c.in-Refused.is) c.put_refused_at.ensures
+returns-in-Err c = rw (c.in-Err.is) c.put_refused_at.ensures

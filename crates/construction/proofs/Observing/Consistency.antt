@@ -1,4 +1,5 @@
 -- Card, world and notes go together, and every entry keeps them so.
+use Rattle.std.specs.Prelude.{Ok}
 use Prim.Native.Nat.{ℕ, ◌<◌}
 use mathlib.Core.Path.{◌≡◌, refl, sym, subst, ap, ◌∙◌}
 use mathlib.Core.Bool.{Bool, true, false, not}
@@ -134,7 +135,7 @@ module _ (o : Card) (m : Observation) (O : Consistent o m) where
   unaltered_kept k from t why line = unturned c (Entry.Change k from t) (Answer.RefusedAt why line) refl O
 
   altered_kept :
-      (k from : ℕ) (t : List ℕ) → is_program c k ≡ true → (change_read (contents_of c) t).verdict ≡ Verdict.Accepted → c.gate.seq < from →
+      (k from : ℕ) (t : List ℕ) → is_program c k ≡ true → (change_read (contents_of c) t).verdict ≡ Ok tt → c.gate.seq < from →
       is_unsettled c k ≡ false →
       Consistent o (after o m (Entry.Change k from t)
       (changed c k from (change_read (contents_of c) t).program))

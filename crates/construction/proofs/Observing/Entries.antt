@@ -1,11 +1,12 @@
 -- Calls, exit requests, steps, reads and changes by cases: refused with the card as it was, or taken.
+use Rattle.std.specs.Prelude.{Ok, Err}
 use Prim.Native.Nat.{ℕ, ◌≤◌, ◌<◌}
 use mathlib.Core.Path.{◌≡◌, refl}
 use mathlib.Core.Bool.{Bool, true, false, cond, not}
 use lib.Dec.{ltb}
 use borrow.Author.Tests.{ltb-true, ltb-false, not-true, not-false}
 use Rattle.construction.specs.Types.{Words, Card, Refusal, NoProcess, NoProgram, Busy, NotBusy, NoPlace, LimitReached, Answer, Answered, NotAhead}
-use Rattle.construction.specs.Types.{Unsettled, Verdict}
+use Rattle.construction.specs.Types.{Unsettled, Verdict, told_at}
 use Rattle.construction.specs.Machine.{advance}
 use Rattle.construction.specs.Requests.{is_process, is_program, is_variable, is_busy, refused, call, request_exit, answer_of, step, value_of, read, invoked}
 use Rattle.construction.specs.Requests.{exiting}
@@ -26,12 +27,12 @@ inside c i e = ltb-true i c.process_count (and_true (ltb i c.process_count) _ e)
 pub on_change_why {κ} :
     (P : Answered → Type κ) (c : Card) (k from : ℕ) (t : List ℕ) →
     (is_program c k ≡ false → P (unchanged c NoProgram 0)) →
-    (is_program c k ≡ true → (why : Refusal) (line : ℕ) → (change_read (contents_of c) t).verdict ≡ Verdict.Refused why line → P (unchanged c why line)) →
-    (is_program c k ≡ true → (change_read (contents_of c) t).verdict ≡ Verdict.Accepted → from ≤ c.gate.seq → P (unchanged c NotAhead 0)) →
-    (is_program c k ≡ true → (change_read (contents_of c) t).verdict ≡ Verdict.Accepted → c.gate.seq < from → is_unsettled c k ≡ true →
+    (is_program c k ≡ true → (why : Refusal) (line : ℕ) → (change_read (contents_of c) t).verdict ≡ Err (told_at why line) → P (unchanged c why line)) →
+    (is_program c k ≡ true → (change_read (contents_of c) t).verdict ≡ Ok tt → from ≤ c.gate.seq → P (unchanged c NotAhead 0)) →
+    (is_program c k ≡ true → (change_read (contents_of c) t).verdict ≡ Ok tt → c.gate.seq < from → is_unsettled c k ≡ true →
     P (unchanged c Unsettled 0))
     →
-    (is_program c k ≡ true → (change_read (contents_of c) t).verdict ≡ Verdict.Accepted → c.gate.seq < from → is_unsettled c k ≡ false →
+    (is_program c k ≡ true → (change_read (contents_of c) t).verdict ≡ Ok tt → c.gate.seq < from → is_unsettled c k ≡ false →
     P (changed c k from (change_read (contents_of c) t).program)) →
     P (change c k from t)
 unfolding change
@@ -41,9 +42,9 @@ on_change_why P c k from t none text late unsettled taken =
     (λ a. on_test P (not (ltb c.gate.seq from)) (λ l. late (not-false _ p) a (ltb-false _ _ (not-true _ l)))
     (λ l. on_test P (is_unsettled c k) (unsettled (not-false _ p) a (ltb-true _ _ (not-false _ l))) (taken (not-false _ p) a (ltb-true _ _ (not-false _ l))))))
   where
-    by : is_program c k ≡ true → (v : Verdict) → (change_read (contents_of c) t).verdict ≡ v → {r : Answered} → (v ≡ Verdict.Accepted → P r) → P (if_read v c r)
-    by p Verdict.Accepted e f = f refl
-    by p (Verdict.Refused why line) e f = text p why line e
+    by : is_program c k ≡ true → (v : Verdict) → (change_read (contents_of c) t).verdict ≡ v → {r : Answered} → (v ≡ Ok tt → P r) → P (if_read v c r)
+    by p (Ok _) e f = f refl
+    by p (Err said) e f = text p said.refusal said.line e
 
 module _ {κ} (P : Answered → Type κ) (c : Card) (turned_back : (r : Refusal) → P (refused c r)) where
   pub on_call :
@@ -83,7 +84,7 @@ module _ {κ} (P : Answered → Type κ) (c : Card) (turned_back : (r : Refusal)
 
   pub on_change :
       (k from : ℕ) (t : List ℕ) → ((why : Refusal) (line : ℕ) → P (unchanged c why line)) →
-      (is_program c k ≡ true → (change_read (contents_of c) t).verdict ≡ Verdict.Accepted → c.gate.seq < from → is_unsettled c k ≡ false →
+      (is_program c k ≡ true → (change_read (contents_of c) t).verdict ≡ Ok tt → c.gate.seq < from → is_unsettled c k ≡ false →
       P (changed c k from (change_read (contents_of c) t).program)) →
       P (change c k from t)
   on_change k from t back taken =

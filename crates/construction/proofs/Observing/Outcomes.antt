@@ -1,4 +1,5 @@
 -- What an entry can come to: it is refused and leaves the card, or it is taken.
+use Rattle.std.specs.Prelude.{Ok}
 use Prim.Native.Nat.{ℕ, ◌<◌}
 use mathlib.Core.Path.{◌≡◌}
 use mathlib.Core.Bool.{true, false}
@@ -23,7 +24,7 @@ pub data Outcome (c : Card) : Entry → Answered → Type 0 where
       Outcome c e (record { card = advance c i; answer = answer_of (local_at (advance c i) i) })
   unaltered : (k from : ℕ) (t : List ℕ) (why : Refusal) (line : ℕ) → Outcome c (Entry.Change k from t) (unchanged c why line)
   altered :
-      (k from : ℕ) (t : List ℕ) → is_program c k ≡ true → (change_read (contents_of c) t).verdict ≡ Verdict.Accepted → c.gate.seq < from →
+      (k from : ℕ) (t : List ℕ) → is_program c k ≡ true → (change_read (contents_of c) t).verdict ≡ Ok tt → c.gate.seq < from →
       is_unsettled c k ≡ false →
       Outcome c (Entry.Change k from t)
       (changed c k from (change_read (contents_of c) t).program)

@@ -1,16 +1,16 @@
 -- An answer is known by its fields (specs/Answers, KnownAnswers): two answers with the same word and numbers are the same, so no value, length or count of
 -- steps can pass for a refusal.
+use Rattle.std.specs.Prelude.{Ok, Err}
 use Prim.Native.Nat.{ℕ}
 use Prim.Native.String.{String}
 use mathlib.Core.Path.{◌≡◌, refl, sym, ap, ◌∙◌}
 use mathlib.Core.Bool.{Bool, true, false, cond}
 use mathlib.Core.List.{[], ◌∷◌, ◌++◌}
 use lib.ListN.{get_or, length}
-use Rattle.std.specs.Prelude.{Ok, Err}
 use Rattle.grammar.specs.Reading.{found, has_word}
 use Rattle.construction.specs.Types.{Yield, Instruction, Decoded, Refusal, TooLong, Malformed, OutOfRange, UnknownCode, NoProcess, NoProgram, Busy}
 use Rattle.construction.specs.Types.{NotBusy, NoPlace, LimitReached, ShortBuffer, OperandOutOfRange, UnusedOperand, TooHeavy, Answer, RowSwap, CardLine}
-use Rattle.construction.specs.Types.{VarLine, SheetLine, InsLine, Verdict, Written, NotAhead, Unsettled, TooLarge, BadTerms, NoAllowance}
+use Rattle.construction.specs.Types.{VarLine, SheetLine, InsLine, Verdict, Written, NotAhead, Unsettled, TooLarge, BadTerms, NoAllowance, told_at}
 use Rattle.construction.specs.Answers.{bytes, Fields, fields, number_of, output_numbers, done_word, answer_fields, verdict_fields, written_fields, row_fields}
 use Rattle.construction.specs.Answers.{decoded_fields, card_line_fields, var_line_fields, sheet_line_fields, ins_line_fields}
 use Rattle.construction.specs.KnownAnswers.{card_line_end, var_line_end, sheet_line_end, ins_line_end, KnownBy, KnownByFields}
@@ -83,13 +83,13 @@ module _ (f : Fields) where
       (cond is_refusal (cond (eqb (length f.numbers) 2) (Answer.RefusedAt why (number 1)) (Answer.Refused why)) (Answer.Value (number 0)))))))
 
   abbrev verdict_from : Verdict
-  verdict_from = cond is_refusal (Verdict.Refused why (number 1)) Verdict.Accepted
+  verdict_from = cond is_refusal (Err (told_at why (number 1))) (Ok tt)
 
   abbrev written_from : Written
-  written_from = cond is_refusal (Written.Refused why) (Written.Bytes (number 0))
+  written_from = cond is_refusal (Err why) (Ok (number 0))
 
   abbrev row_from : RowSwap
-  row_from = cond (says "won") RowSwap.Won (cond (says "lost") RowSwap.Lost (RowSwap.Refused why))
+  row_from = cond (says "won") (Ok true) (cond (says "lost") (Ok false) (Err why))
 
   abbrev instruction_from : Instruction
   instruction_from = instruction_of (encoded (number 0) (number 1) (number 2) (number 3))
@@ -129,19 +129,19 @@ answer_back (Answer.RefusedAt r line) = ap (λ (x : Refusal). Answer.RefusedAt x
 
 verdict_back : (v : Verdict) → verdict_from (verdict_fields v) ≡ v
 unfolding verdict_fields has_word
-verdict_back Verdict.Accepted = refl
-verdict_back (Verdict.Refused r line) = ap (λ (x : Refusal). Verdict.Refused x line) (refusal_back r)
+verdict_back (Ok _) = refl
+verdict_back (Err e) = ap (λ (x : Refusal). Err (told_at x e.line)) (refusal_back e.refusal)
 
 written_back : (w : Written) → written_from (written_fields w) ≡ w
 unfolding written_fields has_word
-written_back (Written.Bytes n) = refl
-written_back (Written.Refused r) = ap Written.Refused (refusal_back r)
+written_back (Ok n) = refl
+written_back (Err r) = ap Err (refusal_back r)
 
 row_back : (a : RowSwap) → row_from (row_fields a) ≡ a
 unfolding row_fields has_word
-row_back RowSwap.Won = refl
-row_back RowSwap.Lost = refl
-row_back (RowSwap.Refused r) = ap RowSwap.Refused (refusal_back r)
+row_back (Ok true) = refl
+row_back (Ok false) = refl
+row_back (Err r) = ap Err (refusal_back r)
 
 instruction_back : (x : Instruction) → instruction_of (encode x) ≡ x
 unfolding encode

@@ -1,4 +1,5 @@
 -- The refusals of a change (document 02, order 11), by their numbers: each is given when its condition holds and no earlier one does, and never else.
+use Rattle.std.specs.Prelude.{Ok, Err}
 use Prim.Native.Nat.{ℕ, zero, suc, min, ◌≤◌, ◌<◌}
 use mathlib.Core.Path.{◌≡◌, refl, ap, subst}
 use mathlib.Core.Bool.{Bool, true, false, ◌&&◌, ◌||◌, false≢true}
@@ -17,6 +18,7 @@ use Rattle.construction.specs.Requests.{is_program}
 use Rattle.construction.specs.Changes.{change_read, has_read, is_behind, some_behind, is_unsettled, unchanged, changed, change}
 use Rattle.construction.specs.TextJudging.{refused_in, ChangeJudged}
 use Rattle.construction.specs.Texts.{Overweight, UnsettledBy}
+use Rattle.construction.specs.Types.{told_at}
 use Rattle.construction.proofs.Basics.{clash, and_true, true_or_false}
 use Rattle.construction.proofs.Text.Changes.{Says, refused_says, overweight_judged}
 use Rattle.construction.proofs.Observing.Entries.{on_change, on_change_why}
@@ -33,9 +35,9 @@ unfolding answer_fields
 refused_at_lem {c} {r} why line h = answer_known r.answer (Answer.RefusedAt why line) h.refusal
 
 text_says :
-    (x : Contents) (t : List ℕ) (why : Refusal) (line : ℕ) {other : Refusal} {at : ℕ} → (change_read x t).verdict ≡ Verdict.Refused other at →
+    (x : Contents) (t : List ℕ) (why : Refusal) (line : ℕ) {other : Refusal} {at : ℕ} → (change_read x t).verdict ≡ Err (told_at other at) →
     Answer.RefusedAt other at ≡ Answer.RefusedAt why line → Says x t why line
-text_says x t why line v e = let z : (change_read x t).verdict ≡ Verdict.Refused why line = cc in refused_says x t z
+text_says x t why line v e = let z : (change_read x t).verdict ≡ Err (told_at why line) = cc in refused_says x t z
 
 -- 16: what is unsettled, both ways
 or_either : (a b : Bool) → a || b ≡ true → (a ≡ true) ⊎ (b ≡ true)
@@ -106,7 +108,7 @@ module _ (c : Card) (k from : ℕ) (t : List ℕ) where
 
   -- those of the text, with its line: 1 at line 0; 14 at the last instruction
   pub change_text_lem :
-      (why : Refusal) (line : ℕ) → is_program c k ≡ true → (change_read x t).verdict ≡ Verdict.Refused why line → RefusesAt c r (number_of why) line
+      (why : Refusal) (line : ℕ) → is_program c k ≡ true → (change_read x t).verdict ≡ Err (told_at why line) → RefusesAt c r (number_of why) line
   unfolding change
   change_text_lem why line p v = refuses_at c r why line (rw (p, v))
 
@@ -117,10 +119,10 @@ module _ (c : Card) (k from : ℕ) (t : List ℕ) where
   change_line_refused number line p d = go (change_read x t).verdict refl (change_judged_only x.variable_count (min 32 (card_weight x)) t d)
     where
       go : (v : Verdict) → (change_read x t).verdict ≡ v → verdict_fields v ≡ refused_in line number → RefusesAt c r number line
-      go Verdict.Accepted e z = absurd (omega (arith, ap (λ (f : Fields). length f.numbers) z))
-      go (Verdict.Refused why at) e z =
+      go (Ok _) e z = absurd (omega (arith, ap (λ (f : Fields). length f.numbers) z))
+      go (Err said) e z =
           subst (λ (m : ℕ). RefusesAt c r m line) (ap (λ (f : Fields). get_or f.numbers 0 0) z)
-          (subst (λ (l : ℕ). RefusesAt c r (number_of why) l) (ap (λ (f : Fields). get_or f.numbers 1 0) z) (change_text_lem why at p e))
+          (subst (λ (l : ℕ). RefusesAt c r (number_of said.refusal) l) (ap (λ (f : Fields). get_or f.numbers 1 0) z) (change_text_lem said.refusal said.line p e))
 
   pub change_too_long : is_program c k ≡ true → 16384 < length t → RefusesAt c r 1 0
   unfolding change_read
@@ -138,17 +140,17 @@ module _ (c : Card) (k from : ℕ) (t : List ℕ) where
       (refused_at_lem TooHeavy line h)
 
   -- 15: 'G is not above the gate's number'
-  pub change_not_ahead : is_program c k ≡ true → (change_read x t).verdict ≡ Verdict.Accepted → from ≤ c.gate.seq → RefusesAt c r 15 0
+  pub change_not_ahead : is_program c k ≡ true → (change_read x t).verdict ≡ Ok tt → from ≤ c.gate.seq → RefusesAt c r 15 0
   unfolding change
   change_not_ahead p v l = refuses_at c r NotAhead 0 (rw (p, v, le-ltb _ _ l))
 
   pub change_not_ahead_only :
       (line : ℕ) → RefusesAt c r 15 line →
-      (is_program c k ≡ true) × ((change_read x t).verdict ≡ Verdict.Accepted) × (from ≤ c.gate.seq) × (line ≡ 0)
+      (is_program c k ≡ true) × ((change_read x t).verdict ≡ Ok tt) × (from ≤ c.gate.seq) × (line ≡ 0)
   change_not_ahead_only line h =
       on_change_why
       (λ (q : Answered). q.answer ≡ Answer.RefusedAt NotAhead line →
-      (is_program c k ≡ true) × ((change_read x t).verdict ≡ Verdict.Accepted) × (from ≤ c.gate.seq) × (line ≡ 0))
+      (is_program c k ≡ true) × ((change_read x t).verdict ≡ Ok tt) × (from ≤ c.gate.seq) × (line ≡ 0))
       c k from t
       (λ p e. clash (cc)) (λ p why at v e. absurd (text_says x t NotAhead line v e)) (λ p v l e. (p, v, l, cc)) (λ _ _ _ _ e. clash (cc))
       (λ _ _ _ _ e. clash (cc))
@@ -156,24 +158,24 @@ module _ (c : Card) (k from : ℕ) (t : List ℕ) where
 
   -- 16
   pub change_unsettled :
-      is_program c k ≡ true → (change_read x t).verdict ≡ Verdict.Accepted → c.gate.seq < from → UnsettledBy c k → RefusesAt c r 16 0
+      is_program c k ≡ true → (change_read x t).verdict ≡ Ok tt → c.gate.seq < from → UnsettledBy c k → RefusesAt c r 16 0
   unfolding change
   change_unsettled p v l u = refuses_at c r Unsettled 0 (rw (p, v, lt-ltb _ _ l, unsettled_given c k u))
 
   pub change_unsettled_only :
       (line : ℕ) → RefusesAt c r 16 line →
-      (is_program c k ≡ true) × ((change_read x t).verdict ≡ Verdict.Accepted) × (c.gate.seq < from) × UnsettledBy c k × (line ≡ 0)
+      (is_program c k ≡ true) × ((change_read x t).verdict ≡ Ok tt) × (c.gate.seq < from) × UnsettledBy c k × (line ≡ 0)
   change_unsettled_only line h =
       on_change_why
       (λ (q : Answered). q.answer ≡ Answer.RefusedAt Unsettled line →
-      (is_program c k ≡ true) × ((change_read x t).verdict ≡ Verdict.Accepted) × (c.gate.seq < from) × UnsettledBy c k × (line ≡ 0)) c k from t
+      (is_program c k ≡ true) × ((change_read x t).verdict ≡ Ok tt) × (c.gate.seq < from) × UnsettledBy c k × (line ≡ 0)) c k from t
       (λ p e. clash (cc)) (λ p why at v e. absurd (text_says x t Unsettled line v e)) (λ _ _ _ e. clash (cc))
       (λ p v l u e. (p, v, l, unsettled_why c k u, cc)) (λ _ _ _ _ e. clash (cc))
       (refused_at_lem Unsettled line h)
 
   -- and else it is taken, after the step limit is reached too
   pub change_taken :
-      is_program c k ≡ true → (change_read x t).verdict ≡ Verdict.Accepted → c.gate.seq < from → (UnsettledBy c k → ⊥) →
+      is_program c k ≡ true → (change_read x t).verdict ≡ Ok tt → c.gate.seq < from → (UnsettledBy c k → ⊥) →
       r ≡ changed c k from (change_read x t).program
   unfolding change
   change_taken p v l n = rw (p, v, lt-ltb _ _ l, settled_else c k n)

@@ -1,4 +1,5 @@
 -- No entry changes the text of a card: what it was opened with stays, so the writer writes the same bytes after any entries.
+use Rattle.std.specs.Prelude.{Ok}
 use Prim.Native.Nat.{ℕ}
 use mathlib.Core.Path.{◌≡◌, refl, sym, ap, ◌∙◌}
 use mathlib.Core.List.{List}
@@ -22,5 +23,5 @@ same_text t es =
 
 -- the writer's promise: a text that opens is what is written for its card after any list of entries
 pub given_back_after :
-    (t : List ℕ) → (opened t).verdict ≡ Verdict.Accepted → (es : List Entry) → text_of (run (opened t).card es).card ≡ t
+    (t : List ℕ) → (opened t).verdict ≡ Ok tt → (es : List Entry) → text_of (run (opened t).card es).card ≡ t
 given_back_after t a es = same_text t es ∙ given_back_lem t a

@@ -1,5 +1,6 @@
 -- A text is judged line by line (document 01, 'Turned back'; specs/TextJudging): the verdict on a text gives the number and the line of the first
 -- refusal, and accepts a text of good lines; and a text has no other verdict.
+use Rattle.std.specs.Prelude.{Ok, Err}
 use Prim.Native.Nat.{ℕ, zero, suc, ◌+◌, ◌≤◌}
 use mathlib.Core.Path.{◌≡◌, refl, sym, ap, subst, ◌∙◌}
 use mathlib.Core.Bool.{false, cond}
@@ -7,7 +8,6 @@ use mathlib.Core.List.{List}
 use lib.ListN.{length, get_or}
 use lib.Dec.{eqb, ltb}
 use borrow.Author.Tests.{lt-ltb, le-ltb, ltb-true, ltb-false, eq-eqb, ne_eqb}
-use Rattle.std.specs.Prelude.{Ok, Err}
 use Rattle.grammar.specs.Reading.{found, has_word}
 use Rattle.construction.specs.Types.{Instruction, Refusal, Malformed, CardLine, VarLine, SheetLine, InsLine, Verdict, ProgramReading, Reading}
 use Rattle.construction.specs.Weight.{weight}
@@ -19,6 +19,7 @@ use Rattle.construction.specs.Opening.{next_program, with_program, programs_from
 use Rattle.construction.specs.Opening.{after_card, read_card, opened}
 use Rattle.construction.specs.Changes.{if_program_accepted, program_then_end, program_text}
 use Rattle.construction.specs.TextJudging.{NextLine, GoodUntil, refused_in, Judged, GoodLines, ChangeJudged}
+use Rattle.construction.specs.Types.{told_at}
 use Rattle.construction.proofs.Basics.{on_test, true_false}
 use Rattle.construction.proofs.Text.Reading.{after_fields, after_length}
 use Rattle.construction.proofs.Observing.Histories.{on_equal}
@@ -40,12 +41,12 @@ module _ (t : List ℕ) where
   -- nothing is refused yet
   abbrev Open : NextLine → Type 0
   Open NextLine.card = Unit {0}
-  Open (NextLine.var m k r) = r.verdict ≡ Verdict.Accepted
-  Open (NextLine.sheet s k r) = r.verdict ≡ Verdict.Accepted
-  Open (NextLine.ins s k r m j x) = x.verdict ≡ Verdict.Accepted
+  Open (NextLine.var m k r) = r.verdict ≡ Ok tt
+  Open (NextLine.sheet s k r) = r.verdict ≡ Ok tt
+  Open (NextLine.ins s k r m j x) = x.verdict ≡ Ok tt
 
   -- a program whose lines are good
-  light : (last : ℕ) (x : ProgramReading) → x.verdict ≡ Verdict.Accepted → weight x.program ≤ 32 → weighed 32 last x ≡ x
+  light : (last : ℕ) (x : ProgramReading) → x.verdict ≡ Ok tt → weight x.program ≤ 32 → weighed 32 last x ≡ x
   light last x a w = ap (λ (v : Verdict). judge_weight 32 v last x) a ∙ rw (le-ltb 32 (weight x.program) w)
 
   -- the reading comes to a line before which all are good
@@ -86,7 +87,7 @@ unfolding has_word
 unlike h e = true_false _ (ap is_refusal e) h
 
 told : (why : Refusal) (line : ℕ) {number : ℕ} → refused_with (number_of why) ≡ refused_with number →
-    verdict_fields (Verdict.Refused why line) ≡ refused_in line number
+    verdict_fields (Err (told_at why line)) ≡ refused_in line number
 unfolding verdict_fields
 told why line e = ap (λ (f : Fields). refused_in line (get_or f.numbers 0 0)) e
 
@@ -156,7 +157,7 @@ module _ (t : List ℕ) where
       Judged t (verdict_of (from_line t (NextLine.sheet s (suc k) (with_program r k x)))))
     where
       by_ins :
-          (m j : ℕ) (x : ProgramReading) → GoodUntil t (NextLine.ins s k r m j x) → x.verdict ≡ Verdict.Accepted →
+          (m j : ℕ) (x : ProgramReading) → GoodUntil t (NextLine.ins s k r m j x) → x.verdict ≡ Ok tt →
           Judged t (verdict_of (from_line t (NextLine.ins s k r m j x)))
       unfolding ins_from ins_line_fields decoded_fields verdict_fields
       by_ins zero j x d a =
@@ -181,7 +182,7 @@ module _ (t : List ℕ) where
 
   -- .. programs, ..
   by_sheets :
-      (s k : ℕ) (r : Reading) → GoodUntil t (NextLine.sheet s k r) → r.verdict ≡ Verdict.Accepted → Judged t (verdict_of (from_line t (NextLine.sheet s k r)))
+      (s k : ℕ) (r : Reading) → GoodUntil t (NextLine.sheet s k r) → r.verdict ≡ Ok tt → Judged t (verdict_of (from_line t (NextLine.sheet s k r)))
   unfolding programs_from read_program verdict_fields sheet_line_fields
   by_sheets zero k r d a =
       subst (λ (v : Verdict). Judged t (verdict_of (if_accepted v r (at_end t)))) (sym a)
@@ -190,7 +191,7 @@ module _ (t : List ℕ) where
   by_sheets (suc s) k r d a = line (by_ins s k r (λ x q. by_sheets s (suc k) (with_program r k x) q refl)) (sheet_line t r.at) refl
     where
       line :
-          ((m j : ℕ) (x : ProgramReading) → GoodUntil t (NextLine.ins s k r m j x) → x.verdict ≡ Verdict.Accepted →
+          ((m j : ℕ) (x : ProgramReading) → GoodUntil t (NextLine.ins s k r m j x) → x.verdict ≡ Ok tt →
           Judged t (verdict_of (from_line t (NextLine.ins s k r m j x)))) →
           (z : SheetLine) → sheet_line t r.at ≡ z → Judged t (verdict_of (from_program t s k r (program_after r.contents.variable_count 32 t z r.line)))
       line f (Ok z) e = f z.value 0 (after_length z.value z.next (suc r.line)) (GoodUntil.first_ins d e) refl
@@ -198,7 +199,7 @@ module _ (t : List ℕ) where
 
   -- .. starting values ..
   by_vars :
-      (m k : ℕ) (r : Reading) → GoodUntil t (NextLine.var m k r) → r.verdict ≡ Verdict.Accepted → Judged t (verdict_of (from_line t (NextLine.var m k r)))
+      (m k : ℕ) (r : Reading) → GoodUntil t (NextLine.var m k r) → r.verdict ≡ Ok tt → Judged t (verdict_of (from_line t (NextLine.var m k r)))
   unfolding vars_from verdict_fields var_line_fields
   by_vars zero k r d a =
       subst (λ (v : Verdict). Judged t (verdict_of (then_end t (if_accepted v r (λ x. programs_from t r.contents.program_count 0 x))))) (sym a)
@@ -243,7 +244,7 @@ module _ (n most : ℕ) (t : List ℕ) where
   -- the reading comes to a line before which all are good
   good_lines :
       {m j : ℕ} {x : ProgramReading} → GoodLines n t m j x →
-      (program_text n most t ≡ program_then_end t (from_ins m j x)) × (x.verdict ≡ Verdict.Accepted)
+      (program_text n most t ≡ program_then_end t (from_ins m j x)) × (x.verdict ≡ Ok tt)
   unfolding read_program ins_from
   good_lines (GoodLines.first l e) =
       (rw (le-ltb 16384 (length t) l) (ap (λ (z : SheetLine). program_then_end t (program_after n most t z 1)) e), refl)
@@ -299,7 +300,7 @@ module _ (n most : ℕ) (t : List ℕ) where
 
   -- from an `ins` line on before which all are good
   by_lines :
-      (m j : ℕ) (x : ProgramReading) → GoodLines n t m j x → x.verdict ≡ Verdict.Accepted → ChangeJudged n most t (change_verdict (from_ins m j x))
+      (m j : ℕ) (x : ProgramReading) → GoodLines n t m j x → x.verdict ≡ Ok tt → ChangeJudged n most t (change_verdict (from_ins m j x))
   unfolding ins_from ins_line_fields decoded_fields verdict_fields
   by_lines zero j x d a =
       subst (λ (v : Verdict). ChangeJudged n most t (change_verdict (judge_weight most v (1 + x.program.length) x))) (sym a)

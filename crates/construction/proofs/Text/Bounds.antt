@@ -1,4 +1,5 @@
 -- What every text opens to lies within the bounds of document 01, 'The card and its edges', also where the text is refused.
+use Rattle.std.specs.Prelude.{Ok, Err}
 use Prim.Native.Nat.{ℕ, zero, suc, ◌+◌, ◌≤◌, ◌<◌, min}
 use mathlib.Core.Path.{◌≡◌, refl, ◌∙◌}
 use mathlib.Core.List.{List}
@@ -52,7 +53,7 @@ program_lines n most t at line =
 
 -- and weighs at most `most` where it is accepted
 abbrev pub Light : ℕ → ProgramReading → Type 0
-Light most r = r.verdict ≡ Verdict.Accepted → weight r.program ≤ most
+Light most r = r.verdict ≡ Ok tt → weight r.program ≤ most
 
 pub program_light : (n most : ℕ) (t : List ℕ) (at line : ℕ) → Light most (read_program n most t at line)
 unfolding read_program
@@ -78,12 +79,12 @@ empty_bounded =
 -- a reading that goes on has variables
 pub record Within (r : Reading) : Type 0 where
   pub bounds : Bounded r.contents
-  pub some : r.verdict ≡ Verdict.Accepted → 0 < r.contents.variable_count
+  pub some : r.verdict ≡ Ok tt → 0 < r.contents.variable_count
 
 empty_within : (why : Refusal) (line : ℕ) → Within (refused_at why line)
 empty_within why line = record { bounds = empty_bounded; some = λ e. clash (cc) }
 
-vars_bounded : (t : List ℕ) (m k : ℕ) (r : Reading) → r.verdict ≡ Verdict.Accepted → Within r → Within (vars_from t m k r)
+vars_bounded : (t : List ℕ) (m k : ℕ) (r : Reading) → r.verdict ≡ Ok tt → Within r → Within (vars_from t m k r)
 unfolding vars_from
 vars_bounded t zero k r e h = h
 vars_bounded t (suc m) k r e h =
@@ -108,7 +109,7 @@ vars_bounded t (suc m) k r e h =
     (λ why. empty_within why r.line)
 
 with_program_lem :
-    (r : Reading) (k : ℕ) (x : ProgramReading) → Lines x → weight x.program ≤ 32 → r.verdict ≡ Verdict.Accepted → Within r →
+    (r : Reading) (k : ℕ) (x : ProgramReading) → Lines x → weight x.program ≤ 32 → r.verdict ≡ Ok tt → Within r →
     Within (with_program r k x)
 with_program_lem r k x l w e h =
     let b = h.bounds in
@@ -128,7 +129,7 @@ with_program_lem r k x l w e h =
       some = λ _. h.some e;
     }
 
-programs_bounded : (t : List ℕ) (m k : ℕ) (r : Reading) → r.verdict ≡ Verdict.Accepted → Within r → Within (programs_from t m k r)
+programs_bounded : (t : List ℕ) (m k : ℕ) (r : Reading) → r.verdict ≡ Ok tt → Within r → Within (programs_from t m k r)
 unfolding programs_from
 programs_bounded t zero k r e h = h
 programs_bounded t (suc m) k r e h =
@@ -179,10 +180,10 @@ pub record ChangeBounded (x : Contents) (y : Program) : Type 0 where
   pub light : weight y ≤ 32
   pub lighter : weight y ≤ card_weight x
 
-pub change_bounded : (x : Contents) (t : List ℕ) → (change_read x t).verdict ≡ Verdict.Accepted → ChangeBounded x (change_read x t).program
+pub change_bounded : (x : Contents) (t : List ℕ) → (change_read x t).verdict ≡ Ok tt → ChangeBounded x (change_read x t).program
 unfolding change_read
 change_bounded x t =
-    on_test (λ (q : ProgramReading). q.verdict ≡ Verdict.Accepted → ChangeBounded x q.program) (ltb 16384 (length t)) (λ _ e. clash (cc))
+    on_test (λ (q : ProgramReading). q.verdict ≡ Ok tt → ChangeBounded x q.program) (ltb 16384 (length t)) (λ _ e. clash (cc))
     (λ _. by r.verdict refl)
   where
     most : ℕ
@@ -191,7 +192,7 @@ change_bounded x t =
     r : ProgramReading
     r = read_program x.variable_count most t 0 1
 
-    good : r.verdict ≡ Verdict.Accepted → ChangeBounded x r.program
+    good : r.verdict ≡ Ok tt → ChangeBounded x r.program
     good e =
         let l = program_light x.variable_count most t 0 1 e in
         record {
@@ -201,8 +202,8 @@ change_bounded x t =
         }
 
     by : (v : Verdict) → r.verdict ≡ v →
-        (if_program_accepted v r (cond (eqb r.at (length t)) r (program_refused_at Malformed r.line))).verdict ≡ Verdict.Accepted →
+        (if_program_accepted v r (cond (eqb r.at (length t)) r (program_refused_at Malformed r.line))).verdict ≡ Ok tt →
         ChangeBounded x (if_program_accepted v r (cond (eqb r.at (length t)) r (program_refused_at Malformed r.line))).program
-    by Verdict.Accepted z =
-        on_test (λ (q : ProgramReading). q.verdict ≡ Verdict.Accepted → ChangeBounded x q.program) (eqb r.at (length t)) (λ _. good) (λ _ e. clash (cc))
-    by (Verdict.Refused why line) z = λ e. good e
+    by (Ok _) z =
+        on_test (λ (q : ProgramReading). q.verdict ≡ Ok tt → ChangeBounded x q.program) (eqb r.at (length t)) (λ _. good) (λ _ e. clash (cc))
+    by (Err said) z = λ e. good e

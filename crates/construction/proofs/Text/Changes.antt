@@ -1,4 +1,5 @@
 -- Why the text of a change is refused (document 02, order 11): its length, a line, or its weight; 6, 15 and 16 are never among these.
+use Rattle.std.specs.Prelude.{Ok, Err}
 use Prim.Native.Nat.{ℕ, zero, suc, ◌+◌, ◌≤◌, ◌<◌, min}
 use mathlib.Core.Path.{◌≡◌, refl, sym, ap, subst}
 use mathlib.Core.Bool.{cond, not}
@@ -10,7 +11,7 @@ use native.Mathlib.Decide.{dec_lt}
 use lib.ListN.{length}
 use lib.Dec.{eqb, ltb}
 use borrow.Author.Tests.{ltb-true, ltb-false, lt-ltb, le-ltb}
-use Rattle.std.specs.Prelude.{Option, Some, None, Ok, Err}
+use Rattle.std.specs.Prelude.{Option, Some, None}
 use Rattle.grammar.specs.declared.{Found.Found, Four.Four}
 use Rattle.grammar.specs.Reading.{found, field, four, has_word}
 use Rattle.construction.specs.Types.{Instruction, Encoded, Format, Decoded, Refusal, TooLong, Malformed, OutOfRange, UnknownCode}
@@ -22,6 +23,7 @@ use Rattle.construction.specs.Lines.{sheet_word, ins_word, judge_sheet, sheet_li
 use Rattle.construction.specs.Opening.{program_refused_at, with_line, next_ins, ins_from, judge_weight, weighed, program_after, read_program}
 use Rattle.construction.specs.Changes.{if_program_accepted, program_then_end, change_read}
 use Rattle.construction.specs.Texts.{instructions_read, Overweight}
+use Rattle.construction.specs.Types.{told_at}
 use Rattle.construction.proofs.Basics.{on_test}
 use Rattle.construction.proofs.Text.Reading.{after_length}
 
@@ -65,10 +67,10 @@ ins_why n t at = on_test InsWhy (has_word t at ins_word) (λ _. by (four t (at +
 
 -- `ins` lines are read to their end, or refused at a line
 data LinesRead : ProgramReading → Type 0 where
-  all : {r : ProgramReading} → r.verdict ≡ Verdict.Accepted → LinesRead r
+  all : {r : ProgramReading} → r.verdict ≡ Ok tt → LinesRead r
   until : {why : Refusal} → OfLine why → (line : ℕ) → LinesRead (program_refused_at why line)
 
-lines_read : (n : ℕ) (t : List ℕ) (m k : ℕ) (r : ProgramReading) → r.verdict ≡ Verdict.Accepted → LinesRead (ins_from n t m k r)
+lines_read : (n : ℕ) (t : List ℕ) (m k : ℕ) (r : ProgramReading) → r.verdict ≡ Ok tt → LinesRead (ins_from n t m k r)
 unfolding ins_from
 lines_read n t zero k r h = LinesRead.all h
 lines_read n t (suc m) k r h = by (ins_line n t r.at) (ins_why n t r.at) (λ x i. lines_read n t m (suc k) (with_line r k x i) refl)
@@ -84,7 +86,7 @@ data Judged (x : Contents) (t : List ℕ) : ProgramReading → Type 0 where
   too_long_lem : 16384 < length t → Judged x t (program_refused_at TooLong 0)
   at_line : {why : Refusal} → OfLine why → (line : ℕ) → Judged x t (program_refused_at why line)
   too_heavy_lem : (line : ℕ) → length t ≤ 16384 → Overweight x t line → Judged x t (program_refused_at TooHeavy line)
-  accepted : {r : ProgramReading} → r.verdict ≡ Verdict.Accepted → Judged x t r
+  accepted : {r : ProgramReading} → r.verdict ≡ Ok tt → Judged x t r
 
 -- more than the least of two numbers
 above_least : (a b n : ℕ) → min a b < n → (a < n) ⊎ (b < n)
@@ -162,8 +164,8 @@ module _ (x : Contents) (t : List ℕ) where
   Says NoAllowance line = ⊥
 
   abbrev VerdictSays : Verdict → Type 0
-  VerdictSays Verdict.Accepted = Unit
-  VerdictSays (Verdict.Refused why line) = Says why line
+  VerdictSays (Ok _) = Unit
+  VerdictSays (Err e) = Says e.refusal e.line
 
   line_says : {why : Refusal} → OfLine why → (line : ℕ) → Says why line
   line_says OfLine.misformed line = tt
@@ -178,15 +180,15 @@ module _ (x : Contents) (t : List ℕ) where
   judged_says (Judged.too_heavy_lem line l h) = (l, h)
   judged_says (Judged.accepted h) = subst VerdictSays (sym h) tt
 
-  pub refused_says : {why : Refusal} {line : ℕ} → (change_read x t).verdict ≡ Verdict.Refused why line → Says why line
+  pub refused_says : {why : Refusal} {line : ℕ} → (change_read x t).verdict ≡ Err (told_at why line) → Says why line
   refused_says e = subst VerdictSays e (judged_says (judged x t))
 
 -- a text that counts too much is refused so
 pub overweight_judged :
-    (x : Contents) (t : List ℕ) (line : ℕ) → length t ≤ 16384 → Overweight x t line → (change_read x t).verdict ≡ Verdict.Refused TooHeavy line
+    (x : Contents) (t : List ℕ) (line : ℕ) → length t ≤ 16384 → Overweight x t line → (change_read x t).verdict ≡ Err (told_at TooHeavy line)
 unfolding change_read read_program
 overweight_judged x t line short W =
     let n = weight (instructions_read x t W.m W.i).program in
     let more : min 32 (card_weight x) < n =
     ⊎_elim (λ h. omega (arith, min-le_left 32 (card_weight x))) (λ h. omega (arith, min-le_right 32 (card_weight x))) W.heavy in
-    rw (le-ltb 16384 (length t) short, W.sheet, W.good, lt-ltb (min 32 (card_weight x)) n more) (ap (Verdict.Refused TooHeavy) (omega (arith, W.last)))
+    rw (le-ltb 16384 (length t) short, W.sheet, W.good, lt-ltb (min 32 (card_weight x)) n more) (ap (λ (l : ℕ). Err (told_at TooHeavy l)) (omega (arith, W.last)))

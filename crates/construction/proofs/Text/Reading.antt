@@ -1,11 +1,11 @@
 -- Cases on what a line of a card text yields (document 01, 'The card text').
+use Rattle.std.specs.Prelude.{Ok, Err}
 use mathlib.Core.Path.{◌≡◌, refl}
 use mathlib.Core.List.{List}
 use lib.Dec.{ltb}
 use Prim.Native.Nat.{ℕ, suc, ◌+◌, ◌≤◌}
 use lib.ListN.{replicate}
 use borrow.Author.Tests.{ltb-false}
-use Rattle.std.specs.Prelude.{Ok, Err}
 use Rattle.grammar.specs.Reading.{found}
 use Rattle.construction.specs.Types.{Instruction, Refusal, TooHeavy, CardLine, VarLine, SheetLine, InsLine, Verdict, ProgramReading, Reading}
 use Rattle.construction.specs.Instructions.{no_line}
@@ -13,6 +13,7 @@ use Rattle.construction.specs.Weight.{weight}
 use Rattle.construction.specs.Opening.{refused_at, program_refused_at, with_line, next_ins, ins_from, judge_weight, weighed, program_after, with_program}
 use Rattle.construction.specs.Opening.{next_program, with_start, next_var, vars_from, begun, program_so_far, so_far, if_accepted, then_end, then_programs}
 use Rattle.construction.specs.Opening.{after_card}
+use Rattle.construction.specs.Types.{told_at}
 use Rattle.construction.proofs.Basics.{on_test, clash}
 use Rattle.construction.specs.Lines.{card_numbers}
 
@@ -42,18 +43,18 @@ on_sheet P n most t (Err why) line f g = g why
 -- a program that was read is refused for its weight, or stays; one that stays and is accepted weighs at most `most`
 pub on_weighed :
     (P : ProgramReading → Type 0) (most last : ℕ) (r : ProgramReading) →
-    ((r.verdict ≡ Verdict.Accepted → weight r.program ≤ most) → P r) → P (program_refused_at TooHeavy last) → P (weighed most last r)
+    ((r.verdict ≡ Ok tt → weight r.program ≤ most) → P r) → P (program_refused_at TooHeavy last) → P (weighed most last r)
 on_weighed P most last r f g = by r.verdict refl
   where
     by : (v : Verdict) → r.verdict ≡ v → P (judge_weight most v last r)
-    by Verdict.Accepted e = on_test P (ltb most (weight r.program)) (λ _. g) (λ l. f (λ _. ltb-false most _ l))
-    by (Verdict.Refused why line) e = f (λ a. clash (cc))
+    by (Ok _) e = on_test P (ltb most (weight r.program)) (λ _. g) (λ l. f (λ _. ltb-false most _ l))
+    by (Err said) e = f (λ a. clash (cc))
 
 pub on_program :
     (P : Reading → Type 0) (v : Verdict) (x : ProgramReading) (r : Reading) (k : ℕ) (go : Reading → Reading) →
-    (v ≡ Verdict.Accepted → P (go (with_program r k x))) → ((why : Refusal) (line : ℕ) → P (refused_at why line)) → P (next_program v x r k go)
-on_program P Verdict.Accepted x r k go f g = f refl
-on_program P (Verdict.Refused why line) x r k go f g = g why line
+    (v ≡ Ok tt → P (go (with_program r k x))) → ((why : Refusal) (line : ℕ) → P (refused_at why line)) → P (next_program v x r k go)
+on_program P (Ok _) x r k go f g = f refl
+on_program P (Err e) x r k go f g = g e.refusal e.line
 
 pub on_var :
     (P : Reading → Type 0) (x : VarLine) (r : Reading) (k : ℕ) (go : Reading → Reading) →
@@ -63,13 +64,13 @@ on_var P (Err why) r k go f g = g why
 
 pub on_accepted :
     (P : Reading → Type 0) (r : Reading) (go : Reading → Reading) →
-    (r.verdict ≡ Verdict.Accepted → P (go r)) → ((why : Refusal) (line : ℕ) → r.verdict ≡ Verdict.Refused why line → P r) →
+    (r.verdict ≡ Ok tt → P (go r)) → ((why : Refusal) (line : ℕ) → r.verdict ≡ Err (told_at why line) → P r) →
     P (if_accepted r.verdict r go)
 on_accepted P r go f g = by r.verdict refl
   where
     by : (v : Verdict) → r.verdict ≡ v → P (if_accepted v r go)
-    by Verdict.Accepted e = f e
-    by (Verdict.Refused why line) e = g why line e
+    by (Ok _) e = f e
+    by (Err said) e = g said.refusal said.line e
 
 pub on_card_lem :
     (P : Reading → Type 0) (t : List ℕ) (x : CardLine) →

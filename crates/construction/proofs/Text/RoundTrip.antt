@@ -1,5 +1,6 @@
 -- A text that opens is the text of the card that it opens to; a refused one opens to the empty card, which writes as no bytes
 -- (document 01, 'The card text' and 'Turned back').
+use Rattle.std.specs.Prelude.{Ok}
 use mathlib.Core.Bool.{false}
 use mathlib.Core.Path.{◌≡◌, refl, sym, ◌∙◌, ap}
 use mathlib.Core.List.{List, [], ◌++◌, append_assoc, append-nil}
@@ -9,7 +10,6 @@ use lib.ListN.{get_or, drop, length, length-set, length-replicate}
 use lib.Seq.{drop-length, get_or-set_same, get_or-set_other}
 use native.Mathlib.Omega.{arith}
 use borrow.Author.Tests.{ne_eqb, eqb-true}
-use Rattle.std.specs.Prelude.{Ok}
 use Rattle.grammar.specs.Reading.{found}
 use Rattle.construction.proofs.Basics.{on_test, clash}
 use Rattle.grammar.proofs.Bytes.{word_text_lem}
@@ -26,7 +26,7 @@ use Rattle.construction.proofs.Text.Decoding.{decoded_encodes}
 use Rattle.construction.proofs.Text.Reading.{after_fields, after_length, on_ins, on_sheet, on_weighed, on_program, on_var, on_accepted, on_card_lem}
 
 abbrev Accepted : Verdict → Type 0
-Accepted v = v ≡ Verdict.Accepted
+Accepted v = v ≡ Ok tt
 
 -- ---- what a line that was read looks like
 module _ (t : List ℕ) (at : ℕ) where
@@ -240,7 +240,7 @@ module _ (t : List ℕ) (p n s l i : ℕ) (f : card_line t 0 ≡ Ok (found (card
   fields_there = card_there (then_programs t s (vars_from t n 0 begun)) (body_there (vars_from t n 0 begun) vars_there)
 
 -- a text that opens is given back byte for byte
-pub given_back_lem : (t : List ℕ) → (opened t).verdict ≡ Verdict.Accepted → text_of (opened t).card ≡ t
+pub given_back_lem : (t : List ℕ) → (opened t).verdict ≡ Ok tt → text_of (opened t).card ≡ t
 unfolding opened read_card
 given_back_lem t =
     on_test (WritesAs t) (ltb 16384 (length t))
@@ -248,11 +248,11 @@ given_back_lem t =
     (λ h. on_card_lem (WritesAs t) t (card_line t 0) (fields_there t) (λ why e. clash (cc)))
 
 -- what is written of it opens to the same card
-pub reads_back : (t : List ℕ) → (opened t).verdict ≡ Verdict.Accepted → opened (text_of (opened t).card) ≡ opened t
+pub reads_back : (t : List ℕ) → (opened t).verdict ≡ Ok tt → opened (text_of (opened t).card) ≡ opened t
 reads_back t e = ap opened (given_back_lem t e)
 
 -- two texts that open to the same card are the same text
-pub injective : (t u : List ℕ) → (opened t).verdict ≡ Verdict.Accepted → (opened u).verdict ≡ Verdict.Accepted → (opened t).card ≡ (opened u).card → t ≡ u
+pub injective : (t u : List ℕ) → (opened t).verdict ≡ Ok tt → (opened u).verdict ≡ Ok tt → (opened t).card ≡ (opened u).card → t ≡ u
 injective t u p q e = sym (given_back_lem t p) ∙ ap text_of e ∙ given_back_lem u q
 
 -- ---- a refused text opens to the empty card, which writes as no bytes
@@ -290,10 +290,10 @@ read_empty t =
     on_accepted Empty u (λ x. at_end t x) (λ e. end_empty t u e) (λ _ _ _. programs))
     (λ why n. refl))
 
-pub refused_empty : (t : List ℕ) → ((opened t).verdict ≡ Verdict.Accepted → ⊥) → (opened t).card ≡ fresh no_contents
+pub refused_empty : (t : List ℕ) → ((opened t).verdict ≡ Ok tt → ⊥) → (opened t).card ≡ fresh no_contents
 unfolding opened
 refused_empty t n = ap fresh (read_empty t n)
 
-pub refused_no_bytes : (t : List ℕ) → ((opened t).verdict ≡ Verdict.Accepted → ⊥) → text_of (opened t).card ≡ []
+pub refused_no_bytes : (t : List ℕ) → ((opened t).verdict ≡ Ok tt → ⊥) → text_of (opened t).card ≡ []
 unfolding text_of fresh
 refused_no_bytes t n = ap text_of (refused_empty t n)

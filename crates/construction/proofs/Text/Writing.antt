@@ -1,4 +1,5 @@
 -- The text of a card put into a buffer, line by line, and what the writer answers.
+use Rattle.std.specs.Prelude.{Ok, Err}
 use mathlib.Core.Path.{◌≡◌, refl, ◌∙◌, ap, subst}
 use mathlib.Core.List.{List, [], ◌∷◌, ◌++◌}
 use Prim.Native.Nat.{ℕ, suc, ◌+◌, ◌-◌, ◌<◌, ◌≤◌}
@@ -92,9 +93,9 @@ module _ (c : Card) (b : List ℕ) {d : List ℕ} (same : d ≡ b) {e y : List �
     fits : (length (text_of c) ≤ length b) × (n ≡ length (text_of c))
     fits = (put_fits (length b) room p).0 (rw same at h)
 
-    pub written_bytes : Written.Bytes n ≡ written c b
+    pub written_bytes : Ok n ≡ written c b
     unfolding written
-    written_bytes = rw (le-leb _ _ fits.0) (ap (λ (m : ℕ). Written.Bytes m) fits.1)
+    written_bytes = rw (le-leb _ _ fits.0) (ap (λ (m : ℕ). Ok m) fits.1)
 
     pub text_there : {m : ℕ} {z : List ℕ} → Put d 0 (text_of c) m z → z ≡ written_into c b
     unfolding written_into
@@ -104,7 +105,7 @@ module _ (c : Card) (b : List ℕ) {d : List ℕ} (same : d ≡ b) {e y : List �
     long : length b < length (text_of c)
     long = (put_fits (length b) room p).1 (rw same at h)
 
-    pub written_short : Written.Refused ShortBuffer ≡ written c b
+    pub written_short : Err ShortBuffer ≡ written c b
     unfolding written
     written_short = rw (lt-leb _ _ long)
 

@@ -1,9 +1,9 @@
 -- Listings by computation (document 02, order 13): card K alone, which finishes early; two processes; the refusals in their sequence; the empty card.
+use Rattle.std.specs.Prelude.{Ok, Err}
 use mathlib.Core.Path.{◌≡◌, refl}
 use mathlib.Core.List.{List, [], ◌∷◌, ◌++◌}
 use Prim.Native.Nat.{ℕ}
 use Rattle.executions.specs.declared.Request.{Request}
-use Rattle.construction.specs.declared.{texts.Written.Written}
 use Rattle.construction.specs.declared.answers.Refusal.TheVariants.{NoProgram, TooLarge, ShortBuffer}
 use Rattle.construction.specs.Answers.{bytes, answer_fields, fields_text, numbers_text}
 use Rattle.construction.specs.Opening.{opened}
@@ -37,18 +37,18 @@ pub record Computed : Type 0 where
       listing_text (opened card_k2).card (calling 0 9 ∷ calling 0 5 ∷ []) 2
       ≡ bytes "00,run,run\n01,run,run\n10,run,run\n11,run,run\n"
   -- a sheet that is not there goes before too many processes
-  pub six : listed (opened card_k4).card (calling 0 9 ∷ calling 0 9 ∷ calling 0 9 ∷ calling 1 9 ∷ []) 17 [] ≡ Written.Refused NoProgram
-  pub seventeen : listed (opened card_k4).card (calling 0 9 ∷ calling 0 9 ∷ calling 0 9 ∷ calling 0 9 ∷ []) 2 [] ≡ Written.Refused TooLarge
-  pub long : listed (opened card_k).card (calling 0 9 ∷ []) 17 [] ≡ Written.Refused TooLarge
-  pub limited : listed (opened card_short).card (calling 0 9 ∷ []) 4 [] ≡ Written.Refused TooLarge
+  pub six : listed (opened card_k4).card (calling 0 9 ∷ calling 0 9 ∷ calling 0 9 ∷ calling 1 9 ∷ []) 17 [] ≡ Err NoProgram
+  pub seventeen : listed (opened card_k4).card (calling 0 9 ∷ calling 0 9 ∷ calling 0 9 ∷ calling 0 9 ∷ []) 2 [] ≡ Err TooLarge
+  pub long : listed (opened card_k).card (calling 0 9 ∷ []) 17 [] ≡ Err TooLarge
+  pub limited : listed (opened card_short).card (calling 0 9 ∷ []) 4 [] ≡ Err TooLarge
   -- a step limit equal to L lists; a buffer one byte short keeps its bytes, one byte too long keeps the last
-  pub whole : listed (opened card_short).card (calling 0 9 ∷ []) 3 (bytes "0123456789abcdef\n.") ≡ Written.Bytes 16
+  pub whole : listed (opened card_short).card (calling 0 9 ∷ []) 3 (bytes "0123456789abcdef\n.") ≡ Ok 16
   pub put : listed_into (opened card_short).card (calling 0 9 ∷ []) 3 (bytes "0123456789abcdef.") ≡ bytes "000,run,run,run\n."
-  pub short : listed (opened card_short).card (calling 0 9 ∷ []) 3 (bytes "0123456789abcde") ≡ Written.Refused ShortBuffer
+  pub short : listed (opened card_short).card (calling 0 9 ∷ []) 3 (bytes "0123456789abcde") ≡ Err ShortBuffer
   pub kept : listed_into (opened card_short).card (calling 0 9 ∷ []) 3 (bytes "0123456789abcde") ≡ bytes "0123456789abcde"
   -- the empty card of a refused text
   pub empty : listed_into (opened []).card [] 0 (bytes "..") ≡ bytes "\n."
-  pub none : listed (opened []).card [] 1 (bytes "..") ≡ Written.Refused TooLarge
+  pub none : listed (opened []).card [] 1 (bytes "..") ≡ Err TooLarge
 
 pub computed : Computed
 unfolding observing listed listed_into listing_text schedules listing branches is_quiet calls_from numbers_together answers_text lines_after are_callable answer_fields

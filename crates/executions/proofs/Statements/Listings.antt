@@ -1,4 +1,5 @@
 -- The text of a listing and its refusals (document 02, order 13): 6, 17 and 11 in this sequence, else the text; the text by the recursion of code, whole and in pieces.
+use Rattle.std.specs.Prelude.{Ok, Err}
 use Prim.Native.Nat.{ℕ, zero, suc, ◌+◌, ◌^◌, ◌≤◌, ◌<◌}
 use mathlib.Core.Path.{◌≡◌, refl, sym, ap, ◌∙◌}
 use mathlib.Core.Bool.{Bool, true, false, cond, not}
@@ -10,12 +11,13 @@ use lib.ListN.{length, get_or, drop}
 use lib.Dec.{leb}
 use borrow.Author.Tests.{le-leb, lt-leb, leb-true, leb-false}
 use Rattle.executions.specs.declared.Request.{Request}
-use Rattle.construction.specs.declared.{card.Card.Card, texts.Written.Written, texts.Contents.Contents}
+use Rattle.construction.specs.declared.{card.Card.Card, texts.Contents.Contents}
 use Rattle.construction.specs.declared.answers.Refusal.TheVariants.{NoProgram, ShortBuffer, TooLarge}
 use Rattle.construction.specs.Answers.{fields, refused_with, written_fields}
 use Rattle.construction.specs.Requests.{is_program}
 use Rattle.construction.specs.Opening.{fresh, opened}
 use Rattle.construction.specs.History.{Entry, run}
+use Rattle.construction.specs.Types.{Written}
 use Rattle.executions.specs.Schedules.{no_request, calls_of, schedules}
 use Rattle.executions.specs.Listings.{reopened, listing_text, text_after, piece_after, together, are_callable, is_callable, is_listable, listed, listed_into}
 use Rattle.executions.specs.Listings.{Callable, Listable}
@@ -117,21 +119,21 @@ module _ (c : Card) (calls : List Request) (L : ℕ) (b : List ℕ) where
 -- and no other case tells these numbers
 abbrev judged : Bool → Bool → Bool → ℕ → Written
 judged a b f n =
-    cond (not a) (Written.Refused NoProgram) (cond (not b) (Written.Refused TooLarge) (cond f (Written.Bytes n) (Written.Refused ShortBuffer)))
+    cond (not a) (Err NoProgram) (cond (not b) (Err TooLarge) (cond f (Ok n) (Err ShortBuffer)))
 
-only_six : (a b f : Bool) (n : ℕ) → judged a b f n ≡ Written.Refused NoProgram → a ≡ false
+only_six : (a b f : Bool) (n : ℕ) → judged a b f n ≡ Err NoProgram → a ≡ false
 only_six false b f n e = refl
 only_six true false f n e = clash (cc)
 only_six true true false n e = clash (cc)
 only_six true true true n e = clash (cc)
 
-only_seventeen : (a b f : Bool) (n : ℕ) → judged a b f n ≡ Written.Refused TooLarge → (a ≡ true) × (b ≡ false)
+only_seventeen : (a b f : Bool) (n : ℕ) → judged a b f n ≡ Err TooLarge → (a ≡ true) × (b ≡ false)
 only_seventeen false b f n e = clash (cc)
 only_seventeen true false f n e = (refl, refl)
 only_seventeen true true false n e = clash (cc)
 only_seventeen true true true n e = clash (cc)
 
-only_eleven : (a b f : Bool) (n : ℕ) → judged a b f n ≡ Written.Refused ShortBuffer → (a ≡ true) × (b ≡ true) × (f ≡ false)
+only_eleven : (a b f : Bool) (n : ℕ) → judged a b f n ≡ Err ShortBuffer → (a ≡ true) × (b ≡ true) × (f ≡ false)
 only_eleven false b f n e = clash (cc)
 only_eleven true false f n e = clash (cc)
 only_eleven true true false n e = (refl, refl, refl)
@@ -153,16 +155,16 @@ module _ (c : Card) (calls : List Request) (L : ℕ) (b : List ℕ) where
 
   pub six_only : written_fields told ≡ refused_with 6 → is_callable o calls ≡ false
   unfolding written_fields
-  six_only e = only_six (is_callable o calls) (is_listable o L) (leb size (length b)) size (told_is (Written.Refused NoProgram) e)
+  six_only e = only_six (is_callable o calls) (is_listable o L) (leb size (length b)) size (told_is (Err NoProgram) e)
 
   pub seventeen_only : written_fields told ≡ refused_with 17 → (is_callable o calls ≡ true) × (is_listable o L ≡ false)
   unfolding written_fields
-  seventeen_only e = only_seventeen (is_callable o calls) (is_listable o L) (leb size (length b)) size (told_is (Written.Refused TooLarge) e)
+  seventeen_only e = only_seventeen (is_callable o calls) (is_listable o L) (leb size (length b)) size (told_is (Err TooLarge) e)
 
   pub eleven_only : written_fields told ≡ refused_with 11 → (is_callable o calls ≡ true) × (is_listable o L ≡ true) × (length b < size)
   unfolding written_fields
   eleven_only e =
-      let h = only_eleven (is_callable o calls) (is_listable o L) (leb size (length b)) size (told_is (Written.Refused ShortBuffer) e) in
+      let h = only_eleven (is_callable o calls) (is_listable o L) (leb size (length b)) size (told_is (Err ShortBuffer) e) in
       (h.0, h.1, leb-false _ _ h.2)
 
 -- A listing has at most 3 to the power of L lines, 43,046,721 at most

@@ -9,6 +9,5 @@ returns-then-row-place c = laws.refused c.args.row.now c.args.place c.args.expec
 
 pub returns : goal.returns
 returns c =
-    laws.swapped c.args.row.now c.args.place c.args.expected c.args.new _ _ c.if-row-place.false
+    laws.swapped c.args.row.now c.args.place c.args.expected c.args.new _ c.if-row-place.false
     (c.swap-after.ensures ∙ record_swap (get_or c.args.row.now c.args.place (open_record 0)) c.args.expected c.args.new)
-    c.answer_of.ensures

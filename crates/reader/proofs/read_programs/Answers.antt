@@ -4,16 +4,16 @@ use Rattle.construction.specs.Opening.{programs_from}
 use Rattle.reader.proofs.Laws as laws
 use Rattle.reader.proofs.read_programs.Goals as goal
 
-pub returns-in-Refused : goal.returns-in-Refused
+pub returns-in-Err : goal.returns-in-Err
 unfolding programs_from
-returns-in-Refused c =
+returns-in-Err c =
     rw (
       c.refused_at.ensures,
       c.loop-k.invariant.0,
       laws.one_less _ _ c.loop-k-test.true,
       ←
           c.read_program-read.ensures,
-      c.in-Refused.is,
+      c.in-Err.is,
     )
 
 pub loop-k-preserved : goal.loop-k-preserved

@@ -1,4 +1,4 @@
-use Rattle.std.proofs.Common.{ℕ, arith}
+use Rattle.std.proofs.Common.{◌≡◌, ℕ, length, arith}
 use lib.ListN.{drop_of_length-le}
 use lib.Seq.{drop-cons}
 use native.Mathlib.Numerals.{add-one}
@@ -12,7 +12,7 @@ returns-then-text-i c =
     record {
       place = rw (c.loop-i.invariant.0, drop-cons {A = ℕ} _ _ 0 c.loop-i-test.true, eq-eqb _ _ c.if-text-i.true);
       past = c.loop-i.invariant.1;
-      within = c.loop-i.invariant.2;
+      within = omega arith;
     }
 
 pub loop-i-preserved : goal.loop-i-preserved
@@ -20,14 +20,14 @@ unfolding place_of
 loop-i-preserved c = (
   rw (c.loop-i.invariant.0, drop-cons {A = ℕ} _ _ 0 c.loop-i-test.true, ne_eqb _ _ c.if-text-i.false, add-one),
   omega arith,
-  omega arith,
 )
 
 pub returns : goal.returns
 unfolding place_of
 returns c =
+    let e : length c.args.text.now ≡ c.loop-i.i = omega arith in
     record {
-      place = rw (c.loop-i.invariant.0, drop_of_length-le _ c.loop-i-test.false);
-      past = c.loop-i.invariant.1;
-      within = c.loop-i.invariant.2;
+      place = rw (c.loop-i.invariant.0, drop_of_length-le _ c.loop-i-test.false) e;
+      past = c.requires;
+      within = omega arith;
     }

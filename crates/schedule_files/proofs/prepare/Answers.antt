@@ -1,9 +1,9 @@
 use Rattle.schedule_files.proofs.Laws as laws
 use Rattle.schedule_files.proofs.prepare.Goals as goal
 
-pub returns-in-Refused : goal.returns-in-Refused
-returns-in-Refused c =
-    laws.card_refused _ _ c.args.length c.open-opened.ensures c.in-Refused.is c.put_card_refusal-end.ensures.0
+pub returns-in-Err : goal.returns-in-Err
+returns-in-Err c =
+    laws.card_refused _ _ c.args.length c.open-opened.ensures c.in-Err.is c.put_card_refusal-end.ensures.0
     c.put_card_refusal-end.ensures.1 c.over.ensures
 
 pub returns-then-calls-gt-LIMIT : goal.returns-then-calls-gt-LIMIT

@@ -1,4 +1,4 @@
-use Rattle.std.proofs.Common.{◌+◌, ◌-◌, ◌≤◌, ◌<◌}
+use Rattle.std.proofs.Common.{◌+◌, ◌-◌}
 use Rattle.grammar.proofs.Puts as puts
 use Rattle.wait_table.specs.Table.{row_text}
 use Rattle.wait_table.proofs.put_row.Given as goal
@@ -6,7 +6,4 @@ use Rattle.wait_table.proofs.put_row.Given as goal
 abbrev pub invariant-loop-weight : goal.invariant-loop-weight
 invariant-loop-weight l =
     puts.Rest l.initial.buffer l.at (row_text (l.row + 1) 33 0) l.buffer l.i
-    (row_text (l.row + 1) (33 - l.weight) l.weight) × (l.weight ≤ 33) × (l.row < 8)
-
-abbrev pub decreases-loop-weight : goal.decreases-loop-weight
-decreases-loop-weight l = 33 - l.weight
+    (row_text (l.row + 1) (33 - l.weight) l.weight)

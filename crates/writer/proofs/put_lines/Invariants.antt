@@ -1,4 +1,4 @@
-use Rattle.std.proofs.Common.{◌-◌, ◌≤◌}
+use Rattle.std.proofs.Common.{◌-◌}
 use Rattle.construction.specs.Writing.{lines_text}
 use Rattle.grammar.proofs.Puts as puts
 use Rattle.writer.proofs.put_lines.Given as goal
@@ -6,7 +6,4 @@ use Rattle.writer.proofs.put_lines.Given as goal
 abbrev pub invariant-loop-k : goal.invariant-loop-k
 invariant-loop-k l =
     puts.Rest l.initial.buffer l.at (lines_text l.count 0 l.lines) l.buffer l.i
-    (lines_text (l.count - l.k) l.k l.lines) × (l.k ≤ l.count)
-
-abbrev pub decreases-loop-k : goal.decreases-loop-k
-decreases-loop-k l = l.count - l.k
+    (lines_text (l.count - l.k) l.k l.lines)

@@ -10,7 +10,7 @@ pub returns-then-not-has_var : goal.returns-then-not-has_var
 returns-then-not-has_var c =
     let a = c.args in
     let l = c.loop-count in
-    laws.vars_done a.text.now a.header _ c.in-Accepted.is c.requires.0
+    laws.vars_done a.text.now a.header _ c.in-Ok.is c.requires.0
     (l.invariant.0 ∙ laws.vars_stop a.text.now l.count l.at l.line c.loop-count-test.true c.has_var.ensures
     (not_from_false _ c.if-not-has_var.true))
 
@@ -41,6 +41,6 @@ returns c =
     let a = c.args in
     let l = c.loop-count in
     let last : l.count ≡ 64 = omega arith in
-    laws.vars_done a.text.now a.header _ c.in-Accepted.is c.requires.0
+    laws.vars_done a.text.now a.header _ c.in-Ok.is c.requires.0
     (l.invariant.0 ∙ laws.vars_end a.text.now l.count _ c.loop-count-test.false
     ∙ ap (λ (n : ℕ). laws.header_at n l.at l.line) last)

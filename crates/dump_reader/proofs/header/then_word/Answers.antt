@@ -9,18 +9,18 @@ returns-in_default c = let a = c.args in laws.word_refused a.text.now a.word.now
 pub returns-then-not-has_word : goal.returns-then-not-has_word
 returns-then-not-has_word c =
     let a = c.args in
-    laws.word_other a.text.now a.word.now a.header c.in-Accepted.is c.has_word.ensures
+    laws.word_other a.text.now a.word.now a.header c.in-Ok.is c.has_word.ensures
     (not_from_false _ c.if-not-has_word.true) c.header_refused.ensures
 
 pub overflow_add-result : goal.overflow_add-result
 overflow_add-result c =
     let a = c.args in
-    let h = laws.word_fits a.text.now a.word.now a.header c.in-Accepted.is c.has_word.ensures
+    let h = laws.word_fits a.text.now a.word.now a.header c.in-Ok.is c.has_word.ensures
     (not_from_true _ c.if-not-has_word.false) c.requires.0 in
     omega arith
 
 pub returns : goal.returns
 returns c =
     let a = c.args in
-    laws.word_there a.text.now a.word.now a.header c.in-Accepted.is c.has_word.ensures
+    laws.word_there a.text.now a.word.now a.header c.in-Ok.is c.has_word.ensures
     (not_from_true _ c.if-not-has_word.false)

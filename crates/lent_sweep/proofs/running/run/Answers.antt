@@ -7,8 +7,8 @@ returns-then-l-loan_words c =
     sweeps_short c.args.calls.now c.args.b.now c.args.l.now c.args.schedule.now
     (omega (arith, c.loan_words.ensures)) c.none-counts.ensures
 
-pub loop-k-preserved : goal.loop-k-preserved
-loop-k-preserved c = swept_on c.loop-k.invariant c.loop-k-test.true refl c.turn-counts.ensures
+pub loop-i-preserved : goal.loop-i-preserved
+loop-i-preserved c = swept_on c.loop-i.invariant (omega arith) refl c.turn-counts.ensures
 
 pub returns : goal.returns
-returns c = swept_all c.loop-k.invariant (omega arith)
+returns c = swept_all c.loop-i.invariant (omega arith)

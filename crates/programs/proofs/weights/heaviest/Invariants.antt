@@ -4,6 +4,3 @@ use Rattle.programs.proofs.weights.heaviest.Given as goal
 
 abbrev pub invariant-loop-k : goal.invariant-loop-k
 invariant-loop-k l = (l.most ≡ heaviest (drop l.k l.programs)) × (l.k ≤ 8)
-
-abbrev pub decreases-loop-k : goal.decreases-loop-k
-decreases-loop-k l = l.k

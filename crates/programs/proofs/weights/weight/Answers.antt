@@ -5,16 +5,14 @@ use Rattle.programs.proofs.weights.weight.Goals as goal
 
 pub loop-k-init : goal.loop-k-init
 unfolding weight_before
-loop-k-init c = (refl, omega arith)
+loop-k-init c = refl
 
 pub overflow_add-total : goal.overflow_add-total
 overflow_add-total c =
     let total_is =
-    laws.weight_turn c.args.program c.loop-k.k c.loop-k.invariant.0 c.loop-k-test.true c.instruction_at-instruction.ensures c.weight_of-total.ensures in
+    laws.weight_turn c.args.program c.loop-k.k c.loop-k.invariant c.loop-k-test.true c.instruction_at-instruction.ensures c.weight_of-total.ensures in
     omega (arith, total_is, laws.room c.args.program c.loop-k.k (search rules))
 
 pub loop-k-preserved : goal.loop-k-preserved
-loop-k-preserved c = (
-  laws.weight_turn c.args.program c.loop-k.k c.loop-k.invariant.0 c.loop-k-test.true c.instruction_at-instruction.ensures c.weight_of-total.ensures,
-  omega arith,
-)
+loop-k-preserved c =
+    laws.weight_turn c.args.program c.loop-k.k c.loop-k.invariant c.loop-k-test.true c.instruction_at-instruction.ensures c.weight_of-total.ensures

@@ -2,9 +2,9 @@ use Rattle.std.proofs.Common.{[], arith, lt-ltb, le-ltb, refl}
 use Rattle.session.proofs.SessionLaws as laws
 use Rattle.session.proofs.running.start.Goals as goal
 
-pub returns-in-Refused : goal.returns-in-Refused
-returns-in-Refused c =
-    laws.starts c.open-opened.ensures c.put_card_refusal-length.ensures c.begun.ensures (rw c.in-Refused.is)
+pub returns-in-Err : goal.returns-in-Err
+returns-in-Err c =
+    laws.starts c.open-opened.ensures c.put_card_refusal-length.ensures c.begun.ensures (rw c.in-Err.is)
 
 pub returns-then-calls-gt-LIMIT : goal.returns-then-calls-gt-LIMIT
 returns-then-calls-gt-LIMIT c =

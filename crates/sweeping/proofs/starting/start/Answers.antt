@@ -2,9 +2,9 @@ use Rattle.std.proofs.Common.{arith}
 use Rattle.sweeping.proofs.Files as laws
 use Rattle.sweeping.proofs.starting.start.Goals as goal
 
-pub returns-in-Refused : goal.returns-in-Refused
-returns-in-Refused c =
-    laws.card_refused c.args.calls.now c.open-verdict.ensures c.in-Refused.is c.put_card_refusal.ensures c.over.ensures
+pub returns-in-Err : goal.returns-in-Err
+returns-in-Err c =
+    laws.card_refused c.args.calls.now c.open-verdict.ensures c.in-Err.is c.put_card_refusal.ensures c.over.ensures
 
 pub returns-then-calls-gt-LIMIT : goal.returns-then-calls-gt-LIMIT
 returns-then-calls-gt-LIMIT c =

@@ -33,7 +33,7 @@ pub use Rattle.construction.specs.declared.accesses.Cell.{Cell}
 pub use Rattle.construction.specs.declared.accesses.Swap.{Swap}
 pub use Rattle.construction.specs.declared.accesses.Control.{Control}
 pub use Rattle.construction.specs.declared.accesses.AccessedCell.{AccessedCell}
-pub use Rattle.construction.specs.declared.accesses.Began.{Began}
+pub use Rattle.construction.specs.declared.accesses.Begun.{Begun}
 pub use Rattle.construction.specs.declared.accesses.Helped.{Helped}
 pub use Rattle.construction.specs.declared.accesses.Writing.{Writing}
 pub use Rattle.construction.specs.declared.card.Operation.{Operation}

@@ -112,10 +112,9 @@ pub struct AccessedCell<T> {
     pub swap: Swap,
 }
 
-// What a process goes on with after the announcement of the gate's holder was read (P16): whether it helps, its control and its simulation.
+// What a process goes on with that began to help (P16 to P18): its control and its simulation.
 #[derive(Clone, Copy)]
-pub struct Began {
-    pub helps: bool,
+pub struct Begun {
     pub control: Control,
     pub simulation: Simulation,
 }

@@ -7,12 +7,13 @@ use lib.Dec.{ltb}
 use Rattle.std.specs.Prelude.{Option, None, Some}
 use Rattle.construction.specs.Types.{Gate, Flag, Done, Active, Exit, Words, Yield, Announcement, Record, Program, Dictionary}
 use Rattle.construction.specs.Types.{Simulation, Pause, Ended, Faulted, Lacks, Simulated, Label, Idle, P1, P3, P5, P7, C4, P13, P14, H21, H36, P19, P21}
-use Rattle.construction.specs.Types.{F3, GateAccess, AnnouncementAccess, Access, Control, Began, Helped, Operation, Card}
+use Rattle.std.specs.Prelude.{Option}
+use Rattle.construction.specs.Types.{F3, GateAccess, AnnouncementAccess, Access, Control, Begun, Helped, Operation, Card}
 use Rattle.construction.specs.Cells.{open_announcement, same_holder}
 use Rattle.construction.specs.Dictionary.{noted, next_write, insert, item_of, empty}
 use Rattle.construction.specs.Parts.{idle_control, announcement_at, local_at}
 use Rattle.construction.specs.Machine.{by_holder, by_flag, write_from, after_pause, announced, access_of, access_gate, access_announcement, perform, advance}
-use Rattle.construction.specs.Machine.{begin_help, note, writing, helps, helped}
+use Rattle.construction.specs.Machine.{begin_help, begun_from, note, writing, helps, helped}
 use Rattle.construction.proofs.Basics.{on_test}
 use Rattle.construction.specs.Marks.{with_bit}
 use Rattle.construction.specs.Helping.{simulate}
@@ -83,10 +84,10 @@ module _ (Q : Label → Type 0) where
 
   help_leads :
       Q P21 × Q H21 × Q H36 × Q P19 → (n : ℕ) (program : Program) (cell : Announcement) (number : ℕ) (t : Control) (s : Simulation) →
-      Q (begin_help n program cell number t s).control.place
+      Q (begun_from t s (begin_help n program cell number)).control.place
   unfolding begin_help
   help_leads q n program cell number t s =
-      on_test (λ (x : Began). Q x.control.place) (helps cell number)
+      on_test (λ (x : Option Begun). Q (begun_from t s x).control.place) (helps cell number)
       (λ _. helped_leads number (simulate n program cell.words started empty) 0 q.1 q.2 q.3) (λ _. q.0)
 
   note_leads :
@@ -111,7 +112,7 @@ module _ (Q : Label → Type 0) where
     leads Access.None q = absurd q
     leads (Access.Gate a) q = placed _ (gate_leads a q _ _ _ _)
     leads (Access.Announcement a) q = placed _ (announcement_leads a q _ _ _ _ _ _ _)
-    leads Access.Help q = placed _ (help_leads q _ _ _ _ _ _)
+    leads Access.Help q = placed _ (help_leads q _ _ _ _ (local_at c i).control (local_at c i).simulation)
     leads Access.Note q = placed _ (note_leads q _ _ _ _ _ _ _ _ _)
     leads Access.Write q = placed _ (write_leads q _ _ _)
 

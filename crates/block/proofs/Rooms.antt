@@ -1,13 +1,14 @@
 -- Whether a part is there, and what is then taken out and put back: one law for each of both cases
 use Prim.Native.Nat.{ℕ, ◌+◌, ◌*◌, ◌<◌, ◌≤◌}
-use mathlib.Core.Path.{◌≡◌, refl, sym, ◌∙◌}
-use mathlib.Core.Bool.{Bool, true, false, ◌&&◌}
+use mathlib.Core.Path.{◌≡◌, refl, sym, ◌∙◌, ap}
+use mathlib.Core.Bool.{Bool, true, false, cond, ◌&&◌}
 use mathlib.Core.List.{List}
 use native.Mathlib.Omega.{arith}
 use lib.Dec.{leb, ltb}
 use lib.ListN.{length, set}
 use borrow.Author.Tests.{leb-true, ltb-true, le-leb, lt-ltb}
 use Rattle.codes.specs.Parts.{word_at, part, stores}
+use Rattle.codes.specs.Codes.{number_of, number_words}
 use Rattle.codes.proofs.Blocks as blocks
 use Rattle.block.specs.Layout.{is_room, row_at, put_row, number_at, put_number}
 
@@ -52,19 +53,15 @@ module _ (b : List ℕ) (i n : ℕ) {t : Bool} (e : t ≡ is_room b i n) where
     unfolding put_row
     put_none p h = rw (sym e ∙ p) h
 
-  module _ (base x : ℕ) where
-    pub number_in : t ≡ true → x ≡ word_at b (base + i) → x ≡ number_at b base n i
-    unfolding number_at
-    number_in p h = rw (sym e ∙ p) h
+-- a number is a part of one word
+module _ (b : List ℕ) (base n i : ℕ) where
+  place_one : base + 1 * i ≡ base + i
+  place_one = omega arith
 
-    pub number_none : t ≡ false → x ≡ 0 → x ≡ number_at b base n i
-    unfolding number_at
-    number_none p h = rw (sym e ∙ p) h
+  pub number_row : row_at b base 1 n number_of 0 i ≡ number_at b base n i
+  unfolding row_at number_at
+  number_row = ap (λ q. cond (is_room b i n) (word_at b q) 0) place_one
 
-    pub put_number_in : (c : List ℕ) → t ≡ true → c ≡ set b (base + i) x → c ≡ put_number b base n i x
-    unfolding put_number
-    put_number_in c p h = rw (sym e ∙ p) h
-
-    pub put_number_none : (c : List ℕ) → t ≡ false → c ≡ b → c ≡ put_number b base n i x
-    unfolding put_number
-    put_number_none c p h = rw (sym e ∙ p) h
+  pub put_number_row : (x : ℕ) → put_row b base 1 n i (number_words x) ≡ put_number b base n i x
+  unfolding put_row put_number
+  put_number_row x = ap (λ q. cond (is_room b i n) (set b q x) b) place_one

@@ -77,8 +77,7 @@ pub fn put_steps(b: &mut [u64], value: u64)
 pub fn room(b: &[u64]) -> u8
     ensures { result ≡ room_in b.now }
 {
-    let w = number(b, 7, 1, 0);
-    if w < 32 { w as u8 } else { 32 }
+    number(b, 7, 1, 0).min(32) as u8
 }
 
 pub fn put_room(b: &mut [u64], value: u8)

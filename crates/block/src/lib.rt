@@ -4,7 +4,7 @@
 #![tactic(auto)]
 
 pub mod numbers; // numbers.rt: whether a part is there; parts of one word
-pub mod parts; // parts.rt: part i of n that has more words
+pub mod parts; // parts.rt: part i of n of a kind
 pub mod cells; // cells.rt: the counts of the card and the shared cells
 pub mod own; // own.rt: what a process keeps
 pub mod texts; // texts.rt: the starting values, and from which number the later texts hold

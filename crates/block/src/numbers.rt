@@ -2,6 +2,8 @@
 ghost use Rattle.std.specs.Prelude.{◌≡◌, ◌+◌, ◌≤◌};
 ghost use Rattle.block.specs.Layout.{is_room, number_at, put_number};
 
+use crate::parts::{put_row, row_at};
+
 // How many words a block has.
 const SIZE: usize = 1456;
 
@@ -17,17 +19,12 @@ pub(crate) fn number(b: &[u64], base: usize, n: u8, i: u8) -> u64
     requires { base + n ≤ 1456 }
     ensures { result ≡ number_at b.now base n i }
 {
-    if is_room(b, i, n) {
-        return b[base + i as usize];
-    }
-    0
+    row_at(b, base, n, i, 0)
 }
 
 pub(crate) fn put_number(b: &mut [u64], base: usize, n: u8, i: u8, value: u64)
     requires { base + n ≤ 1456 }
     ensures { b.new ≡ put_number b.old base n i value }
 {
-    if is_room(b, i, n) {
-        b[base + i as usize] = value;
-    }
+    put_row(b, base, n, i, value);
 }

@@ -148,9 +148,7 @@ pub fn put_mask(b: &mut [u64], i: u8, value: u64)
 pub fn noted(b: &[u64], i: u8) -> u8
     ensures { result ≡ noted_in b.now i }
 {
-    let k = byte(number(b, 576, 8, i));
-    let most = room(b);
-    if k < most { k } else { most }
+    byte(number(b, 576, 8, i)).min(room(b))
 }
 
 pub fn put_noted(b: &mut [u64], i: u8, value: u8)

@@ -71,6 +71,12 @@ put_halves w k x = set (set (set (set w k x.w0) (k + 1) x.w1) (k + 2) x.w2) (k +
 
 -- a value of a part's words, and the words of a value
 
+abbrev pub number_of : List ℕ → ℕ
+number_of w = word_at w 0
+
+abbrev pub number_words : ℕ → List ℕ
+number_words x = x ∷ []
+
 abbrev pub gate_of : List ℕ → Gate
 gate_of w = record { holder = holder_from (word_at w 0); seq = word_at w 1 }
 

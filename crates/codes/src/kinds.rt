@@ -1,6 +1,6 @@
-// The values that stand in more words than one, each with its fields as specs/Codes lays them out.
+// The values that stand in words, each with its fields as specs/Codes lays them out.
 ghost use Rattle.std.specs.Prelude.{◌≡◌, ◌+◌, ◌<◌, ◌≤◌, length, refl};
-ghost use Rattle.codes.specs.Codes.{halves, put_halves, gate_of, gate_words, control_of, control_words, announcement_of, announcement_words, record_of, record_words, operation_of, operation_words, simulation_of, simulation_words, item_of, item_words, program_of, program_words, program_long};
+ghost use Rattle.codes.specs.Codes.{halves, put_halves, number_of, number_words, gate_of, gate_words, control_of, control_words, announcement_of, announcement_words, record_of, record_words, operation_of, operation_words, simulation_of, simulation_words, item_of, item_words, program_of, program_words, program_long};
 
 use crate::parts::Part;
 use crate::{
@@ -34,6 +34,26 @@ fn put_words(b: &mut [u64], at: usize, words: Words)
     b[at + 1] = words.w1 as u64;
     b[at + 2] = words.w2 as u64;
     b[at + 3] = words.w3 as u64;
+}
+
+impl Part for u64 {
+    const SIZE: usize = 1;
+
+    ghost SIZE = { 1 };
+
+    ghost of = { number_of };
+
+    ghost words = { number_words };
+
+    ghost long = { λ x. refl };
+
+    fn read(b: &[u64], at: usize) -> u64 {
+        b[at]
+    }
+
+    fn store(self, b: &mut [u64], at: usize) {
+        b[at] = self;
+    }
 }
 
 impl Part for Gate {

@@ -7,7 +7,7 @@ ghost use Rattle.std.specs.Prelude.{◌≡◌};
 ghost use Rattle.codes.specs.Codes.{byte, half, odd, bit, holder_from, holder_word, flag_from, flag_word, place_from, place_word, instruction_from, packed, instruction_word, pair, upper};
 
 pub mod parts; // parts.rt: a value in words of its own
-mod kinds; // kinds.rt: the values that stand in more words than one
+mod kinds; // kinds.rt: the values that stand in words
 
 use construction::accesses::Label;
 use construction::cells::{Flag, Holder};

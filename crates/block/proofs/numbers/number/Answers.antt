@@ -1,18 +1,9 @@
-use Rattle.std.proofs.Common.{arith, refl}
-use Rattle.block.proofs.Rooms as rooms
+use Rattle.std.proofs.Common.{arith, ◌∙◌}
+use Rattle.block.proofs.Rooms.{number_row}
 use Rattle.block.proofs.numbers.number.Goals as goal
 
-pub bounds-b-base : goal.bounds-b-base
-bounds-b-base c =
-    omega (
-      arith,
-      (rooms.inside _ _ _ c.is_room.ensures c.if-is_room.true).0,
-      (rooms.inside _ _ _ c.is_room.ensures
-          c.if-is_room.true).1,
-    )
-
-pub returns-then-is_room : goal.returns-then-is_room
-returns-then-is_room c = rooms.number_in _ _ _ c.is_room.ensures _ _ c.if-is_room.true refl
+pub row_at-requires : goal.row_at-requires
+row_at-requires c = omega (arith, c.requires)
 
 pub returns : goal.returns
-returns c = rooms.number_none _ _ _ c.is_room.ensures _ _ c.if-is_room.false refl
+returns c = c.row_at.ensures ∙ number_row c.args.b.now c.args.base c.args.n c.args.i

@@ -1,18 +1,9 @@
-use Rattle.std.proofs.Common.{arith, refl}
-use Rattle.block.proofs.Rooms as rooms
+use Rattle.std.proofs.Common.{arith, ◌∙◌}
+use Rattle.block.proofs.Rooms.{put_number_row}
 use Rattle.block.proofs.numbers.put_number.Goals as goal
 
-pub bounds-b-base : goal.bounds-b-base
-bounds-b-base c =
-    omega (
-      arith,
-      (rooms.inside _ _ _ c.is_room.ensures c.if-is_room.true).0,
-      (rooms.inside _ _ _ c.is_room.ensures
-          c.if-is_room.true).1,
-    )
+pub put_row-requires : goal.put_row-requires
+put_row-requires c = omega (arith, c.requires)
 
-pub returns-then-is_room : goal.returns-then-is_room
-returns-then-is_room c = rooms.put_number_in _ _ _ c.is_room.ensures _ _ _ c.if-is_room.true refl
-
-pub returns-else-is_room : goal.returns-else-is_room
-returns-else-is_room c = rooms.put_number_none _ _ _ c.is_room.ensures _ _ _ c.if-is_room.false refl
+pub returns : goal.returns
+returns c = c.put_row.ensures ∙ put_number_row c.args.b.now c.args.base c.args.n c.args.i c.args.value

@@ -51,6 +51,7 @@ pub fn upper(w: u64) -> u64
     w / 4294967296
 }
 
+// Functions in place of `From`: the types stand in construction, which has no function, and a word is no type of this crate. So the new form is no plainer.
 #[tactic(auto, unfolding(crate::specs::Codes::holder_from))]
 pub fn holder_from(w: u64) -> Option<u8>
     ensures { result ≡ holder_from w }

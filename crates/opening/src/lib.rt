@@ -120,6 +120,7 @@ pub fn empty() -> Dictionary
 pub fn fresh(contents: Contents) -> Card
     ensures { result ≡ fresh contents }
 {
+    // variables, since a literal takes no array straight from another value's field: tried, and the proof did not close
     let starts = contents.starts;
     let programs = contents.programs;
     let announcement = open_announcement();

@@ -14,7 +14,7 @@ fn values(gate: Gate, announcement: Announcement, records: [Record; 64], count: 
     ensures { result ≡ shown_from gate announcement records count 0 (replicate 64 0) }
 {
     let mut row = [0u32; 64];
-    for v in 0..64.min(count as usize) {
+    for v in 0..64u8.min(count) as usize {
         row[v] = value_of(gate, announcement, records[v]);
     }
     row

@@ -37,7 +37,7 @@ fn next_step(steps: u64) -> u64
 fn few(count: u8) -> u8
     ensures { result ≡ min 64 count }
 {
-    64.min(count)
+    64u8.min(count)
 }
 
 // Carries out a command of the course and puts what it changes.

@@ -10,7 +10,9 @@ use grammar::reading::field_at;
 pub(crate) fn case_at(input: &[u8], at: usize) -> Option<Case>
     ensures { result ≡ case_at input.now at }
 {
-    let Found { value, next } = field_at(input, b'\n', at)?;
+    let Some(Found { value, next }) = field_at(input, b'\n', at) else {
+        return None;
+    };
     let left = input.len() - next;
     if (left as u64) < value {
         None

@@ -51,7 +51,9 @@ fn keep_value(values: &mut [u32; 64], line: DumpLine)
     ensures { values.new ≡ kept_with values.old line }
 {
     if let DumpLine::Value {
-        variable, value, ..
+        variable,
+        value,
+        ..
     } = line
     {
         if variable < 64 {

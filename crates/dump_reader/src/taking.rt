@@ -39,7 +39,9 @@ pub(crate) fn takes(count: u8, time: u64, next: u8, values: &[u32; 64], line: Du
     match line {
         DumpLine::Time { time: k, .. } => takes_time(time, next, k),
         DumpLine::Value {
-            variable, value, ..
+            variable,
+            value,
+            ..
         } => takes_value(count, next, values, variable, value),
         DumpLine::Malformed => false,
     }
@@ -51,7 +53,9 @@ pub(crate) fn put_value(values: &mut [u32; 64], line: DumpLine)
     ensures { values.new ≡ values_with values.old line }
 {
     if let DumpLine::Value {
-        variable, value, ..
+        variable,
+        value,
+        ..
     } = line
     {
         values[variable as usize] = value;

@@ -59,7 +59,10 @@ fn digits_at(text: &[u8], at: usize) -> Found<u64>
         }
         value = grown(value, byte);
     }
-    Found { value, next: at.max(text.len()) }
+    Found {
+        value,
+        next: at.max(text.len()),
+    }
 }
 
 // The decimal at a place.
@@ -69,7 +72,10 @@ pub fn number_at(text: &[u8], at: usize) -> Option<Found<u64>>
 {
     let first = byte_at(text, at);
     if first == b'0' {
-        return Some(Found { value: 0, next: at + 1 });
+        return Some(Found {
+            value: 0,
+            next: at + 1,
+        });
     }
     if is_digit(first) {
         Some(digits_at(text, at))
@@ -85,7 +91,10 @@ pub fn field_at(text: &[u8], separator: u8, at: usize) -> Option<Found<u64>>
 {
     let Found { value, next } = number_at(text, at)?;
     if has_byte(text, next, separator) {
-        Some(Found { value, next: next + 1 })
+        Some(Found {
+            value,
+            next: next + 1,
+        })
     } else {
         None
     }

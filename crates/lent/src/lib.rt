@@ -20,7 +20,12 @@ pub fn swap_lent_gate(gate: &mut Gate, expected: Gate, new: Gate) -> bool
 }
 
 // Swaps the record at one place of a row that its owner lends; that record alone may change.
-pub fn swap_in_row(row: &mut [Record], place: usize, expected: Record, new: Record) -> Result<bool, Refusal>
+pub fn swap_in_row(
+    row: &mut [Record],
+    place: usize,
+    expected: Record,
+    new: Record,
+) -> Result<bool, Refusal>
     ensures { (result ≡ row_answer row.old place expected new) × (row.new ≡ row_after row.old place expected new) × (row_fields result ≡ swap_fields row.old place expected new) }
 {
     if row.len() <= place {

@@ -50,7 +50,12 @@ pub fn measure(card: Card, calls: [Request; 8], length: u32) -> Result<usize, Re
 }
 
 // The listing in a lent buffer: 6, 17, or 11 where the buffer is shorter, and it keeps its bytes; else the length.
-pub fn list(card: Card, calls: [Request; 8], length: u32, buffer: &mut [u8]) -> Result<usize, Refusal>
+pub fn list(
+    card: Card,
+    calls: [Request; 8],
+    length: u32,
+    buffer: &mut [u8],
+) -> Result<usize, Refusal>
     ensures { Lists card calls length buffer.old result buffer.new }
 {
     let size = measure(card, calls, length)?;

@@ -108,7 +108,11 @@ pub fn withdraw(
     ensures { result ≡ withdraw cell operation last control }
 {
     let new = withdrawn(last, operation);
-    replace_cell(cells::swap(cell, last, new), last, go_to(control, Label::P7))
+    replace_cell(
+        cells::swap(cell, last, new),
+        last,
+        go_to(control, Label::P7),
+    )
 }
 
 // Lines P7, C2, C4 and P22: the announcement of process m is read, and its flag says where the process goes on.

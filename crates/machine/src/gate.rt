@@ -36,7 +36,11 @@ pub fn nominate(cell: Gate, last: Gate, control: Control) -> AccessedCell<Gate>
     ensures { result ≡ nominate cell last control }
 {
     let new = nominated(last, control.target);
-    replace_cell(cells::swap(cell, last, new), last, go_to(control, Label::P14))
+    replace_cell(
+        cells::swap(cell, last, new),
+        last,
+        go_to(control, Label::P14),
+    )
 }
 
 // Lines P21 and F3: the gate is released.

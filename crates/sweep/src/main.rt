@@ -147,7 +147,11 @@ fn tell_usage(rt: &impl Eprint) {
 
 // The arguments are judged before any file: there are two, decimals, the second not 0.
 fn main(rt: HostRuntime) {
-    match (argument_count(&rt), argument_at(&rt, 1), argument_at(&rt, 2)) {
+    match (
+        argument_count(&rt),
+        argument_at(&rt, 1),
+        argument_at(&rt, 2),
+    ) {
         (3, Some(steps), Some(seed)) if seed != 0 => sweep(&rt, steps, seed),
         _ => tell_usage(&rt),
     }

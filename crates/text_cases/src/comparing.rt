@@ -3,8 +3,8 @@ ghost use Rattle.std.specs.Prelude.{◌≡◌, ◌≤◌};
 ghost use Rattle.text_cases.specs.Comparing.{expected_at, agrees_with, bytes_of, outcome_of, outcomes_of};
 
 use crate::{Outcome, Outcomes};
-use construction::card::Card;
 use construction::answers::Refusal;
+use construction::card::Card;
 use grammar::reading::byte_at;
 
 // The byte that a buffer must hold at a place: the text as far as it was written, then what was there before.

@@ -7,5 +7,5 @@ use Rattle.lent.proofs.swap_lent_gate.Goals as goal
 pub returns : goal.returns
 returns c =
     let e : c.swap-after.result ≡ swap_gate c.args.gate.now c.args.expected c.args.new
-        = c.swap-after.ensures ∙ gate_swap c.args.gate.now c.args.expected c.args.new in
+    = c.swap-after.ensures ∙ gate_swap c.args.gate.now c.args.expected c.args.new in
     (ap (λ (x : SwappedCell Gate). x.won) e, ap (λ (x : SwappedCell Gate). x.cell) e)

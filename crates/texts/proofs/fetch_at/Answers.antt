@@ -31,8 +31,8 @@ pub returns-else-counter-byte : goal.returns-else-counter-byte
 returns-else-counter-byte c =
     let room = c.is_room.ensures in
     elim c.else-counter-byte.branch [
-      else-counter-byte-via-then-counter-byte+else-counter-lt32 w ↦ lines.fetch_past_lines _ _ _ _ room c.if-is_room.true
-      (rw c.byte.ensures at w.if-counter-byte.true) w.if-counter-lt32.false
+      | else-counter-byte-via-then-counter-byte+else-counter-lt32 w ↦ lines.fetch_past_lines _ _ _ _ room c.if-is_room.true
+          (rw c.byte.ensures at w.if-counter-byte.true) w.if-counter-lt32.false
       | else-counter-byte-via-else-counter-byte w ↦ lines.fetch_past _ _ _ _ room c.if-is_room.true (rw c.byte.ensures at w.if-counter-byte.false)
     ]
 

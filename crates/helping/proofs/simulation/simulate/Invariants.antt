@@ -14,5 +14,5 @@ invariant-loop-k g l =
       end : l.numbers.end ≡ first.end;
       long : length l.numbers.values ≡ length first.values;
       left : (d : Dictionary) → Numbered first.keys first.values noted d → simulate l.n program l.inputs l.initial.s d
-      ≡ simulate_from l.n program l.inputs (32 - l._k) l.s (with_values d (take noted l.numbers.values));
+          ≡ simulate_from l.n program l.inputs (32 - l._k) l.s (with_values d (take noted l.numbers.values));
     }

@@ -15,14 +15,14 @@ returns-then-altered c =
 
 pub loop-k-preserved : goal.loop-k-preserved
 loop-k-preserved c = (
-    laws.write_more _ _ _ _ c.loop-k.invariant.0 (rw (← loans.noted_length _ _ _ c.requires.end) c.loop-k-test.true)
-    (rw (
-      loans.item_is c.args.l.now c.args.self.base c.args.self.end c.loop-k.k c.loop-k-test.true,
-      ←
-          c.read-item.ensures,
-      ← c.altered.ensures,
-    ) c.if-altered.false),
-    omega arith,
+  laws.write_more _ _ _ _ c.loop-k.invariant.0 (rw (← loans.noted_length _ _ _ c.requires.end) c.loop-k-test.true)
+      (rw (
+        loans.item_is c.args.l.now c.args.self.base c.args.self.end c.loop-k.k c.loop-k-test.true,
+        ←
+            c.read-item.ensures,
+        ← c.altered.ensures,
+      ) c.if-altered.false),
+  omega arith,
 )
 
 pub returns : goal.returns

@@ -1,10 +1,18 @@
 -- The allowance of steps in a turn (document 02, order 14)
-use Rattle.std.specs.Prelude.{ℕ, ◌+◌, Option, Some, None, Bool, cond, ◌&&◌, ◌||◌, List, [], ◌∷◌, map, get_or, set, ltb}
+use Rattle.std.specs.Prelude.{ℕ, ◌+◌, ◌-◌, Option, Some, None, Bool, cond, ◌&&◌, ◌||◌, List, [], ◌∷◌, map, get_or, set, ltb, leb}
 use Rattle.allowance.specs.Types.{Quota, Allowance}
 
 -- the quota of a place where no machine is
 abbrev pub empty : Quota
 empty = record { share = 0; ceiling = 0; used = 0 }
+
+-- one with nothing used
+abbrev pub quota_of : ℕ → ℕ → Quota
+quota_of share ceiling = record { share = share; ceiling = ceiling; used = 0 }
+
+-- the allowance of no machines
+abbrev pub no_machines : Allowance
+no_machines = record { steps = 0; count = 0; quotas = empty ∷ empty ∷ empty ∷ empty ∷ [] }
 
 abbrev pub quota_at : Allowance → ℕ → Quota
 quota_at a m = get_or a.quotas m empty
@@ -47,3 +55,11 @@ unused q = record { share = q.share; ceiling = q.ceiling; used = 0 }
 
 unfoldable pub turn : Allowance → Allowance
 turn a = record { steps = a.steps; count = a.count; quotas = map unused a.quotas }
+
+-- what is left of some steps after some numbers are taken off, if they are enough
+unfoldable pub total : List ℕ → ℕ
+total [] = 0
+total (n ∷ ns) = n + total ns
+
+abbrev pub left_of : ℕ → List ℕ → Option ℕ
+left_of steps ns = cond (leb (total ns) steps) (Some (steps - total ns)) None

@@ -1,9 +1,9 @@
 -- What is accepted at opening (document 02, order 14); all else is refused with 18
-use Rattle.std.specs.Prelude.{ℕ, zero, suc, ◌+◌, ◌<◌, ◌≤◌, Bool, true, cond, ◌&&◌, List, [], ◌∷◌, get_or, take, leb}
-use Rattle.construction.specs.declared.answers.Answer.{Answer}
+use Rattle.std.specs.Prelude.{Result, Ok, Err, ℕ, zero, suc, ◌+◌, ◌<◌, ◌≤◌, Bool, true, cond, ◌&&◌, List, [], ◌∷◌, get_or, take, leb}
+use Rattle.construction.specs.declared.{answers.Answer.Answer, answers.Refusal.Refusal}
 use Rattle.construction.specs.declared.answers.Refusal.TheVariants.{BadTerms}
-use Rattle.allowance.specs.Types.{Quota, Allowance, Opened}
-use Rattle.allowance.specs.Allowing.{empty, unused}
+use Rattle.allowance.specs.Types.{Quota, Allowance}
+use Rattle.allowance.specs.Allowing.{empty, no_machines, unused}
 
 -- the quotas of the first machines, `count` of them, with nothing used, and empty ones after them
 unfoldable pub opened : ℕ → List Quota → List Quota
@@ -45,5 +45,14 @@ allowance_from count steps qs = cond (is_accepted count steps qs) (allowance cou
 abbrev pub open_answer : ℕ → ℕ → List Quota → Answer
 open_answer count steps qs = cond (is_accepted count steps qs) Answer.Taken (Answer.Refused BadTerms)
 
-abbrev pub opened_as : ℕ → ℕ → List Quota → Opened
-opened_as count steps qs = record { allowance = allowance_from count steps qs; answer = open_answer count steps qs }
+-- as code gives it, and what it stands for: the answer, and the allowance left, of no machines after a refusal (`answers_opening`, `leaves_opening`)
+abbrev pub opened_as : ℕ → ℕ → List Quota → Result Allowance Refusal
+opened_as count steps qs = cond (is_accepted count steps qs) (Ok (allowance count steps qs)) (Err BadTerms)
+
+abbrev pub answer_of_opened : Result Allowance Refusal → Answer
+answer_of_opened (Ok a) = Answer.Taken
+answer_of_opened (Err why) = Answer.Refused why
+
+abbrev pub left_by : Result Allowance Refusal → Allowance
+left_by (Ok a) = a
+left_by (Err why) = no_machines

@@ -1,4 +1,3 @@
 -- The types of this crate, which src/lib.rt declares
 pub use Rattle.allowance.specs.declared.Quota.{Quota}
 pub use Rattle.allowance.specs.declared.Allowance.{Allowance}
-pub use Rattle.allowance.specs.declared.Opened.{Opened}

@@ -3,11 +3,11 @@
 // rule, a turn and the opening. It rests on the crate construction (answers and refusals).
 #![tactic(auto)]
 
-ghost use Rattle.std.specs.Prelude.{◌≡◌, true, cond, ◌&&◌, ◌+◌, ltb, leb};
-ghost use Rattle.allowance.specs.Allowing.{empty, quota_at, larger, reserved, has_allowance, unused, spend, allowed, turn};
+ghost use Rattle.std.specs.Prelude.{◌≡◌, true, cond, ltb, leb};
+ghost use Rattle.allowance.specs.Allowing.{empty, quota_of, no_machines, quota_at, larger, reserved, has_allowance, unused, spend, allowed, turn, left_of};
 ghost use Rattle.allowance.specs.Opening.{is_accepted, opened, are_ordered, shares, opened_as};
 
-use construction::answers::{Answer, Refusal};
+use construction::answers::Refusal;
 
 // The steps of one machine in a turn: those it is sure of, those it may have at most, and those it has used.
 #[derive(Clone, Copy)]
@@ -25,21 +25,32 @@ pub struct Allowance {
     pub quotas: [Quota; 4],
 }
 
-// What opening answers, and the allowance that it leaves.
-#[derive(Clone, Copy)]
-pub struct Opened {
-    pub allowance: Allowance,
-    pub answer: Answer,
+// A quota with nothing used.
+pub fn quota_of(share: u64, ceiling: u64) -> Quota
+    ensures { result ≡ quota_of share ceiling }
+{
+    Quota {
+        share,
+        ceiling,
+        used: 0,
+    }
 }
 
 // The quota of a place where no machine is.
-fn no_quota() -> Quota
+pub fn no_quota() -> Quota
     ensures { result ≡ empty }
 {
-    Quota {
-        share: 0,
-        ceiling: 0,
-        used: 0,
+    quota_of(0, 0)
+}
+
+// The allowance of no machines.
+pub fn no_machines() -> Allowance
+    ensures { result ≡ no_machines }
+{
+    Allowance {
+        steps: 0,
+        count: 0,
+        quotas: [no_quota(); 4],
     }
 }
 
@@ -62,33 +73,28 @@ fn larger_of(q: Quota) -> u64
     if q.share < q.used { q.used } else { q.share }
 }
 
-// Whether a number exceeds the sum of four others, with no sum taken.
-fn exceeds(steps: u64, a: u64, b: u64, c: u64, d: u64) -> bool
-    ensures { result ≡ ltb (a + (b + (c + (d + 0)))) steps }
+// What is left of some steps after four numbers are taken off, with no sum taken; none if they are too few.
+fn left_of(steps: u64, taken: [u64; 4]) -> Option<u64>
+    ensures { result ≡ left_of steps taken }
 {
-    if steps <= a {
-        return false;
+    let mut left = steps;
+    for n in taken {
+        if left < n {
+            return None;
+        }
+        left -= n;
     }
-    if steps - a <= b {
-        return false;
-    }
-    if steps - a - b <= c {
-        return false;
-    }
-    d < steps - a - b - c
+    Some(left)
 }
 
 // Whether a turn has steps that are neither used nor kept back.
 fn has_room(a: Allowance) -> bool
     ensures { result ≡ ltb (reserved a.quotas) a.steps }
 {
-    exceeds(
-        a.steps,
-        larger_of(a.quotas[0]),
-        larger_of(a.quotas[1]),
-        larger_of(a.quotas[2]),
-        larger_of(a.quotas[3]),
-    )
+    match left_of(a.steps, a.quotas.map(larger_of)) {
+        Some(left) => 0 < left,
+        None => false,
+    }
 }
 
 // Whether a step of machine m has its allowance.
@@ -96,13 +102,7 @@ fn has_allowance(a: Allowance, m: u64) -> bool
     ensures { result ≡ has_allowance a m }
 {
     let q = quota_at(a, m);
-    if q.used < q.share {
-        return true;
-    }
-    if q.used < q.ceiling {
-        return has_room(a);
-    }
-    false
+    q.used < q.share || q.used < q.ceiling && has_room(a)
 }
 
 // Machine m has used a step more.
@@ -114,9 +114,8 @@ fn spent(mut a: Allowance, m: u64) -> Allowance
         let i = m as usize;
         let q = a.quotas[i];
         a.quotas[i] = Quota {
-            share: q.share,
-            ceiling: q.ceiling,
             used: q.used + 1,
+            ..q
         };
     }
     a
@@ -137,11 +136,7 @@ pub fn allow(a: Allowance, m: u64) -> Option<Allowance>
 fn unused_quota(q: Quota) -> Quota
     ensures { result ≡ unused q }
 {
-    Quota {
-        share: q.share,
-        ceiling: q.ceiling,
-        used: 0,
-    }
+    Quota { used: 0, ..q }
 }
 
 // A new turn.
@@ -149,31 +144,9 @@ pub fn turned(a: Allowance) -> Allowance
     ensures { result ≡ turn a }
 {
     Allowance {
-        steps: a.steps,
-        count: a.count,
-        quotas: [
-            unused_quota(a.quotas[0]),
-            unused_quota(a.quotas[1]),
-            unused_quota(a.quotas[2]),
-            unused_quota(a.quotas[3]),
-        ],
+        quotas: a.quotas.map(unused_quota),
+        ..a
     }
-}
-
-// Whether the sum of four numbers is at most another, with no sum taken.
-fn fits(steps: u64, a: u64, b: u64, c: u64, d: u64) -> bool
-    ensures { result ≡ leb (a + (b + (c + (d + 0)))) steps }
-{
-    if steps < a {
-        return false;
-    }
-    if steps - a < b {
-        return false;
-    }
-    if steps - a - b < c {
-        return false;
-    }
-    d <= steps - a - b - c
 }
 
 // The quota of a machine at opening, if it is there.
@@ -195,84 +168,55 @@ fn opened_quotas(count: u64, quotas: [Quota; 4]) -> [Quota; 4]
     ]
 }
 
-// Whether a share is not above its ceiling.
-fn is_ordered(q: Quota) -> bool
-    ensures { result ≡ leb q.share q.ceiling }
-{
-    q.share <= q.ceiling
-}
-
-// Whether both of two tests hold.
-fn both(a: bool, b: bool) -> bool
-    ensures { result ≡ a && b }
-{
-    if a { b } else { false }
-}
-
 // Whether no share is above its ceiling.
 fn are_ordered(quotas: [Quota; 4]) -> bool
     ensures { result ≡ are_ordered quotas }
 {
-    both(
-        is_ordered(quotas[0]),
-        both(
-            is_ordered(quotas[1]),
-            both(is_ordered(quotas[2]), both(is_ordered(quotas[3]), true)),
-        ),
-    )
+    for q in quotas {
+        if q.ceiling < q.share {
+            return false;
+        }
+    }
+    true
 }
 
 // Whether the shares together fit a turn.
 fn shares_fit(steps: u64, quotas: [Quota; 4]) -> bool
     ensures { result ≡ leb (shares quotas) steps }
 {
-    let a = quotas[0];
-    let b = quotas[1];
-    let c = quotas[2];
-    let d = quotas[3];
-    fits(steps, a.share, b.share, c.share, d.share)
+    left_of(steps, quotas.map(|q| q.share)).is_some()
 }
 
 // Whether the terms are accepted; if not, refusal 18.
 fn is_accepted(count: u64, steps: u64, quotas: [Quota; 4]) -> bool
     ensures { result ≡ is_accepted count steps quotas }
 {
+    if count < 1 {
+        return false;
+    }
+    if 4 < count {
+        return false;
+    }
+    if steps < 1 {
+        return false;
+    }
+    if 100000 < steps {
+        return false;
+    }
     let q = opened_quotas(count, quotas);
-    both(
-        1 <= count,
-        both(
-            count <= 4,
-            both(
-                1 <= steps,
-                both(steps <= 100000, both(are_ordered(q), shares_fit(steps, q))),
-            ),
-        ),
-    )
+    are_ordered(q) && shares_fit(steps, q)
 }
 
-// The allowance at opening; of no machines if the terms are refused.
-pub fn open(count: u64, steps: u64, quotas: [Quota; 4]) -> Opened
+// The allowance at opening; refused with 18.
+pub fn open(count: u64, steps: u64, quotas: [Quota; 4]) -> Result<Allowance, Refusal>
     ensures { result ≡ opened_as count steps quotas }
 {
-    if is_accepted(count, steps, quotas) {
-        let allowance = Allowance {
-            steps: steps,
-            count: count,
-            quotas: opened_quotas(count, quotas),
-        };
-        Opened {
-            allowance,
-            answer: Answer::Taken,
-        }
-    } else {
-        let allowance = Allowance {
-            steps: 0,
-            count: 0,
-            quotas: opened_quotas(0, quotas),
-        };
-        Opened {
-            allowance,
-            answer: Answer::Refused(Refusal::BadTerms),
-        }
+    if !is_accepted(count, steps, quotas) {
+        return Err(Refusal::BadTerms);
     }
+    Ok(Allowance {
+        steps,
+        count,
+        quotas: opened_quotas(count, quotas),
+    })
 }

@@ -14,7 +14,8 @@ use Rattle.allowance.specs.Allowing.{empty, has_allowance, spend, turn}
 use Rattle.allowance.specs.Opening.{opened, is_accepted, allowance, allowance_from}
 use Rattle.allowance.specs.Requests.{Kind, Request, Outcome, Acted, Machines, Logged, kept, acted, judged, request, after, log}
 use Rattle.allowance.proofs.Fours.{four}
-use Rattle.allowance_words.specs.Words.{no_machines, allowance_in, with_allowance, terms_in}
+use Rattle.allowance.specs.Allowing.{no_machines}
+use Rattle.allowance_words.specs.Words.{allowance_in, with_allowance, terms_in}
 use Rattle.allowance_words.specs.Held.{Lent, machines_of, lent_after, after_all, log_all, Held}
 
 -- of enough words, four quotas

@@ -3,14 +3,11 @@
 use Rattle.std.specs.Prelude.{ℕ, ◌+◌, cond, List, [], ◌∷◌, ◌++◌, ltb, length}
 use Rattle.codes.specs.Parts.{word_at, stores}
 use Rattle.allowance.specs.declared.{Quota.Quota, Allowance.Allowance}
-use Rattle.allowance.specs.Allowing.{empty, quota_at}
+use Rattle.allowance.specs.Allowing.{empty, quota_of, no_machines, quota_at}
 
 -- the quota that stands at a place
 abbrev pub quota_in : List ℕ → ℕ → Quota
 quota_in w at = record { share = word_at w at; ceiling = word_at w (at + 1); used = word_at w (at + 2) }
-
-abbrev pub no_machines : Allowance
-no_machines = record { steps = 0; count = 0; quotas = empty ∷ empty ∷ empty ∷ empty ∷ [] }
 
 unfoldable pub allowance_in : List ℕ → Allowance
 allowance_in w =
@@ -32,7 +29,7 @@ with_allowance w a = cond (ltb (length w) 14) w (stores w 0 (words_of a))
 
 -- the terms of opening, share and ceiling of each machine: two words each; where both are not there, those of no machine
 abbrev pub term_at : List ℕ → ℕ → Quota
-term_at t at = cond (ltb (at + 1) (length t)) (record { share = word_at t at; ceiling = word_at t (at + 1); used = 0 }) empty
+term_at t at = cond (ltb (at + 1) (length t)) (quota_of (word_at t at) (word_at t (at + 1))) empty
 
 unfoldable pub terms_in : List ℕ → List Quota
 terms_in t = term_at t 0 ∷ term_at t 2 ∷ term_at t 4 ∷ term_at t 6 ∷ []

@@ -4,21 +4,9 @@
 
 ghost use Rattle.std.specs.Prelude.{◌≡◌, ◌+◌, ◌≤◌, length, set};
 ghost use Rattle.codes.specs.Parts.{stores};
-ghost use Rattle.allowance.specs.Allowing.{empty};
-ghost use Rattle.allowance_words.specs.Words.{quota_in, no_machines, allowance_in, quota_words, with_allowance, term_at, terms_in};
+ghost use Rattle.allowance_words.specs.Words.{quota_in, allowance_in, quota_words, with_allowance, term_at, terms_in};
 
-use allowance::{Allowance, Quota};
-
-// The quota of a place where no machine is.
-fn no_quota() -> Quota
-    ensures { result ≡ empty }
-{
-    Quota {
-        share: 0,
-        ceiling: 0,
-        used: 0,
-    }
-}
+use allowance::{Allowance, Quota, no_machines, no_quota, quota_of};
 
 // The quota that stands at a place.
 fn quota_in(words: &[u64], at: usize) -> Quota
@@ -29,17 +17,6 @@ fn quota_in(words: &[u64], at: usize) -> Quota
         share: words[at],
         ceiling: words[at + 1],
         used: words[at + 2],
-    }
-}
-
-// The allowance of no machines.
-fn no_machines() -> Allowance
-    ensures { result ≡ no_machines }
-{
-    Allowance {
-        steps: 0,
-        count: 0,
-        quotas: [no_quota(); 4],
     }
 }
 
@@ -102,11 +79,7 @@ fn term_at(terms: &[u64], at: usize) -> Quota
     ensures { result ≡ term_at terms.now at }
 {
     if at + 1 < terms.len() {
-        Quota {
-            share: terms[at],
-            ceiling: terms[at + 1],
-            used: 0,
-        }
+        quota_of(terms[at], terms[at + 1])
     } else {
         no_quota()
     }

@@ -13,7 +13,7 @@ use Rattle.construction.specs.Answers.{bytes, refused_with, fields_text}
 use Rattle.commands.specs.declared.Parsed.{Parsed}
 use Rattle.commands.specs.Commands.{command}
 use Rattle.executions.specs.declared.Request.{Request}
-use Rattle.calls.specs.declared.{reading.Found.Found}
+use Rattle.std.specs.Prelude.{Option, Some, None, Result, Ok, Err}
 use Rattle.calls.specs.Tables.{with_request}
 use Rattle.calls.specs.Texts.{wrong_line, requested, if_requested, calls_from, calls_of, line_refusal}
 
@@ -45,28 +45,31 @@ module _ {t : List ℕ} {p : ℕ} {words : List ℕ} {at i : ℕ} (read : ReadTo
   line below = let e : p - i ≡ suc (p - suc i) = omega arith in rw e at read.rest
 
   pub read_on :
-      {y : Parsed} {f : Found} {x : Request} {more : List ℕ} → i < p → y ≡ command t at → f ≡ requested y.command i → f ≡ Found.Call x →
+      {y : Parsed} {f : Option Request} {x : Request} {more : List ℕ} → i < p → y ≡ command t at → f ≡ requested y.command i → f ≡ Some x →
       more ≡ with_request words i x →
       ReadTo t p more y.next (i + 1)
   read_on {y} {f} {x} below ey ef ex em =
-      let e : requested (command t at).command i ≡ Found.Call x = rw ey at (sym ef) ∙ ex in
+      let e : requested (command t at).command i ≡ Some x = rw ey at (sym ef) ∙ ex in
       record { rest = rw (add-one, em, ey) (rw e at (line below)); inside = omega arith }
 
   pub read_wrong :
-      {y : Parsed} {f : Found} → i < p → y ≡ command t at → f ≡ requested y.command i → f ≡ Found.Other →
-      record { words = words; line = i + 1 } ≡ calls_of t p
+      {y : Parsed} {f : Option Request} → i < p → y ≡ command t at → f ≡ requested y.command i → f ≡ None →
+      Err (record { line = i + 1; words = words }) ≡ calls_of t p
   read_wrong {y} {f} below ey ef eo =
-      let e : requested (command t at).command i ≡ Found.Other = rw ey at (sym ef) ∙ eo in
+      let e : requested (command t at).command i ≡ None = rw ey at (sym ef) ∙ eo in
       rw add-one (sym (rw e at (line below)))
 
   at_end_lem : p ≤ i → p - i ≡ 0
   at_end_lem h = omega arith
 
-  pub read_left_over : p ≤ i → at < length t → record { words = words; line = i + 1 } ≡ calls_of t p
+  pub read_left_over : p ≤ i → at < length t → Err (record { line = p + 1; words = words }) ≡ calls_of t p
   unfolding calls_from
-  read_left_over h more = rw add-one (sym (rw (at_end_lem h, lt-ltb at (length t) more) at read.rest))
+  read_left_over h more =
+      let l = read.inside in
+      let e : p + 1 ≡ suc i = omega arith in
+      rw e (sym (rw (at_end_lem h, lt-ltb at (length t) more) at read.rest))
 
-  pub read_all : p ≤ i → length t ≤ at → record { words = words; line = 0 } ≡ calls_of t p
+  pub read_all : p ≤ i → length t ≤ at → Ok words ≡ calls_of t p
   unfolding calls_from
   read_all h done = sym (rw (at_end_lem h, le-ltb at (length t) done) at read.rest)
 

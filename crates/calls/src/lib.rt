@@ -10,21 +10,18 @@ ghost use Rattle.calls.specs.Tables.{has_request, request_in, requests_in};
 use construction::cells::Words;
 use executions::Request;
 
-// The table that a text gives, and the number of the first line that is wrong in it, or 0.
+// The first line that is wrong in a text, by its number, and the table of those before it.
 #[derive(Clone, Copy)]
-pub struct Calls {
-    pub words: [u32; 40],
+pub struct WrongLine {
     pub line: u64,
+    pub words: [u32; 40],
 }
 
 // A word of a table, 0 past its end.
 fn word_at(calls: &[u32], at: usize) -> u32
     ensures { result ≡ get_or calls.now at 0 }
 {
-    if at < calls.len() {
-        return calls[at];
-    }
-    0
+    if at < calls.len() { calls[at] } else { 0 }
 }
 
 // Whether all five words of process i stand in a table.

@@ -5,7 +5,7 @@ ghost use Rattle.commands.specs.Printing.{longest};
 ghost use Rattle.calls.specs.Tables.{with_request};
 ghost use Rattle.calls.specs.Texts.{own_call, requested, calls_of, line_refusal};
 
-use crate::Calls;
+use crate::WrongLine;
 use answers::{put_number, put_refusal};
 use commands::Command;
 use commands::reading::command_at;
@@ -13,25 +13,18 @@ use construction::answers::Refusal;
 use executions::Request;
 use grammar::writing::put_byte;
 
-// The call of a process, or that the line is none.
-#[derive(Clone, Copy)]
-enum Found {
-    Call(Request),
-    Other,
-}
-
 // A call, where it is one of process i.
-fn own_call(process: u32, request: Request, i: u8) -> Found
+fn own_call(process: u32, request: Request, i: u8) -> Option<Request>
     ensures { result ≡ own_call process request i }
 {
     if process == i as u32 {
-        return Found::Call(request);
+        return Some(request);
     }
-    Found::Other
+    None
 }
 
 // The call that a command makes for process i.
-fn requested(command: Command, i: u8) -> Found
+fn requested(command: Command, i: u8) -> Option<Request>
     ensures { result ≡ requested command i }
 {
     match command {
@@ -40,18 +33,12 @@ fn requested(command: Command, i: u8) -> Found
             program,
             inputs,
         } => own_call(process, Request { program, inputs }, i),
-        Command::Exit { process: _ } => Found::Other,
-        Command::Step { process: _ } => Found::Other,
-        Command::Trace { process: _ } => Found::Other,
-        Command::Read { variable: _ } => Found::Other,
-        Command::Change {
-            program: _,
-            from: _,
-            count: _,
-            start: _,
-            end: _,
-        } => Found::Other,
-        Command::Malformed => Found::Other,
+        Command::Exit { .. }
+        | Command::Step { .. }
+        | Command::Trace { .. }
+        | Command::Read { .. }
+        | Command::Change { .. }
+        | Command::Malformed => None,
     }
 }
 
@@ -73,33 +60,30 @@ fn put_request(words: [u32; 40], i: u8, request: Request) -> [u32; 40]
 }
 
 // The table that a text gives for so many processes: the first line that is no call of its process is wrong, one that is missing or left over too.
-pub fn read_calls(text: &[u8], count: u8) -> Calls
+pub fn read_calls(text: &[u8], count: u8) -> Result<[u32; 40], WrongLine>
     ensures { result ≡ calls_of text.now count }
 {
     let mut words = [0u32; 40];
     let mut at: usize = 0;
-    let mut i: u8 = 0;
-    while i < count {
+    for i in 0..count {
         let parsed = command_at(text, at);
-        let command = parsed.command;
-        let Found::Call(request) = requested(command, i) else {
-            return Calls {
-                words,
+        let Some(request) = requested(parsed.command, i) else {
+            return Err(WrongLine {
                 line: i as u64 + 1,
-            };
+                words,
+            });
         };
         let more = put_request(words, i, request);
         words = more;
         at = parsed.next;
-        i = i + 1;
     }
     if at < text.len() {
-        return Calls {
+        return Err(WrongLine {
+            line: count as u64 + 1,
             words,
-            line: i as u64 + 1,
-        };
+        });
     }
-    Calls { words, line: 0 }
+    Ok(words)
 }
 
 // What is printed of a line that is wrong.

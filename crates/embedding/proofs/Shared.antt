@@ -8,8 +8,11 @@ use lib.ListN.{length}
 use Rattle.construction.specs.declared.answers.Answer.{Answer}
 use Rattle.construction.specs.History.{Entry}
 use Rattle.lent_runs.specs.Runs.{Reply, untraced}
-use Rattle.allowance.specs.declared.{Allowance.Allowance, Opened.Opened}
-use Rattle.allowance.specs.Opening.{opened_as}
+use Rattle.std.specs.Prelude.{Result}
+use Rattle.construction.specs.declared.answers.Refusal.{Refusal}
+use Rattle.allowance.specs.declared.Allowance.{Allowance}
+use Rattle.allowance.specs.Opening.{opened_as, answer_of_opened, left_by}
+use Rattle.allowance.proofs.Fours.{answers_opening, leaves_opening}
 use Rattle.allowance_words.specs.Words.{allowance_in, with_allowance, terms_in}
 use Rattle.shared_processor.specs.declared.stepping.{Stepped.Stepped, Traced.Traced}
 use Rattle.shared_processor.specs.Requests.{Performs}
@@ -30,13 +33,21 @@ module _ (w : List ℕ) (count steps : ℕ) (t : List ℕ) where
       let e : are_too_few w count t ≡ true = ap (λ (b : Bool). ltb (length w) 14 || b) h ∙ or_true (ltb (length w) 14) in
       record { status = rw e; allowance = rw e }
 
+  terms_four : (l : List ℕ) → length (terms_in l) ≡ 4
+  unfolding terms_in
+  terms_four l = refl
+
   pub opens :
-      {o : Opened} {r : ℕ} {x : List ℕ} → ltb (length w) 14 ≡ false → ltb (length t) (2 * count) ≡ false → o ≡ opened_as count steps (terms_in t) →
-      (r ≡ status_of o.answer) × (x ≡ with_allowance w o.allowance) → OpensMachines w count steps t r x
+      {o : Result Allowance Refusal} {r : ℕ} {x : List ℕ} → ltb (length w) 14 ≡ false → ltb (length t) (2 * count) ≡ false → o ≡ opened_as count steps (terms_in t) →
+      (r ≡ status_of (answer_of_opened o)) × (x ≡ with_allowance w (left_by o)) → OpensMachines w count steps t r x
   opens h k e (p, q) =
       record {
-        status = rw (h, k) (p ∙ ap (λ (y : Opened). status_of y.answer) e);
-        allowance = rw (h, k) (q ∙ ap (λ (y : Opened). with_allowance w y.allowance) e);
+        status = rw (h, k) (p ∙ (ap (λ (y : Result Allowance Refusal). status_of (answer_of_opened y)) e ∙ ap status_of (answers_opening count steps (terms_in t))));
+        allowance =
+            rw (h, k)
+            (q
+            ∙ (ap (λ (y : Result Allowance Refusal). with_allowance w (left_by y)) e
+            ∙ ap (with_allowance w) (leaves_opening count steps (terms_in t) (terms_four t))));
       }
 
 -- a request that looks at no loan

@@ -1,26 +1,34 @@
 // Machines that share one processor (document 02, order 14): their allowance, their blocks and their loans in words that the caller lends.
 ghost use Rattle.std.specs.Prelude.{◌≡◌};
 ghost use Rattle.construction.specs.History.{Entry};
+ghost use Rattle.allowance.specs.Opening.{answer_of_opened, left_by};
 ghost use Rattle.allowance_words.specs.Words.{with_allowance};
 ghost use Rattle.embedding.specs.Numbers.{told, status_of, numbers_of, report_numbers};
 ghost use Rattle.embedding.specs.Machines.{OpensMachines, Turns, OpensCard, Asks, AsksTelling, StepsMachine, TracesMachine};
 
-use crate::numbers::{status_of, tell, tell_report, tell_verdict};
-use allowance::{Opened, open, turned};
+use crate::numbers::{status, status_of, tell, tell_report, tell_verdict};
+use allowance::{Allowance, no_machines, open, turned};
 use allowance_words::{allowance_in, put_allowance, terms_in};
+use construction::answers::Refusal;
 use construction::cells::Words;
 use shared_processor::cards::open_card;
 use shared_processor::requesting::{call, change, read, request_exit};
 use shared_processor::stepping::{Stepped, Traced, step, trace};
 
 // What opening left into the words.
-fn keep_opened(allowance: &mut [u64], opened: Opened) -> u32
-    ensures { (result ≡ status_of opened.answer) × (allowance.new ≡ with_allowance allowance.old opened.allowance) }
+fn keep_opened(allowance: &mut [u64], opened: Result<Allowance, Refusal>) -> u32
+    ensures { (result ≡ status_of (answer_of_opened opened)) × (allowance.new ≡ with_allowance allowance.old (left_by opened)) }
 {
-    let after = opened.allowance;
-    let answer = opened.answer;
-    put_allowance(allowance, after);
-    status_of(answer)
+    match opened {
+        Ok(after) => {
+            put_allowance(allowance, after);
+            0
+        }
+        Err(refusal) => {
+            put_allowance(allowance, no_machines());
+            status(refusal)
+        }
+    }
 }
 
 // Open: T, and share and ceiling of each machine, two words each.
@@ -67,10 +75,8 @@ pub extern "C" fn lace_machines_open_card(
 fn tell_stepped(allowance: &mut [u64], out: &mut [u64], stepped: Stepped) -> u32
     ensures { (result ≡ status_of stepped.answer) × (out.new ≡ told out.old (numbers_of stepped.answer)) × (allowance.new ≡ with_allowance allowance.old stepped.allowance) }
 {
-    let after = stepped.allowance;
-    let answer = stepped.answer;
-    put_allowance(allowance, after);
-    tell(out, answer)
+    put_allowance(allowance, stepped.allowance);
+    tell(out, stepped.answer)
 }
 
 // Step. out: as of one card.

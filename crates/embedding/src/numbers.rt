@@ -17,7 +17,7 @@ use lent_steps::tracing::Told;
 use lent_sweep::Counts;
 
 // The number of a refusal in 32 bits.
-fn status(refusal: Refusal) -> u32
+pub(crate) fn status(refusal: Refusal) -> u32
     ensures { result ≡ number_of refusal }
 {
     number_of(refusal) as u32

@@ -58,7 +58,7 @@ on_terms t P f = on_test Q (ltb 16384 (length t)) (λ _ h. clash (cc)) (λ _. he
     Q w = w.verdict ≡ Ok tt → P w.allowance
 
     judged : (count steps : ℕ) (qs : List Quota) (b : Bool) → is_accepted count steps qs ≡ b →
-        Q (judged_as (record { allowance = cond b (allowance count steps qs) (allowance 0 0 qs); answer = cond b Answer.Taken (Answer.Refused BadTerms) }))
+        Q (judged_as (cond b (Ok (allowance count steps qs)) (Err BadTerms)))
     judged count steps qs true e h = f count steps qs e
     judged count steps qs false e h = clash (cc)
 

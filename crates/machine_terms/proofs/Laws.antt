@@ -12,10 +12,13 @@ use Rattle.grammar.specs.declared.Found.{Found}
 use Rattle.grammar.specs.Reading.{has_word}
 use Rattle.grammar.proofs.Bytes.{word_within}
 use Rattle.construction.specs.declared.answers.Refusal.TheVariants as refusals
-use Rattle.allowance.specs.declared.{Quota.Quota, Opened.Opened}
+use Rattle.std.specs.Prelude.{Result}
+use Rattle.construction.specs.declared.answers.Refusal.{Refusal}
+use Rattle.allowance.specs.declared.{Quota.Quota, Allowance.Allowance}
+use Rattle.allowance.specs.Allowing.{quota_of}
 use Rattle.allowance.specs.Opening.{opened_as}
 use Rattle.machine_terms.specs.declared.{Pair.Pair, Terms.Terms}
-use Rattle.machine_terms.specs.Terms.{line, machines_word, machine_word, quota_of, Quotas, with_pair, quotas_from, quotas_read, refused, judged_as, with_head, terms}
+use Rattle.machine_terms.specs.Terms.{line, machines_word, machine_word, Quotas, with_pair, quotas_from, quotas_read, refused, judged_as, with_head, terms}
 
 -- a word that stands in a text ends at a place that the code can name, as the text and its place do
 pub word_fits :
@@ -96,5 +99,5 @@ module _ (t : List ℕ) where
         wrong_line_lem i e = e ∙ sym (headed ∙ rw (f, le-ltb x.value.a 1 k, le-ltb 4 x.value.a l, ← g, i))
 
         pub judged_last :
-            {quotas : List Quota} {r : Terms} → y ≡ Ok quotas → {o : Opened} → o ≡ opened_as x.value.a x.value.b quotas → r ≡ judged_as o → r ≡ terms t
+            {quotas : List Quota} {r : Terms} → y ≡ Ok quotas → {o : Result Allowance Refusal} → o ≡ opened_as x.value.a x.value.b quotas → r ≡ judged_as o → r ≡ terms t
         judged_last i j e = e ∙ sym (headed ∙ rw (f, le-ltb x.value.a 1 k, le-ltb 4 x.value.a l, ← g, i, ← j))

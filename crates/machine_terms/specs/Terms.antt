@@ -7,9 +7,9 @@ use Rattle.grammar.specs.declared.Found.{Found}
 use Rattle.grammar.specs.Reading.{found, with_found, field, has_word}
 use Rattle.construction.specs.declared.{answers.Refusal.Refusal}
 use Rattle.construction.specs.declared.answers.Refusal.TheVariants as refusals
-use Rattle.construction.specs.Answers.{is_refused}
 use Rattle.construction.specs.Types.{told_at}
-use Rattle.allowance.specs.declared.{Quota.Quota, Opened.Opened}
+use Rattle.allowance.specs.declared.{Quota.Quota, Allowance.Allowance}
+use Rattle.allowance.specs.Allowing.{quota_of}
 use Rattle.allowance.specs.Opening.{allowance_from, opened_as}
 use Rattle.machine_terms.specs.declared.{Pair.Pair, Terms.Terms}
 
@@ -30,9 +30,6 @@ machines_word = 109 ∷ 97 ∷ 99 ∷ 104 ∷ 105 ∷ 110 ∷ 101 ∷ 115 ∷ 44
 
 abbrev pub machine_word : List ℕ
 machine_word = 109 ∷ 97 ∷ 99 ∷ 104 ∷ 105 ∷ 110 ∷ 101 ∷ 44 ∷ []
-
-abbrev pub quota_of : ℕ → ℕ → Quota
-quota_of share ceiling = record { share = share; ceiling = ceiling; used = 0 }
 
 -- what the lines of machines say, or the number of the first line that is malformed or left over
 abbrev pub Quotas : Type 0
@@ -56,8 +53,9 @@ unfoldable pub refused : Refusal → ℕ → Terms
 refused why n = record { allowance = allowance_from 0 0 (replicate 4 (quota_of 0 0)); verdict = Err (told_at why n) }
 
 -- what opening answers
-unfoldable pub judged_as : Opened → Terms
-judged_as o = cond (is_refused o.answer) (refused refusals.BadTerms 0) (record { allowance = o.allowance; verdict = Ok tt })
+unfoldable pub judged_as : Result Allowance Refusal → Terms
+judged_as (Ok a) = record { allowance = a; verdict = Ok tt }
+judged_as (Err why) = refused why 0
 
 abbrev pub with_quotas : ℕ → ℕ → Quotas → Terms
 with_quotas count steps (Ok quotas) = judged_as (opened_as count steps quotas)

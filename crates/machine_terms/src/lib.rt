@@ -4,10 +4,9 @@
 #![tactic(auto)]
 
 ghost use Rattle.std.specs.Prelude.{◌≡◌, set};
-ghost use Rattle.machine_terms.specs.Terms.{pair, line, quota_of, quotas_read, refused, judged_as, terms};
+ghost use Rattle.machine_terms.specs.Terms.{pair, line, quotas_read, refused, judged_as, terms};
 
-use allowance::{Allowance, Opened, Quota, open};
-use answers::kinds::is_refused;
+use allowance::{Allowance, Quota, no_machines, no_quota, open, quota_of};
 use construction::answers::Refusal;
 use construction::texts::RefusedAt;
 use grammar::Found;
@@ -58,17 +57,6 @@ fn line_at(text: &[u8], at: usize, word: &[u8]) -> Option<Found<Pair>>
     }
 }
 
-// A quota with nothing used.
-fn quota_of(share: u64, ceiling: u64) -> Quota
-    ensures { result ≡ quota_of share ceiling }
-{
-    Quota {
-        share,
-        ceiling,
-        used: 0,
-    }
-}
-
 // The quotas with that of machine k.
 fn with_quota(quotas: [Quota; 4], k: u8, quota: Quota) -> [Quota; 4]
     ensures { result ≡ set quotas k quota }
@@ -84,7 +72,7 @@ fn with_quota(quotas: [Quota; 4], k: u8, quota: Quota) -> [Quota; 4]
 fn read_quotas(text: &[u8], start: usize, count: u8) -> Result<[Quota; 4], u64>
     ensures { result ≡ quotas_read text.now start count }
 {
-    let mut quotas = [quota_of(0, 0); 4];
+    let mut quotas = [no_quota(); 4];
     let mut at = start;
     for k in 0..count {
         let Some(Found { value, next }) = line_at(text, at, b"machine,") else {
@@ -101,28 +89,26 @@ fn read_quotas(text: &[u8], start: usize, count: u8) -> Result<[Quota; 4], u64>
 }
 
 // Refused terms, which leave no machines.
-#[tactic(auto, unfolding(crate::specs::Terms::refused))]
 fn refused_with(refusal: Refusal, line: u64) -> Terms
     ensures { result ≡ refused refusal line }
 {
-    let opened = open(0, 0, [quota_of(0, 0); 4]);
     Terms {
-        allowance: opened.allowance,
+        allowance: no_machines(),
         verdict: Err(RefusedAt { refusal, line }),
     }
 }
 
 // What opening answers.
 #[tactic(auto, unfolding(crate::specs::Terms::judged_as))]
-fn judged(opened: Opened) -> Terms
+fn judged(opened: Result<Allowance, Refusal>) -> Terms
     ensures { result ≡ judged_as opened }
 {
-    if is_refused(opened.answer) {
-        return refused_with(Refusal::BadTerms, 0);
-    }
-    Terms {
-        allowance: opened.allowance,
-        verdict: Ok(()),
+    match opened {
+        Ok(allowance) => Terms {
+            allowance,
+            verdict: Ok(()),
+        },
+        Err(refusal) => refused_with(refusal, 0),
     }
 }
 

@@ -19,9 +19,9 @@ use Rattle.commands.specs.Printing.{card_refusal, calls_refusal}
 use Rattle.executions.specs.Schedules.{calls_of}
 use Rattle.executions.specs.Listings.{is_callable, is_listable}
 use Rattle.schedule_files.specs.declared.{Prepared.Prepared}
-use Rattle.calls.specs.declared.Calls.{Calls}
+use Rattle.calls.specs.declared.WrongLine.{WrongLine}
 use Rattle.calls.specs.Tables.{requests_in}
-use Rattle.calls.specs.Texts.{calls_of as calls_in, line_refusal}
+use Rattle.calls.specs.Texts.{Calls, calls_of as calls_in, line_refusal}
 use Rattle.schedule_files.specs.Files.{refusal_line, Preparation, refused_by, judged_calls, judged_card, preparation, PreparedAs}
 
 -- the printed line
@@ -64,23 +64,23 @@ module _ (card calls : List ℕ) (L : ℕ) {o : Opened} (opens : o ≡ opened ca
       within : judged_card o.verdict o.card calls L ≡ judged_calls o.card c L
       within = accepted ∙ rw (le-ltb 65536 (length calls) h) (ap (λ (x : Calls). judged_calls o.card x L) (sym g))
 
-      pub line_refused : 0 < c.line → {b : List ℕ} {n : ℕ} {z : List ℕ} {r : Prepared} → Put b 0 (line_refusal c.line) n z → n ≤ 269 →
+      pub line_refused : {wrong : WrongLine} → c ≡ Err wrong → {b : List ℕ} {n : ℕ} {z : List ℕ} {r : Prepared} → Put b 0 (line_refusal wrong.line) n z → n ≤ 269 →
           r ≡ record { ready = false; card = o.card; length = n } → PreparedAs (preparation card calls L) b r z
-      line_refused l p s e = judged_as_lem (within ∙ rw (lt-ltb 0 c.line l)) (refused_with_lem p s e)
+      line_refused l p s e = judged_as_lem (within ∙ rw l) (refused_with_lem p s e)
 
-      module _ (l : c.line ≤ 0) {a : Bool} (f : a ≡ is_callable o.card (requests_in c.words)) where
+      module _ {words : List ℕ} (l : c ≡ Ok words) {a : Bool} (f : a ≡ is_callable o.card (requests_in words)) where
         pub six : a ≡ false → {b : List ℕ} {n : ℕ} {z : List ℕ} {r : Prepared} → Put b 0 (refusal_line 6) n z → n ≤ 269 →
             r ≡ record { ready = false; card = o.card; length = n } → PreparedAs (preparation card calls L) b r z
-        six q p s e = judged_as_lem (within ∙ rw (le-ltb 0 c.line l, sym f ∙ q)) (refused_with_lem p s e)
+        six q p s e = judged_as_lem (within ∙ rw (l, sym f ∙ q)) (refused_with_lem p s e)
 
         module _ (q : a ≡ true) {d : Bool} (i : d ≡ is_listable o.card L) where
           pub seventeen : d ≡ false → {b : List ℕ} {n : ℕ} {z : List ℕ} {r : Prepared} → Put b 0 (refusal_line 17) n z → n ≤ 269 →
               r ≡ record { ready = false; card = o.card; length = n } → PreparedAs (preparation card calls L) b r z
-          seventeen j p s e = judged_as_lem (within ∙ rw (le-ltb 0 c.line l, sym f ∙ q, sym i ∙ j)) (refused_with_lem p s e)
+          seventeen j p s e = judged_as_lem (within ∙ rw (l, sym f ∙ q, sym i ∙ j)) (refused_with_lem p s e)
 
-          pub begins : d ≡ true → {b : List ℕ} {x : Card} → x ≡ (run o.card (calls_of o.card (requests_in c.words))).card →
+          pub begins : d ≡ true → {b : List ℕ} {x : Card} → x ≡ (run o.card (calls_of o.card (requests_in words))).card →
               PreparedAs (preparation card calls L) b (record { ready = true; card = x; length = 0 }) b
           begins j e =
-              judged_as_lem {p = record { text = []; ready = true; card = (run o.card (calls_of o.card (requests_in c.words))).card }}
-              (within ∙ rw (le-ltb 0 c.line l, sym f ∙ q, sym i ∙ j))
+              judged_as_lem {p = record { text = []; ready = true; card = (run o.card (calls_of o.card (requests_in words))).card }}
+              (within ∙ rw (l, sym f ∙ q, sym i ∙ j))
               (record { put = record { place = omega arith; bytes = refl }; short = omega arith; ready = refl; card = e })

@@ -11,9 +11,8 @@ use Rattle.construction.specs.Opening.{opened}
 use Rattle.construction.specs.Types.{Verdict}
 use Rattle.executions.specs.Listings.{is_callable, is_listable}
 use Rattle.executions.proofs.Statements.Listings.{listable_true}
-use Rattle.calls.specs.declared.Calls.{Calls}
 use Rattle.calls.specs.Tables.{requests_in}
-use Rattle.calls.specs.Texts.{calls_of as calls_in}
+use Rattle.calls.specs.Texts.{Calls, calls_of as calls_in}
 use Rattle.schedule_files.specs.Files.{Preparation, judged_calls, judged_card, preparation}
 
 not_refused : (t : Bool) (x y : Preparation) → x.ready ≡ false → (cond t x y).ready ≡ true → y.ready ≡ true
@@ -25,10 +24,10 @@ listed true x y e h = refl
 listed false x y e h = absurd (true≢false (sym h ∙ e))
 
 calls_short : (c : Card) (r : Calls) (L : ℕ) → (judged_calls c r L).ready ≡ true → L ≤ 16
-calls_short c r L h =
-    let called = not_refused (ltb 0 r.line) _ _ refl h in
-    let listable = not_refused (not (is_callable c (requests_in r.words))) _ _ refl called in
+calls_short c (Ok words) L h =
+    let listable = not_refused (not (is_callable c (requests_in words))) _ _ refl h in
     (listable_true c L (listed (is_listable c L) _ _ refl listable)).steps
+calls_short c (Err wrong) L h = absurd (true≢false (sym h))
 
 card_short_lem : (v : Verdict) (c : Card) (calls : List ℕ) (L : ℕ) → (judged_card v c calls L).ready ≡ true → L ≤ 16
 card_short_lem (Ok _) c calls L h = calls_short c (calls_in calls c.process_count) L (not_refused (ltb 65536 (length calls)) _ _ refl h)

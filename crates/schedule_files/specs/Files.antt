@@ -9,9 +9,8 @@ use Rattle.construction.specs.Types.{Verdict}
 use Rattle.commands.specs.Printing.{card_refusal, calls_refusal}
 use Rattle.executions.specs.Schedules.{calls_of}
 use Rattle.executions.specs.Listings.{is_callable, is_listable}
-use Rattle.calls.specs.declared.Calls.{Calls}
 use Rattle.calls.specs.Tables.{requests_in}
-use Rattle.calls.specs.Texts.{calls_of as calls_in, line_refusal}
+use Rattle.calls.specs.Texts.{Calls, calls_of as calls_in, line_refusal}
 use Rattle.schedule_files.specs.declared.Prepared.{Prepared}
 
 -- `schedules,refused,NUMBER`
@@ -28,11 +27,11 @@ abbrev pub refused_by : List ℕ → Card → Preparation
 refused_by t c = record { text = t; ready = false; card = c }
 
 abbrev pub judged_calls : Card → Calls → ℕ → Preparation
-judged_calls c r L =
-    cond (ltb 0 r.line) (refused_by (line_refusal r.line) c)
-    (cond (not (is_callable c (requests_in r.words))) (refused_by (refusal_line 6) c)
+judged_calls c (Ok words) L =
+    cond (not (is_callable c (requests_in words))) (refused_by (refusal_line 6) c)
     (cond (not (is_listable c L)) (refused_by (refusal_line 17) c)
-    (record { text = []; ready = true; card = (run c (calls_of c (requests_in r.words))).card })))
+    (record { text = []; ready = true; card = (run c (calls_of c (requests_in words))).card }))
+judged_calls c (Err wrong) L = refused_by (line_refusal wrong.line) c
 
 abbrev pub judged_card : Verdict → Card → List ℕ → ℕ → Preparation
 judged_card (Ok _) c calls L =

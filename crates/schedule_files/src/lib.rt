@@ -63,12 +63,13 @@ pub fn prepare(card: &[u8], calls: &[u8], length: u32, buffer: &mut [u8]) -> Pre
         let end = put_calls_refusal(buffer);
         return over(first, end);
     }
-    let read = read_calls(calls, first.process_count);
-    if read.line > 0 {
-        let end = put_line_refusal(buffer, read.line);
-        return over(first, end);
-    }
-    let words = read.words;
+    let words = match read_calls(calls, first.process_count) {
+        Ok(words) => words,
+        Err(wrong) => {
+            let end = put_line_refusal(buffer, wrong.line);
+            return over(first, end);
+        }
+    };
     let requests = requests_in(&words);
     if !are_callable(first, requests) {
         let end = put_refusal_line(buffer, Refusal::NoProgram);

@@ -76,8 +76,7 @@ fn report(
         return told;
     }
     if now >= started {
-        let counts = q.counts;
-        tell_progress(rt, counts.accepted, steps, q.left, now - started);
+        tell_progress(rt, q.counts.accepted, steps, q.left, now - started);
     }
     now
 }
@@ -95,6 +94,7 @@ fn sweep_all(
     let started = seconds(rt);
     let mut told = started;
     let mut q = first;
+    // How many steps are left is told by each piece, so no range gives it.
     while q.left > 0 {
         q = advance(b, l, calls, q);
         told = report(rt, q, first.left, started, told);
@@ -105,8 +105,7 @@ fn sweep_all(
 // Prints what a sweep comes to. An error where not all of it was written.
 fn print_summary(rt: &impl Print, b: &[u64], q: Progress) -> io::Result<()> {
     let mut buffer = host::large_buffer();
-    let counts = q.counts;
-    let end = put_summary(&mut buffer, b, counts);
+    let end = put_summary(&mut buffer, b, q.counts);
     print(rt, &buffer, end)
 }
 
@@ -121,12 +120,10 @@ fn print_sweep(
     let mut l = [0u64; 768];
     let mut buffer = host::buffer();
     let started = start(card, calls, &mut b, &mut buffer);
-    let length = started.length;
-    if length > 0 {
-        return rt.write_all(&buffer[..length]);
+    if started.length > 0 {
+        return rt.write_all(&buffer[..started.length]);
     }
-    let calls = started.table;
-    let q = sweep_all(rt, &mut b, &mut l, &calls, first);
+    let q = sweep_all(rt, &mut b, &mut l, &started.table, first);
     print_summary(rt, &b, q)
 }
 
@@ -150,23 +147,8 @@ fn tell_usage(rt: &impl Eprint) {
 
 // The arguments are judged before any file: there are two, decimals, the second not 0.
 fn main(rt: HostRuntime) {
-    let first = argument_at(&rt, 1);
-    let second = argument_at(&rt, 2);
-    let Some(steps) = first else {
-        tell_usage(&rt);
-        return;
-    };
-    let Some(seed) = second else {
-        tell_usage(&rt);
-        return;
-    };
-    if argument_count(&rt) != 3 {
-        tell_usage(&rt);
-        return;
+    match (argument_count(&rt), argument_at(&rt, 1), argument_at(&rt, 2)) {
+        (3, Some(steps), Some(seed)) if seed != 0 => sweep(&rt, steps, seed),
+        _ => tell_usage(&rt),
     }
-    if seed == 0 {
-        tell_usage(&rt);
-        return;
-    }
-    sweep(&rt, steps, seed);
 }

@@ -32,9 +32,8 @@ use Rattle.construction.specs.Types.{Verdict}
 use Rattle.block.specs.Layout.{process_count_in, room_in}
 use Rattle.block.specs.Cards.{card_of}
 use Rattle.block.proofs.Gets.{process_count_is}
-use Rattle.calls.specs.declared.Calls.{Calls as CallsOf}
 use Rattle.calls.specs.Tables.{request_in}
-use Rattle.calls.specs.Texts.{calls_of, line_refusal}
+use Rattle.calls.specs.Texts.{Calls as CallsOf, calls_of, line_refusal}
 use Rattle.commands.specs.CommandFields.{command_fields}
 use Rattle.commands.specs.Printing.{verb_of, head_text, line_text}
 use Rattle.loan.specs.Loans.{loan_words}
@@ -50,8 +49,8 @@ use Rattle.lent_sweep.specs.Entries.{call_of}
 use Rattle.lent_sweep.specs.Limits.{AllBusy, AllCalled}
 use Rattle.sweeping.specs.declared.Started.{Started}
 use Rattle.sweeping.specs.Pieces.{begun, stage, in_pieces}
-use Rattle.sweeping.specs.Starting.{Begun, called_from, called, Starting, card_starting, starting, Starts}
-use Rattle.sweeping.proofs.CallWords.{Table, table_read, inputs_fit}
+use Rattle.sweeping.specs.Starting.{Begun, called_from, called, Starting, calls_starting, card_starting, starting, Starts}
+use Rattle.sweeping.proofs.CallWords.{Table, words_of, table_read, inputs_fit}
 use Rattle.sweeping.proofs.Whole.{sweep_at, pieces_are_one}
 
 -- the calls of m processes, from process i on; and of all processes of a card
@@ -193,14 +192,15 @@ module _ (card b l : List ℕ) (long : 1456 ≤ length b) (lent : loan_words (op
       P : Starting → Type 0
       P s = s.text ≡ [] → Begins card b l s.block s.table
 
-      x : CallsOf
-      x = calls_of calls (process_count_in (opened_block card b))
+      with_lines : (x : CallsOf) → Table (words_of x) → (read_card card).verdict ≡ Ok tt → P (calls_starting (opened_block card b) x)
+      with_lines (Ok words) h a = all_called h a
+      with_lines (Err wrong) h a = λ e. clash (cc)
 
       by : (v : Verdict) → (read_card card).verdict ≡ v → P (card_starting calls (opened_block card b) (judged v b))
       by (Ok _) a =
           rw (le-leb 1456 (length b) long)
           (on_test P (ltb 65536 (length calls)) (λ _ e. clash (cc))
-          (λ _. on_test P (ltb 0 x.line) (λ _ e. clash (cc)) (λ _. all_called (table_read calls _) a)))
+          (λ _. with_lines (calls_of calls (process_count_in (opened_block card b))) (table_read calls _) a))
       by (Err said) a = λ e. clash (cc)
 
   -- THE WHOLE SWEEP, from its two files on: where nothing is printed of them, its pieces come to the fold of the single requests over the whole drawn schedule

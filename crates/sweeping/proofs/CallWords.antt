@@ -13,14 +13,19 @@ use Rattle.executions.specs.declared.Request.{Request}
 use Rattle.commands.specs.declared.Command.{Command}
 use Rattle.commands.specs.Commands.{command}
 use Rattle.commands.proofs.Fitting.{FitsCall, FitsCommand, command_fits}
-use Rattle.calls.specs.declared.Calls.{Calls}
+use Rattle.std.specs.Prelude.{Ok, Err}
 use Rattle.calls.specs.Tables.{request_in, with_request}
-use Rattle.calls.specs.Texts.{wrong_line, own_call, requested, if_requested, calls_from, calls_of}
+use Rattle.calls.specs.Texts.{Calls, wrong_line, own_call, requested, if_requested, calls_from, calls_of}
 
 -- a table of calls
 pub record Table (words : List ℕ) : Type 0 where
   pub size : length words ≡ 40
   pub small : (k : ℕ) → get_or words k 0 < 4294967296
+
+-- the table that was read, up to a wrong line where there is one
+abbrev pub words_of : Calls → List ℕ
+words_of (Ok words) = words
+words_of (Err wrong) = wrong.words
 
 set_table : (words : List ℕ) (k x : ℕ) → x < 4294967296 → Table words → Table (set words k x)
 set_table words k x f h =
@@ -33,14 +38,14 @@ request_table words i x f h =
     set_table _ _ _ w.w3 (set_table _ _ _ w.w2 (set_table _ _ _ w.w1 (set_table _ _ _ w.w0 (set_table words _ _ f.program h))))
 
 -- a line that makes the call of process i puts it there
-module _ (words : List ℕ) (i : ℕ) (h : Table words) (go : Request → Calls) (put : (x : Request) → Table (with_request words i x) → Table (go x).words) where
-  line : (m : Command) → FitsCommand m → Table (if_requested (requested m i) (wrong_line words i) go).words
+module _ (words : List ℕ) (i : ℕ) (h : Table words) (go : Request → Calls) (put : (x : Request) → Table (with_request words i x) → Table (words_of (go x))) where
+  line : (m : Command) → FitsCommand m → Table (words_of (if_requested (requested m i) (wrong_line words i) go))
   line (Command.Call j k x) f = by (eqb j i) refl
     where
       y : Request
       y = record { program = k; inputs = x }
 
-      by : (z : Bool) → eqb j i ≡ z → Table (if_requested (own_call j y i) (wrong_line words i) go).words
+      by : (z : Bool) → eqb j i ≡ z → Table (words_of (if_requested (own_call j y i) (wrong_line words i) go))
       by true e = rw e (put y (request_table words i y f h))
       by false e = rw e h
   line (Command.Exit j) f = h
@@ -50,14 +55,14 @@ module _ (words : List ℕ) (i : ℕ) (h : Table words) (go : Request → Calls)
   line (Command.Change k from count start end) f = h
   line Command.Malformed f = h
 
-calls_table : (m : ℕ) (t : List ℕ) (i at : ℕ) (words : List ℕ) → Table words → Table (calls_from m t i at words).words
+calls_table : (m : ℕ) (t : List ℕ) (i at : ℕ) (words : List ℕ) → Table words → Table (words_of (calls_from m t i at words))
 unfolding calls_from
-calls_table zero t i at words h = on_test (λ (x : Calls). Table x.words) (ltb at (length t)) (λ _. h) (λ _. h)
+calls_table zero t i at words h = on_test (λ (x : Calls). Table (words_of x)) (ltb at (length t)) (λ _. h) (λ _. h)
 calls_table (suc m) t i at words h =
     line words i h _ (λ x q. calls_table m t (suc i) (command t at).next (with_request words i x) q) (command t at).command
     (command_fits t at)
 
-pub table_read : (t : List ℕ) (p : ℕ) → Table (calls_of t p).words
+pub table_read : (t : List ℕ) (p : ℕ) → Table (words_of (calls_of t p))
 unfolding calls_of
 table_read t p = calls_table p t 0 0 (replicate 40 0) (record { size = refl; small = λ k. rw (get_or_replicate_same {A = ℕ} 40 k 0) (omega arith) })
 

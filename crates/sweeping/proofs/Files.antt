@@ -6,11 +6,10 @@ use mathlib.Core.List.{List}
 use lib.ListN.{length}
 use borrow.Author.Tests.{lt-ltb, le-ltb}
 use Rattle.grammar.specs.Writing.{Put}
-use Rattle.construction.specs.declared.{answers.Refusal.Refusal}
 use Rattle.construction.specs.Types.{Verdict}
 use Rattle.construction.specs.declared.texts.RefusedAt.{RefusedAt}
-use Rattle.calls.specs.declared.Calls.{Calls as CallsOf}
-use Rattle.calls.specs.Texts.{calls_of, line_refusal}
+use Rattle.calls.specs.declared.WrongLine.{WrongLine}
+use Rattle.calls.specs.Texts.{Calls as CallsOf, calls_of, line_refusal}
 use Rattle.commands.specs.Printing.{longest, card_refusal, calls_refusal}
 use Rattle.block.specs.Layout.{process_count_in}
 use Rattle.lent_text.specs.Opened.{Opens}
@@ -50,11 +49,12 @@ module _
     (ek : k ≡ process_count_in b₁) (ex : x ≡ calls_of calls k)
   where
     pub line_refused :
-        {r : Started} → 0 < x.line → Line buffer (line_refusal x.line) n z → r ≡ over n → Starts card calls b buffer r b₁ z
-    line_refused l p er = stops (line_refusal x.line) (rw (lt-ltb 0 x.line l) at (read calls o e h ek ex)) p er
+        {wrong : WrongLine} {r : Started} → x ≡ Err wrong → Line buffer (line_refusal wrong.line) n z → r ≡ over n →
+        Starts card calls b buffer r b₁ z
+    line_refused {wrong} l p er = stops (line_refusal wrong.line) (rw l at (read calls o e h ek ex)) p er
 
     pub starts :
-        {b' : List ℕ} → x.line ≤ 0 → Calls x.words b₁ buffer n b' z → Starts card calls b buffer (record { length = n; table = x.words }) b' z
+        {words b' : List ℕ} → x ≡ Ok words → Calls words b₁ buffer n b' z → Starts card calls b buffer (record { length = n; table = words }) b' z
     starts l m =
-        let s = rw (le-ltb 0 x.line l) at (read calls o e h ek ex) in
+        let s = rw l at (read calls o e h ek ex) in
         record { put = rw s m.put; short = m.short; block = rw s m.block; table = rw s refl }

@@ -6,9 +6,8 @@ use Rattle.construction.specs.Answers.{is_refused}
 use Rattle.construction.specs.Opening.{read_card}
 use Rattle.construction.specs.Tracing.{no_report}
 use Rattle.construction.specs.Types.{Verdict}
-use Rattle.calls.specs.declared.Calls.{Calls as CallsOf}
 use Rattle.calls.specs.Tables.{request_in}
-use Rattle.calls.specs.Texts.{calls_of, line_refusal}
+use Rattle.calls.specs.Texts.{Calls as CallsOf, calls_of, line_refusal}
 use Rattle.commands.specs.declared.Command.{Command}
 use Rattle.commands.specs.Printing.{line_text, longest, card_refusal, calls_refusal}
 use Rattle.block.specs.Layout.{process_count_in}
@@ -59,9 +58,8 @@ abbrev pub stopped : List ℕ → List ℕ → Starting
 stopped text b = record { text = text; block = b; table = no_calls }
 
 abbrev pub calls_starting : List ℕ → CallsOf → Starting
-calls_starting b x =
-    cond (ltb 0 x.line) (stopped (line_refusal x.line) b)
-    (record { text = (called x.words b).text; block = (called x.words b).block; table = x.words })
+calls_starting b (Ok words) = record { text = (called words b).text; block = (called words b).block; table = words }
+calls_starting b (Err wrong) = stopped (line_refusal wrong.line) b
 
 abbrev pub card_starting : List ℕ → List ℕ → Verdict → Starting
 card_starting calls b (Ok _) =

@@ -56,11 +56,10 @@ pub fn start(card: &[u8], calls: &[u8], b: &mut [u64], buffer: &mut [u8]) -> Sta
     if LIMIT < calls.len() {
         return over(put_calls_refusal(buffer));
     }
-    let read = read_calls(calls, process_count(b));
-    if read.line > 0 {
-        return over(put_line_refusal(buffer, read.line));
-    }
-    let table = read.words;
+    let table = match read_calls(calls, process_count(b)) {
+        Ok(table) => table,
+        Err(wrong) => return over(put_line_refusal(buffer, wrong.line)),
+    };
     let length = call_all(b, &table, buffer);
     Started { length, table }
 }

@@ -1,15 +1,15 @@
-use Rattle.allowance.proofs.Fours.{unused_four}
+use Rattle.std.proofs.Common.{◌≡◌, ℕ, ◌<◌, rules, map, get_or}
+use Rattle.allowance.specs.Allowing.{empty, unused, turn}
+use Rattle.allowance.proofs.Fours.{map_four}
 use Rattle.allowance.proofs.Rooms.{quotas_four}
-use Rattle.allowance.specs.Allowing.{turn}
 use Rattle.allowance.proofs.turned.Goals as goal
 
 pub returns : goal.returns
 unfolding turn
 returns c =
     let a = c.args.a in
-    λ i. record {
-      steps = a.steps;
-      count = a.count;
-      quotas = unused_four a.quotas (quotas_four a _ c.well_formed.0)
-          c.unused_quota.ensures c.unused_quota-2.ensures c.unused_quota-3.ensures c.unused_quota-4.ensures i;
-    }
+    let made = c.map.ensures.items in
+    let e : c.map.result ≡ map unused a.quotas =
+    map_four unused empty empty a.quotas c.map.result (quotas_four a _ c.well_formed.0) made.long
+    (λ i h. let k = (made.at i empty empty h).2 in search rules) in
+    λ j. record { steps = a.steps; count = a.count; quotas = e j }

@@ -3,7 +3,7 @@ use Rattle.machine_terms.proofs.Laws as laws
 use Rattle.machine_terms.proofs.read_quotas.Goals as goal
 
 pub loop-k-init : goal.loop-k-init
-loop-k-init c = laws.quotas_begin _ _ _ c.quota_of-quotas.ensures
+loop-k-init c = laws.quotas_begin _ _ _ c.no_quota-quotas.ensures
 
 pub returns-in_default : goal.returns-in_default
 returns-in_default c =

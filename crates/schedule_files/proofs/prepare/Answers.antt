@@ -11,23 +11,23 @@ returns-then-calls-gt-LIMIT c =
     laws.calls_refused _ _ c.args.length c.open-opened.ensures c.in_default.is c.if-calls-gt-LIMIT.true
     c.put_calls_refusal-end.ensures.0 c.put_calls_refusal-end.ensures.1 c.over-then-calls-gt-LIMIT.ensures
 
-pub returns-then-read-gt0 : goal.returns-then-read-gt0
-returns-then-read-gt0 c =
+pub returns-in-Err-read_calls : goal.returns-in-Err-read_calls
+returns-in-Err-read_calls c =
     laws.line_refused _ _ c.args.length c.open-opened.ensures c.in_default.is c.if-calls-gt-LIMIT.false
-    c.read_calls-read.ensures c.if-read-gt0.true c.put_line_refusal-end.ensures.0
-    c.put_line_refusal-end.ensures.1 c.over-then-read-gt0.ensures
+    c.read_calls.ensures c.in-Err-read_calls.is c.put_line_refusal-end.ensures.0 c.put_line_refusal-end.ensures.1
+    c.over-in-Err-read_calls.ensures
 
 pub returns-then-not-are_callable : goal.returns-then-not-are_callable
 returns-then-not-are_callable c =
     laws.six _ _ c.args.length c.open-opened.ensures c.in_default.is c.if-calls-gt-LIMIT.false
-    c.read_calls-read.ensures c.if-read-gt0.false (rw c.requests_in-requests.ensures at c.are_callable.ensures)
+    c.read_calls.ensures c.in-Ok.is (rw c.requests_in-requests.ensures at c.are_callable.ensures)
     c.if-not-are_callable.true c.put_refusal_line-end.ensures.0 c.put_refusal_line-end.ensures.1
     c.over-then-not-are_callable.ensures
 
 pub returns-then-not-is_listable : goal.returns-then-not-is_listable
 returns-then-not-is_listable c =
     laws.seventeen _ _ c.args.length c.open-opened.ensures c.in_default.is c.if-calls-gt-LIMIT.false
-    c.read_calls-read.ensures c.if-read-gt0.false (rw c.requests_in-requests.ensures at c.are_callable.ensures)
+    c.read_calls.ensures c.in-Ok.is (rw c.requests_in-requests.ensures at c.are_callable.ensures)
     c.if-not-are_callable.false c.is_listable.ensures c.if-not-is_listable.true
     c.put_refusal_line-end-then-not-is_listable.ensures.0 c.put_refusal_line-end-then-not-is_listable.ensures.1
     c.over-then-not-is_listable.ensures
@@ -35,6 +35,6 @@ returns-then-not-is_listable c =
 pub returns : goal.returns
 returns c =
     laws.begins _ _ c.args.length c.open-opened.ensures c.in_default.is c.if-calls-gt-LIMIT.false
-    c.read_calls-read.ensures c.if-read-gt0.false (rw c.requests_in-requests.ensures at c.are_callable.ensures)
+    c.read_calls.ensures c.in-Ok.is (rw c.requests_in-requests.ensures at c.are_callable.ensures)
     c.if-not-are_callable.false c.is_listable.ensures c.if-not-is_listable.false
     (rw c.requests_in-requests.ensures at c.call_all.ensures)

@@ -11,7 +11,7 @@ returns-in_default c =
 
 pub loop-i-preserved : goal.loop-i-preserved
 loop-i-preserved c =
-    laws.read_on c.loop-i.invariant (omega arith) c.command_at-parsed.ensures c.requested.ensures c.in-Call.is
+    laws.read_on c.loop-i.invariant (omega arith) c.command_at-parsed.ensures c.requested.ensures c.in-Some.is
     c.put_request-more.ensures
 
 pub returns-then-at-text : goal.returns-then-at-text

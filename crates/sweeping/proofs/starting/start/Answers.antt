@@ -11,12 +11,12 @@ returns-then-calls-gt-LIMIT c =
     laws.calls_long c.args.calls.now c.open-verdict.ensures c.in_default.is c.if-calls-gt-LIMIT.true
     c.put_calls_refusal.ensures c.over-then-calls-gt-LIMIT.ensures
 
-pub returns-then-read-gt0 : goal.returns-then-read-gt0
-returns-then-read-gt0 c =
+pub returns-in-Err-read_calls : goal.returns-in-Err-read_calls
+returns-in-Err-read_calls c =
     laws.line_refused c.args.calls.now c.open-verdict.ensures c.in_default.is (omega arith) c.process_count.ensures
-    c.read_calls-read.ensures c.if-read-gt0.true c.put_line_refusal.ensures c.over-then-read-gt0.ensures
+    c.read_calls.ensures c.in-Err-read_calls.is c.put_line_refusal.ensures c.over-in-Err-read_calls.ensures
 
 pub returns : goal.returns
 returns c =
     laws.starts c.args.calls.now c.open-verdict.ensures c.in_default.is (omega arith) c.process_count.ensures
-    c.read_calls-read.ensures c.if-read-gt0.false c.call_all-length.ensures
+    c.read_calls.ensures c.in-Ok.is c.call_all-length.ensures

@@ -9,6 +9,9 @@ ghost use Rattle.allowance.specs.Opening.{is_accepted, opened, are_ordered, shar
 
 use construction::answers::Refusal;
 
+// The most steps of a turn.
+const MOST_STEPS: u64 = 100_000;
+
 // The steps of one machine in a turn: those it is sure of, those it may have at most, and those it has used.
 #[derive(Clone, Copy)]
 pub struct Quota {
@@ -200,7 +203,7 @@ fn is_accepted(count: u64, steps: u64, quotas: [Quota; 4]) -> bool
     if steps < 1 {
         return false;
     }
-    if 100000 < steps {
+    if MOST_STEPS < steps {
         return false;
     }
     let q = opened_quotas(count, quotas);

@@ -11,14 +11,12 @@ use std::io;
 // written, which the error tells.
 fn print_lines(rt: &impl Print, first: State, calls: &[u8]) -> io::Result<()> {
     let mut state = first;
-    let mut at = state.at;
-    while at < calls.len() {
+    // The next place is known when lines are read, so no range gives it.
+    while state.at < calls.len() {
         let mut buffer = host::large_buffer();
         let printed = put_lines(state, calls, &mut buffer);
-        let length = printed.length;
-        rt.write_all(&buffer[..length])?;
+        rt.write_all(&buffer[..printed.length])?;
         state = printed.state;
-        at = state.at;
     }
     Ok(())
 }
@@ -27,10 +25,8 @@ fn print_lines(rt: &impl Print, first: State, calls: &[u8]) -> io::Result<()> {
 fn print_session(rt: &impl Print, card: &[u8], calls: &[u8]) -> io::Result<()> {
     let mut buffer = host::buffer();
     let started = start(card, calls, &mut buffer);
-    let length = started.length;
-    rt.write_all(&buffer[..length])?;
-    let state = started.state;
-    print_lines(rt, state, calls)
+    rt.write_all(&buffer[..started.length])?;
+    print_lines(rt, started.state, calls)
 }
 
 // At most one byte more than its limit is read of each file. A program has no exit status, so what cannot be written is told on standard error.

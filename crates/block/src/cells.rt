@@ -6,7 +6,7 @@ ghost use Rattle.block.specs.Layout.{process_count_in, put_process_count, variab
 use crate::numbers::{number, put_number};
 use crate::parts::{put_row, row_at};
 use codes::byte;
-use construction::cells::{Announcement, Gate, Holder, Record};
+use construction::cells::{Announcement, Gate, Record};
 
 // How many processes the card has.
 pub fn process_count(b: &[u64]) -> u8
@@ -91,7 +91,7 @@ fn open_gate() -> Gate
     ensures { result ≡ open_gate }
 {
     Gate {
-        holder: Holder::Nobody,
+        holder: None,
         seq: 1,
     }
 }

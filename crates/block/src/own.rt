@@ -9,7 +9,7 @@ use crate::parts::{put_row, row_at};
 use codes::{bit, byte, odd};
 use construction::accesses::{Control, Label};
 use construction::card::Operation;
-use construction::cells::{Announcement, Gate, Holder};
+use construction::cells::{Announcement, Gate};
 use construction::simulations::Simulation;
 
 // A process without an operation.
@@ -35,7 +35,7 @@ fn no_gate() -> Gate
     ensures { result ≡ no_gate }
 {
     Gate {
-        holder: Holder::Nobody,
+        holder: None,
         seq: 0,
     }
 }

@@ -1,20 +1,22 @@
 -- What each access leaves: the card that code puts together from the pieces that changed is that of an accepted step.
-use Rattle.std.proofs.Common.{◌≡◌, ℕ, ◌+◌, ◌%◌, ◌<◌, Bool, true, false, cond, ltb, List, [], get_or, set, refl, ◌∙◌, mod-eq_of_lt, arith, get_or-set_same, ltb-false, ltb-true}
+use Rattle.std.proofs.Common.{◌≡◌, ℕ, ◌+◌, ◌%◌, ◌<◌, Bool, true, false, cond, ltb, List, [], get_or, set, refl, sym, ◌∙◌, mod-eq_of_lt, arith, get_or-set_same, ltb-false, ltb-true}
+use Rattle.std.specs.Prelude.{Option, Some, None}
+use Rattle.std.specs.Option.{is_some}
 use lib.ListN.{get_or-eq_default}
 use lib.Seq.{set-get_or}
 use Rattle.opening.proofs.Laws.{inside}
 use Rattle.construction.specs.declared.{cells.Gate.Gate, cells.Words.Words, cells.Announcement.Announcement, cells.Record.Record, programs.Program.Program}
 use Rattle.construction.specs.declared.{simulations.Dictionary.Dictionary, simulations.Simulation.Simulation, accesses.GateAccess.GateAccess}
 use Rattle.construction.specs.declared.{accesses.AnnouncementAccess.AnnouncementAccess, accesses.Access.Access, accesses.Control.Control}
-use Rattle.construction.specs.declared.{accesses.AccessedCell.AccessedCell, accesses.Began.Began}
+use Rattle.construction.specs.declared.{accesses.AccessedCell.AccessedCell, accesses.Begun.Begun}
 use Rattle.construction.specs.declared.{accesses.Helped.Helped, accesses.Writing.Writing, card.Card.Card, answers.Answer.Answer}
 use Rattle.construction.specs.declared.cells.SwappedCell.{SwappedCell}
-use Rattle.construction.specs.declared.accesses.Label.TheVariants.{P1}
+use Rattle.construction.specs.declared.accesses.Label.TheVariants.{P1, P21}
 use Rattle.construction.specs.Cells.{open_announcement, open_record}
 use Rattle.construction.specs.Instructions.{no_program}
 use Rattle.construction.specs.Dictionary.{empty}
 use Rattle.construction.specs.Parts.{Local, idle_control, local_at, texts_of, program_of, with_cells, with_gate, with_own, with_local, with_steps}
-use Rattle.construction.specs.Machine.{access_of, access_in, after, access_gate, access_announcement, whose, holder_of, begin_help, note, writing, write}
+use Rattle.construction.specs.Machine.{access_of, access_in, after, access_gate, access_announcement, whose, holder_of, go_to, begin_help, begun_from, note, writing, write}
 use Rattle.construction.specs.Machine.{written_variable, perform, advance}
 use Rattle.construction.specs.Requests.{invoked, exiting, step_answer}
 use Rattle.requests.proofs.Arrays.{FullArrays, found}
@@ -144,22 +146,47 @@ module _ {c : Card} {i n m : ℕ} {a : Access} (h : Accepted c i n m a) where
         (local_at c i).dictionary (local_at c i).mask
         (rw (← h.chosen, e, ← ek, ← found c.announcements 8 h.full_arrays.announcements k open_announcement open_announcement cell ec, ← er)) t told))
 
-    pub at_help :
+    at_help :
         a ≡ Access.Help → (k : ℕ) → k ≡ holder_of (local_at c i).gate.holder →
         (cell : Announcement) → cell ≡ cond (ltb k 8) (get_or c.announcements (k % 8) open_announcement) open_announcement →
         (program : Program) → program ≡ program_of (texts_of c) cell.program (local_at c i).gate.seq →
-        (r : Began) → r ≡ begin_help c.variable_count program cell (local_at c i).gate.seq (local_at c i).control (local_at c i).simulation →
-        t ≡ step_answer r.control.place cell m → (ds : List Dictionary) → ds ≡ set c.dictionaries i (cond r.helps empty (local_at c i).dictionary) →
-        (masks : List ℕ) → masks ≡ set c.masks i (cond r.helps 0 (local_at c i).mask) →
+        (began : Option Begun) → began ≡ begin_help c.variable_count program cell (local_at c i).gate.seq →
+        let r = begun_from (local_at c i).control (local_at c i).simulation began in
+        t ≡ step_answer r.control.place cell m → (ds : List Dictionary) → ds ≡ set c.dictionaries i (cond (is_some began) empty (local_at c i).dictionary) →
+        (masks : List ℕ) → masks ≡ set c.masks i (cond (is_some began) 0 (local_at c i).mask) →
         left c (set c.controls i r.control) c.gates_read (set c.announcements_read i cell) (set c.simulations i r.simulation) ds masks
     unfolding perform
-    at_help e k ek cell ec program ep r er told ds stored masks marked =
+    at_help e k ek cell ec program ep began er told ds stored masks marked =
         let announced = found c.announcements 8 h.full_arrays.announcements k open_announcement open_announcement cell ec in
+        let r = begun_from (local_at c i).control (local_at c i).simulation began in
         rw (← stored, ← marked, ← h.own) at
         (simp set-get_or at
         (stepped c.gate c.announcements c.records r.control (local_at c i).gate cell r.simulation
-        (cond r.helps empty (local_at c i).dictionary) (cond r.helps 0 (local_at c i).mask)
+        (cond (is_some began) empty (local_at c i).dictionary) (cond (is_some began) 0 (local_at c i).mask)
         (rw (← h.chosen, e, ← ek, ← announced, ← ep, ← er, announced, set-get_or c.announcements k open_announcement)) t told))
+
+    -- the program begins, or there is nothing to help
+    pub at_begun :
+        a ≡ Access.Help → (k : ℕ) → k ≡ holder_of (local_at c i).gate.holder →
+        (cell : Announcement) → cell ≡ cond (ltb k 8) (get_or c.announcements (k % 8) open_announcement) open_announcement →
+        (program : Program) → program ≡ program_of (texts_of c) cell.program (local_at c i).gate.seq →
+        (began : Option Begun) → began ≡ begin_help c.variable_count program cell (local_at c i).gate.seq →
+        (r : Begun) → began ≡ Some r → t ≡ step_answer r.control.place cell m → (ds : List Dictionary) → ds ≡ set c.dictionaries i empty →
+        left c (set c.controls i r.control) c.gates_read (set c.announcements_read i cell) (set c.simulations i r.simulation) ds (set c.masks i 0)
+    at_begun e k ek cell ec program ep began er r is told ds stored =
+        at_help e k ek cell ec program ep (Some r) (sym is ∙ er) told ds stored (set c.masks i 0) refl
+
+    pub at_passed :
+        a ≡ Access.Help → (k : ℕ) → k ≡ holder_of (local_at c i).gate.holder →
+        (cell : Announcement) → cell ≡ cond (ltb k 8) (get_or c.announcements (k % 8) open_announcement) open_announcement →
+        (program : Program) → program ≡ program_of (texts_of c) cell.program (local_at c i).gate.seq →
+        (began : Option Begun) → began ≡ begin_help c.variable_count program cell (local_at c i).gate.seq →
+        began ≡ None → t ≡ step_answer P21 cell m →
+        left c (set c.controls i (go_to (local_at c i).control P21)) c.gates_read (set c.announcements_read i cell) c.simulations c.dictionaries c.masks
+    at_passed e k ek cell ec program ep began er is told =
+        simp set-get_or at
+        (at_help e k ek cell ec program ep None (sym is ∙ er) told c.dictionaries (sym (set-get_or c.dictionaries i _)) c.masks
+        (sym (set-get_or c.masks i _)))
 
     pub at_note :
         a ≡ Access.Note →

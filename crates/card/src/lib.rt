@@ -138,25 +138,25 @@ pub fn step(card: Card, process: u32) -> Answered
             } else {
                 c.later[at]
             };
-            let began = begin_help(
-                c.variable_count,
-                program_at(k, stored),
-                cell,
-                gate.seq,
-                control,
-                c.simulations[i],
-            );
-            let state = began.simulation;
-            let control = began.control;
+            let began = begin_help(c.variable_count, program_at(k, stored), cell, gate.seq);
             c.announcements_read[i] = cell;
-            c.simulations[i] = state;
-            c.controls[i] = control;
-            let answer = answer_of(control, cell, steps);
-            if began.helps {
-                c.dictionaries[i] = opening::empty();
-                c.masks[i] = 0;
+            match began {
+                Some(begun) => {
+                    c.simulations[i] = begun.simulation;
+                    c.dictionaries[i] = opening::empty();
+                    c.masks[i] = 0;
+                    c.controls[i] = begun.control;
+                    answer_of(begun.control, cell, steps)
+                }
+                None => {
+                    let control = Control {
+                        place: Label::P21,
+                        ..control
+                    };
+                    c.controls[i] = control;
+                    answer_of(control, cell, steps)
+                }
             }
-            answer
         }
         Access::Note => {
             let v = control.target;

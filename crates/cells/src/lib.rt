@@ -5,7 +5,7 @@
 ghost use Rattle.std.specs.Prelude.{◌≡◌};
 ghost use Rattle.construction.specs.Cells.{swap_by, released, current, previous, rewritten, is_done};
 
-use construction::cells::{Flag, Gate, Holder, Record, SwappedCell};
+use construction::cells::{Flag, Gate, Record, SwappedCell};
 
 pub fn is_done(flag: Flag) -> bool
     ensures { result ≡ is_done flag }
@@ -30,7 +30,7 @@ pub fn released(gate: Gate) -> Gate
     ensures { result ≡ released gate }
 {
     Gate {
-        holder: Holder::Nobody,
+        holder: None,
         seq: std::num::wrapping_add_u64(gate.seq, 1),
     }
 }

@@ -8,7 +8,8 @@ use lib.Dec.{eqb}
 use borrow.Author.Tests.{ne_eqb}
 use Rattle.construction.specs.Cells.{FitsWords}
 use Rattle.construction.proofs.Simulating.Sizes.{FitsSimulation}
-use Rattle.codes.specs.Types.{Holder, Nobody, Process, Gate, Flag, Done, Active, Exit, Announcement, Record, Label, Idle, P1, P3, P5, P7, P10, C2, C4}
+use Rattle.std.specs.Prelude.{Option, None, Some}
+use Rattle.codes.specs.Types.{Gate, Flag, Done, Active, Exit, Announcement, Record, Label, Idle, P1, P3, P5, P7, P10, C2, C4}
 use Rattle.codes.specs.Types.{P13, P14, P16, H21, H36, P19, P20, P21, P22, F1, F3, P6, Words, Control, Operation, Simulation, Item}
 use Rattle.codes.specs.Parts.{word_at}
 use Rattle.codes.specs.Codes.{byte, half, odd, bit, holder_from, holder_word, flag_from, flag_word, place_from, place_word, gate_of, gate_words, control_of}
@@ -19,10 +20,10 @@ use Rattle.codes.specs.Codes.{simulation_words, pair, upper, item_of, item_words
 pub small : (m x : ℕ) → x < 256 → byte x ≡ x
 small m x h = omega arith
 
-pub holder_back : (h : Holder) → ((m : ℕ) → h ≡ Process m → m < 256) → holder_from (holder_word h) ≡ h
+pub holder_back : (h : Option ℕ) → ((m : ℕ) → h ≡ Some m → m < 256) → holder_from (holder_word h) ≡ h
 unfolding holder_from
-holder_back Nobody p = refl
-holder_back (Process m) p =
+holder_back None p = refl
+holder_back (Some m) p =
     let q = p m refl in
     let z : byte (m + 1 - 1) ≡ m = omega arith in
     rw (ne_eqb (m + 1) 0 (λ e. omega arith), z)
@@ -65,20 +66,20 @@ bit_small true = omega arith
 bit_small false = omega arith
 
 -- a holder that fits
-pub record Fits (h : Holder) : Type 0 where
-  pub byte : (m : ℕ) → h ≡ Process m → m < 256
+pub record Fits (h : Option ℕ) : Type 0 where
+  pub byte : (m : ℕ) → h ≡ Some m → m < 256
 
-pub nobody_fits : Fits Nobody
+pub nobody_fits : Fits None
 nobody_fits = record { byte = λ m e. let z : ◌≡◌ {A = ℕ} 0 1 = cc in omega arith }
 
-pub process_fits : (m : ℕ) → m < 256 → Fits (Process m)
+pub process_fits : (m : ℕ) → m < 256 → Fits (Some m)
 process_fits m h = record { byte = λ k e. let z : m ≡ k = cc in omega arith }
 
 pub from_fits : (w : ℕ) → Fits (holder_from w)
 unfolding holder_from
 from_fits w = go (eqb w 0)
   where
-    go : (t : Bool) → Fits (cond t Nobody (Process (byte (w - 1))))
+    go : (t : Bool) → Fits (cond t None (Some (byte (w - 1))))
     go true = nobody_fits
     go false = process_fits (byte (w - 1)) (omega arith)
 

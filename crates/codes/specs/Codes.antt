@@ -1,8 +1,8 @@
 -- The parts of a card as words, one field a word: every list of words is some value.
-use Rattle.std.specs.Prelude.{◌≡◌, refl, ℕ, suc, ◌+◌, ◌-◌, ◌*◌, ◌/◌, ◌%◌, Bool, cond, List, [], ◌∷◌, eqb, length, get_or, set}
+use Rattle.std.specs.Prelude.{◌≡◌, refl, ℕ, suc, ◌+◌, ◌-◌, ◌*◌, ◌/◌, ◌%◌, Bool, cond, List, [], ◌∷◌, eqb, length, get_or, set, Option, None, Some}
 use Rattle.construction.specs.Labels.{label_row}
 use Rattle.construction.specs.Instructions.{encode, no_line}
-use Rattle.codes.specs.Types.{Encoded, Holder, Nobody, Process, Gate, Flag, Done, Active, Exit, Words, Announcement, Record, Label, Idle, P1, P3, P5, P7}
+use Rattle.codes.specs.Types.{Encoded, Gate, Flag, Done, Active, Exit, Words, Announcement, Record, Label, Idle, P1, P3, P5, P7}
 use Rattle.codes.specs.Types.{P10, C2, C4, P13, P14, P16, H21, H36, P19, P20, P21, P22, F1, F3, P6, Control, Operation, Simulation, Item, Instruction}
 use Rattle.codes.specs.Types.{Program}
 use Rattle.codes.specs.Parts.{word_at, table}
@@ -19,12 +19,12 @@ odd w = eqb (w % 2) 1
 abbrev pub bit : Bool → ℕ
 bit b = cond b 1 0
 
-unfoldable pub holder_from : ℕ → Holder
-holder_from w = cond (eqb w 0) Nobody (Process (byte (w - 1)))
+unfoldable pub holder_from : ℕ → Option ℕ
+holder_from w = cond (eqb w 0) None (Some (byte (w - 1)))
 
-abbrev pub holder_word : Holder → ℕ
-holder_word Nobody = 0
-holder_word (Process m) = m + 1
+abbrev pub holder_word : Option ℕ → ℕ
+holder_word None = 0
+holder_word (Some m) = m + 1
 
 unfoldable pub flag_from : ℕ → Flag
 flag_from w = cond (eqb w 0) Done (cond (eqb w 1) Active Exit)

@@ -1,6 +1,4 @@
 -- The types of the crate construction, for one `use` line a file
-pub use Rattle.construction.specs.declared.cells.Holder.{Holder}
-pub use Rattle.construction.specs.declared.cells.Holder.TheVariants.{Nobody, Process}
 pub use Rattle.construction.specs.declared.cells.Gate.{Gate}
 pub use Rattle.construction.specs.declared.cells.Flag.{Flag}
 pub use Rattle.construction.specs.declared.cells.Flag.TheVariants.{Done, Active, Exit}

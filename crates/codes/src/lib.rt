@@ -10,7 +10,7 @@ pub mod parts; // parts.rt: a value in words of its own
 mod kinds; // kinds.rt: the values that stand in words
 
 use construction::accesses::Label;
-use construction::cells::{Flag, Holder};
+use construction::cells::Flag;
 use construction::programs::{Encoded, Instruction};
 use labels::label_row;
 
@@ -51,22 +51,23 @@ pub fn upper(w: u64) -> u64
     w / 4294967296
 }
 
+// Functions in place of `From`: the types stand in construction, which has no function, and a word is no type of this crate. So the new form is no plainer.
 #[tactic(auto, unfolding(crate::specs::Codes::holder_from))]
-pub fn holder_from(w: u64) -> Holder
+pub fn holder_from(w: u64) -> Option<u8>
     ensures { result ≡ holder_from w }
 {
     if w == 0 {
-        return Holder::Nobody;
+        return None;
     }
-    Holder::Process(byte(w - 1))
+    Some(byte(w - 1))
 }
 
-pub fn holder_word(holder: Holder) -> u64
+pub fn holder_word(holder: Option<u8>) -> u64
     ensures { result ≡ holder_word holder }
 {
     match holder {
-        Holder::Nobody => 0,
-        Holder::Process(m) => m as u64 + 1,
+        None => 0,
+        Some(m) => m as u64 + 1,
     }
 }
 

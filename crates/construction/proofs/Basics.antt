@@ -10,7 +10,8 @@ use lib.Seq.{get_or-set_same, get_or-set_other}
 use lib.Dec.{eqb}
 use borrow.Author.Tests.{eqb-true, eq-eqb}
 pub use Rattle.grammar.proofs.Cases.{on_test, and_true, clash}
-use Rattle.construction.specs.Types.{Holder, Nobody, Process, Gate, Flag, Done, Active, Exit, Words, Announcement, Record}
+use Rattle.std.specs.Prelude.{Option, None, Some}
+use Rattle.construction.specs.Types.{Gate, Flag, Done, Active, Exit, Words, Announcement, Record}
 use Rattle.construction.specs.Cells.{is_done, same_holder, same_flag, same_bool, same_words, same_gate, same_announcement, same_record}
 
 pub true_or_false : (b : Bool) → (b ≡ true) ⊎ (b ≡ false)
@@ -58,15 +59,15 @@ get_or_replicate_same (suc n) zero a = refl
 get_or_replicate_same (suc n) (suc i) a = get_or_replicate_same n i a
 
 -- equality of the parts of a cell
-pub same_holder-true : (a b : Holder) → same_holder a b ≡ true → a ≡ b
-same_holder-true Nobody Nobody e = refl
-same_holder-true Nobody (Process n) e = cc
-same_holder-true (Process m) Nobody e = cc
-same_holder-true (Process m) (Process n) e = ap Process (eqb-true m n e)
+pub same_holder-true : (a b : Option ℕ) → same_holder a b ≡ true → a ≡ b
+same_holder-true None None e = refl
+same_holder-true None (Some n) e = cc
+same_holder-true (Some m) None e = cc
+same_holder-true (Some m) (Some n) e = ap Some (eqb-true m n e)
 
-pub same_holder-refl : (a : Holder) → same_holder a a ≡ true
-same_holder-refl Nobody = refl
-same_holder-refl (Process m) = eq-eqb m m refl
+pub same_holder-refl : (a : Option ℕ) → same_holder a a ≡ true
+same_holder-refl None = refl
+same_holder-refl (Some m) = eq-eqb m m refl
 
 same_flag-true : (a b : Flag) → same_flag a b ≡ true → a ≡ b
 same_flag-true Done Done e = refl
@@ -177,10 +178,10 @@ pub same_record-false : (a b : Record) → same_record a b ≡ false → a ≢ b
 same_record-false = refl_false same_record same_record-refl
 
 -- holders told apart
-pub nobody_process : {h : Holder} {m : ℕ} → h ≡ Nobody → h ≡ Process m → ⊥
+pub nobody_process : {h : Option ℕ} {m : ℕ} → h ≡ None → h ≡ Some m → ⊥
 nobody_process a b = clash (cc)
 
-pub process_same : {m n : ℕ} → ◌≡◌ {A = Holder} (Process m) (Process n) → m ≡ n
+pub process_same : {m n : ℕ} → ◌≡◌ {A = Option ℕ} (Some m) (Some n) → m ≡ n
 process_same e = cc
 
 -- flags told apart

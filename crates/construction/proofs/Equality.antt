@@ -1,22 +1,21 @@
--- What `==` computes on cells and their parts is the equality that specs/Cells defines ('A swap compares the whole cell').
+-- What `==` computes on cells, their parts and labels is the equality that specs/Cells and specs/Labels define ('A swap compares the whole cell').
 use mathlib.Core.Path.{◌≡◌, refl}
 use mathlib.Core.Bool.{Bool, true, false, ◌&&◌, beq}
 use lib.Dec.{eqb}
-use Rattle.construction.specs.Types.{Holder, Nobody, Process, Gate, Flag, Done, Active, Exit, Words, Announcement, Record}
+use denote.Enum.Declared.{tag_of}
+use Rattle.std.specs.Prelude.{ℕ, Option, None, Some}
+use Rattle.construction.specs.Types.{Gate, Flag, Done, Active, Exit, Words, Announcement, Record}
 use Rattle.construction.specs.Cells.{same_holder, same_flag, same_bool, same_words, same_gate, same_announcement, same_record}
 use Rattle.construction.specs.Cells.{swap_by, swap_gate, swap_announcement, swap_record}
-use Rattle.construction.specs.contracts.cells.HolderPartialEq.TheImpl as holder
+use Rattle.construction.specs.Types.{Label, Idle, P1, P3, P5, P7, P10, C2, C4, P13, P14, P16, H21, H36, P19, P20, P21, P22, F1, F3, P6}
+use Rattle.construction.specs.Labels.{label_row, same_label}
+use Rattle.construction.specs.contracts.accesses.Label.{the_type as label_type}
+use Rattle.construction.specs.contracts.accesses.LabelPartialEq.TheImpl as label
 use Rattle.construction.specs.contracts.cells.GatePartialEq.TheImpl as gate
 use Rattle.construction.specs.contracts.cells.FlagPartialEq.TheImpl as flag
 use Rattle.construction.specs.contracts.cells.WordsPartialEq.TheImpl as words
 use Rattle.construction.specs.contracts.cells.AnnouncementPartialEq.TheImpl as announcement
 use Rattle.construction.specs.contracts.cells.RecordPartialEq.TheImpl as cell_record
-
-pub holder_equality : (a b : Holder) → holder.ghosts.eq a b ≡ same_holder a b
-holder_equality Nobody Nobody = refl
-holder_equality Nobody (Process n) = refl
-holder_equality (Process m) Nobody = refl
-holder_equality (Process m) (Process n) = refl
 
 pub flag_equality : (a b : Flag) → flag.ghosts.eq a b ≡ same_flag a b
 flag_equality Done Done = refl
@@ -29,6 +28,32 @@ flag_equality Exit Done = refl
 flag_equality Exit Active = refl
 flag_equality Exit Exit = refl
 
+-- a label's word is its place in the list of labels
+label_word : (a : Label) → tag_of label_type a ≡ (label_row a).word
+label_word Idle = refl
+label_word P1 = refl
+label_word P3 = refl
+label_word P5 = refl
+label_word P7 = refl
+label_word P10 = refl
+label_word C2 = refl
+label_word C4 = refl
+label_word P13 = refl
+label_word P14 = refl
+label_word P16 = refl
+label_word H21 = refl
+label_word H36 = refl
+label_word P19 = refl
+label_word P20 = refl
+label_word P21 = refl
+label_word P22 = refl
+label_word F1 = refl
+label_word F3 = refl
+label_word P6 = refl
+
+pub label_equality : (a b : Label) → label.ghosts.eq a b ≡ same_label a b
+label_equality a b = rw (label_word a, label_word b)
+
 bool_equality : (a b : Bool) → beq a b ≡ same_bool a b
 bool_equality true true = refl
 bool_equality true false = refl
@@ -39,9 +64,18 @@ pub words_equality : (a b : Words) → words.ghosts.eq a b ≡ same_words a b
 unfolding same_words
 words_equality a b = refl
 
-pub gate_equality : (a b : Gate) → gate.ghosts.eq a b ≡ same_gate a b
+gate_parts :
+    (h k : Option ℕ) (s t : ℕ) →
+    gate.ghosts.eq (record { holder = h; seq = s }) (record { holder = k; seq = t })
+    ≡ same_gate (record { holder = h; seq = s }) (record { holder = k; seq = t })
 unfolding same_gate
-gate_equality a b = rw (holder_equality a.holder b.holder)
+gate_parts None None s t = refl
+gate_parts None (Some n) s t = refl
+gate_parts (Some m) None s t = refl
+gate_parts (Some m) (Some n) s t = refl
+
+pub gate_equality : (a b : Gate) → gate.ghosts.eq a b ≡ same_gate a b
+gate_equality a b = gate_parts a.holder b.holder a.seq b.seq
 
 pub record_equality : (a b : Record) → cell_record.ghosts.eq a b ≡ same_record a b
 unfolding same_record

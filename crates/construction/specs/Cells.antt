@@ -1,6 +1,6 @@
 -- The shared cells (document 01, 'Shared cells'): opening values, whole-cell equality, and the swap.
-use Rattle.std.specs.Prelude.{ℕ, ◌+◌, ◌%◌, ◌<◌, Bool, true, false, cond, not, ◌&&◌, eqb}
-use Rattle.construction.specs.Types.{Holder, Nobody, Process, Gate, Flag, Done, Active, Exit, Words, Yield, Announcement, Record, SwappedCell}
+use Rattle.std.specs.Prelude.{ℕ, ◌+◌, ◌%◌, ◌<◌, Bool, true, false, cond, not, ◌&&◌, eqb, Option, None, Some}
+use Rattle.construction.specs.Types.{Gate, Flag, Done, Active, Exit, Words, Yield, Announcement, Record, SwappedCell}
 
 -- four zeros
 abbrev pub zeros : Words
@@ -22,7 +22,7 @@ fault_yield = record { outputs = zeros; fault = true }
 
 -- 'Gate: .. at opening none and 1'
 abbrev pub open_gate : Gate
-open_gate = record { holder = Nobody; seq = 1 }
+open_gate = record { holder = None; seq = 1 }
 
 -- 'Announcement of each process: .. at opening 0, 0, done, zeros', and done under no gate number yet (document 02, order 4)
 abbrev pub open_announcement : Announcement
@@ -37,11 +37,11 @@ abbrev pub open_record : ℕ → Record
 open_record start = record { val0 = start; val1 = 0; toggle = false; seq = 0 }
 
 -- equality of the parts of a cell
-abbrev pub same_holder : Holder → Holder → Bool
-same_holder Nobody Nobody = true
-same_holder Nobody (Process n) = false
-same_holder (Process m) Nobody = false
-same_holder (Process m) (Process n) = eqb m n
+abbrev pub same_holder : Option ℕ → Option ℕ → Bool
+same_holder None None = true
+same_holder None (Some n) = false
+same_holder (Some m) None = false
+same_holder (Some m) (Some n) = eqb m n
 
 abbrev pub is_done : Flag → Bool
 is_done Done = true
@@ -95,7 +95,7 @@ swap_record = swap_by same_record
 
 -- lines P21 and F3: nobody, and the next number; numbers have 64 bits
 unfoldable pub released : Gate → Gate
-released g = record { holder = Nobody; seq = (g.seq + 1) % 18446744073709551616 }
+released g = record { holder = None; seq = (g.seq + 1) % 18446744073709551616 }
 
 -- val[toggle] of a record
 unfoldable pub current : Record → ℕ

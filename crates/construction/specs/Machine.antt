@@ -1,9 +1,10 @@
 -- One step (document 01, 'One step'; lines P1 to P24, C1 to C6, F1 to F4, H1 to H36): one shared access, then all local work up to the next.
-use Rattle.std.specs.Prelude.{ℕ, suc, ◌+◌, ◌%◌, Bool, true, false, cond, not, ◌&&◌, leb, ltb, length, get_or}
-use Rattle.construction.specs.Types.{Holder, Nobody, Process, Gate, Flag, Done, Active, Exit, Words, Yield, Announcement, Record, Program, Item}
+use Rattle.std.specs.Prelude.{ℕ, suc, ◌+◌, ◌%◌, Option, None, Some, Bool, true, false, cond, not, ◌&&◌, leb, ltb, length, get_or}
+use Rattle.std.specs.Option.{is_some, unwrap_or}
+use Rattle.construction.specs.Types.{Gate, Flag, Done, Active, Exit, Words, Yield, Announcement, Record, Program, Item}
 use Rattle.construction.specs.Types.{Dictionary, Simulation, Pause, Ended, Faulted, Lacks, Simulated, Label, Idle, P1, P3, P5, P7, P10, C2, C4, P13, P14}
 use Rattle.construction.specs.Types.{P16, H21, H36, P19, P20, P21, P22, F1, F3, P6, GateAccess, AnnouncementAccess, Access, Cell, Swap, Control}
-use Rattle.construction.specs.Types.{AccessedCell, Began, Helped, Writing, Operation, Card, SwappedCell, Contents}
+use Rattle.construction.specs.Types.{AccessedCell, Begun, Helped, Writing, Operation, Card, SwappedCell, Contents}
 use Rattle.construction.specs.Cells.{is_done, same_holder, swap_gate, swap_announcement, swap_record, released, rewritten}
 use Rattle.construction.specs.Instructions.{started}
 use Rattle.construction.specs.Dictionary.{no_item, empty, noted, item_of, insert, next_write}
@@ -41,9 +42,9 @@ abbrev pub go_to : Control → Label → Control
 go_to t p = record { place = p; target = t.target }
 
 -- lines P11 and P15: by the holder of the gate
-abbrev pub by_holder : Holder → Label → Label → Label
-by_holder Nobody held free = free
-by_holder (Process m) held free = held
+abbrev pub by_holder : Option ℕ → Label → Label → Label
+by_holder None held free = free
+by_holder (Some m) held free = held
 
 -- lines P4, P8, P23, C3 and C5: by the flag of an announcement
 abbrev pub by_flag : Flag → Label → Label → Label → Label
@@ -52,17 +53,17 @@ by_flag Active done active exit = active
 by_flag Exit done active exit = exit
 
 -- the process that holds a gate, 0 where nobody does
-abbrev pub holder_of : Holder → ℕ
-holder_of Nobody = 0
-holder_of (Process m) = m
+abbrev pub holder_of : Option ℕ → ℕ
+holder_of None = 0
+holder_of (Some m) = m
 
 -- lines F2 and F4: a process that holds the gate releases it, any other returns
-abbrev pub after_last : Holder → ℕ → Label
-after_last h i = cond (same_holder h (Process i)) F3 Idle
+abbrev pub after_last : Option ℕ → ℕ → Label
+after_last h i = cond (same_holder h (Some i)) F3 Idle
 
 -- line P13: the gate of a nominee
 abbrev pub nominated : Gate → ℕ → Gate
-nominated g m = record { holder = Process m; seq = g.seq }
+nominated g m = record { holder = Some m; seq = g.seq }
 
 -- line C1: the process whose turn it is, seq mod p
 unfoldable pub first_choice : ℕ → ℕ → ℕ
@@ -205,13 +206,15 @@ helped number x mask =
 abbrev pub helps : Announcement → ℕ → Bool
 helps a number = not (is_done a.flag) && leb a.seq number
 
--- lines P16 to P18, H1: the announcement of the gate's holder is read, and its program begins on the empty dictionary
-unfoldable pub begin_help : ℕ → Program → Announcement → ℕ → Control → Simulation → Began
-begin_help n program cell number control s =
+-- lines P16 to P18, H1: the announcement of the gate's holder is read, and its program begins on the empty dictionary, if it is to be helped; ..
+unfoldable pub begin_help : ℕ → Program → Announcement → ℕ → Option Begun
+begin_help n program cell number =
     let x = helped number (simulate n program cell.words started empty) 0 in
-    cond (helps cell number)
-    (record { helps = true; control = x.control; simulation = x.simulation })
-    (record { helps = false; control = go_to control P21; simulation = s })
+    cond (helps cell number) (Some (record { control = x.control; simulation = x.simulation })) None
+
+-- .. what the process goes on with, whose control and simulation these were
+abbrev pub begun_from : Control → Simulation → Option Begun → Begun
+begun_from control s x = unwrap_or x (record { control = go_to control P21; simulation = s })
 
 -- lines H21 to H25: the record of the control's variable is read and noted, and the program with the inputs goes on;
 -- 'with greater seq the helper goes to P19 with the outputs so far', and notes nothing (document 02, order 1)
@@ -291,10 +294,11 @@ step_announcement a m cell l =
 
 abbrev pub step_help : ℕ → Texts → Announcement → Local → Accessed Announcement
 step_help n t cell l =
-    let x = begin_help n (program_of t cell.program l.gate.seq) cell l.gate.seq l.control l.simulation in
+    let began = begin_help n (program_of t cell.program l.gate.seq) cell l.gate.seq in
+    let x = begun_from l.control l.simulation began in
     record {
       cell = cell;
-      local = after l x.control l.gate cell x.simulation (cond x.helps empty l.dictionary) (cond x.helps 0 l.mask);
+      local = after l x.control l.gate cell x.simulation (cond (is_some began) empty l.dictionary) (cond (is_some began) 0 l.mask);
       swap = Swap.None;
     }
 

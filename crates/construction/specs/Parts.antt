@@ -1,6 +1,6 @@
 -- The parts of a card: the shared cells, the own state of each process, and the card with one part replaced.
-use Rattle.std.specs.Prelude.{ℕ, Bool, false, cond, List, get_or, set, ltb}
-use Rattle.construction.specs.Types.{Nobody, Gate, Announcement, Record, Program, Dictionary, Simulation, Idle, Control, Operation, Card, Contents}
+use Rattle.std.specs.Prelude.{ℕ, Bool, false, cond, List, get_or, set, ltb, None}
+use Rattle.construction.specs.Types.{Gate, Announcement, Record, Program, Dictionary, Simulation, Idle, Control, Operation, Card, Contents}
 use Rattle.construction.specs.Cells.{zeros, open_announcement, open_record}
 use Rattle.construction.specs.Instructions.{started, no_program}
 use Rattle.construction.specs.Dictionary.{empty}
@@ -12,7 +12,7 @@ abbrev pub no_operation : Operation
 no_operation = record { program = 0; inputs = zeros }
 
 abbrev pub no_gate : Gate
-no_gate = record { holder = Nobody; seq = 0 }
+no_gate = record { holder = None; seq = 0 }
 
 -- what a card was opened with
 abbrev pub contents_of : Card → Contents

@@ -1,8 +1,8 @@
 -- The paper's flow as a relation between labels (document 02, order 1: 'The labels of one operation, read in sequence, must be a path that the
 -- numbered lines allow'): what an access found, the edges from one access to the next with the lines that allow each, where a path ends, and the
 -- accesses of an operation by the run itself.
-use Rattle.std.specs.Prelude.{ℕ, ◌≤◌, ◌<◌, ◌≡◌, Bool, true, false, cond, not, ◌&&◌, ◌≢◌, ◌⊎◌, List, [], ◌∷◌, eqb, ltb}
-use Rattle.construction.specs.Types.{Nobody, Process, Gate, Done, Active, Exit, Words, Yield, Announcement, Record, Program, Item, Dictionary, Pause}
+use Rattle.std.specs.Prelude.{ℕ, ◌≤◌, ◌<◌, ◌≡◌, Bool, true, false, cond, not, ◌&&◌, ◌≢◌, ◌⊎◌, List, [], ◌∷◌, eqb, ltb, None, Some}
+use Rattle.construction.specs.Types.{Gate, Done, Active, Exit, Words, Yield, Announcement, Record, Program, Item, Dictionary, Pause}
 use Rattle.construction.specs.Types.{Ended, Faulted, Lacks, Cell, Swap, Card, Answer, Label, Report}
 use Rattle.construction.specs.Cells.{zeros, current}
 use Rattle.construction.specs.Instructions.{started, no_program}
@@ -81,8 +81,8 @@ pub data Edge (i number : ℕ) : Label → Swap → Found → Bool → Label →
   P7-F1 : {a : Announcement} {wish : Bool} → a.flag ≡ Done → Edge i number Label.P7 Swap.None (Found.announcement a) wish Label.F1
   P7-P10 : {a : Announcement} {wish : Bool} → a.flag ≢ Done → Edge i number Label.P7 Swap.None (Found.announcement a) wish Label.P10
   -- P11: nobody holds the gate, so P12, C1 and C2; else P15 and P16
-  P10-C2 : {g : Gate} {wish : Bool} → g.holder ≡ Nobody → Edge i number Label.P10 Swap.None (Found.gate g) wish Label.C2
-  P10-P16 : {g : Gate} {wish : Bool} → g.holder ≢ Nobody → Edge i number Label.P10 Swap.None (Found.gate g) wish Label.P16
+  P10-C2 : {g : Gate} {wish : Bool} → g.holder ≡ None → Edge i number Label.P10 Swap.None (Found.gate g) wish Label.C2
+  P10-P16 : {g : Gate} {wish : Bool} → g.holder ≢ None → Edge i number Label.P10 Swap.None (Found.gate g) wish Label.P16
   -- C3: active, so P13; else C4
   C2-P13 : {a : Announcement} {wish : Bool} → a.flag ≡ Active → Edge i number Label.C2 Swap.None (Found.announcement a) wish Label.P13
   C2-C4 : {a : Announcement} {wish : Bool} → a.flag ≢ Active → Edge i number Label.C2 Swap.None (Found.announcement a) wish Label.C4
@@ -92,8 +92,8 @@ pub data Edge (i number : ℕ) : Label → Swap → Found → Bool → Label →
   -- P14 follows P13
   P13-P14 : {s : Swap} {f : Found} {wish : Bool} → s ≢ Swap.None → Edge i number Label.P13 s f wish Label.P14
   -- P15: somebody holds the gate, so P16; else P22
-  P14-P16 : {g : Gate} {wish : Bool} → g.holder ≢ Nobody → Edge i number Label.P14 Swap.None (Found.gate g) wish Label.P16
-  P14-P22 : {g : Gate} {wish : Bool} → g.holder ≡ Nobody → Edge i number Label.P14 Swap.None (Found.gate g) wish Label.P22
+  P14-P16 : {g : Gate} {wish : Bool} → g.holder ≢ None → Edge i number Label.P14 Swap.None (Found.gate g) wish Label.P16
+  P14-P22 : {g : Gate} {wish : Bool} → g.holder ≡ None → Edge i number Label.P14 Swap.None (Found.gate g) wish Label.P22
   -- P17: done or newer than the number, so P21; else P18 and Help (H1): its first access is H21 (H20), or it has none (a fault is one way, document
   -- 02, order 6) and P19 follows, as an empty dictionary has nothing to write (H31). Inside Help `HelpsAsDue` below says which of the edges is taken, and
   -- which record is accessed
@@ -124,14 +124,14 @@ pub data Edge (i number : ℕ) : Label → Swap → Found → Bool → Label →
   P22-P10 : {a : Announcement} → a.flag ≡ Active → Edge i number Label.P22 Swap.None (Found.announcement a) false Label.P10
   P22-F1 : {a : Announcement} {wish : Bool} → a.flag ≡ Done → Edge i number Label.P22 Swap.None (Found.announcement a) wish Label.F1
   -- F2: the process itself holds the gate, so F3
-  F1-F3 : {g : Gate} {wish : Bool} → g.holder ≡ Process i → Edge i number Label.F1 Swap.None (Found.gate g) wish Label.F3
+  F1-F3 : {g : Gate} {wish : Bool} → g.holder ≡ Some i → Edge i number Label.F1 Swap.None (Found.gate g) wish Label.F3
 
 -- THE ENDS: the access at which an operation of process i returns, and how.
 pub data End (i : ℕ) : Label → Swap → Found → Event → Type 0 where
   -- P4, P23: the operation asked to exit and was not finished
   P22 : {a : Announcement} → a.flag ≡ Exit → End i Label.P22 Swap.None (Found.announcement a) (Event.returned Return.exited)
   -- F2, F4: another holds the gate, or nobody
-  F1 : {g : Gate} {number : ℕ} {y : Yield} → g.holder ≢ Process i → End i Label.F1 Swap.None (Found.gate g) (Event.returned (Return.done number y))
+  F1 : {g : Gate} {number : ℕ} {y : Yield} → g.holder ≢ Some i → End i Label.F1 Swap.None (Found.gate g) (Event.returned (Return.done number y))
   -- F4, won or lost
   F3 : {s : Swap} {f : Found} {number : ℕ} {y : Yield} → s ≢ Swap.None → End i Label.F3 s f (Event.returned (Return.done number y))
 

@@ -1,6 +1,6 @@
 -- Call, exit request (document 01: wish), step and read (document 01: look), with refusals 5 to 10 (document 01, 'Turned back').
-use Rattle.std.specs.Prelude.{ℕ, Bool, true, false, cond, not, ◌&&◌, eqb, ltb}
-use Rattle.construction.specs.Types.{Holder, Nobody, Process, Gate, Flag, Done, Active, Exit, Words, Announcement, Record, Label, Idle, P1, Card, Refusal}
+use Rattle.std.specs.Prelude.{ℕ, Bool, true, false, cond, not, ◌&&◌, eqb, ltb, Option, None, Some}
+use Rattle.construction.specs.Types.{Gate, Flag, Done, Active, Exit, Words, Announcement, Record, Label, Idle, P1, Card, Refusal}
 use Rattle.construction.specs.Types.{NoProcess, NoProgram, Busy, NotBusy, NoPlace, LimitReached, Answer, Answered}
 use Rattle.construction.specs.Labels.{same_label}
 use Rattle.construction.specs.Cells.{yield_of, is_done, current, previous}
@@ -102,9 +102,9 @@ step c i =
     (record { card = advance c i; answer = answer_of (local_at (advance c i) i) })))
 
 -- the gate has a holder whose flag is not done: by the announcement of that holder
-abbrev pub pending : Holder → Announcement → Bool
-pending Nobody a = false
-pending (Process m) a = not (is_done a.flag)
+abbrev pub pending : Option ℕ → Announcement → Bool
+pending None a = false
+pending (Some m) a = not (is_done a.flag)
 
 abbrev pub unfinished : Gate → Announcement → Record → Bool
 unfinished g a r = pending g.holder a && eqb r.seq g.seq

@@ -1,8 +1,6 @@
 -- The types of this crate, which src/ declares, and the variants that stand under their own names, for one `use` line a file
 use Rattle.std.specs.Prelude.{ℕ, Bool, Result}
 use Rattle.grammar.specs.declared.Found.{Found}
-pub use Rattle.construction.specs.declared.cells.Holder.{Holder}
-pub use Rattle.construction.specs.declared.cells.Holder.TheVariants.{Nobody, Process}
 pub use Rattle.construction.specs.declared.cells.Gate.{Gate}
 pub use Rattle.construction.specs.declared.cells.Flag.{Flag}
 pub use Rattle.construction.specs.declared.cells.Flag.TheVariants.{Done, Active, Exit}
@@ -35,7 +33,7 @@ pub use Rattle.construction.specs.declared.accesses.Cell.{Cell}
 pub use Rattle.construction.specs.declared.accesses.Swap.{Swap}
 pub use Rattle.construction.specs.declared.accesses.Control.{Control}
 pub use Rattle.construction.specs.declared.accesses.AccessedCell.{AccessedCell}
-pub use Rattle.construction.specs.declared.accesses.Began.{Began}
+pub use Rattle.construction.specs.declared.accesses.Begun.{Begun}
 pub use Rattle.construction.specs.declared.accesses.Helped.{Helped}
 pub use Rattle.construction.specs.declared.accesses.Writing.{Writing}
 pub use Rattle.construction.specs.declared.card.Operation.{Operation}

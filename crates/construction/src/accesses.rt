@@ -4,7 +4,7 @@ use crate::simulations::{Dictionary, Item, Simulation};
 
 // A label of the paper, which is both where a process stands, the access that its next step makes, and what is told of a step, the access made (document 01,
 // 'One step'). Idle is no access. P5 is the top of the loop, a place only: its access is P6 or P10. P6 is an access only, and the place of no process.
-#[derive(Clone, Copy)]
+#[derive(Clone, Copy, PartialEq, Eq)]
 pub enum Label {
     Idle,
     P1,
@@ -112,10 +112,9 @@ pub struct AccessedCell<T> {
     pub swap: Swap,
 }
 
-// What a process goes on with after the announcement of the gate's holder was read (P16): whether it helps, its control and its simulation.
+// What a process goes on with that began to help (P16 to P18): its control and its simulation.
 #[derive(Clone, Copy)]
-pub struct Began {
-    pub helps: bool,
+pub struct Begun {
     pub control: Control,
     pub simulation: Simulation,
 }

@@ -1,16 +1,9 @@
 // The shared cells, and what a swap of one gives back.
 
-// Who holds the gate.
-#[derive(Clone, Copy, PartialEq, Eq)]
-pub enum Holder {
-    Nobody,
-    Process(u8),
-}
-
-// The gate: the operation that all processes help, and its number.
+// The gate: the process whose operation all processes help, none where nobody holds it, and its number.
 #[derive(Clone, Copy, PartialEq, Eq)]
 pub struct Gate {
-    pub holder: Holder,
+    pub holder: Option<u8>,
     pub seq: u64,
 }
 

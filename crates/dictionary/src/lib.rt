@@ -13,7 +13,7 @@ use construction::simulations::{Dictionary, Item};
 pub fn noted(length: u8) -> u8
     ensures { result ≡ min length 32 }
 {
-    if length < 32 { length } else { 32 }
+    length.min(32)
 }
 
 // Lines H23 to H25: the value of a record under the held gate's number.
@@ -43,10 +43,9 @@ pub fn insert(dictionary: Dictionary, item: Item) -> Dictionary
     ensures { result ≡ insert dictionary item }
 {
     let mut d = dictionary;
-    let length = d.length;
-    if length < 32 {
-        d.items[length as usize] = item;
-        d.length = length + 1;
+    if d.length < 32 {
+        d.items[d.length as usize] = item;
+        d.length += 1;
     }
     d
 }
@@ -56,17 +55,17 @@ pub fn with_bit(mask: u64, variable: u8) -> u64
     ensures { result ≡ with_bit mask variable }
 {
     if variable < 64 {
-        return mask | (1u64 << variable);
+        mask | (1u64 << variable)
+    } else {
+        mask
     }
-    mask
 }
 
 // Line H32: whether an item is to be written.
 pub fn altered(seq: u64, item: Item) -> bool
     ensures { result ≡ altered seq item }
 {
-    let cell = item.cell;
-    cell.seq < seq && cells::current(cell) != item.value
+    item.cell.seq < seq && cells::current(item.cell) != item.value
 }
 
 // Line H31: the place of the first item to be written, from a place on.
@@ -74,13 +73,10 @@ pub fn next_write(seq: u64, dictionary: Dictionary, from: u8) -> u8
     ensures { result ≡ next_write seq dictionary from }
 {
     let end = noted(dictionary.length);
-    let mut k = from;
-    while k < end {
-        let item = dictionary.items[k as usize];
-        if altered(seq, item) {
+    for k in from..end {
+        if altered(seq, dictionary.items[k as usize]) {
             return k;
         }
-        k = k + 1;
     }
-    k
+    from.max(end)
 }

@@ -40,22 +40,17 @@ pub(crate) fn put_changes(
     requires { count ≤ 64 }
     ensures { Tells buffer.old at told (changes_at time count 0 before after) result buffer.new }
 {
-    let mut i = at;
-    let mut last = told;
-    let mut v: u8 = 0;
-    while v < count {
-        let now = put_change(
+    let mut now = Told { at, time: told };
+    for v in 0..count {
+        now = put_change(
             buffer,
-            i,
-            last,
+            now.at,
+            now.time,
             time,
             v,
             value_at(before, v),
             value_at(after, v),
         );
-        i = now.at;
-        last = now.time;
-        v = v + 1;
     }
-    Told { at: i, time: last }
+    now
 }

@@ -65,10 +65,8 @@ fn put_vars(buffer: &mut [u8], at: usize, count: u8) -> usize
     ensures { Put buffer.old at (vars_text count 0) result buffer.new }
 {
     let mut i = at;
-    let mut v: u8 = 0;
-    while v < count {
+    for v in 0..count {
         i = put_var(buffer, i, v);
-        v = v + 1;
     }
     i
 }
@@ -88,8 +86,7 @@ pub(crate) fn value_at(row: [u32; 64], variable: u8) -> u32
     requires { variable < 64 }
     ensures { result ≡ get_or row variable 0 }
 {
-    let at = variable as usize;
-    row[at]
+    row[variable as usize]
 }
 
 // The values of every variable.
@@ -98,10 +95,8 @@ fn put_values(buffer: &mut [u8], at: usize, count: u8, row: [u32; 64]) -> usize
     ensures { Put buffer.old at (values_text count 0 row) result buffer.new }
 {
     let mut i = at;
-    let mut v: u8 = 0;
-    while v < count {
+    for v in 0..count {
         i = put_value(buffer, i, v, value_at(row, v));
-        v = v + 1;
     }
     i
 }

@@ -1,5 +1,5 @@
 // What a read shows of every variable of a card.
-ghost use Rattle.std.specs.Prelude.{◌≡◌, min, replicate};
+ghost use Rattle.std.specs.Prelude.{◌≡◌, replicate};
 ghost use Rattle.dump.specs.Histories.{row_of};
 ghost use Rattle.dump_writer.specs.Courses.{shown_from};
 
@@ -9,23 +9,13 @@ use machine::places::holder_of;
 use requests::lookups::announcement_at;
 use requests::reading::value_of;
 
-fn at_most(count: u8) -> usize
-    ensures { result ≡ min 64 count }
-{
-    if count < 64 { count as usize } else { 64 }
-}
-
 // By the gate, the announcement of its holder and the records.
 fn values(gate: Gate, announcement: Announcement, records: [Record; 64], count: u8) -> [u32; 64]
     ensures { result ≡ shown_from gate announcement records count 0 (replicate 64 0) }
 {
     let mut row = [0u32; 64];
-    let all = at_most(count);
-    let mut v: usize = 0;
-    while v < all {
-        let cell = records[v];
-        row[v] = value_of(gate, announcement, cell);
-        v = v + 1;
+    for v in 0..64u8.min(count) as usize {
+        row[v] = value_of(gate, announcement, records[v]);
     }
     row
 }

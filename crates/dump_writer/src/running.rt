@@ -14,86 +14,52 @@ use construction::answers::{Answer, Refusal};
 use session::State;
 use session::running::advance;
 
-const LARGEST: u64 = 18_446_744_073_709_551_615;
-
 // Whether a command steps a process.
 fn is_step(command: Command) -> bool
     ensures { result ≡ steps_in command }
 {
-    match command {
-        Command::Call {
-            process: _,
-            program: _,
-            inputs: _,
-        } => false,
-        Command::Exit { process: _ } => false,
-        Command::Step { process: _ } => true,
-        Command::Trace { process: _ } => true,
-        Command::Read { variable: _ } => false,
-        Command::Change {
-            program: _,
-            from: _,
-            count: _,
-            start: _,
-            end: _,
-        } => false,
-        Command::Malformed => false,
-    }
+    matches!(command, Command::Step { .. } | Command::Trace { .. })
 }
 
 // Whether a command was an accepted step.
 fn counts(command: Command, answer: Answer) -> bool
     ensures { result ≡ counts_in command answer }
 {
-    if is_step(command) {
-        return !is_refused(answer);
-    }
-    false
+    is_step(command) && !is_refused(answer)
 }
 
 fn next_step(steps: u64) -> u64
     ensures { result ≡ place_after steps 1 }
 {
-    if steps < LARGEST { steps + 1 } else { steps }
+    steps.saturating_add(1)
 }
 
 fn few(count: u8) -> u8
     ensures { result ≡ min 64 count }
 {
-    if count < 64 { count } else { 64 }
+    64u8.min(count)
 }
 
 // Carries out a command of the course and puts what it changes.
 fn put_command(course: Course, calls: &[u8], buffer: &mut [u8], at: usize) -> Piece
     ensures { PutsCommand calls.now course buffer.old at result buffer.new }
 {
-    let first = course.session;
-    let advanced = advance(first, calls);
-    let command = advanced.command;
-    let answer = advanced.answer;
+    let advanced = advance(course.session, calls);
     let session = advanced.state;
-    let before = course.row;
-    if !counts(command, answer) {
-        let same = Course {
-            session,
-            count: course.count,
-            row: before,
-            steps: course.steps,
-            told: course.told,
-        };
+    if !counts(advanced.command, advanced.answer) {
+        let same = Course { session, ..course };
         return Piece { course: same, at };
     }
-    let card = session.card;
-    let row = row_of(card);
+    let row = row_of(session.card);
     let steps = next_step(course.steps);
     let count = few(course.count);
-    let now = put_changes(buffer, at, course.told, steps, count, before, row);
+    let now = put_changes(buffer, at, course.told, steps, count, course.row, row);
     let next = Course {
         session,
-        count: course.count,
         row,
         steps,
         told: now.time,
+        ..course
     };
     Piece {
         course: next,
@@ -105,9 +71,8 @@ fn put_command(course: Course, calls: &[u8], buffer: &mut [u8], at: usize) -> Pi
 pub fn open(state: State, buffer: &mut [u8]) -> Piece
     ensures { Opens state buffer.old result buffer.new }
 {
-    let card = state.card;
-    let row = row_of(card);
-    let count = few(card.variable_count);
+    let row = row_of(state.card);
+    let count = few(state.card.variable_count);
     let at = put_opening(buffer, count, row);
     let course = Course {
         session: state,
@@ -132,16 +97,14 @@ pub fn put_commands(course: Course, calls: &[u8], buffer: &mut [u8]) -> Piece
 {
     let mut course = course;
     let mut length: usize = 0;
-    let mut at = course.session.at;
-    while at < calls.len() {
+    // The next place is known when a command is read, so no range gives it.
+    while course.session.at < calls.len() {
         let piece = put_command(course, calls, buffer, length);
-        let end = piece.at;
-        if buffer.len() < end {
+        if buffer.len() < piece.at {
             return Piece { course, at: length };
         }
         course = piece.course;
-        length = end;
-        at = course.session.at;
+        length = piece.at;
     }
     Piece { course, at: length }
 }
@@ -153,12 +116,11 @@ fn put_left(course: Course, calls: &[u8], buffer: &mut [u8], at: usize) -> usize
 {
     let mut course = course;
     let mut i = at;
-    let mut place = course.session.at;
-    while place < calls.len() {
+    // As in `put_commands`, no range gives the next place.
+    while course.session.at < calls.len() {
         let piece = put_command(course, calls, buffer, i);
         course = piece.course;
         i = piece.at;
-        place = course.session.at;
     }
     put_above(buffer, i, course.told, course.steps)
 }
@@ -175,8 +137,7 @@ fn put_dump(card: &[u8], calls: &[u8], buffer: &mut [u8]) -> usize
         line: 1,
     };
     let piece = open(state, buffer);
-    let course = piece.course;
-    put_left(course, calls, buffer, piece.at)
+    put_left(piece.course, calls, buffer, piece.at)
 }
 
 // The length of the dump is learnt from a buffer of no bytes; then the dump is put where it fits.

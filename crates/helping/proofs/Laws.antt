@@ -229,10 +229,6 @@ astray_true n x t =
 astray_false : (n x : ℕ) → is_astray n x ≡ false → eqb x 0 ≡ false → is_cell n x ≡ true
 astray_false n x f z = let l : leb n x ≡ false = rw z at f in rw (z, lt-ltb x n (leb-false n x l))
 
-pub astray_most : (n x : ℕ) {b : Bool} → b ≡ is_astray n x → b ≡ false → x ≤ n
-astray_most n x e f =
-    ⊎_elim (λ z. omega (arith, eqb-true x 0 z)) (λ z. omega (arith, leb-false n x (rw z at (sym e ∙ f)))) (true_or_false (eqb x 0))
-
 no_cell : (n x : ℕ) → x ≡ 0 → is_cell n x ≡ false
 no_cell n x e = rw e
 
@@ -431,7 +427,7 @@ one_turn n program inputs m s d =
 
 -- a turn within a run: of the dictionary d only the values changed so far, and `fuel` instructions are left
 module _ {ks before : List ℕ} {end : ℕ} {d : Dictionary} (h : Numbered ks before end d) where
-  pub numbered_again : (xs : List ℕ) → length xs ≡ length before → Numbered ks xs end (with_values d (take end xs))
+  numbered_again : (xs : List ℕ) → length xs ≡ length before → Numbered ks xs end (with_values d (take end xs))
   numbered_again xs same =
       record {
         keyed = (keyed h (take end xs)).1;

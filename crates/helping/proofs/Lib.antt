@@ -1,4 +1,3 @@
 -- Laws that the proofs of the functions cite
-pub mod Rooms
 pub mod Laws
 pub mod Lines

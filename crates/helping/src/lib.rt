@@ -11,7 +11,7 @@ ghost use Rattle.construction.specs.Machine.{write_control, pause_control, helps
 
 use crate::numbers::Numbers;
 use crate::simulation::simulate;
-use construction::accesses::{Began, Control, Helped, Label, Writing};
+use construction::accesses::{Begun, Control, Helped, Label, Writing};
 use construction::cells::{Announcement, Record, Words};
 use construction::programs::Program;
 use construction::simulations::{Dictionary, Pause, Simulation};
@@ -57,35 +57,20 @@ pub fn after_pause(pause: Pause, next: u8, end: u8) -> Control
     }
 }
 
-// Lines P16 to P18, H1: the program of an announcement starts. It runs up to its first touch of a variable, so that there is nothing
-// of a dictionary yet: no keys and no values.
-pub fn begin_help(
-    n: u8,
-    program: Program,
-    cell: Announcement,
-    number: u64,
-    control: Control,
-    simulation: Simulation,
-) -> Began
-    ensures { result ≡ begin_help n program cell number control simulation }
+// Lines P16 to P18, H1: the program of an announcement starts, if it is to be helped. It runs up to its first touch of a variable, so that
+// there is nothing of a dictionary yet: no keys and no values.
+pub fn begin_help(n: u8, program: Program, cell: Announcement, number: u64) -> Option<Begun>
+    ensures { result ≡ begin_help n program cell number }
 {
-    if helps(cell, number) {
-        let mut numbers = Numbers::none();
-        let paused = simulate(n, &program, cell.words, opening::started(), &mut numbers);
-        return Began {
-            helps: true,
-            control: after_pause(paused.pause, 0, 0),
-            simulation: paused.simulation,
-        };
+    if !helps(cell, number) {
+        return None;
     }
-    Began {
-        helps: false,
-        control: Control {
-            place: Label::P21,
-            target: control.target,
-        },
-        simulation,
-    }
+    let mut numbers = Numbers::none();
+    let paused = simulate(n, &program, cell.words, opening::started(), &mut numbers);
+    Some(Begun {
+        control: after_pause(paused.pause, 0, 0),
+        simulation: paused.simulation,
+    })
 }
 
 // Lines H21 to H25: a record that was read is noted in the dictionary and in the set of the variables noted, and the program goes on. Its values

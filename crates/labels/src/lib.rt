@@ -3,7 +3,7 @@
 #![tactic(auto)]
 
 ghost use Rattle.std.specs.Prelude.{◌≡◌};
-ghost use Rattle.construction.specs.Labels.{row, label_row, same_label};
+ghost use Rattle.construction.specs.Labels.{row, label_row};
 
 use construction::accesses::{Label, LabelRow};
 
@@ -44,13 +44,4 @@ pub fn label_row(label: Label) -> LabelRow
         Label::F3 => row(b'F', 3, false, 18),
         Label::P6 => row(b'P', 6, false, 19),
     }
-}
-
-// Whether two labels are the same.
-pub fn same_label(a: Label, b: Label) -> bool
-    ensures { result ≡ same_label a b }
-{
-    let left = label_row(a);
-    let right = label_row(b);
-    left.word == right.word
 }

@@ -1,6 +1,6 @@
 -- The row of records and the gate that are lent, what is put into them, and rows compared
-use Rattle.std.specs.Prelude.{ℕ, Bool, true, false, ◌&&◌, List, [], ◌∷◌, get_or}
-use Rattle.construction.specs.declared.{cells.Gate.Gate, cells.Holder.Holder, cells.Record.Record}
+use Rattle.std.specs.Prelude.{ℕ, Bool, true, false, ◌&&◌, List, [], ◌∷◌, get_or, None, Some}
+use Rattle.construction.specs.declared.{cells.Gate.Gate, cells.Record.Record}
 use Rattle.construction.specs.Cells.{open_record, same_record}
 
 abbrev pub record_of : ℕ → ℕ → Bool → ℕ → Record
@@ -16,10 +16,10 @@ new_record = record_of 9 8 true 7
 
 -- the gate that is lent, and the one that a swap puts in
 abbrev pub held_gate : Gate
-held_gate = record { holder = Holder.Process 1; seq = 7 }
+held_gate = record { holder = Some 1; seq = 7 }
 
 abbrev pub free_gate : Gate
-free_gate = record { holder = Holder.Nobody; seq = 8 }
+free_gate = record { holder = None; seq = 8 }
 
 abbrev pub same_at : List Record → List Record → ℕ → Bool
 same_at a b k = same_record (get_or a k (open_record 0)) (get_or b k (open_record 0))

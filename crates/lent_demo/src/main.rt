@@ -9,7 +9,7 @@ ghost use Rattle.lent_demo.specs.Rows.{record_of, first_row, new_record, held_ga
 
 use answers::put_row_swap;
 use construction::answers::Refusal;
-use construction::cells::{Gate, Holder, Record, SwappedCell};
+use construction::cells::{Gate, Record, SwappedCell};
 use host::show;
 
 // A row that came back from a loan, and what the swap answered.
@@ -81,7 +81,7 @@ fn held_gate() -> Gate
     ensures { result ≡ held_gate }
 {
     Gate {
-        holder: Holder::Process(1),
+        holder: Some(1),
         seq: 7,
     }
 }
@@ -91,7 +91,7 @@ fn free_gate() -> Gate
     ensures { result ≡ free_gate }
 {
     Gate {
-        holder: Holder::Nobody,
+        holder: None,
         seq: 8,
     }
 }
@@ -187,7 +187,7 @@ fn gate_cases(rt: &impl Print) {
         rt,
         b"gate,other seq,",
         Gate {
-            holder: Holder::Process(1),
+            holder: Some(1),
             seq: 6,
         },
         held,
@@ -196,7 +196,7 @@ fn gate_cases(rt: &impl Print) {
         rt,
         b"gate,other process,",
         Gate {
-            holder: Holder::Process(0),
+            holder: Some(0),
             seq: 7,
         },
         held,
@@ -205,7 +205,7 @@ fn gate_cases(rt: &impl Print) {
         rt,
         b"gate,nobody,",
         Gate {
-            holder: Holder::Nobody,
+            holder: None,
             seq: 7,
         },
         held,

@@ -2,13 +2,15 @@
 use Prim.Native.Nat.{ℕ, ◌*◌, ◌<◌, ◌≤◌, min}
 use mathlib.Core.Path.{◌≡◌, refl, sym, ◌∙◌, ap}
 use mathlib.Core.Bool.{Bool, true, false, cond}
+use Rattle.std.specs.Prelude.{Option, Some, None}
+use Rattle.std.specs.Option.{is_some}
 use mathlib.Core.List.{List}
 use native.Mathlib.Omega.{arith}
 use lib.ListN.{length, set}
-use Rattle.construction.specs.declared.accesses.Began.{Began}
+use Rattle.construction.specs.declared.accesses.Begun.{Begun}
 use Rattle.construction.specs.Dictionary.{empty}
 use Rattle.construction.specs.Parts.{local_at, announcement_at, texts_of, program_of, with_own, with_announcement, with_steps}
-use Rattle.construction.specs.Machine.{go_to, holder_of, helps, helped, begin_help, perform}
+use Rattle.construction.specs.Machine.{go_to, holder_of, helps, helped, begin_help, begun_from, perform}
 use Rattle.codes.specs.Types.{Gate, Announcement, Program, Dictionary, Simulation, Control, Access, Card, P21}
 use Rattle.construction.proofs.Simulating.Sizes.{FitsSimulation}
 use Rattle.codes.proofs.Values.{FitsAnnouncement}
@@ -63,21 +65,22 @@ module _ (b l : List ℕ) (long : 1456 ≤ length b) (i : ℕ) where
       ∙ begun_placed (card_of b l) i s a t
 
   -- the access on what is taken out, but for the simulation, which stays where nothing is helped
-  abbrev begun_as : ℕ → Program → Announcement → ℕ → Control → Began
-  begun_as n y cell number control = begin_help n y cell number control (local_at (card_of b l) i).simulation
+  abbrev begun_as : Control → Option Begun → Begun
+  begun_as control began = begun_from control (local_at (card_of b l) i).simulation began
 
   -- the card after the access, but for the counts
-  abbrev begun_card : ℕ → Announcement → Began → Card
-  begun_card m cell x =
+  abbrev begun_card : ℕ → Announcement → Control → Option Begun → Card
+  begun_card m cell control began =
       let o = local_at (card_of b l) i in
-      placed (with_announcement (card_of b l) m cell) i x.control o.gate cell x.simulation (cond x.helps empty o.dictionary)
-      (cond x.helps 0 o.mask)
+      let x = begun_as control began in
+      placed (with_announcement (card_of b l) m cell) i x.control o.gate cell x.simulation (cond (is_some began) empty o.dictionary)
+      (cond (is_some began) 0 o.mask)
 
   help_placed :
       let number = number_in b i in
       let cell = helped_in b i in
       card_of (help_step b i) l
-      ≡ begun_card (holder_of (last_gate_in b i).holder) cell (begun_as (variable_count_in b) (text_in b cell.program number) cell number (control_in b i))
+      ≡ begun_card (holder_of (last_gate_in b i).holder) cell (control_in b i) (begin_help (variable_count_in b) (text_in b cell.program number) cell number)
   unfolding help_step begin_help
   help_placed = go (helps (helped_in b i) (number_in b i))
     where
@@ -87,9 +90,8 @@ module _ (b l : List ℕ) (long : 1456 ≤ length b) (i : ℕ) where
           let cell = helped_in b i in
           let x = helped number (begun_in b number cell) 0 in
           card_of (cond t (help_begun b i number cell) (help_passed b i cell)) l
-          ≡ begun_card (holder_of (last_gate_in b i).holder) cell
-          (cond t (record { helps = true; control = x.control; simulation = x.simulation })
-          (record { helps = false; control = go_to (control_in b i) P21; simulation = (local_at (card_of b l) i).simulation }))
+          ≡ begun_card (holder_of (last_gate_in b i).holder) cell (control_in b i)
+          (cond t (Some (record { control = x.control; simulation = x.simulation })) None)
       go true =
           let number = number_in b i in
           let cell = helped_in b i in
@@ -122,8 +124,9 @@ module _ (b l : List ℕ) (long : 1456 ≤ length b) (i : ℕ) where
       let y : text_in b (helped_in b i).program (number_in b i) ≡ program_of (texts_of c) (announcement_at c (holder_of o.gate.holder)).program o.gate.seq =
       text_is b l (helped_in b i).program (number_in b i) ∙ (λ j. program_of (texts_of c) (cell j).program (number j)) in
       let found = announcement_at c (holder_of o.gate.holder) in
-      let x = begun_as c.variable_count (program_of (texts_of c) found.program o.gate.seq) found o.gate.seq o.control in
+      let began = begin_help c.variable_count (program_of (texts_of c) found.program o.gate.seq) found o.gate.seq in
+      let x = begun_as o.control began in
       let size = (help_step_kept b i).size in
       accepted (help_step b i) l (omega arith) i (with_announcement c (holder_of o.gate.holder) found) x.control o.gate found x.simulation
-      (cond x.helps empty o.dictionary) (cond x.helps 0 o.mask)
-      (help_placed ∙ λ j. begun_card (m j) (cell j) (begun_as (n j) (y j) (cell j) (number j) (control j)))
+      (cond (is_some began) empty o.dictionary) (cond (is_some began) 0 o.mask)
+      (help_placed ∙ λ j. begun_card (m j) (cell j) (control j) (begin_help (n j) (y j) (cell j) (number j)))

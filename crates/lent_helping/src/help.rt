@@ -25,16 +25,12 @@ fn put_begun(b: &mut [u64], i: u8, number: u64, cell: Announcement)
 fn put_passed(b: &mut [u64], i: u8, cell: Announcement)
     ensures { b.new ≡ help_passed b.old i cell }
 {
-    let control = control(b, i);
+    let passed = Control {
+        place: Label::P21,
+        ..control(b, i)
+    };
     put_last(b, i, cell);
-    put_control(
-        b,
-        i,
-        Control {
-            place: Label::P21,
-            target: control.target,
-        },
-    );
+    put_control(b, i, passed);
 }
 
 // Line P16: the announcement of the gate's holder is read.
@@ -42,8 +38,7 @@ pub fn step_help(b: &mut [u64], i: u8)
     ensures { b.new ≡ help_step b.old i }
 {
     let gate = last_gate(b, i);
-    let holder = gate.holder;
-    let cell = announcement(b, holder_of(holder));
+    let cell = announcement(b, holder_of(gate.holder));
     if helps(cell, gate.seq) {
         put_begun(b, i, gate.seq, cell);
     } else {

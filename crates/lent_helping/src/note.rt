@@ -43,15 +43,11 @@ fn put_item(b: &mut [u64], l: &mut [u64], i: u8, number: u64, item: Item)
 fn put_newer(b: &mut [u64], i: u8)
     ensures { b.new ≡ put_control b.old i (go_to (control_in b.old i) P19) }
 {
-    let control = control(b, i);
-    put_control(
-        b,
-        i,
-        Control {
-            place: Label::P19,
-            target: control.target,
-        },
-    );
+    let passed = Control {
+        place: Label::P19,
+        ..control(b, i)
+    };
+    put_control(b, i, passed);
 }
 
 // Line H21: the record that the simulation lacks is read.
@@ -59,8 +55,7 @@ pub fn step_note(b: &mut [u64], l: &mut [u64], i: u8)
     ensures { (b.new ≡ note_block b.old l.old i) × (l.new ≡ note_loan b.old l.old i) }
 {
     let gate = last_gate(b, i);
-    let control = control(b, i);
-    let v = control.target;
+    let v = control(b, i).target;
     let cell = record(b, v);
     if gate.seq < cell.seq {
         put_newer(b, i);

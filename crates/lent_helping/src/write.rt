@@ -15,9 +15,8 @@ use machine::record::write;
 fn put_swapped(b: &mut [u64], v: u8, x: SwappedCell<Record>)
     ensures { b.new ≡ record_swapped b.old v x }
 {
-    let cell = x.cell;
     if x.won {
-        put_record(b, v, cell);
+        put_record(b, v, x.cell);
     }
 }
 
@@ -27,11 +26,9 @@ pub fn step_write(b: &mut [u64], l: &[u64], i: u8) -> Swap
 {
     let gate = last_gate(b, i);
     let writing = writing(b, l, i, gate.seq, control(b, i));
-    let item = writing.item;
-    let control = writing.control;
-    let v = item.variable;
-    let swapped = write(record(b, v), item, gate.seq);
+    let v = writing.item.variable;
+    let swapped = write(record(b, v), writing.item, gate.seq);
     put_swapped(b, v, swapped);
-    put_control(b, i, control);
+    put_control(b, i, writing.control);
     outcome(swapped.won)
 }

@@ -13,14 +13,9 @@ pub(crate) fn alter(l: &mut [u64], words: usize, x: u64) -> u64
 {
     let mut drawn = x;
     if x != 0 {
-        let mut k: usize = 0;
-        while k < l.len() {
-            if words <= k {
-                return drawn;
-            }
+        for k in 0..words.min(l.len()) {
             drawn = next(drawn);
             l[k] = drawn;
-            k = k + 1;
         }
     }
     drawn
@@ -30,12 +25,10 @@ pub(crate) fn alter(l: &mut [u64], words: usize, x: u64) -> u64
 pub(crate) fn is_kept(l: &[u64], start: usize) -> bool
     ensures { result ≡ kept (drop start l.now) }
 {
-    let mut k = start;
-    while k < l.len() {
+    for k in start..l.len() {
         if l[k] != PATTERN {
             return false;
         }
-        k = k + 1;
     }
     true
 }

@@ -41,9 +41,9 @@ pub(crate) fn execute(calls: &[u8], b: &mut [u64], l: &mut [u64], command: Comma
         Command::Change {
             program,
             from,
-            count: _,
             start,
             end,
+            ..
         } => untold(change(b, program, from as u64, &calls[start..end])),
         Command::Malformed => untold(Answer::Refused(Refusal::Malformed)),
     }
@@ -62,23 +62,12 @@ fn asks(b: &mut [u64], command: Command) -> bool
     ensures { (result ≡ (asked_for b.old command).refused) × (b.new ≡ (asked_for b.old command).block) }
 {
     match command {
-        Command::Call {
-            process: _,
-            program: _,
-            inputs: _,
-        } => true,
-        Command::Exit { process: _ } => true,
-        Command::Step { process } => refuses(b, process),
-        Command::Trace { process } => refuses(b, process),
-        Command::Read { variable: _ } => true,
-        Command::Change {
-            program: _,
-            from: _,
-            count: _,
-            start: _,
-            end: _,
-        } => true,
-        Command::Malformed => true,
+        Command::Step { process } | Command::Trace { process } => refuses(b, process),
+        Command::Call { .. }
+        | Command::Exit { .. }
+        | Command::Read { .. }
+        | Command::Change { .. }
+        | Command::Malformed => true,
     }
 }
 
@@ -86,10 +75,8 @@ fn asks(b: &mut [u64], command: Command) -> bool
 pub(crate) fn refuses_short(short: bool, b: &mut [u64], command: Command) -> bool
     ensures { (result ≡ (asked_short short b.old command).refused) × (b.new ≡ (asked_short short b.old command).block) }
 {
-    if short {
-        if 2 < loan_words(b) {
-            return asks(b, command);
-        }
+    if short && 2 < loan_words(b) {
+        return asks(b, command);
     }
     true
 }

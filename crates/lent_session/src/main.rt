@@ -16,14 +16,13 @@ use crate::altering::{PATTERN, alter, is_kept};
 use crate::answering::refuses_short;
 use crate::printing::{put_command, put_start};
 use commands::reading::command_at;
-use grammar::Found;
 use grammar::reading::number_at;
 use host::{argument, argument_count, fail, read_file};
 use loan::dictionaries::loan_words;
-use report::same::both;
 use std::rt::Env;
 
-// What was put into a buffer: its length, and where the next command stands.
+// What was put into a buffer: its length, and where the next command stands. After a refusal that is the end of the calls, and no Option, since a session is
+// run from there too: what is told at its end is told after a refusal as well.
 #[derive(Clone, Copy)]
 struct Begun {
     length: usize,
@@ -34,10 +33,10 @@ struct Begun {
 fn number_of(rt: &impl Env, place: usize) -> u64 {
     let mut text = host::buffer();
     argument(rt, place, &mut text);
-    let Some(Found { value, .. }) = number_at(&text, 0) else {
-        return 0;
-    };
-    value
+    match number_at(&text, 0) {
+        Some(found) => found.value,
+        None => 0,
+    }
 }
 
 // With the arguments as they were taken, so that a run without them is not taken for one with them.
@@ -61,14 +60,14 @@ fn run(
     let mut line: u64 = 1;
     let mut drawn = seed;
     let mut kept = true;
+    // The next place is known when a command is read, so no range gives it.
     while at < calls.len() {
         let parsed = command_at(calls, at);
-        let command = parsed.command;
         drawn = alter(l, loan_words(b), drawn);
-        kept = both(kept, refuses_short(short, b, command));
+        kept = refuses_short(short, b, parsed.command) && kept;
         let mut buffer = host::buffer();
-        let length = put_command(calls, command, line, b, l, &mut buffer);
-        kept = both(kept, is_kept(l, loan_words(b)));
+        let length = put_command(calls, parsed.command, line, b, l, &mut buffer);
+        kept = kept && is_kept(l, loan_words(b));
         if let Err(error) = rt.write_all(&buffer[..length]) {
             fail(rt, "lent_session: the session could not be written", &error);
             return;
@@ -91,8 +90,7 @@ fn run_session(
     let mut l = [PATTERN; 800];
     let mut buffer = host::buffer();
     let started = put_start(card, calls, &mut b, &mut buffer);
-    let length = started.length;
-    if let Err(error) = rt.write_all(&buffer[..length]) {
+    if let Err(error) = rt.write_all(&buffer[..started.length]) {
         fail(rt, "lent_session: the session could not be written", &error);
         return;
     }

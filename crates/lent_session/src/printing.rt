@@ -43,7 +43,5 @@ pub(crate) fn put_command(
     ensures { Prints calls.now command line b.old l.old buffer.old result b.new l.new buffer.new }
 {
     let told = execute(calls, b, l, command);
-    let answer = told.answer;
-    let report = told.report;
-    put_line(buffer, 0, line, command, report, answer)
+    put_line(buffer, 0, line, command, told.report, told.answer)
 }

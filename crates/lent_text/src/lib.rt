@@ -18,7 +18,7 @@ use block::cells::{
 };
 use block::texts::{put_start, start};
 use construction::answers::Refusal;
-use construction::cells::{Gate, Holder};
+use construction::cells::Gate;
 use construction::programs::Program;
 use construction::texts::{Contents, RefusedAt};
 use programs::weights::heaviest;
@@ -40,7 +40,7 @@ fn open_gate() -> Gate
     ensures { result ≡ open_gate }
 {
     Gate {
-        holder: Holder::Nobody,
+        holder: None,
         seq: 1,
     }
 }

@@ -17,12 +17,11 @@ use Rattle.codes.specs.Types.{Announcement, Instruction, Program, Dictionary, Si
 use Rattle.codes.proofs.Blocks.{get_or_table}
 use Rattle.block.specs.Layout.{variable_count_in, last_in, simulation_in, put_simulation}
 use Rattle.block.specs.Cards.{text_in, dictionary_at}
-use Rattle.loan.specs.declared.dictionaries.Span.{Span}
+use Rattle.loan.specs.declared.items.Span.{Span}
 use Rattle.loan.specs.Items.{keys_at, values_at, put_values}
-use Rattle.loan.specs.Loans.{span_in}
+use Rattle.loan.specs.Loans.{Fits, span_in}
 use Rattle.loan.specs.Simulated.{begun_in, simulated_in, simulated_loan, values_of, Simulates}
 use Rattle.loan.proofs.Held.{numbered, values_same, values_are}
-use Rattle.loan.proofs.Spans.{Fits}
 
 -- the instruction at the counter, of a skip at most what is left of the program
 pub fetched :

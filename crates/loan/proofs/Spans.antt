@@ -15,9 +15,9 @@ use Rattle.codes.specs.Types.{Item, Control}
 use Rattle.codes.specs.Parts.{stores}
 use Rattle.codes.specs.Codes.{item_words}
 use Rattle.block.specs.Layout.{number_at, room_in, noted_in, put_noted}
-use Rattle.loan.specs.declared.dictionaries.Span.{Span}
+use Rattle.loan.specs.declared.items.Span.{Span}
 use Rattle.block.specs.Cards.{dictionary_at}
-use Rattle.loan.specs.Loans.{has_items, span_in, held_dictionary, is_inserted, insert_block, insert_loan}
+use Rattle.loan.specs.Loans.{Fits, has_items, span_in, held_dictionary, is_inserted, insert_block, insert_loan}
 
 pub room_small : (w x : ℕ) → w ≡ min x 32 → w ≤ 32
 room_small w x e = omega arith
@@ -31,11 +31,6 @@ base_small w i h p =
 pub has_long : (b l : List ℕ) (i : ℕ) → has_items b l i ≡ true → (room_in b * i + room_in b) * 3 ≤ length l
 unfolding has_items
 has_long b l i e = leb-true ((room_in b * i + room_in b) * 3) (length l) e
-
-pub record Fits (l : List ℕ) (s : Span) : Type 0 where
-  pub base : s.base < 10000
-  pub end : s.end ≤ 32
-  pub long : (s.base + s.end) * 3 ≤ length l
 
 pub span_fits : (b l : List ℕ) (i : ℕ) → i < 256 → (s : Span) → s ≡ span_in b l i → Fits l s
 span_fits b l i p s e = rw e (go (has_items b l i) refl)
@@ -60,9 +55,6 @@ insert_fits b l i w n t ew et p q r =
 module _ (b l : List ℕ) (i : ℕ) (s : Span) (e : s ≡ span_in b l i) where
   pub item_of : (k : ℕ) (r : Item) → r ≡ get_or (dictionary_at l s.base s.end).items k no_item → r ≡ get_or (held_dictionary b l i).items k no_item
   item_of k r h = h ∙ ap (λ (z : Span). get_or (dictionary_at l z.base z.end).items k no_item) e
-
-  pub next_of : (seq k r : ℕ) → r ≡ next_write seq (dictionary_at l s.base s.end) k → r ≡ next_write seq (held_dictionary b l i) k
-  next_of seq k r h = h ∙ ap (λ (z : Span). next_write seq (dictionary_at l z.base z.end) k) e
 
   pub writing_of :
       (number : ℕ) (control : Control) (x : Item) (t : Control) → x ≡ get_or (dictionary_at l s.base s.end).items control.target no_item →

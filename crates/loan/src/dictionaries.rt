@@ -4,19 +4,12 @@ ghost use Rattle.construction.specs.Dictionary.{no_item, next_write};
 ghost use Rattle.construction.specs.Machine.{writing};
 ghost use Rattle.loan.specs.Loans.{loan_words, has_items, span_in, held_dictionary, insert_block, insert_loan};
 
-use crate::items;
+use crate::items::Span;
 use block::cells::{process_count, room};
 use block::own::{noted, put_noted};
 use codes::parts::Part;
 use construction::accesses::{Control, Writing};
 use construction::simulations::Item;
-
-// The items that a process has noted: the first of them, and how many these are.
-#[derive(Clone, Copy)]
-pub(crate) struct Span {
-    pub base: usize,
-    pub end: u8,
-}
 
 // How many words the loan of the card in a block takes.
 pub fn loan_words(b: &[u64]) -> usize
@@ -38,39 +31,37 @@ pub(crate) fn items_of(b: &[u64], l: &[u64], i: u8) -> Span
     ensures { result ≡ span_in b.now l.now i }
 {
     if has_items(b, l, i) {
-        let w = room(b) as usize;
-        return Span {
-            base: w * (i as usize),
+        Span {
+            base: room(b) as usize * (i as usize),
             end: noted(b, i),
-        };
+        }
+    } else {
+        Span { base: 0, end: 0 }
     }
-    Span { base: 0, end: 0 }
 }
 
 // Item k of process i; past the noted ones stands what an empty dictionary has there.
 pub fn item(b: &[u64], l: &[u64], i: u8, k: u8) -> Item
     ensures { result ≡ get_or (held_dictionary b.now l.now i).items k no_item }
 {
-    let s = items_of(b, l, i);
-    items::item_or(l, s.base, s.end, k)
+    items_of(b, l, i).item_or(l, k)
 }
 
 // Line H31: the place of the first item of process i to be written, from a place on.
 pub fn next_write(b: &[u64], l: &[u64], i: u8, seq: u64, from: u8) -> u8
     ensures { result ≡ next_write seq (held_dictionary b.now l.now i) from }
 {
-    let s = items_of(b, l, i);
-    items::next_write(l, s.base, s.end, seq, from)
+    items_of(b, l, i).next_write(l, seq, from)
 }
 
 // Line H36: the item that process i writes, and where it goes on.
 pub fn writing(b: &[u64], l: &[u64], i: u8, number: u64, control: Control) -> Writing
     ensures { result ≡ writing number control (held_dictionary b.now l.now i) }
 {
-    let s = items_of(b, l, i);
+    let span = items_of(b, l, i);
     Writing {
-        item: items::item_or(l, s.base, s.end, control.target),
-        control: items::after_write(l, s.base, s.end, number, control.target),
+        item: span.item_or(l, control.target),
+        control: span.after_write(l, number, control.target),
     }
 }
 

@@ -6,7 +6,6 @@ ghost use Rattle.loan.specs.Simulated.{begun_in, simulated_in, simulated_loan, S
 
 use crate::dictionaries::items_of;
 use crate::fetching::BlockText;
-use crate::items;
 use block::cells::variable_count;
 use block::own::{last, put_simulation, simulation};
 use construction::accesses::Control;
@@ -52,9 +51,9 @@ pub fn go_on(b: &mut [u64], l: &mut [u64], i: u8, number: u64) -> Control
     let a = last(b, i);
     let state = simulation(b, i);
     let mut numbers = Numbers::none();
-    items::get_numbers(l, span.base, span.end, &mut numbers);
+    span.get_numbers(l, &mut numbers);
     let pause = resume(b, i, number, a, state, &mut numbers);
-    items::put_values(l, span.base, &numbers);
-    let next = items::next_write(l, span.base, span.end, number, 0);
+    span.put_values(l, &numbers.values);
+    let next = span.next_write(l, number, 0);
     after_pause(pause, next, span.end)
 }

@@ -5,14 +5,14 @@ ghost use Rattle.construction.specs.Machine.{nominated, read_holder, read_last, 
 use crate::cell::{read_cell, replace_cell};
 use crate::places::{after_last, by_holder, go_to};
 use construction::accesses::{AccessedCell, Control, GateAccess, Label};
-use construction::cells::{Gate, Holder};
+use construction::cells::Gate;
 
 // Line P13: the gate that a nomination stores.
 pub fn nominated(gate: Gate, nominee: u8) -> Gate
     ensures { result ≡ nominated gate nominee }
 {
     Gate {
-        holder: Holder::Process(nominee),
+        holder: Some(nominee),
         seq: gate.seq,
     }
 }

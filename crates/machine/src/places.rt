@@ -4,8 +4,7 @@ ghost use Rattle.construction.specs.Machine.{access_of, go_to, by_holder, by_fla
 ghost use Rattle.construction.specs.Requests.{is_idle};
 
 use construction::accesses::{Access, AnnouncementAccess, Control, GateAccess, Label};
-use construction::cells::{Flag, Holder};
-use labels::same_label;
+use construction::cells::Flag;
 
 // Lines P1, P10 and P14: the gate is read.
 fn read_gate(held: Label, free: Label) -> Access
@@ -77,7 +76,7 @@ pub fn access_of(place: Label, exit: bool) -> Access
 pub fn is_idle(place: Label) -> bool
     ensures { result ≡ is_idle place }
 {
-    same_label(place, Label::Idle)
+    place == Label::Idle
 }
 
 // A control at another place, with its target kept.
@@ -88,13 +87,10 @@ pub fn go_to(control: Control, place: Label) -> Control
 }
 
 // Lines P11 and P15.
-pub fn by_holder(holder: Holder, held: Label, free: Label) -> Label
+pub fn by_holder(holder: Option<u8>, held: Label, free: Label) -> Label
     ensures { result ≡ by_holder holder held free }
 {
-    match holder {
-        Holder::Nobody => free,
-        Holder::Process(_) => held,
-    }
+    if holder.is_some() { held } else { free }
 }
 
 // Lines P4, P8, P23, C3 and C5.
@@ -109,10 +105,10 @@ pub fn by_flag(flag: Flag, done: Label, active: Label, exit: Label) -> Label
 }
 
 // Lines F2 and F4.
-pub fn after_last(holder: Holder, process: u8) -> Label
+pub fn after_last(holder: Option<u8>, process: u8) -> Label
     ensures { result ≡ after_last holder process }
 {
-    if holder == Holder::Process(process) {
+    if holder == Some(process) {
         Label::F3
     } else {
         Label::Idle
@@ -120,13 +116,10 @@ pub fn after_last(holder: Holder, process: u8) -> Label
 }
 
 // The process that holds a gate, 0 where nobody does.
-pub fn holder_of(holder: Holder) -> u8
+pub fn holder_of(holder: Option<u8>) -> u8
     ensures { result ≡ holder_of holder }
 {
-    match holder {
-        Holder::Nobody => 0,
-        Holder::Process(m) => m,
-    }
+    holder.unwrap_or(0)
 }
 
 // Line C1: the process whose turn it is.

@@ -22,23 +22,25 @@ pub fn put_lines(
 {
     let mut state = state;
     let mut length: usize = 0;
+    // The next place is known when a request is read, so no range gives it.
     while state.at < calls.len() {
         if buffer.len() - length < LONGEST {
             return Printed { state, length };
         }
         let parsed = request_at(calls, state.at);
-        let request = parsed.request;
-        let allowance = state.allowance;
-        let told = execute(calls, allowance, blocks, loans, request);
-        let answer = told.answer;
-        let report = told.report;
-        length = put_line(buffer, length, state.line, request, report, answer);
-        let after = told.allowance;
-        let line = next_line(state.line, parsed.lines);
+        let told = execute(calls, state.allowance, blocks, loans, parsed.request);
+        length = put_line(
+            buffer,
+            length,
+            state.line,
+            parsed.request,
+            told.report,
+            told.answer,
+        );
         state = State {
-            allowance: after,
+            allowance: told.allowance,
             at: parsed.next,
-            line,
+            line: next_line(state.line, parsed.lines),
         };
     }
     Printed { state, length }

@@ -18,14 +18,12 @@ fn print_lines(
     loans: &mut [u64],
 ) -> io::Result<()> {
     let mut state = first;
-    let mut at = state.at;
-    while at < calls.len() {
+    // The next place is known when lines are read, so no range gives it.
+    while state.at < calls.len() {
         let mut buffer = host::large_buffer();
         let printed = put_lines(state, calls, blocks, loans, &mut buffer);
-        let length = printed.length;
-        rt.write_all(&buffer[..length])?;
+        rt.write_all(&buffer[..printed.length])?;
         state = printed.state;
-        at = state.at;
     }
     Ok(())
 }
@@ -53,10 +51,8 @@ fn print_session(
         &mut blocks,
         &mut buffer,
     );
-    let length = started.length;
-    rt.write_all(&buffer[..length])?;
-    let state = started.state;
-    print_lines(rt, state, calls, &mut blocks, &mut loans)
+    rt.write_all(&buffer[..started.length])?;
+    print_lines(rt, started.state, calls, &mut blocks, &mut loans)
 }
 
 // Runs a session. At most one byte more than its limit is read of each file. A program has no exit status, so what cannot be written is told on standard error.

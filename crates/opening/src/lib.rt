@@ -10,7 +10,7 @@ ghost use Rattle.construction.specs.Opening.{fresh};
 
 use construction::accesses::{Control, Label};
 use construction::card::{Card, Operation};
-use construction::cells::{Announcement, Flag, Gate, Holder, Record, Words, Yield};
+use construction::cells::{Announcement, Flag, Gate, Record, Words, Yield};
 use construction::programs::{Instruction, Line, Program};
 use construction::simulations::{Dictionary, Item, Simulation};
 use construction::texts::Contents;
@@ -120,6 +120,7 @@ pub fn empty() -> Dictionary
 pub fn fresh(contents: Contents) -> Card
     ensures { result ≡ fresh contents }
 {
+    // variables, since a literal takes no array straight from another value's field: tried, and the proof did not close
     let starts = contents.starts;
     let programs = contents.programs;
     let announcement = open_announcement();
@@ -134,7 +135,7 @@ pub fn fresh(contents: Contents) -> Card
         earlier: programs,
         later: programs,
         gate: Gate {
-            holder: Holder::Nobody,
+            holder: None,
             seq: 1,
         },
         announcements: [announcement; 8],
@@ -151,7 +152,7 @@ pub fn fresh(contents: Contents) -> Card
         exits: [false; 8],
         counts: [0; 8],
         gates_read: [Gate {
-            holder: Holder::Nobody,
+            holder: None,
             seq: 0,
         }; 8],
         announcements_read: [announcement; 8],

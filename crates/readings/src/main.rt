@@ -38,38 +38,32 @@ fn print_row(rt: &impl Print, count: u8, step: u64, values: [u32; 64]) -> io::Re
 // A line for each time of a dump that was taken, as many at a time as a large buffer takes. An error where not all were written.
 fn print_rows(rt: &impl Print, text: &[u8], count: u8) -> io::Result<()> {
     let mut scan = first_scan(text);
-    let mut at = scan.at;
-    while at < text.len() {
+    // The next place is known when lines are read, so no range gives it.
+    while scan.at < text.len() {
         let mut buffer = host::large_buffer();
         let shown = put_rows(text, count, scan, &mut buffer);
-        let end = shown.length;
-        print(rt, &buffer, end)?;
-        scan = shown.scan;
-        let next = scan.at;
-        if next <= at {
+        print(rt, &buffer, shown.length)?;
+        if shown.scan.at <= scan.at {
             return Err(io::Error::from(io::ErrorKind::InvalidData));
         }
-        at = next;
+        scan = shown.scan;
     }
-    let values = scan.values;
-    print_row(rt, count, scan.time, values)
+    print_row(rt, count, scan.time, scan.values)
 }
 
-// Judges a dump, and prints what was asked for. An error where not all of it was written.
-fn print_readings(rt: &impl Print, text: &[u8], all: bool, step: u64) -> io::Result<()> {
+// Judges a dump, and prints what was asked for: the values after a step, or else those after each time. An error where not all of it was written.
+fn print_readings(rt: &impl Print, text: &[u8], asked: Option<u64>) -> io::Result<()> {
     if LIMIT < text.len() {
         return print_refusal(rt, 1, 0);
     }
-    let readings = dump_reader::read(text, step);
+    let readings = dump_reader::read(text, asked.unwrap_or(0));
     if let Err(refused) = readings.verdict {
         return print_refusal(rt, 2, refused.line);
     }
-    let count = readings.count;
-    if all {
-        return print_rows(rt, text, count);
+    match asked {
+        Some(step) => print_row(rt, readings.count, step, readings.values),
+        None => print_rows(rt, text, readings.count),
     }
-    let values = readings.values;
-    print_row(rt, count, step, values)
 }
 
 fn usage(rt: &impl Eprint) {
@@ -84,31 +78,22 @@ fn space() -> [u8; 4194305]
 }
 
 // One byte more than the limit is read. A program has no exit status, so what cannot be written is told on standard error.
-fn run(rt: &(impl Files + Print + Eprint + Alloc), path: &[u8], all: bool, step: u64) {
+fn run(rt: &(impl Files + Print + Eprint + Alloc), path: &[u8], asked: Option<u64>) {
     let mut text = space();
     let length = read_file(rt, path, &mut text);
-    if let Err(error) = print_readings(rt, &text[..length], all, step) {
+    if let Err(error) = print_readings(rt, &text[..length], asked) {
         fail(rt, "readings: the values could not be written", &error);
     }
 }
 
 fn main(rt: HostRuntime) {
-    let count = argument_count(&rt);
     let mut path = host::buffer();
     let path_length = argument(&rt, 1, &mut path);
     let mut asked = [0u8; 32];
     let length = argument(&rt, 2, &mut asked);
-    if count == 2 {
-        run(&rt, &path[..path_length], true, 0);
-        return;
+    match (argument_count(&rt), decimal_of(&asked[..length])) {
+        (2, _) => run(&rt, &path[..path_length], None),
+        (3, Some(step)) if step <= LAST => run(&rt, &path[..path_length], Some(step)),
+        _ => usage(&rt),
     }
-    let Some(step) = decimal_of(&asked[..length]) else {
-        usage(&rt);
-        return;
-    };
-    if count == 3 && step <= LAST {
-        run(&rt, &path[..path_length], false, step);
-        return;
-    }
-    usage(&rt);
 }

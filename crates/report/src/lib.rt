@@ -5,7 +5,7 @@
 pub mod same; // same.rt: whether two cards are the same in every part
 
 use construction::card::Card;
-use construction::cells::{Announcement, Flag, Gate, Holder, Record, Words};
+use construction::cells::{Announcement, Flag, Gate, Record, Words};
 use host::{show, show_decimal};
 
 // A number after a comma.
@@ -21,10 +21,10 @@ fn write_words(rt: &impl Print, words: Words) {
     write_number(rt, words.w3 as u64);
 }
 
-fn write_holder(rt: &impl Print, holder: Holder) {
+fn write_holder(rt: &impl Print, holder: Option<u8>) {
     match holder {
-        Holder::Nobody => show(rt, b",none"),
-        Holder::Process(process) => write_number(rt, process as u64),
+        None => show(rt, b",none"),
+        Some(process) => write_number(rt, process as u64),
     }
 }
 

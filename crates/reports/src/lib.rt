@@ -14,7 +14,7 @@ use construction::answers::{Answer, Report};
 use construction::card::Operation;
 use construction::cells::{Announcement, Gate, Record, Yield};
 use construction::simulations::Item;
-use labels::{label_row, same_label};
+use labels::label_row;
 use machine::announcement::{access_announcement, whose};
 use machine::gate::access_gate;
 use machine::outcome;
@@ -25,7 +25,7 @@ use machine::record::write;
 pub fn label_of(place: Label, exit: bool) -> Label
     ensures { result ≡ label_of place exit }
 {
-    if same_label(place, Label::P5) {
+    if place == Label::P5 {
         if exit { Label::P6 } else { Label::P10 }
     } else {
         place

@@ -5,16 +5,12 @@ ghost use Rattle.construction.specs.Changes.{has_read, is_behind, some_behind};
 
 use construction::accesses::{Control, Label};
 use construction::cells::Gate;
-use labels::same_label;
 
 // Whether an operation has read a gate number: it is past P1.
 pub fn has_read(place: Label) -> bool
     ensures { result ≡ has_read place }
 {
-    if same_label(place, Label::Idle) {
-        return false;
-    }
-    !same_label(place, Label::P1)
+    !(place == Label::Idle || place == Label::P1)
 }
 
 // Whether the operation of a process that stands at this place and last read this gate is behind a number.

@@ -2,25 +2,20 @@
 ghost use Rattle.std.specs.Prelude.{◌≡◌};
 ghost use Rattle.construction.specs.Requests.{pending, unfinished, shown};
 
-use construction::cells::{Announcement, Gate, Holder, Record};
+use construction::cells::{Announcement, Gate, Record};
 
 // Whether the gate has a holder, whose announcement this is and is not done.
-fn is_pending(holder: Holder, announcement: Announcement) -> bool
+fn is_pending(holder: Option<u8>, announcement: Announcement) -> bool
     ensures { result ≡ pending holder announcement }
 {
-    let flag = announcement.flag;
-    match holder {
-        Holder::Nobody => false,
-        Holder::Process(_) => !cells::is_done(flag),
-    }
+    holder.is_some() && !cells::is_done(announcement.flag)
 }
 
 // Whether a record was written under the number of a gate whose operation is pending.
 fn is_unfinished(gate: Gate, announcement: Announcement, cell: Record) -> bool
     ensures { result ≡ unfinished gate announcement cell }
 {
-    let holder = gate.holder;
-    is_pending(holder, announcement) && cell.seq == gate.seq
+    is_pending(gate.holder, announcement) && cell.seq == gate.seq
 }
 
 // val[1 - toggle] of a record of an unfinished write, val[toggle] of any other.

@@ -77,12 +77,10 @@ fn print_pieces(
     let pieces = count_pieces(card.process_count, first);
     let started = seconds(rt);
     let mut told = started;
-    let mut j: u32 = 0;
-    while j < pieces {
+    for j in 0..pieces {
         let length = put_piece(card, first, left, j, buffer);
         rt.write_all(&buffer[..length])?;
-        j = j + 1;
-        told = report(rt, j, pieces, started, told);
+        told = report(rt, j + 1, pieces, started, told);
     }
     Ok(())
 }
@@ -115,11 +113,9 @@ fn print_files(
     let mut buffer = host::buffer();
     let prepared = prepare(card, calls, length, &mut buffer);
     if prepared.ready {
-        let start = prepared.card;
-        return print_listing(rt, start, length);
+        return print_listing(rt, prepared.card, length);
     }
-    let end = prepared.length;
-    rt.write_all(&buffer[..end])
+    rt.write_all(&buffer[..prepared.length])
 }
 
 fn usage(rt: &impl Eprint) {
@@ -139,13 +135,8 @@ fn run(rt: &(impl Files + Print + Eprint + Alloc + Clock + ErrorOutput), length:
 
 // The argument is judged before any file.
 fn main(rt: HostRuntime) {
-    let Some(length) = read_argument(&rt) else {
-        usage(&rt);
-        return;
-    };
-    if length > LARGEST {
-        usage(&rt);
-        return;
+    match read_argument(&rt) {
+        Some(length) if length <= LARGEST => run(&rt, length as u32),
+        _ => usage(&rt),
     }
-    run(&rt, length as u32);
 }

@@ -36,12 +36,8 @@ fn repeat(b: &mut [u64], l: &mut [u64], calls: &[u32], schedule: &[u8], count: u
     ensures { Repeats calls.now schedule.now count b.old l.old result b.new l.new }
 {
     let mut counts = none();
-    let mut k: u64 = 0;
-    while k < count {
-        let more = run(b, l, calls, schedule);
-        let sum = added(counts, more);
-        counts = sum;
-        k = k + 1;
+    for k in 0..count {
+        counts = added(counts, run(b, l, calls, schedule));
     }
     counts
 }
@@ -51,6 +47,7 @@ fn sweep(b: &mut [u64], l: &mut [u64], calls: &[u32], first: Progress) -> Progre
     ensures { Finishes calls.now b.old l.old first result b.new l.new }
 {
     let mut q = first;
+    // How many steps are left is told by each piece, so no range gives it.
     while q.left > 0 {
         q = advance(b, l, calls, q);
     }
@@ -111,11 +108,7 @@ fn show(rt: &impl Print, b: &[u64], counts: Counts) {
 fn lent(asked: u64, most: u64) -> usize
     ensures { result ≡ min asked most }
 {
-    if asked < most {
-        asked as usize
-    } else {
-        most as usize
-    }
+    asked.min(most) as usize
 }
 
 // The steps on a card with a limit, and what they come to.
@@ -124,14 +117,13 @@ fn answer(rt: &impl Print, count: u64, limit: u64, words: usize, loan: usize, sc
 {
     let mut b = [0u64; 1456];
     let mut l = [0u64; 48];
-    let calls = CALLS;
     open(&mut b, limit);
     call_all(&mut b);
     if schedule.len() == 0 {
-        let q = sweep(&mut b, &mut l[..loan], &calls[..words], begin(count, SEED));
+        let q = sweep(&mut b, &mut l[..loan], &CALLS[..words], begin(count, SEED));
         show(rt, &b, q.counts);
     } else {
-        let counts = repeat(&mut b, &mut l[..loan], &calls[..words], schedule, count);
+        let counts = repeat(&mut b, &mut l[..loan], &CALLS[..words], schedule, count);
         show(rt, &b, counts);
     }
 }

@@ -1,14 +1,16 @@
 -- Texts put into a line one after another, and a buffer whose first bytes are lent to the writer
-use Prim.Native.Nat.{ℕ, ◌≤◌}
-use mathlib.Core.Bool.{Bool}
-use mathlib.Core.Path.{◌≡◌}
+use Prim.Native.Nat.{ℕ, zero, suc, ◌<◌, ◌≤◌}
+use mathlib.Core.Bool.{Bool, true, false, ◌&&◌}
+use mathlib.Core.Path.{◌≡◌, refl}
 use mathlib.Core.List.{List, ◌++◌}
 use lib.ListN.{length, take, drop, replicate, length-append, length-take, length-drop, length-replicate}
 use native.Mathlib.Omega.{arith}
+use native.Mathlib.Decide.{dec_lt}
 use Rattle.grammar.specs.Writing.{Put}
 use Rattle.grammar.proofs.Puts.{Room, rest_all, rest_step, rest_last}
 use Rattle.construction.specs.declared.{card.Card.Card}
 use Rattle.construction.specs.Types.{Written}
+use Rattle.report.specs.Same.{all_below}
 use Rattle.writer.specs.Written.{Writes}
 use Rattle.text_cases.specs.declared.Outcome.{Outcome}
 use Rattle.text_cases.specs.Comparing.{filler, agrees_with, bytes_of, outcome_in}
@@ -30,3 +32,17 @@ module _ (n room : ℕ) (h : room ≤ n) where
 
   pub buffer_length : (z : List ℕ) → length z ≡ length (take room (replicate n filler)) → n ≡ length (z ++ drop room (replicate n filler))
   buffer_length z e = let l = lent_length in simp (length-append, length-drop, length-replicate) (omega arith)
+
+-- a test that one number below n fails
+and_false : (a : Bool) → (a && false) ≡ false
+and_false true = refl
+and_false false = refl
+
+pub one_fails : (test : ℕ → Bool) (n k : ℕ) → k < n → test k ≡ false → all_below n test ≡ false
+unfolding all_below
+one_fails test zero k h e = absurd (omega arith)
+one_fails test (suc n) k h e = go (dec_lt k n) (λ p. one_fails test n k p e)
+  where
+    go : Dec (k < n) → (k < n → all_below n test ≡ false) → (all_below n test && test n) ≡ false
+    go (yes p) below = rw (below p)
+    go (no q) below = let f : n ≡ k = omega arith in rw (f, e) (and_false (all_below k test))

@@ -1,5 +1,5 @@
 // The line of a case.
-ghost use Rattle.std.specs.Prelude.{◌≡◌, min};
+ghost use Rattle.std.specs.Prelude.{◌≡◌};
 ghost use Rattle.grammar.specs.Writing.{Put};
 ghost use Rattle.text_cases.specs.Lines.{agreement_text, outcome_text, outcomes_text, case_text};
 
@@ -21,8 +21,7 @@ fn put_agreement(line: &mut [u8], at: usize, same: bool) -> usize
 fn put_outcome(line: &mut [u8], at: usize, outcome: Outcome) -> usize
     ensures { Put line.old at (outcome_text outcome) result line.new }
 {
-    let written = outcome.written;
-    let next = put_written(line, at, written);
+    let next = put_written(line, at, outcome.written);
     put_agreement(line, next, outcome.same)
 }
 
@@ -35,19 +34,13 @@ fn put_outcomes(line: &mut [u8], at: usize, outcomes: Outcomes) -> usize
     put_outcome(line, k, outcomes.none)
 }
 
-fn least(a: usize, b: usize) -> usize
-    ensures { result ≡ min a b }
-{
-    if a < b { a } else { b }
-}
-
 // The line of a text and of the text that the buffers are compared with.
 pub(crate) fn put_case(line: &mut [u8], number: u64, text: &[u8], wanted: &[u8]) -> usize
     ensures { Put line.old 0 (case_text number text.now wanted.now) result line.new }
 {
     let opened = reader::open(text);
     let verdict = opened.verdict;
-    let compared = outcomes(opened.card, wanted, least(text.len(), 8000));
+    let compared = outcomes(opened.card, wanted, text.len().min(8000));
     let i = put_decimal(line, 0, number);
     let j = put_verdict(line, i, verdict);
     let k = put_outcomes(line, j, compared);

@@ -7,19 +7,19 @@ use grammar::Found;
 use grammar::reading::field_at;
 
 // The text whose length stands at a place.
-pub(crate) fn case_at(input: &[u8], at: usize) -> Case
+pub(crate) fn case_at(input: &[u8], at: usize) -> Option<Case>
     ensures { result ≡ case_at input.now at }
 {
     let Some(Found { value, next }) = field_at(input, b'\n', at) else {
-        return Case::Nothing;
+        return None;
     };
     let left = input.len() - next;
     if (left as u64) < value {
-        Case::Nothing
+        None
     } else {
-        Case::Text {
+        Some(Case {
             start: next,
             end: next + value as usize,
-        }
+        })
     }
 }

@@ -1,12 +1,11 @@
 // What the writer does in a buffer, and whether the buffer then holds what it must.
-ghost use Rattle.std.specs.Prelude.{◌≡◌, ◌-◌, ◌≤◌, eqb};
+ghost use Rattle.std.specs.Prelude.{◌≡◌, ◌≤◌};
 ghost use Rattle.text_cases.specs.Comparing.{expected_at, agrees_with, bytes_of, outcome_of, outcomes_of};
 
 use crate::{Outcome, Outcomes};
 use construction::card::Card;
 use construction::answers::Refusal;
 use grammar::reading::byte_at;
-use report::same::both;
 
 // The byte that a buffer must hold at a place: the text as far as it was written, then what was there before.
 fn expected(text: &[u8], told: usize, k: usize) -> u8
@@ -15,25 +14,16 @@ fn expected(text: &[u8], told: usize, k: usize) -> u8
     if k < told { byte_at(text, k) } else { 165 }
 }
 
-fn same_byte(a: u8, b: u8) -> bool
-    ensures { result ≡ eqb a b }
-{
-    a == b
-}
-
 // Whether a buffer holds what it must at every place, after so many bytes of the text were written.
 fn agrees(buffer: &[u8], text: &[u8], told: usize) -> bool
     ensures { result ≡ agrees_with buffer.now text.now told }
 {
-    let mut same = true;
-    let mut k: usize = 0;
-    while k < buffer.len() {
-        let wanted = expected(text, told, k);
-        let found = buffer[k];
-        same = both(same, same_byte(found, wanted));
-        k = k + 1;
+    for (k, byte) in buffer.iter().enumerate() {
+        if *byte != expected(text, told, k) {
+            return false;
+        }
     }
-    same
+    true
 }
 
 // How many bytes were written.
@@ -57,24 +47,14 @@ fn outcome(card: Card, wanted: &[u8], room: usize) -> Outcome
     Outcome { written, same }
 }
 
-fn less(a: usize) -> usize
-    ensures { result ≡ a - 1 }
-{
-    if 0 < a { a - 1 } else { 0 }
-}
-
 pub(crate) fn outcomes(card: Card, wanted: &[u8], room: usize) -> Outcomes
     requires { room ≤ 8000 }
     ensures { result ≡ outcomes_of card wanted.now room }
 {
-    let more = outcome(card, wanted, room + 8);
-    let exact = outcome(card, wanted, room);
-    let short = outcome(card, wanted, less(room));
-    let none = outcome(card, wanted, 0);
     Outcomes {
-        more,
-        exact,
-        short,
-        none,
+        more: outcome(card, wanted, room + 8),
+        exact: outcome(card, wanted, room),
+        short: outcome(card, wanted, room.saturating_sub(1)),
+        none: outcome(card, wanted, 0),
     }
 }

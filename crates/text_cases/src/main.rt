@@ -16,9 +16,9 @@ use host::{read_input, show};
 
 // Where a text stands in the input.
 #[derive(Clone, Copy)]
-enum Case {
-    Text { start: usize, end: usize },
-    Nothing,
+struct Case {
+    start: usize,
+    end: usize,
 }
 
 // What the writer answered, and whether its buffer then holds the text that is wanted.
@@ -47,7 +47,7 @@ fn show_case(rt: &impl Print, number: u64, text: &[u8], wanted: &[u8]) {
 
 // A case that must differ: the first text is compared with itself from its second byte on.
 fn show_other(rt: &impl Print, input: &[u8]) {
-    let Case::Text { start, end } = case_at(input, 0) else {
+    let Some(Case { start, end }) = case_at(input, 0) else {
         return;
     };
     if start < end && end <= input.len() {
@@ -59,7 +59,7 @@ fn show_other(rt: &impl Print, input: &[u8]) {
 fn show_cases(rt: &impl Print, input: &[u8]) {
     let mut at: usize = 0;
     for number in 1..1001 {
-        let Case::Text { start, end } = case_at(input, at) else {
+        let Some(Case { start, end }) = case_at(input, at) else {
             return;
         };
         if start <= end && end <= input.len() {

@@ -12,14 +12,12 @@ use std::io;
 // Prints what the commands of a course change, as many at a time as a large buffer takes, and the last time. An error where not all was written.
 fn print_course(rt: &impl Print, first: Course, calls: &[u8]) -> io::Result<()> {
     let mut course = first;
-    let mut at = course.session.at;
-    while at < calls.len() {
+    // The next place is known when commands are read, so no range gives it.
+    while course.session.at < calls.len() {
         let mut buffer = host::large_buffer();
         let piece = put_commands(course, calls, &mut buffer);
-        let end = piece.at;
-        print(rt, &buffer, end)?;
+        print(rt, &buffer, piece.at)?;
         course = piece.course;
-        at = course.session.at;
     }
     let mut buffer = host::buffer();
     let end = put_end(course, &mut buffer);
@@ -30,22 +28,18 @@ fn print_course(rt: &impl Print, first: Course, calls: &[u8]) -> io::Result<()> 
 fn print_dump(rt: &impl Print, state: State, calls: &[u8]) -> io::Result<()> {
     let mut buffer = host::large_buffer();
     let piece = open(state, &mut buffer);
-    let end = piece.at;
-    print(rt, &buffer, end)?;
-    let course = piece.course;
-    print_course(rt, course, calls)
+    print(rt, &buffer, piece.at)?;
+    print_course(rt, piece.course, calls)
 }
 
 // Prints a session: a refusal, or its dump. An error where not all of it was written.
 fn print_session(rt: &impl Print, card: &[u8], calls: &[u8]) -> io::Result<()> {
     let mut buffer = host::buffer();
     let started = start(card, calls, &mut buffer);
-    let length = started.length;
-    if length != 0 {
-        return print(rt, &buffer, length);
+    if started.length != 0 {
+        return print(rt, &buffer, started.length);
     }
-    let state = started.state;
-    print_dump(rt, state, calls)
+    print_dump(rt, started.state, calls)
 }
 
 // It takes no argument. At most one byte more than its limit is read of each file. A program has no exit status, so what cannot be written is told on

@@ -153,6 +153,7 @@ pub fn write_contents(contents: Contents, buffer: &mut [u8]) -> Result<usize, Re
 pub fn write(card: Card, buffer: &mut [u8]) -> Result<usize, Refusal>
     ensures { Writes card buffer.old result buffer.new }
 {
+    // variables, since a literal takes no array straight from another value's field: tried, and the proof did not close
     let starts = card.starts;
     let programs = card.programs;
     let contents = Contents {

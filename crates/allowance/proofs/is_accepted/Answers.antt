@@ -45,13 +45,13 @@ returns-then-steps-lt1 c =
     let a = c.args in
     rw (le-leb 1 a.count (omega arith), le-leb a.count 4 (omega arith), lt-leb 1 a.steps c.if-steps-lt1.true)
 
-pub returns-then-steps-gt100000 : goal.returns-then-steps-gt100000
+pub returns-then-steps-gt-MOST_STEPS : goal.returns-then-steps-gt-MOST_STEPS
 unfolding is_accepted
-returns-then-steps-gt100000 c =
+returns-then-steps-gt-MOST_STEPS c =
     let a = c.args in
     rw (
       le-leb 1 a.count (omega arith),
       le-leb a.count 4 (omega arith),
       le-leb 1 a.steps (omega arith),
-      lt-leb a.steps 100000 c.if-steps-gt100000.true,
+      lt-leb a.steps 100000 c.if-steps-gt-MOST_STEPS.true,
     )

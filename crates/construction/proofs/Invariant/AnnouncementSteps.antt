@@ -8,7 +8,8 @@ use native.Mathlib.Nat.{mod-lt}
 use lib.ListN.{get_or, set}
 use lib.Seq.{get_or-set_same, set-get_or}
 use borrow.Author.Tests.{lt-ltb}
-use Rattle.construction.specs.Types.{Process, Gate, Flag, Done, Active, Exit, Yield, Announcement, Label, Idle, P3, P5, P7, P10, C2, C4, P13, P19, P20}
+use Rattle.std.specs.Prelude.{Some}
+use Rattle.construction.specs.Types.{Gate, Flag, Done, Active, Exit, Yield, Announcement, Label, Idle, P3, P5, P7, P10, C2, C4, P13, P19, P20}
 use Rattle.construction.specs.Types.{P21, P22, F1, AnnouncementAccess, Access, Operation, Card}
 use Rattle.construction.specs.Cells.{open_announcement, same_announcement, swap_announcement}
 use Rattle.construction.specs.Parts.{announcement_at, record_at, with_announcement, local_at, Local, with_local}
@@ -205,7 +206,7 @@ module _ {c : Card} {w : World} {i : ℕ} (B : Before c w i) where
     -- where the swap is lost, the flag is not f
     missed :
         same_announcement (announcement_at c helped) (flagged (local_at c i).announcement f) ≡ false →
-        c.gate.holder ≡ Process helped → c.gate.seq ≡ (local_at c i).gate.seq → (announcement_at c helped).flag ≢ f
+        c.gate.holder ≡ Some helped → c.gate.seq ≡ (local_at c i).gate.seq → (announcement_at c helped).flag ≢ f
     missed e h z a =
         let y = plan.working.alike h z (λ d. nf (sym a ∙ d)) in
         same_announcement-false _ _ e (announcement_path y.program a y.seq y.number y.words y.fault)

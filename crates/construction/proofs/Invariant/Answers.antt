@@ -6,7 +6,8 @@ use mathlib.Core.Logic.{◌≢◌, ◌⊎◌, inl, inr, ⊎_elim}
 use native.Mathlib.Omega.{arith}
 use lib.Dec.{eqb}
 use borrow.Author.Tests.{eqb-true, eqb-false, not-false}
-use Rattle.construction.specs.Types.{Holder, Nobody, Process, Flag, Done, Active, Exit, Announcement, Label, Idle, Card, Answer}
+use Rattle.std.specs.Prelude.{Option, None, Some}
+use Rattle.construction.specs.Types.{Flag, Done, Active, Exit, Announcement, Label, Idle, Card, Answer}
 use Rattle.construction.specs.Cells.{is_done, current, previous}
 use Rattle.construction.specs.Parts.{announcement_at, record_at, local_at, Local}
 use Rattle.construction.specs.Machine.{holder_of}
@@ -31,7 +32,7 @@ module _ (c : Card) (w : World) (I : CardInvariant c w) (v : ℕ) (vl : v < c.va
   abbrev shown : Bool → ℕ
   shown b = cond (b && eqb (record_at c v).seq c.gate.seq) (previous (record_at c v)) (current (record_at c v))
 
-  under_way_lem : (m : ℕ) → Phase (Process m) W → (announcement_at c m).flag ≢ Done → shown true ≡ word_at w.words v
+  under_way_lem : (m : ℕ) → Phase (Some m) W → (announcement_at c m).flag ≢ Done → shown true ≡ word_at w.words v
   under_way_lem m ph nd =
       let now : word_at (round_in W c.gate.seq).words v ≡ word_at w.words v =
       ap (λ (r : Round). word_at r.words v) (ph.2 nd).now in
@@ -43,15 +44,15 @@ module _ (c : Card) (w : World) (I : CardInvariant c w) (v : ℕ) (vl : v < c.va
       good.recorded.old c.gate.seq v (omega (arith, ph.0)) vl (omega (arith, good.recorded.below v, ph.0)) ∙ now)
 
   by_flag_lem :
-      (m : ℕ) → Phase (Process m) W → (f : Flag) → (announcement_at c m).flag ≡ f →
+      (m : ℕ) → Phase (Some m) W → (f : Flag) → (announcement_at c m).flag ≡ f →
       shown (not (is_done f)) ≡ word_at w.words v
   by_flag_lem m ph Done e = good.recorded.words_are v vl (omega (arith, ph.1 e, ph.0))
   by_flag_lem m ph Active e = under_way_lem m ph (active_not_done e)
   by_flag_lem m ph Exit e = under_way_lem m ph (exit_not_done e)
 
-  by_holder_lem : (h : Holder) → Phase h W → shown (pending h (announcement_at c (holder_of h))) ≡ word_at w.words v
-  by_holder_lem Nobody ph = good.recorded.words_are v vl (omega (arith, ph.0, ph.1))
-  by_holder_lem (Process m) ph = by_flag_lem m ph (announcement_at c m).flag refl
+  by_holder_lem : (h : Option ℕ) → Phase h W → shown (pending h (announcement_at c (holder_of h))) ≡ word_at w.words v
+  by_holder_lem None ph = good.recorded.words_are v vl (omega (arith, ph.0, ph.1))
+  by_holder_lem (Some m) ph = by_flag_lem m ph (announcement_at c m).flag refl
 
   pub read_is : value_of c v ≡ word_at w.words v
   unfolding value_of
@@ -97,6 +98,6 @@ module _ {c : Card} {w : World} (I : CardInvariant c w) (i : ℕ) (lt : i < c.pr
   quiet_is e = quiet_at (frame_of c w) w i (known (local_at c i)) (stage (local_at c i).control.place) e (I.locs i lt)
 
   -- the holder of the gate is announced
-  pub holder_announced : w.gate.holder ≡ Process i → is_announced (local_at c i).control.place ≡ true
+  pub holder_announced : w.gate.holder ≡ Some i → is_announced (local_at c i).control.place ≡ true
   holder_announced h =
       ⊎_elim (λ z. z) (λ z. absurd ((quiet_is z).free_of h)) (true_or_false (is_announced (local_at c i).control.place))

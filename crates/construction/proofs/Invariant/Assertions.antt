@@ -7,7 +7,8 @@ use mathlib.Core.List.{List}
 use native.Mathlib.Omega.{arith}
 use lib.ListN.{length, get_or}
 use lib.Seq.{get_or-set_other}
-use Rattle.construction.specs.Types.{Nobody, Process, Gate, Active, Yield, Announcement, Program, Item, Dictionary, Simulation, Label, Idle, P1, P3, P5}
+use Rattle.std.specs.Prelude.{None, Some}
+use Rattle.construction.specs.Types.{Gate, Active, Yield, Announcement, Program, Item, Dictionary, Simulation, Label, Idle, P1, P3, P5}
 use Rattle.construction.specs.Types.{P7, P10, C2, C4, P13, P14, P16, H21, H36, P19, P20, P21, P22, F1, F3, P6, Operation}
 use Rattle.construction.specs.Dictionary.{no_item, noted, value_under, altered}
 use Rattle.construction.specs.Machine.{holder_of}
@@ -25,7 +26,7 @@ use Rattle.construction.specs.Parts.{Local}
 -- process j, with its operation o, has read the gate g, held
 pub record Helper (F : Frame) (w : World) (j : ℕ) (o : Operation) (g : Gate) : Type 0 where
   pub mine : Mine (view_of w j) o
-  pub named : g.holder ≡ Process (holder_of g.holder)
+  pub named : g.holder ≡ Some (holder_of g.holder)
   pub inside : holder_of g.holder < F.process_count
   pub seen : Seen w (holder_of g.holder) g.seq
   pub limit : Limit (view_of w j) j g.seq
@@ -90,13 +91,13 @@ LocAt P5 F w j t =
 LocAt P7 F w j t = Mine (view_of w j) t.operation
 LocAt P10 F w j t = Mine (view_of w j) t.operation
 LocAt C2 F w j t =
-    Mine (view_of w j) t.operation × (t.gate.holder ≡ Nobody) × (t.gate.seq ≤ w.gate.seq)
+    Mine (view_of w j) t.operation × (t.gate.holder ≡ None) × (t.gate.seq ≤ w.gate.seq)
     × Limit (view_of w j) j t.gate.seq
 LocAt C4 F w j t =
-    Mine (view_of w j) t.operation × (t.gate.holder ≡ Nobody) × (t.gate.seq ≤ w.gate.seq)
+    Mine (view_of w j) t.operation × (t.gate.holder ≡ None) × (t.gate.seq ≤ w.gate.seq)
     × Limit (view_of w j) j t.gate.seq
 LocAt P13 F w j t =
-    Mine (view_of w j) t.operation × (t.gate.holder ≡ Nobody) × (t.control.target < F.process_count)
+    Mine (view_of w j) t.operation × (t.gate.holder ≡ None) × (t.control.target < F.process_count)
     × Nominated w j t.control.target t.gate.seq × Limit (view_of w j) j t.gate.seq
 LocAt P14 F w j t = Mine (view_of w j) t.operation × Past (view_of w j)
 LocAt P16 F w j t = Helper F w j t.operation t.gate
@@ -118,7 +119,7 @@ LocAt P21 F w j t = Helper F w j t.operation t.gate × Over w (holder_of t.gate.
 LocAt P22 F w j t = Mine (view_of w j) t.operation × Gone (view_of w j) j
 LocAt F1 F w j t = Returning (announcement_in w j) (result_in w j) t.announcement
 LocAt F3 F w j t =
-    Returning (announcement_in w j) (result_in w j) t.announcement × (t.gate.holder ≡ Process j) × Last (view_of w j) j t.gate.seq
+    Returning (announcement_in w j) (result_in w j) t.announcement × (t.gate.holder ≡ Some j) × Last (view_of w j) j t.gate.seq
 -- the place of no process
 LocAt P6 F w j t = ⊥
 
@@ -150,7 +151,7 @@ module _ {F : Frame} {i : ℕ} {w v : World} (G : WorldInvariant F w) (M : Move 
   left_stays j n (write m v x vl hm fl below ex) q h = h
   left_stays j n (end m lt hm fl all) q h = h
   left_stays j n (free m lt hm d) q h =
-      rw (get_or-set_other w.left m j w.gate.seq 0 (λ e. q.free_of (hm ∙ ap Process (sym e)))) h
+      rw (get_or-set_other w.left m j w.gate.seq 0 (λ e. q.free_of (hm ∙ ap Some (sym e)))) h
 
   pub helper_stays :
       {j : ℕ} {o : Operation} {g : Gate} → Change j (view_of w j) (view_of v j) → Helper F w j o g → Helper F v j o g

@@ -12,7 +12,8 @@ use lib.ListN.{length, get_or, length-set}
 use lib.Seq.{get_or-set_same, get_or-set_other}
 use lib.Dec.{eqb, leb, ltb}
 use borrow.Author.Tests.{ltb-true, ltb-false, leb-true, eq-eqb, ne_eqb, lt-ltb, le-ltb, le-leb}
-use Rattle.construction.specs.Types.{Holder, Nobody, Process, Gate, Yield, Announcement, Program, Item, Dictionary, Simulation, Label, Idle, P1, P3, P5}
+use Rattle.std.specs.Prelude.{Option, None, Some}
+use Rattle.construction.specs.Types.{Gate, Yield, Announcement, Program, Item, Dictionary, Simulation, Label, Idle, P1, P3, P5}
 use Rattle.construction.specs.Types.{P7, P10, C2, C4, P13, P14, P16, H21, H36, P19, P20, P21, P22, F1, F3, P6, Operation, Card, Control}
 use Rattle.construction.specs.Sequential.{Ending}
 use Rattle.construction.specs.Weight.{weight, card_weight}
@@ -42,9 +43,9 @@ module _ {F : Frame} {w : World} (x : ℕ → ℕ → Program) (G : WorldInvaria
   unfolding ending_of
   ending_same s r h = rw (same r.call.program s h)
 
-  phase_same : (h : Holder) → Phase h w → Phase h v
-  phase_same Nobody ph = ph
-  phase_same (Process m) ph = ph
+  phase_same : (h : Option ℕ) → Phase h w → Phase h v
+  phase_same None ph = ph
+  phase_same (Some m) ph = ph
 
   pub good_change : ((k number : ℕ) → Short F.variable_count (x k number)) → WorldInvariant K v
   good_change short =

@@ -6,7 +6,8 @@ use native.Mathlib.Omega.{arith}
 use native.Mathlib.Decide.{ℕ_discrete}
 use lib.ListN.{length, length-append, get_or-append}
 use lib.Seq.{get_or-set_same, get_or-set_other}
-use Rattle.construction.specs.Types.{Holder, Nobody, Process, Gate, Done, Active, Exit, Yield, Announcement, Operation}
+use Rattle.std.specs.Prelude.{Option, None, Some}
+use Rattle.construction.specs.Types.{Gate, Done, Active, Exit, Yield, Announcement, Operation}
 use Rattle.construction.specs.Cells.{open_announcement, open_record, rewritten}
 use Rattle.construction.specs.Parts.{no_operation}
 use Rattle.construction.specs.Machine.{flagged, finished}
@@ -54,11 +55,11 @@ completed x o =
 pub data Change (j : ℕ) (x : View) : View → Type 0 where
   kept : Change j x x
   took :
-      (m : ℕ) → x.gate.holder ≡ Nobody →
+      (m : ℕ) → x.gate.holder ≡ None →
       (m ≡ j → (x.announcement.flag ≢ Done) × (x.announcement.flag ≡ Exit → x.gate.seq ≤ x.bound)) →
-      Change j x (gated x (record { holder = Process m; seq = x.gate.seq }))
-  ended : (o : Yield) → x.gate.holder ≡ Process j → x.announcement.flag ≢ Done → Change j x (completed x o)
-  freed : x.bound ≤ x.gate.seq → Change j x (gated x (record { holder = Nobody; seq = x.gate.seq + 1 }))
+      Change j x (gated x (record { holder = Some m; seq = x.gate.seq }))
+  ended : (o : Yield) → x.gate.holder ≡ Some j → x.announcement.flag ≢ Done → Change j x (completed x o)
+  freed : x.bound ≤ x.gate.seq → Change j x (gated x (record { holder = None; seq = x.gate.seq + 1 }))
 
 -- the call of j stays
 pub call_change : {j : ℕ} {x y : View} → Change j x y → x.call ≡ y.call
@@ -79,16 +80,16 @@ Mine x o = Owned x.announcement x.result x.call o
 -- where j asks to exit, it holds the gate under no number past n
 pub record Limit (x : View) (j n : ℕ) : Type 0 where
   pub low : x.announcement.flag ≡ Exit → x.bound ≤ n
-  pub high : x.announcement.flag ≡ Exit → x.gate.holder ≡ Process j → x.gate.seq ≤ n
+  pub high : x.announcement.flag ≡ Exit → x.gate.holder ≡ Some j → x.gate.seq ≤ n
 
 -- where j asks to exit, it is not to be given a gate that is free now
 pub record Past (x : View) : Type 0 where
-  pub past : x.announcement.flag ≡ Exit → x.gate.holder ≡ Nobody → x.bound < x.gate.seq
+  pub past : x.announcement.flag ≡ Exit → x.gate.holder ≡ None → x.bound < x.gate.seq
 
 -- where j asks to exit, it neither holds the gate nor is to be given it
 pub record Gone (x : View) (j : ℕ) : Type 0 where
   pub late : x.announcement.flag ≡ Exit → x.bound < x.gate.seq
-  pub free_of : x.announcement.flag ≡ Exit → x.gate.holder ≢ Process j
+  pub free_of : x.announcement.flag ≡ Exit → x.gate.holder ≢ Some j
 
 -- j has read that its operation is done
 pub record Returning (own : Announcement) (result : Result) (a : Announcement) : Type 0 where
@@ -103,7 +104,7 @@ pub record Rested (own : Announcement) (result : Result) (a : Announcement) : Ty
 
 -- if j holds the gate, then under number n
 pub record Last (x : View) (j n : ℕ) : Type 0 where
-  pub only : x.gate.holder ≡ Process j → x.gate.seq ≡ n
+  pub only : x.gate.holder ≡ Some j → x.gate.seq ≡ n
 
 pub silent_change :
     {j : ℕ} {x y : View} → Change j x y → Silent x.gate x.announcement x.bound j → Silent y.gate y.announcement y.bound j
@@ -152,7 +153,7 @@ returning_change (ended o h d) q = absurd (d q.done)
 returning_change (freed b) q = q
 
 pub rested_change :
-    {j : ℕ} {a : Announcement} {x y : View} → x.gate.holder ≢ Process j → Change j x y → Rested x.announcement x.result a →
+    {j : ℕ} {a : Announcement} {x y : View} → x.gate.holder ≢ Some j → Change j x y → Rested x.announcement x.result a →
     Rested y.announcement y.result a
 rested_change ne kept q = q
 rested_change ne (took m hn f) q = q
@@ -168,7 +169,7 @@ last_change_lem d (freed b) q = record { only = λ h. absurd (nobody_process ref
 module _ {F : Frame} {w : World} (G : WorldInvariant F w) where
   -- an operation that is finished, seen by any process
   pub end_change :
-      (m j : ℕ) → m < F.process_count → w.gate.holder ≡ Process m → (announcement_in w m).flag ≢ Done →
+      (m j : ℕ) → m < F.process_count → w.gate.holder ≡ Some m → (announcement_in w m).flag ≢ Done →
       Change j (view_of w j) (view_of (ending F w m) j)
   end_change m j lt hm fl = go (ℕ_discrete j m)
     where
@@ -193,7 +194,7 @@ module _ {F : Frame} {w : World} (G : WorldInvariant F w) where
 
 -- the gate was (m, s): it still is, or m's operation has left it under s or later
 pub record Seen (w : World) (m s : ℕ) : Type 0 where
-  pub still : left_in w m < s → (w.gate.holder ≡ Process m) × (w.gate.seq ≡ s)
+  pub still : left_in w m < s → (w.gate.holder ≡ Some m) × (w.gate.seq ≡ s)
 
 -- m may be given the gate by j under number n, by its announcement a, its call and its bound: it is not done, and if it asks to exit, it is
 -- j itself or has not asked too early
@@ -208,7 +209,7 @@ Eligible w j m n = MayHold (announcement_in w m) (call_in w m) (bound_in w m) j 
 -- j has read the gate with nobody under n, and nominates m
 pub record Nominated (w : World) (j m n : ℕ) : Type 0 where
   pub below : n ≤ w.gate.seq
-  pub fit : w.gate.holder ≡ Nobody → w.gate.seq ≡ n → Eligible w j m n
+  pub fit : w.gate.holder ≡ None → w.gate.seq ≡ n → Eligible w j m n
 
 -- an announcement is a, but for its flag
 pub record Alike (r a : Announcement) : Type 0 where
@@ -221,13 +222,13 @@ pub record Alike (r a : Announcement) : Type 0 where
 -- while the gate is (m, s): m's announcement is a, but for its flag, or done; its flag is not active; its flag is done
 pub record Working (w : World) (m s : ℕ) (a : Announcement) : Type 0 where
   pub alike :
-      w.gate.holder ≡ Process m → w.gate.seq ≡ s → (announcement_in w m).flag ≢ Done → Alike (announcement_in w m) a
+      w.gate.holder ≡ Some m → w.gate.seq ≡ s → (announcement_in w m).flag ≢ Done → Alike (announcement_in w m) a
 
 pub record Halfway (w : World) (m s : ℕ) : Type 0 where
-  pub isnt : w.gate.holder ≡ Process m → w.gate.seq ≡ s → (announcement_in w m).flag ≢ Active
+  pub isnt : w.gate.holder ≡ Some m → w.gate.seq ≡ s → (announcement_in w m).flag ≢ Active
 
 pub record Over (w : World) (m s : ℕ) : Type 0 where
-  pub over : w.gate.holder ≡ Process m → w.gate.seq ≡ s → (announcement_in w m).flag ≡ Done
+  pub over : w.gate.holder ≡ Some m → w.gate.seq ≡ s → (announcement_in w m).flag ≡ Done
 
 module _ {F : Frame} {i : ℕ} {w : World} (G : WorldInvariant F w) where
   pub seen_stays : {v : World} {m s : ℕ} → Move F i w v → Seen w m s → Seen v m s
@@ -240,10 +241,10 @@ module _ {F : Frame} {i : ℕ} {w : World} (G : WorldInvariant F w) where
   seen_stays (end m lt hm fl all) o = record { still = o.still }
   seen_stays {m = m} {s} (free m' lt hm d) o = record {
     still =
-        on_set (λ b. b < s → (◌≡◌ {A = Holder} Nobody (Process m)) × (w.gate.seq + 1 ≡ s)) w.left m' m w.gate.seq 0
+        on_set (λ b. b < s → (◌≡◌ {A = Option ℕ} None (Some m)) × (w.gate.seq + 1 ≡ s)) w.left m' m w.gate.seq 0
         (omega arith)
         (λ e l. let z : w.gate.seq ≡ s = (o.still (omega (arith, G.left_below m))).1 in absurd (omega arith))
-        (λ e l. let z : w.gate.holder ≡ Process m = (o.still l).0 in absurd (e (process_same (sym z ∙ hm))));
+        (λ e l. let z : w.gate.holder ≡ Some m = (o.still l).0 in absurd (e (process_same (sym z ∙ hm))));
   }
 
   -- what others do to the one that j may give the gate to
@@ -290,12 +291,12 @@ module _ {F : Frame} {i : ℕ} {w : World} (G : WorldInvariant F w) where
   -- a claim about m's announcement while the gate is (m, s), which an exit request and the end of the operation keep
   module _ (P : Announcement → Type 0) (m s : ℕ) (exits : (r : Announcement) → r.flag ≡ Active → P r → P (flagged r Exit))
       (ends : (r : Announcement) (g : Gate) (o : Yield) → P (finished r g o)) (seen : Seen w m s)
-      (f : w.gate.holder ≡ Process m → w.gate.seq ≡ s → P (announcement_in w m)) where
-    held_stays : {v : World} → Move F i w v → v.gate.holder ≡ Process m → v.gate.seq ≡ s → P (announcement_in v m)
+      (f : w.gate.holder ≡ Some m → w.gate.seq ≡ s → P (announcement_in w m)) where
+    held_stays : {v : World} → Move F i w v → v.gate.holder ≡ Some m → v.gate.seq ≡ s → P (announcement_in v m)
     held_stays stay h e = f h e
     held_stays (ask c lt Q) h e = f h e
     held_stays (announce a lt Q fa A) h e =
-        announcements_set G P i m a lt (λ z. absurd (Q.free_of (h ∙ ap Process z))) (λ _. f h e)
+        announcements_set G P i m a lt (λ z. absurd (Q.free_of (h ∙ ap Some z))) (λ _. f h e)
     held_stays (leave lt fa) h e =
         announcements_set G P i m _ lt (λ z. rw (← z) (exits (announcement_in w m) (rw z fa) (f h e))) (λ _. f h e)
     held_stays (take m' lt hn fl op z) h e =

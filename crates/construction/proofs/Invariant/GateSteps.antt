@@ -5,7 +5,8 @@ use mathlib.Core.Bool.{false}
 use mathlib.Core.Logic.{◌≢◌, inl, inr, ⊎_elim}
 use native.Mathlib.Omega.{arith}
 use native.Mathlib.Decide.{dec_lt}
-use Rattle.construction.specs.Types.{Holder, Nobody, Process, Gate, Done, Announcement, Label, Idle, P1, P3, P10, C2, P13, P14, P16, P21, P22, F1, F3}
+use Rattle.std.specs.Prelude.{Option, None, Some}
+use Rattle.construction.specs.Types.{Gate, Done, Announcement, Label, Idle, P1, P3, P10, C2, P13, P14, P16, P21, P22, F1, F3}
 use Rattle.construction.specs.Types.{GateAccess, Access, Card}
 use Rattle.construction.specs.Cells.{same_holder, same_gate, swap_gate, released}
 use Rattle.construction.specs.Parts.{announcement_at, with_gate, local_at, Local, with_local}
@@ -20,7 +21,7 @@ use Rattle.construction.proofs.Invariant.Acting.{world_of, Step, Before, Acted, 
 
 -- what is known of an operation at its return
 rests :
-    (w : World) (i : ℕ) {a : Announcement} → Returning (announcement_in w i) (result_in w i) a → w.gate.holder ≢ Process i →
+    (w : World) (i : ℕ) {a : Announcement} → Returning (announcement_in w i) (result_in w i) a → w.gate.holder ≢ Some i →
     Quiet w i × Rested (announcement_in w i) (result_in w i) a
 rests w i q ne = (
   record {
@@ -50,7 +51,7 @@ module _ {c : Card} {w : World} {i : ℕ} (B : Before c w i) where
   limit_now = record { low = λ _. B.good.bound_below i; high = λ _ _. omega arith }
 
   helper_now :
-      (m : ℕ) → c.gate.holder ≡ Process m → Mine (view_of W i) (local_at c i).operation → Helper F W i (local_at c i).operation c.gate
+      (m : ℕ) → c.gate.holder ≡ Some m → Mine (view_of W i) (local_at c i).operation → Helper F W i (local_at c i).operation c.gate
   helper_now m e q = record {
     mine = q;
     named = rw e;
@@ -61,14 +62,14 @@ module _ {c : Card} {w : World} {i : ℕ} (B : Before c w i) where
 
   -- lines P1, P10 and P14: by the holder that is read
   at_read :
-      (held nobody : Label) → ((m : ℕ) → c.gate.holder ≡ Process m → Loc F W i (read held)) →
-      (c.gate.holder ≡ Nobody → Loc F W i (read nobody)) → Acted c W i (perform (Access.Gate (GateAccess.Read held nobody)) c i).card
+      (held nobody : Label) → ((m : ℕ) → c.gate.holder ≡ Some m → Loc F W i (read held)) →
+      (c.gate.holder ≡ None → Loc F W i (read nobody)) → Acted c W i (perform (Access.Gate (GateAccess.Read held nobody)) c i).card
   unfolding perform access_gate
   at_read held nobody a b = reads _ (go c.gate.holder refl)
     where
-      go : (h : Holder) → c.gate.holder ≡ h → Loc F W i (read (by_holder h held nobody))
-      go Nobody e = b e
-      go (Process m) e = a m e
+      go : (h : Option ℕ) → c.gate.holder ≡ h → Loc F W i (read (by_holder h held nobody))
+      go None e = b e
+      go (Some m) e = a m e
 
   pub at-P1 : Step c w i P1 (Access.Gate (GateAccess.Read P3 P3))
   at-P1 q = at_read P3 P3 (λ _ _. next) (λ _. next)
@@ -87,9 +88,9 @@ module _ {c : Card} {w : World} {i : ℕ} (B : Before c w i) where
   pub at-F1 : Step c w i F1 (Access.Gate GateAccess.ReadLast)
   unfolding perform access_gate
   at-F1 q =
-      on_test (λ l. Acted c W i (with_local c i (read l))) (same_holder c.gate.holder (Process i))
+      on_test (λ l. Acted c W i (with_local c i (read l))) (same_holder c.gate.holder (Some i))
       (λ e. reads F3 (q, same_holder-true _ _ e, record { only = λ _. refl }))
-      (λ e. reads Idle (rests W i q (λ z. true_false _ (rw z (same_holder-refl (Process i))) e)))
+      (λ e. reads Idle (rests W i q (λ z. true_false _ (rw z (same_holder-refl (Some i))) e)))
 
   -- process i at a place, and the card after a swap of the gate
   abbrev at : Label → Local
@@ -110,7 +111,7 @@ module _ {c : Card} {w : World} {i : ℕ} (B : Before c w i) where
 
   -- a swap that released the gate
   frees :
-      (m : ℕ) (l : Label) → m < c.process_count → c.gate.holder ≡ Process m → (announcement_at c m).flag ≡ Done →
+      (m : ℕ) (l : Label) → m < c.process_count → c.gate.holder ≡ Some m → (announcement_at c m).flag ≡ Done →
       c.gate ≡ (local_at c i).gate → Loc F (freeing W m) i (at l) →
       Acted c W i (swapped (released (local_at c i).gate) l)
   unfolding released
@@ -136,9 +137,9 @@ module _ {c : Card} {w : World} {i : ℕ} (B : Before c w i) where
         },
       )
 
-      won : c.gate ≡ (local_at c i).gate → Acted c W i (swapped (record { holder = Process m; seq = (local_at c i).gate.seq }) P14)
+      won : c.gate ≡ (local_at c i).gate → Acted c W i (swapped (record { holder = Some m; seq = (local_at c i).gate.seq }) P14)
       won z =
-          let zh : c.gate.holder ≡ Nobody = ap (λ (g : Gate). g.holder) z ∙ q.1 in
+          let zh : c.gate.holder ≡ None = ap (λ (g : Gate). g.holder) z ∙ q.1 in
           let zs : c.gate.seq ≡ (local_at c i).gate.seq = ap (λ (g : Gate). g.seq) z in
           let E : Eligible W i m (local_at c i).gate.seq = q.3.fit zh zs in
           acts B (take m q.2 zh E.alive E.op (⊎_elim inl (λ b. inr (λ x. rw zs (b x))) E.right)) refl
@@ -169,7 +170,7 @@ module _ {c : Card} {w : World} {i : ℕ} (B : Before c w i) where
 
       won : c.gate ≡ (local_at c i).gate → Acted c W i (swapped (released (local_at c i).gate) P22)
       won z =
-          let zh : c.gate.holder ≡ Process m = ap (λ (g : Gate). g.holder) z ∙ q.0.named in
+          let zh : c.gate.holder ≡ Some m = ap (λ (g : Gate). g.holder) z ∙ q.0.named in
           let zs : c.gate.seq ≡ (local_at c i).gate.seq = ap (λ (g : Gate). g.seq) z in
           frees m P22 q.0.inside zh (q.1.over zh zs) z
           (q.0.mine, record { late = λ x. omega (arith, q.0.limit.low x); free_of = λ _. nobody_process refl })

@@ -2,20 +2,23 @@
 use Prim.Native.Nat.{ℕ, ◌≤◌, ◌<◌}
 use mathlib.Core.Path.{◌≡◌, refl, sym, subst, ap, ◌∙◌}
 use mathlib.Core.Bool.{true, false, cond, not}
+use Rattle.std.specs.Prelude.{Option, Some}
+use Rattle.std.specs.Option.{is_some}
 use mathlib.Core.Logic.{◌≢◌, inl, ⊎_elim}
 use native.Mathlib.Omega.{arith}
 use lib.ListN.{length, set}
 use lib.Dec.{ltb, leb}
 use borrow.Author.Tests.{ltb-true, ltb-false, leb-true, leb-false, not-true, not-false}
-use Rattle.construction.specs.Types.{Process, Done, Announcement, Dictionary, Simulation, Pause, Ended, Faulted, Lacks, Simulated, P16, H21, Access}
-use Rattle.construction.specs.Types.{Began, Helped, Operation, Card, Program}
+use Rattle.std.specs.Prelude.{Some}
+use Rattle.construction.specs.Types.{Done, Announcement, Dictionary, Simulation, Pause, Ended, Faulted, Lacks, Simulated, P16, H21, Access}
+use Rattle.construction.specs.Types.{Begun, Helped, Operation, Card, Program}
 use Rattle.construction.specs.Cells.{open_announcement, is_done, previous, open_record}
 use Rattle.construction.specs.Instructions.{started}
 use Rattle.construction.specs.Dictionary.{empty, value_under, item_of, insert}
 use Rattle.construction.specs.Sequential.{sequential}
 use Rattle.construction.specs.Helping.{simulate}
 use Rattle.construction.specs.Parts.{announcement_at, record_at, local_at, with_local, Local, with_announcement, with_record}
-use Rattle.construction.specs.Machine.{holder_of, helps, after_pause, perform, helped, begin_help, note, after}
+use Rattle.construction.specs.Machine.{holder_of, helps, after_pause, perform, helped, begin_help, begun_from, note, after}
 use Rattle.construction.proofs.Basics.{on_test, and_true, and_false, is_done-true, is_done-false}
 use Rattle.construction.proofs.Simulating.Simulations.{PausedAt, starts, noting, simulates, simulate_empty}
 use Rattle.construction.proofs.Invariant.World.{Round, ending_of, ending_in, World, call_in, round_in, word_at, operation_of, Phase, Frame, frame_of}
@@ -79,21 +82,22 @@ module _ {c : Card} {w : World} {i : ℕ} (B : Before c w i) where
   theirs = announcement_at c m
 
   -- what P16 comes to
-  abbrev helping : Began → Card
-  helping b =
+  abbrev helping : Option Begun → Card
+  helping began =
+      let b = begun_from (local_at c i).control (local_at c i).simulation began in
       with_local (with_announcement c m theirs) i
       (after (local_at c i) b.control (local_at c i).gate theirs b.simulation
-      (cond b.helps empty (local_at c i).dictionary) (cond b.helps 0 (local_at c i).mask))
+      (cond (is_some began) empty (local_at c i).dictionary) (cond (is_some began) 0 (local_at c i).mask))
 
   abbrev begun : Helped
   begun = helped s (simulate c.variable_count (program_for F s theirs) theirs.words started empty) 0
 
   -- line P17: an operation that is not done and not too new is the one that the gate is held for
   module _ (nd : theirs.flag ≢ Done) (le : theirs.seq ≤ s) (q : LocAt P16 F W i (local_at c i)) where
-    still : (c.gate.holder ≡ Process m) × (c.gate.seq ≡ s)
+    still : (c.gate.holder ≡ Some m) × (c.gate.seq ≡ s)
     still = q.seen.still (omega (arith, (B.good.announced m).fresh nd))
 
-    pending : Phase (Process m) W
+    pending : Phase (Some m) W
     pending = phase_at B.good still.0
 
     many : s < length W.rounds
@@ -114,7 +118,7 @@ module _ {c : Card} {w : World} {i : ℕ} (B : Before c w i) where
     }
 
     -- the first simulation touches no dictionary
-    begins : Acted c W i (helping (record { helps = true; control = begun.control; simulation = begun.simulation }))
+    begins : Acted c W i (helping (Some (record { control = begun.control; simulation = begun.simulation })))
     begins =
         let r =
         resumes theirs q plan started empty
@@ -128,9 +132,9 @@ module _ {c : Card} {w : World} {i : ℕ} (B : Before c w i) where
   unfolding perform begin_help
   at-P16 chosen q =
       subst
-      (λ (p : Program). Acted c W i (helping (begin_help c.variable_count p theirs s (local_at c i).control (local_at c i).simulation)))
+      (λ (p : Program). Acted c W i (helping (begin_help c.variable_count p theirs s)))
       (sym (chosen theirs.program))
-      (on_test (λ (x : Began). Acted c W i (helping x)) (helps theirs s)
+      (on_test (λ (x : Option Begun). Acted c W i (helping x)) (helps theirs s)
       (λ e.
       let h = and_true (not (is_done theirs.flag)) _ e in
       begins (is_done-false _ (not-true _ h.0)) (leb-true _ _ h.1) q)

@@ -4,14 +4,16 @@ use mathlib.Core.Path.{◌≡◌, refl, sym, subst}
 use lib.ListN.{length, get_or, set}
 use lib.Seq.{get_or-set_same}
 use lib.Dec.{ltb}
-use Rattle.construction.specs.Types.{Holder, Nobody, Process, Gate, Flag, Done, Active, Exit, Words, Yield, Announcement, Record, Program, Dictionary}
+use Rattle.std.specs.Prelude.{Option, None, Some}
+use Rattle.construction.specs.Types.{Gate, Flag, Done, Active, Exit, Words, Yield, Announcement, Record, Program, Dictionary}
 use Rattle.construction.specs.Types.{Simulation, Pause, Ended, Faulted, Lacks, Simulated, Label, Idle, P1, P3, P5, P7, C4, P13, P14, H21, H36, P19, P21}
-use Rattle.construction.specs.Types.{F3, GateAccess, AnnouncementAccess, Access, Control, Began, Helped, Operation, Card}
+use Rattle.std.specs.Prelude.{Option}
+use Rattle.construction.specs.Types.{F3, GateAccess, AnnouncementAccess, Access, Control, Begun, Helped, Operation, Card}
 use Rattle.construction.specs.Cells.{open_announcement, same_holder}
 use Rattle.construction.specs.Dictionary.{noted, next_write, insert, item_of, empty}
 use Rattle.construction.specs.Parts.{idle_control, announcement_at, local_at}
 use Rattle.construction.specs.Machine.{by_holder, by_flag, write_from, after_pause, announced, access_of, access_gate, access_announcement, perform, advance}
-use Rattle.construction.specs.Machine.{begin_help, note, writing, helps, helped}
+use Rattle.construction.specs.Machine.{begin_help, begun_from, note, writing, helps, helped}
 use Rattle.construction.proofs.Basics.{on_test}
 use Rattle.construction.specs.Marks.{with_bit}
 use Rattle.construction.specs.Helping.{simulate}
@@ -40,9 +42,9 @@ module _ (Q : Label → Type 0) where
   Leads Access.Note = Q P19 × Q H21 × Q H36
   Leads Access.Write = Q H36 × Q P19
 
-  by_holder_lem : (h : Holder) (held free : Label) → Q held → Q free → Q (by_holder h held free)
-  by_holder_lem Nobody held free a b = b
-  by_holder_lem (Process m) held free a b = a
+  by_holder_lem : (h : Option ℕ) (held free : Label) → Q held → Q free → Q (by_holder h held free)
+  by_holder_lem None held free a b = b
+  by_holder_lem (Some m) held free a b = a
 
   by_flag_lem : (f : Flag) (done active exit : Label) → Q done → Q active → Q exit → Q (by_flag f done active exit)
   by_flag_lem Done done active exit a b c = a
@@ -61,7 +63,7 @@ module _ (Q : Label → Type 0) where
   gate_leads : (a : GateAccess) → GateLeads a → (i : ℕ) (cell g : Gate) (t : Control) → Q (access_gate a i cell g t).control.place
   unfolding access_gate
   gate_leads (GateAccess.Read held free) q i cell g t = by_holder_lem cell.holder held free q.0 q.1
-  gate_leads GateAccess.ReadLast q i cell g t = on_test Q (same_holder cell.holder (Process i)) (λ _. q.0) (λ _. q.1)
+  gate_leads GateAccess.ReadLast q i cell g t = on_test Q (same_holder cell.holder (Some i)) (λ _. q.0) (λ _. q.1)
   gate_leads GateAccess.Nominate q i cell g t = q
   gate_leads (GateAccess.Release next) q i cell g t = q
 
@@ -82,10 +84,10 @@ module _ (Q : Label → Type 0) where
 
   help_leads :
       Q P21 × Q H21 × Q H36 × Q P19 → (n : ℕ) (program : Program) (cell : Announcement) (number : ℕ) (t : Control) (s : Simulation) →
-      Q (begin_help n program cell number t s).control.place
+      Q (begun_from t s (begin_help n program cell number)).control.place
   unfolding begin_help
   help_leads q n program cell number t s =
-      on_test (λ (x : Began). Q x.control.place) (helps cell number)
+      on_test (λ (x : Option Begun). Q (begun_from t s x).control.place) (helps cell number)
       (λ _. helped_leads number (simulate n program cell.words started empty) 0 q.1 q.2 q.3) (λ _. q.0)
 
   note_leads :
@@ -110,7 +112,7 @@ module _ (Q : Label → Type 0) where
     leads Access.None q = absurd q
     leads (Access.Gate a) q = placed _ (gate_leads a q _ _ _ _)
     leads (Access.Announcement a) q = placed _ (announcement_leads a q _ _ _ _ _ _ _)
-    leads Access.Help q = placed _ (help_leads q _ _ _ _ _ _)
+    leads Access.Help q = placed _ (help_leads q _ _ _ _ (local_at c i).control (local_at c i).simulation)
     leads Access.Note q = placed _ (note_leads q _ _ _ _ _ _ _ _ _)
     leads Access.Write q = placed _ (write_leads q _ _ _)
 

@@ -6,7 +6,8 @@ use lib.Dec.{eqb, leb}
 use mathlib.Core.Logic.{◌≢◌, ◌⊎◌}
 use mathlib.Core.List.{List, [], ◌∷◌, ◌++◌}
 use lib.ListN.{length, get_or, set}
-use Rattle.construction.specs.Types.{Holder, Nobody, Process, Gate, Done, Active, Exit, Yield, Announcement, Record, Program, Operation, Card}
+use Rattle.std.specs.Prelude.{Option, None, Some}
+use Rattle.construction.specs.Types.{Gate, Done, Active, Exit, Yield, Announcement, Record, Program, Operation, Card}
 use Rattle.construction.specs.Cells.{zeros, no_yield, yield_of, open_announcement, open_record, current, previous, rewritten}
 use Rattle.construction.specs.Sequential.{Ending, sequential}
 use Rattle.construction.specs.Parts.{no_operation}
@@ -118,9 +119,9 @@ Held w o a =
     × (a.flag ≡ Done → w.count ≡ suc w.gate.seq)
     × (a.flag ≢ Done → Pending w.gate.seq w.count w.words (round_in w w.gate.seq) o a)
 
-abbrev pub Phase : Holder → World → Type 0
-Phase Nobody w = (length w.rounds ≡ w.gate.seq) × (w.count ≡ w.gate.seq)
-Phase (Process m) w = Held w (call_in w m) (announcement_in w m)
+abbrev pub Phase : Option ℕ → World → Type 0
+Phase None w = (length w.rounds ≡ w.gate.seq) × (w.count ≡ w.gate.seq)
+Phase (Some m) w = Held w (call_in w m) (announcement_in w m)
 
 -- the rounds and the records: a round has a word for each variable; a record below number s has the value from before s, one of number s
 -- has the values before and after s; what a finished operation altered is written; and where no operation is pending the records have the
@@ -175,7 +176,7 @@ pub record WorldInvariant (F : Frame) (w : World) : Type 0 where
   pub left_below : (m : ℕ) → left_in w m < w.gate.seq
   pub bound_below : (m : ℕ) → bound_in w m ≤ w.gate.seq
   pub announced : (m : ℕ) → AnnouncementInvariant w.gate.seq (left_in w m) (call_in w m) (announcement_in w m)
-  pub inside : (m : ℕ) → w.gate.holder ≡ Process m → m < F.process_count
+  pub inside : (m : ℕ) → w.gate.holder ≡ Some m → m < F.process_count
   pub phase : Phase w.gate.holder w
   pub recorded : Recorded F w.records w.rounds w.count w.words
 
@@ -231,7 +232,7 @@ leaving w i =
 -- the gate is given to m (P13)
 abbrev pub taking : World → ℕ → World
 taking w m =
-    with_ghosts (with_shared w (record { holder = Process m; seq = w.gate.seq }) w.announcements w.records)
+    with_ghosts (with_shared w (record { holder = Some m; seq = w.gate.seq }) w.announcements w.records)
     w.words w.calls w.results w.left w.bound (w.rounds ++ (record { words = w.words; call = call_in w m } ∷ [])) w.count
 
 -- variable v is written (H36)
@@ -249,13 +250,13 @@ ending F w m =
 -- the gate is given back for m (P21, F3)
 abbrev pub freeing : World → ℕ → World
 freeing w m =
-    with_ghosts (with_shared w (record { holder = Nobody; seq = w.gate.seq + 1 }) w.announcements w.records)
+    with_ghosts (with_shared w (record { holder = None; seq = w.gate.seq + 1 }) w.announcements w.records)
     w.words w.calls w.results (set w.left m w.gate.seq) w.bound w.rounds w.count
 
 -- no operation of j is announced, by its announcement a and its bound: j does not hold the gate g and will not be given it
 pub record Silent (g : Gate) (a : Announcement) (bound j : ℕ) : Type 0 where
   pub not_active : a.flag ≢ Active
-  pub free_of : g.holder ≢ Process j
+  pub free_of : g.holder ≢ Some j
   pub late : a.flag ≡ Exit → bound < g.seq
 
 abbrev pub Quiet : World → ℕ → Type 0
@@ -270,16 +271,16 @@ pub data Move (F : Frame) (i : ℕ) (w : World) : World → Type 0 where
       AnnouncementInvariant w.gate.seq (left_in w i) (call_in w i) a → Move F i w (announcing w i a)
   leave : i < F.process_count → (announcement_in w i).flag ≡ Active → Move F i w (leaving w i)
   take :
-      (m : ℕ) → m < F.process_count → w.gate.holder ≡ Nobody → (announcement_in w m).flag ≢ Done →
+      (m : ℕ) → m < F.process_count → w.gate.holder ≡ None → (announcement_in w m).flag ≢ Done →
       operation_of (announcement_in w m) ≡ call_in w m →
       (m ≡ i) ⊎ ((announcement_in w m).flag ≡ Exit → w.gate.seq ≤ bound_in w m) → Move F i w (taking w m)
   write :
-      (m v x : ℕ) → v < F.variable_count → w.gate.holder ≡ Process m → (announcement_in w m).flag ≢ Done →
+      (m v x : ℕ) → v < F.variable_count → w.gate.holder ≡ Some m → (announcement_in w m).flag ≢ Done →
       (record_in w v).seq < w.gate.seq →
       x ≡ word_at (ending_in F w w.gate.seq).words v → Move F i w (storing w v x)
   end :
-      (m : ℕ) → m < F.process_count → w.gate.holder ≡ Process m → (announcement_in w m).flag ≢ Done →
+      (m : ℕ) → m < F.process_count → w.gate.holder ≡ Some m → (announcement_in w m).flag ≢ Done →
       ((v : ℕ) → v < F.variable_count → (record_in w v).seq < w.gate.seq →
       word_at (ending_in F w w.gate.seq).words v ≡ word_at (round_in w w.gate.seq).words v) →
       Move F i w (ending F w m)
-  free : (m : ℕ) → m < F.process_count → w.gate.holder ≡ Process m → (announcement_in w m).flag ≡ Done → Move F i w (freeing w m)
+  free : (m : ℕ) → m < F.process_count → w.gate.holder ≡ Some m → (announcement_in w m).flag ≡ Done → Move F i w (freeing w m)

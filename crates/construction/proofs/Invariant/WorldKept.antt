@@ -8,7 +8,8 @@ use native.Mathlib.Omega.{arith}
 use native.Mathlib.Nat.{eq-or-lt_of_le}
 use lib.ListN.{length, get_or, set, length-set, length-append, get_or-append}
 use lib.Seq.{get_or-set_other, get_or_at}
-use Rattle.construction.specs.Types.{Holder, Nobody, Process, Done, Active, Exit, Announcement, Record, Operation}
+use Rattle.std.specs.Prelude.{Option, None, Some}
+use Rattle.construction.specs.Types.{Done, Active, Exit, Announcement, Record, Operation}
 use Rattle.construction.specs.Machine.{flagged}
 use Rattle.construction.specs.Cells.{zeros, open_announcement, open_record, current, previous, rewritten}
 use Rattle.construction.specs.Sequential.{Ending, sequential}
@@ -67,8 +68,8 @@ module _ {F : Frame} {w : World} (G : WorldInvariant F w) where
   announcements_set P i j a lt = on_set P w.announcements i j a open_announcement (omega arith)
 
   -- the phase by the holder of the gate
-  pub phase_at : {h : Holder} → w.gate.holder ≡ h → Phase h w
-  phase_at e = subst (λ (h : Holder). Phase h w) e G.phase
+  pub phase_at : {h : Option ℕ} → w.gate.holder ≡ h → Phase h w
+  phase_at e = subst (λ (h : Option ℕ). Phase h w) e G.phase
 
   announced_set :
       (i : ℕ) (a : Announcement) → i < F.process_count → AnnouncementInvariant w.gate.seq (left_in w i) (call_in w i) a → (m : ℕ) →
@@ -76,10 +77,10 @@ module _ {F : Frame} {w : World} (G : WorldInvariant F w) where
   announced_set i a lt A m =
       announcements_set (AnnouncementInvariant w.gate.seq (left_in w m) (call_in w m)) i m a lt (λ e. rw e A) (λ _. G.announced m)
 
-  phase_ask : (i : ℕ) (q : Operation) (h : Holder) → h ≢ Process i → Phase h w → Phase h (asking w i q)
-  phase_ask i q Nobody ne ph = ph
-  phase_ask i q (Process m) ne ph =
-      rw (get_or-set_other w.calls i m q no_operation (λ e. ne (ap Process e))) ph
+  phase_ask : (i : ℕ) (q : Operation) (h : Option ℕ) → h ≢ Some i → Phase h w → Phase h (asking w i q)
+  phase_ask i q None ne ph = ph
+  phase_ask i q (Some m) ne ph =
+      rw (get_or-set_other w.calls i m q no_operation (λ e. ne (ap Some e))) ph
 
   good_ask : (i : ℕ) (q : Operation) → i < F.process_count → Quiet w i → WorldInvariant F (asking w i q)
   good_ask i q lt Q = record {
@@ -97,10 +98,10 @@ module _ {F : Frame} {w : World} (G : WorldInvariant F w) where
   }
 
   phase_announce :
-      (i : ℕ) (a : Announcement) (h : Holder) → h ≢ Process i → Phase h w → Phase h (announcing w i a)
-  phase_announce i a Nobody ne ph = ph
-  phase_announce i a (Process m) ne ph =
-      rw (get_or-set_other w.announcements i m a open_announcement (λ e. ne (ap Process e))) ph
+      (i : ℕ) (a : Announcement) (h : Option ℕ) → h ≢ Some i → Phase h w → Phase h (announcing w i a)
+  phase_announce i a None ne ph = ph
+  phase_announce i a (Some m) ne ph =
+      rw (get_or-set_other w.announcements i m a open_announcement (λ e. ne (ap Some e))) ph
 
   good_announce :
       (i : ℕ) (a : Announcement) → i < F.process_count → Quiet w i → AnnouncementInvariant w.gate.seq (left_in w i) (call_in w i) a →
@@ -118,9 +119,9 @@ module _ {F : Frame} {w : World} (G : WorldInvariant F w) where
   }
 
   phase_leave :
-      (i : ℕ) → i < F.process_count → (announcement_in w i).flag ≡ Active → (h : Holder) → Phase h w → Phase h (leaving w i)
-  phase_leave i lt fa Nobody ph = ph
-  phase_leave i lt fa (Process m) ph = announcements_set (Held w (call_in w m)) i m _ lt left (λ _. ph)
+      (i : ℕ) → i < F.process_count → (announcement_in w i).flag ≡ Active → (h : Option ℕ) → Phase h w → Phase h (leaving w i)
+  phase_leave i lt fa None ph = ph
+  phase_leave i lt fa (Some m) ph = announcements_set (Held w (call_in w m)) i m _ lt left (λ _. ph)
     where
       left : m ≡ i → Held w (call_in w m) (flagged (announcement_in w i) Exit)
       left e =
@@ -167,7 +168,7 @@ module _ {F : Frame} {w : World} (G : WorldInvariant F w) where
   split_last m s lt = eq-or-lt_of_le (omega (arith, simp length-append at lt))
 
   good_take :
-      (m : ℕ) → m < F.process_count → w.gate.holder ≡ Nobody → (announcement_in w m).flag ≢ Done →
+      (m : ℕ) → m < F.process_count → w.gate.holder ≡ None → (announcement_in w m).flag ≢ Done →
       operation_of (announcement_in w m) ≡ call_in w m → WorldInvariant F (taking w m)
   good_take m lt hn fl op =
       let R = G.recorded in
@@ -200,7 +201,7 @@ module _ {F : Frame} {w : World} (G : WorldInvariant F w) where
       }
 
   -- the gate is held for an operation of m that is not done
-  module _ (m : ℕ) (hm : w.gate.holder ≡ Process m) (fl : (announcement_in w m).flag ≢ Done) where
+  module _ (m : ℕ) (hm : w.gate.holder ≡ Some m) (fl : (announcement_in w m).flag ≢ Done) where
     many : length w.rounds ≡ suc w.gate.seq
     many = (phase_at hm).0
 
@@ -252,7 +253,7 @@ module _ {F : Frame} {w : World} (G : WorldInvariant F w) where
         bound_below = G.bound_below;
         announced = G.announced;
         inside = G.inside;
-        phase = subst (λ (h : Holder). Phase h (storing w v x)) (sym hm) (phase_at hm);
+        phase = subst (λ (h : Option ℕ). Phase h (storing w v x)) (sym hm) (phase_at hm);
         recorded = recorded_write;
       }
 
@@ -296,7 +297,7 @@ module _ {F : Frame} {w : World} (G : WorldInvariant F w) where
               active_operation = λ q. absurd (active_not_done q refl);
             });
             inside = G.inside;
-            phase = subst (λ (h : Holder). Phase h (ending F w m)) (sym hm) (
+            phase = subst (λ (h : Option ℕ). Phase h (ending F w m)) (sym hm) (
               many,
               λ _. omega (arith, counted),
               λ d. absurd (d (announcements_set (λ r. r.flag ≡ Done) m m _ lt (λ _. refl) (λ ne. absurd (ne refl)))),
@@ -305,7 +306,7 @@ module _ {F : Frame} {w : World} (G : WorldInvariant F w) where
           }
 
   good_free :
-      (m : ℕ) → m < F.process_count → w.gate.holder ≡ Process m → (announcement_in w m).flag ≡ Done → WorldInvariant F (freeing w m)
+      (m : ℕ) → m < F.process_count → w.gate.holder ≡ Some m → (announcement_in w m).flag ≡ Done → WorldInvariant F (freeing w m)
   good_free m lt hm d =
       let ph = phase_at hm in
       let many : length w.rounds ≡ suc w.gate.seq = ph.0 in
@@ -368,7 +369,7 @@ texts_move (free m lt hm d) = refl
 
 -- the operation that a gate is held for runs on the words so far, and its number is the next
 pub ends_now :
-    {F : Frame} {w : World} → WorldInvariant F w → (m : ℕ) → w.gate.holder ≡ Process m → (announcement_in w m).flag ≢ Done →
+    {F : Frame} {w : World} → WorldInvariant F w → (m : ℕ) → w.gate.holder ≡ Some m → (announcement_in w m).flag ≢ Done →
     (w.count ≡ w.gate.seq)
     × (ending_in F w w.gate.seq
     ≡ sequential F.variable_count (F.program_at (call_in w m).program w.gate.seq) (call_in w m).inputs w.words)
@@ -376,16 +377,16 @@ unfolding ending_of
 ends_now {F} {w} G m hm fl = (counted G m hm fl, ap (ending_of F w.gate.seq) ((phase_at G hm).2 fl).now)
 
 -- how many rounds there are at most, and operations finished at least
-pub rounds_few : (h : Holder) (w : World) → Phase h w → length w.rounds ≤ suc w.gate.seq
-rounds_few Nobody w ph = omega arith
-rounds_few (Process m) w ph = omega arith
+pub rounds_few : (h : Option ℕ) (w : World) → Phase h w → length w.rounds ≤ suc w.gate.seq
+rounds_few None w ph = omega arith
+rounds_few (Some m) w ph = omega arith
 
-pub count_few : (h : Holder) (w : World) → Phase h w → w.count ≤ suc w.gate.seq
-count_few Nobody w ph = omega arith
-count_few (Process m) w ph =
+pub count_few : (h : Option ℕ) (w : World) → Phase h w → w.count ≤ suc w.gate.seq
+count_few None w ph = omega arith
+count_few (Some m) w ph =
     ⊎_elim (λ d. omega (arith, ph.1 d)) (λ d. omega (arith, (ph.2 d).counted)) (done_or_not (announcement_in w m).flag)
 
-pub count_many : (h : Holder) (w : World) → Phase h w → w.gate.seq ≤ w.count
-count_many Nobody w ph = omega arith
-count_many (Process m) w ph =
+pub count_many : (h : Option ℕ) (w : World) → Phase h w → w.gate.seq ≤ w.count
+count_many None w ph = omega arith
+count_many (Some m) w ph =
     ⊎_elim (λ d. omega (arith, ph.1 d)) (λ d. omega (arith, (ph.2 d).counted)) (done_or_not (announcement_in w m).flag)

@@ -11,7 +11,8 @@ use lib.ListN.{length, get_or, set, length-take}
 use lib.Seq.{get_or-set_same, set-get_or, get_or-take}
 use lib.Dec.{ltb, eqb}
 use borrow.Author.Tests.{ltb-true, eq-eqb}
-use Rattle.construction.specs.Types.{Process, Done, Record, Item, Dictionary, H36, Access, Card}
+use Rattle.std.specs.Prelude.{Some}
+use Rattle.construction.specs.Types.{Done, Record, Item, Dictionary, H36, Access, Card}
 use Rattle.construction.specs.Cells.{open_record, same_record, swap_record, current, rewritten}
 use Rattle.construction.specs.Dictionary.{no_item, noted, value_under, altered}
 use Rattle.construction.specs.Parts.{announcement_at, record_at, with_record, local_at, with_local}
@@ -109,7 +110,7 @@ module _ {c : Card} {w : World} {i : ℕ} (B : Before c w i) (q : LocAt H36 (fra
     unfinished : s < W.count → ⊥
     unfinished l = other (B.good.recorded.settled s v l known.inside early)
 
-    held : (c.gate.holder ≡ Process m) × (c.gate.seq ≡ s)
+    held : (c.gate.holder ≡ Some m) × (c.gate.seq ≡ s)
     held = q.0.seen.still (go (dec_lt (left_in W m) s))
       where
         go : Dec (left_in W m < s) → left_in W m < s

@@ -9,7 +9,8 @@ use native.Mathlib.Nat.{zero-add}
 use native.Mathlib.Decide.{ℕ_discrete}
 use lib.ListN.{length, get_or, set}
 use lib.Seq.{get_or-set_same, get_or-set_other}
-use Rattle.construction.specs.Types.{Process, Flag, Done, Active, Exit, Announcement, Operation, Card, Program}
+use Rattle.std.specs.Prelude.{Some}
+use Rattle.construction.specs.Types.{Flag, Done, Active, Exit, Announcement, Operation, Card, Program}
 use Rattle.construction.specs.Cells.{is_done, open_announcement}
 use Rattle.construction.specs.Sequential.{Ending, sequential}
 use Rattle.construction.specs.Parts.{no_operation, contents_of}
@@ -84,7 +85,7 @@ pub record NothingFinishes (announced : ℕ → Bool) (w v : World) : Type 0 whe
 pub record OneFinishes (F : Frame) (w v : World) : Type 0 where
   pub process : ℕ
   pub inside : process < F.process_count
-  pub held : w.gate.holder ≡ Process process
+  pub held : w.gate.holder ≡ Some process
   pub undone : (announcement_in w process).flag ≢ Done
   pub becomes : v ≡ ending F w process
 
@@ -178,7 +179,7 @@ tracks_calm {announced = announced} {w = w} {v} {s} C f T =
 -- a move that finishes the operation of m, whose number the sequential run gives it too
 module _
     (o : Card) {F : Frame} {p : ℕ} {busy announced : ℕ → Bool} {w : World} {s : History} (G : WorldInvariant F w) (T : Tracks p busy announced w s)
-    (m : ℕ) (lt : m < F.process_count) (held : w.gate.holder ≡ Process m) (undone : (announcement_in w m).flag ≢ Done)
+    (m : ℕ) (lt : m < F.process_count) (held : w.gate.holder ≡ Some m) (undone : (announcement_in w m).flag ≢ Done)
     (O : Own true w s m) (vs : o.variable_count ≡ F.variable_count)
     (co : (k number : ℕ) → text_at (contents_of o) s.changes k number ≡ F.program_at k number) where
   number_is : w.gate.seq ≡ suc (length s.order)

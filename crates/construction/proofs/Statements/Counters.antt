@@ -8,7 +8,8 @@ use native.Mathlib.Omega.{arith}
 use lib.Dec.{eqb, ltb}
 use lib.ListN.{get_or, set}
 use borrow.Author.Tests.{ltb-true}
-use Rattle.construction.specs.Types.{Words, Announcement, Record, Instruction, Program, Effect, Dictionary, Simulation, Access, Control, Began, Helped}
+use Rattle.std.specs.Prelude.{Option}
+use Rattle.construction.specs.Types.{Words, Announcement, Record, Instruction, Program, Effect, Dictionary, Simulation, Access, Control, Begun, Helped}
 use Rattle.construction.specs.Types.{Card, Answered}
 use Rattle.construction.specs.Instructions.{word, load, store, free, is_cell, effect_of, fetch, shortened, next_effect, forward, with_register, with_output}
 use Rattle.construction.specs.Instructions.{skipped, faulted, started}
@@ -16,7 +17,7 @@ use Rattle.construction.specs.Effects.{Executed, allocated, execute}
 use Rattle.construction.specs.Dictionary.{empty, insert, item_of}
 use Rattle.construction.specs.Helping.{note_of, simulate}
 use Rattle.construction.specs.Parts.{local_at}
-use Rattle.construction.specs.Machine.{helps, begin_help, note, access_in, perform, advance}
+use Rattle.construction.specs.Machine.{helps, begin_help, begun_from, note, access_in, perform, advance}
 use Rattle.construction.specs.Opening.{fresh, opened}
 use Rattle.construction.specs.History.{Entry, observe, run}
 use Rattle.construction.proofs.Basics.{on_test, true_or_false, set_keeps, get_or_replicate_same}
@@ -151,10 +152,10 @@ stands_within n program inputs =
 -- what helping begins with and goes on with
 begin_within :
     (n : ℕ) (program : Program) (cell : Announcement) (number : ℕ) (t : Control) (s : Simulation) → s.counter ≤ 32 →
-    (begin_help n program cell number t s).simulation.counter ≤ 32
+    (begun_from t s (begin_help n program cell number)).simulation.counter ≤ 32
 unfolding begin_help
 begin_within n program cell number t s h =
-    on_test (λ (x : Began). x.simulation.counter ≤ 32) (helps cell number)
+    on_test (λ (x : Option Begun). (begun_from t s x).simulation.counter ≤ 32) (helps cell number)
     (λ _. simulate_within n program cell.words started empty (omega arith)) (λ _. h)
 
 note_within :
@@ -177,7 +178,7 @@ unfolding perform
 step_within Access.None c j h i = put_within c i j _ h (h j)
 step_within (Access.Gate a) c j h i = put_within c i j _ h (h j)
 step_within (Access.Announcement a) c j h i = put_within c i j _ h (h j)
-step_within Access.Help c j h i = put_within c i j _ h (begin_within _ _ _ _ _ _ (h j))
+step_within Access.Help c j h i = put_within c i j _ h (begin_within _ _ _ _ (local_at c j).control _ (h j))
 step_within Access.Note c j h i = put_within c i j _ h (note_within _ _ _ _ _ _ _ _ _ (h j))
 step_within Access.Write c j h i = put_within c i j _ h (h j)
 

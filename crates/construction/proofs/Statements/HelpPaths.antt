@@ -2,6 +2,8 @@
 use Prim.Native.Nat.{ℕ, suc, ◌+◌, ◌≤◌, ◌<◌}
 use mathlib.Core.Path.{◌≡◌, refl, subst, ap, ◌∙◌}
 use mathlib.Core.Bool.{Bool, true, false, cond}
+use Rattle.std.specs.Prelude.{Option}
+use Rattle.std.specs.Option.{is_some}
 use mathlib.Core.Logic.{⊎_elim}
 use mathlib.Core.List.{List, [], ◌∷◌}
 use native.Mathlib.Omega.{arith}
@@ -10,12 +12,12 @@ use lib.ListN.{length, get_or, drop, length-take, length-drop, length-replicate}
 use lib.Seq.{get_or-take, get_or-drop, drop-drop}
 use borrow.Author.Tests.{ltb-true, ltb-false}
 use Rattle.construction.specs.Types.{Announcement, Record, Program, Item, Dictionary, Simulation, Pause, Ended, Faulted, Lacks, Simulated, Label, Idle}
-use Rattle.construction.specs.Types.{P1, P3, P5, P7, P10, C2, C4, P13, P14, P16, H21, H36, P19, P20, P21, P22, F1, F3, P6, Cell, Control, Began, Helped}
+use Rattle.construction.specs.Types.{P1, P3, P5, P7, P10, C2, C4, P13, P14, P16, H21, H36, P19, P20, P21, P22, F1, F3, P6, Cell, Control, Begun, Helped}
 use Rattle.construction.specs.Instructions.{started}
 use Rattle.construction.specs.Dictionary.{no_item, empty, noted, insert, item_of, altered, unaltered, next_write}
 use Rattle.construction.specs.Helping.{simulate}
 use Rattle.construction.specs.Marks.{with_bit}
-use Rattle.construction.specs.Machine.{go_to, helps, after_pause, write_from, helped, begin_help, note}
+use Rattle.construction.specs.Machine.{go_to, helps, after_pause, write_from, helped, begin_help, begun_from, note}
 use Rattle.construction.specs.Paths.{Help, Due, altered_in, due_by, due_of, with_read}
 use Rattle.construction.proofs.Basics.{on_test, true_or_false}
 use Rattle.construction.proofs.Simulating.Sequential.{Short}
@@ -159,11 +161,12 @@ module _ (n : ℕ) (program : Program) (number : ℕ) (a : Announcement) where
   -- lines P17, P18 and H1
   pub begin_due :
       (control : Control) (s : Simulation) (d : Dictionary) (h : Help) → h ≡ help_with n program a empty →
-      let x = begin_help n program a number control s in
-      OnControl x.control x.simulation (cond x.helps empty d) h (due_of number h)
+      let began = begin_help n program a number in
+      let x = begun_from control s began in
+      OnControl x.control x.simulation (cond (is_some began) empty d) h (due_of number h)
   unfolding begin_help
   begin_due control s d h q =
-      on_test (λ (x : Began). OnControl x.control x.simulation (cond x.helps empty d) h (due_of number h)) (helps a number)
+      on_test (λ (x : Option Begun). OnControl (begun_from control s x).control (begun_from control s x).simulation (cond (is_some x) empty d) h (due_of number h)) (helps a number)
       (λ _. let x = simulated n program a started empty in
       subst (λ (y : Dictionary). OnControl (after_pause number x.dictionary x.pause) x.simulation y h (due_of number h))
       (simulate_empty n program a.words)

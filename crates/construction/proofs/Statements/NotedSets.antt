@@ -2,6 +2,7 @@
 use Prim.Native.Nat.{ℕ, ◌<◌}
 use mathlib.Core.Path.{◌≡◌, refl, sym, subst, ap, ◌∙◌}
 use mathlib.Core.Bool.{Bool, true, false, cond}
+use Rattle.std.specs.Option.{is_some}
 use mathlib.Core.List.{List}
 use native.Mathlib.Omega.{arith}
 use native.Mathlib.Decide.{ℕ_discrete}
@@ -128,7 +129,7 @@ module _ (c : Card) (Z : Sizes c) (j : ℕ) (lt : j < 8) (H : AllMarked c) where
       let l = local_at c j in
       let cell = announcement_at c (holder_of l.gate.holder) in
       let program = program_of (texts_of c) cell.program l.gate.seq in
-      put_marked_lem i _ _ (begun (begin_help c.variable_count program cell l.gate.seq l.control l.simulation).helps)
+      put_marked_lem i _ _ (begun (is_some (begin_help c.variable_count program cell l.gate.seq)))
     where
       begun : (b : Bool) → Marks (cond b 0 (local_at c j).mask) (cond b empty (local_at c j).dictionary)
       begun true = marks_empty

@@ -1,6 +1,7 @@
 -- Over every list of entries the accesses of each operation, by `step` or by `trace`, are a path that the numbered lines allow (specs/Paths).
 use Prim.Native.Nat.{ℕ, suc, ◌≤◌, ◌<◌}
 use mathlib.Core.Path.{◌≡◌, refl, sym, subst, ap, ◌∙◌}
+use Rattle.std.specs.Prelude.{Option}
 use mathlib.Core.Bool.{Bool, true, false, cond, not, ◌&&◌, true≢false}
 use mathlib.Core.Logic.{◌≢◌, ◌⊎◌, inl, inr, ⊎_elim}
 use mathlib.Core.List.{List, [], ◌∷◌}
@@ -8,9 +9,10 @@ use native.Mathlib.Omega.{arith}
 use lib.Dec.{eqb, ltb}
 use lib.ListN.{length}
 use borrow.Author.Tests.{le-ltb, ltb-true, ltb-false, leb-true, leb-false, not-true, not-false, eqb-true, eqb-false}
-use Rattle.construction.specs.Types.{Holder, Nobody, Process, Gate, Flag, Done, Active, Exit, Words, Announcement, Record, Program, Dictionary}
+use Rattle.std.specs.Prelude.{Option, None, Some}
+use Rattle.construction.specs.Types.{Gate, Flag, Done, Active, Exit, Words, Announcement, Record, Program, Dictionary}
 use Rattle.construction.specs.Types.{Simulation, Pause, Ended, Faulted, Lacks, Label, Idle, P1, P3, P5, P7, P10, C2, C4, P13, P14, P16, H21, H36, P19}
-use Rattle.construction.specs.Types.{P20, P21, P22, F1, F3, P6, GateAccess, Access, Cell, Swap, Control, Began, Helped, Card, Refusal, Answer, Answered}
+use Rattle.construction.specs.Types.{P20, P21, P22, F1, F3, P6, GateAccess, Access, Cell, Swap, Control, Begun, Helped, Card, Refusal, Answer, Answered}
 use Rattle.construction.specs.Types.{Contents}
 use Rattle.construction.specs.Cells.{is_done, same_holder, swap_gate, swap_announcement, swap_record, released}
 use Rattle.construction.specs.Instructions.{started}
@@ -19,7 +21,7 @@ use Rattle.construction.specs.Helping.{simulate}
 use Rattle.construction.specs.Parts.{idle_control, Local, local_at, contents_of, announcement_at, record_at, program_of, with_local, Texts, texts_of}
 use Rattle.construction.specs.Parts.{with_revision}
 use Rattle.construction.specs.Machine.{access_of, access_gate, access_announcement, by_holder, by_flag, holder_of, first_choice, outcome, helps, after_pause}
-use Rattle.construction.specs.Machine.{write_from, begin_help, note, writing, written_variable, whose, cell_of, after, step_gate, step_announcement, step_help}
+use Rattle.construction.specs.Machine.{write_from, begin_help, begun_from, note, writing, written_variable, whose, cell_of, after, step_gate, step_announcement, step_help}
 use Rattle.construction.specs.Machine.{step_note, step_write, perform, advance, swap_of}
 use Rattle.construction.specs.Requests.{is_idle, is_busy, is_program, invoked, exiting, returned, answer_of}
 use Rattle.construction.specs.OneAccess.{SameText}
@@ -75,9 +77,9 @@ helps_false a number e =
 
 -- the choices that the lines make, with what was asked
 module _ (Q : Label → Type 0) where
-  on_holder : (h : Holder) (held free : Label) → (h ≢ Nobody → Q held) → (h ≡ Nobody → Q free) → Q (by_holder h held free)
-  on_holder Nobody held free a b = b refl
-  on_holder (Process m) held free a b = a (λ e. nobody_process e refl)
+  on_holder : (h : Option ℕ) (held free : Label) → (h ≢ None → Q held) → (h ≡ None → Q free) → Q (by_holder h held free)
+  on_holder None held free a b = b refl
+  on_holder (Some m) held free a b = a (λ e. nobody_process e refl)
 
   on_flag :
       (f : Flag) (done active exit : Label) → (f ≡ Done → Q done) → (f ≡ Active → Q active) → (f ≡ Exit → Q exit) →
@@ -103,11 +105,11 @@ module _ (Q : Label → Type 0) where
   on_help :
       (n : ℕ) (program : Program) (a : Announcement) (number : ℕ) (t : Control) (s : Simulation) →
       (a.flag ≢ Done → a.seq ≤ number → Q H21 × Q P19) → ((a.flag ≡ Done) ⊎ (number < a.seq) → Q P21) →
-      Q (begin_help n program a number t s).control.place
+      Q (begun_from t s (begin_help n program a number)).control.place
   unfolding begin_help
   on_help n program a number t s f g =
       let x = simulate n program a.words started empty in
-      on_test (λ (b : Began). Q b.control.place) (helps a number)
+      on_test (λ (b : Option Begun). Q (begun_from t s b).control.place) (helps a number)
       (λ e.
       let h = helps_true a number e in
       let y = f h.0 h.1 in
@@ -253,7 +255,7 @@ module _ (c : Card) (i : ℕ) (Z : Sizes c) (lt : i < 8) where
       (on_holder (GateRead Label.P14) c.gate.holder P16 P22 (λ e _. Edge.P14-P16 e) (λ e _. Edge.P14-P22 e))
   lands P16 exit n q =
       let m = holder_of own.gate.holder in
-      (on_help (AnnouncementRead Label.P16 m) _ _ (announcement_at c m) own.gate.seq _ _
+      (on_help (AnnouncementRead Label.P16 m) _ _ (announcement_at c m) own.gate.seq own.control own.simulation
       (λ e le. (λ _. Edge.P16-H21 e le, λ _. Edge.P16-P19 e le)) (λ e _. Edge.P16-P21 e))
   lands H21 exit n q =
       let r = record_at c own.control.target in
@@ -273,11 +275,11 @@ module _ (c : Card) (i : ℕ) (Z : Sizes c) (lt : i < 8) where
       top e true = Edge.P22-P6 e
       top e false = Edge.P22-P10 e
   lands F1 exit n q =
-      (on_test (GateRead Label.F1) (same_holder c.gate.holder (Process i)) {x = F3} {y = Idle} (λ e _. Edge.F1-F3 (same_holder-true _ _ e))
+      (on_test (GateRead Label.F1) (same_holder c.gate.holder (Some i)) {x = F3} {y = Idle} (λ e _. Edge.F1-F3 (same_holder-true _ _ e))
       (λ e. subst (Settles Label.F1 Swap.None (Found.gate c.gate) own.announcement) (sym (q (inl refl))) (End.F1 (not_held e))))
     where
-      not_held : same_holder c.gate.holder (Process i) ≡ false → c.gate.holder ≢ Process i
-      not_held e z = true_false _ (rw z (same_holder-refl (Process i))) e
+      not_held : same_holder c.gate.holder (Some i) ≡ false → c.gate.holder ≢ Some i
+      not_held e z = true_false _ (rw z (same_holder-refl (Some i))) e
   lands F3 exit n q =
       subst (Settles Label.F3 (perform (access_of F3 exit) c i).swap (Found.gate c.gate) own.announcement) (sym (q (inr refl)))
       (End.F3 (gate_swapped_lem c.gate own.gate (released own.gate)))
@@ -381,7 +383,7 @@ module _ (c : Card) (i : ℕ) (Z : Sizes c) (lt : i < 8) where
     stays_due P20 exit n room q = tt
     stays_due P21 exit n room q = tt
     stays_due P22 exit n room q = on_flag (HelpNext P22 exit h due) (announcement_at c i).flag F1 P5 Idle (λ _. tt) (λ _. tt) (λ _. tt)
-    stays_due F1 exit n room q = on_test (HelpNext F1 exit h due) (same_holder c.gate.holder (Process i)) (λ _. tt) (λ _. tt)
+    stays_due F1 exit n room q = on_test (HelpNext F1 exit h due) (same_holder c.gate.holder (Some i)) (λ _. tt) (λ _. tt)
     stays_due F3 exit n room q = tt
     stays_due P6 exit n room q = tt
 

@@ -4,7 +4,8 @@ use mathlib.Core.Path.{◌≡◌, refl, sym, subst, ap, ◌∙◌}
 use mathlib.Core.Bool.{Bool, true, false, true≢false}
 use mathlib.Core.Logic.{◌≢◌, ◌⊎◌}
 use native.Mathlib.Omega.{arith}
-use Rattle.construction.specs.Types.{Nobody, Process, Gate, Flag, Done, Active, Exit, Label, Idle, P1, P3, P5, P7, P10, C2, C4, P13, P14, P16, H21, H36}
+use Rattle.std.specs.Prelude.{None, Some}
+use Rattle.construction.specs.Types.{Gate, Flag, Done, Active, Exit, Label, Idle, P1, P3, P5, P7, P10, C2, C4, P13, P14, P16, H21, H36}
 use Rattle.construction.specs.Types.{P19, P20, P21, P22, F1, F3, P6, AnnouncementAccess, Access, Card}
 use Rattle.construction.specs.Parts.{Local, local_at, announcement_at, with_announcement, with_local}
 use Rattle.construction.specs.Machine.{by_flag, first_choice, whose, access_of, access_announcement, perform}
@@ -37,12 +38,12 @@ ChoosesIn j g t = Chooses t.control.place j g t.gate t.control.target
 pub record Due (p : ℕ) (g : Gate) (T : ℕ → Local) (j turn : ℕ) : Type 0 where
   pub own : first_choice turn p ≡ j
   pub high : g.seq ≤ turn
-  pub held : g.seq ≡ turn → (g.holder ≡ Nobody) ⊎ (g.holder ≡ Process j)
+  pub held : g.seq ≡ turn → (g.holder ≡ None) ⊎ (g.holder ≡ Some j)
   pub chosen : g.seq ≡ turn → (q : ℕ) → q < p → ChoosesIn j g (T q)
 
 -- a chooser read a free gate, with a number not above that of now
 module _ (F : Frame) (w : World) (q j : ℕ) (g : Gate) (t : Local)
-    (other : t.gate.holder ≡ Nobody → t.gate.seq ≤ w.gate.seq → t.gate ≢ g) where
+    (other : t.gate.holder ≡ None → t.gate.seq ≤ w.gate.seq → t.gate ≢ g) where
   pub apart : (l : Label) → LocAt l F w q (known t) → Chooses l j g t.gate t.control.target
   apart C4 k Chooser.unsure = other k.1 k.2
   apart P13 k Chooser.nominating = λ e. absurd (other k.1 k.3.below e)

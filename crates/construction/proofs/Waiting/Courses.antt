@@ -5,7 +5,8 @@ use mathlib.Core.Bool.{Bool, true, false}
 use mathlib.Core.Logic.{◌⊎◌, inl, ⊎_elim}
 use native.Mathlib.Omega.{arith}
 use native.Mathlib.Nat.{mul-le-mul_right}
-use Rattle.construction.specs.Types.{Nobody, Gate, Active, Announcement, Label, Idle, P1, P3, P5, P7, P10, C2, C4, P13, P14, P16, H21, H36, P19, P20, P21}
+use Rattle.std.specs.Prelude.{None}
+use Rattle.construction.specs.Types.{Gate, Active, Announcement, Label, Idle, P1, P3, P5, P7, P10, C2, C4, P13, P14, P16, H21, H36, P19, P20, P21}
 use Rattle.construction.specs.Types.{P22, F1, F3, P6}
 use Rattle.construction.specs.Parts.{Local}
 use Rattle.construction.specs.Requests.{exiting, with_request}
@@ -44,7 +45,7 @@ CourseAt P10 p w g a x t = Loop p w g.seq 1 x t
 CourseAt C2 p w g a x t = Loop p w t.gate.seq 2 x t
 CourseAt C4 p w g a x t = Loop p w t.gate.seq 3 x t
 CourseAt P13 p w g a x t = Loop p w t.gate.seq 4 x t
-CourseAt P14 p w g a x t = Loop p w g.seq 5 x t × (g.holder ≡ Nobody → Ahead p g x)
+CourseAt P14 p w g a x t = Loop p w g.seq 5 x t × (g.holder ≡ None → Ahead p g x)
 CourseAt P16 p w g a x t = Loop p w t.gate.seq 6 x t
 CourseAt H21 p w g a x t = Loop p w t.gate.seq (7 + t.dictionary.length) x t
 CourseAt H36 p w g a x t = Loop p w t.gate.seq (7 + t.dictionary.length + t.control.target) x t
@@ -59,7 +60,7 @@ CourseAt P6 p w g a x t = ⊥
 -- the gate's number does not fall, and a gate that is free was free before or has another number
 pub record Onward (g h : Gate) : Type 0 where
   pub above : g.seq ≤ h.seq
-  pub freed : h.holder ≡ Nobody → (g.holder ≡ Nobody) ⊎ (g.seq < h.seq)
+  pub freed : h.holder ≡ None → (g.holder ≡ None) ⊎ (g.seq < h.seq)
 
 -- a process that does not step, while the gate goes on, its announcement stays if it is active, and an exit request may come
 module _ (p w : ℕ) {g h : Gate} {a b : Announcement} (x : Tally) (t : Local) (exit : Bool) (O : Onward g h) (s : b.flag ≡ Active → b ≡ a)

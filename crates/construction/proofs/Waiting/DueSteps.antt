@@ -9,7 +9,8 @@ use native.Mathlib.Omega.{arith}
 use native.Mathlib.Decide.{ℕ_discrete}
 use native.Mathlib.Nat.{eq-or-lt_of_le}
 use borrow.Author.Tests.{not-true}
-use Rattle.construction.specs.Types.{Nobody, Process, Gate, Done, Active, Announcement, Label, Card}
+use Rattle.std.specs.Prelude.{None, Some}
+use Rattle.construction.specs.Types.{Gate, Done, Active, Announcement, Label, Card}
 use Rattle.construction.specs.Cells.{open_announcement}
 use Rattle.construction.specs.Parts.{local_at, announcement_at}
 use Rattle.construction.specs.Machine.{advance}
@@ -59,19 +60,19 @@ module _ {c : Card} {w : World} {i : ℕ} (I : CardInvariant c w) (lt : i < c.pr
   same_holder_lem = ap (λ (g : Gate). g.holder) (gate_is I)
 
   given :
-      (m : ℕ) (hn : w.gate.holder ≡ Nobody) → next.gate.holder ≡ Process m →
+      (m : ℕ) (hn : w.gate.holder ≡ None) → next.gate.holder ≡ Some m →
       Nominee c i m (same_holder_lem ∙ hn) (local_at c i).control.place
   unfolding advance
   given m hn = nominee c i m (same_holder_lem ∙ hn) (local_at c i).control.place (local_at c i).exit
 
   -- the gate is given to m, and so to j if it is the turn of j
   due_taken :
-      (m : ℕ) → w.gate.holder ≡ Nobody → next.gate ≡ record { holder = Process m; seq = w.gate.seq } →
+      (m : ℕ) → w.gate.holder ≡ None → next.gate ≡ record { holder = Some m; seq = w.gate.seq } →
       Due c.process_count next.gate (local_at next) j turn
   due_taken m hn z = record {
     own = D.own;
     high = omega (arith, zs, same_seq, D.high);
-    held = λ e. inr (zh ∙ ap Process (mine (same_seq ∙ (sym zs ∙ e))));
+    held = λ e. inr (zh ∙ ap Some (mine (same_seq ∙ (sym zs ∙ e))));
     chosen = choose (λ e q lq. apart (frame_of c w) w q j next.gate (local_at c q)
         (λ h _ y. nobody_process h (ap (λ (g : Gate). g.holder) y ∙ zh)) (local_at c q).control.place (I.locs q lq));
   }
@@ -79,7 +80,7 @@ module _ {c : Card} {w : World} {i : ℕ} (I : CardInvariant c w) (lt : i < c.pr
       zs : next.gate.seq ≡ w.gate.seq
       zs = ap (λ (g : Gate). g.seq) z
 
-      zh : next.gate.holder ≡ Process m
+      zh : next.gate.holder ≡ Some m
       zh = ap (λ (g : Gate). g.holder) z
 
       N : Nominee c i m (same_holder_lem ∙ hn) (local_at c i).control.place
@@ -93,8 +94,8 @@ module _ {c : Card} {w : World} {i : ℕ} (I : CardInvariant c w) (lt : i < c.pr
 
   -- the gate is given back for m, which is done, and so not at the turn of j
   due_freed :
-      (m : ℕ) → w.gate.holder ≡ Process m → (announcement_in w m).flag ≡ Done →
-      next.gate ≡ record { holder = Nobody; seq = w.gate.seq + 1 } → Due c.process_count next.gate (local_at next) j turn
+      (m : ℕ) → w.gate.holder ≡ Some m → (announcement_in w m).flag ≡ Done →
+      next.gate ≡ record { holder = None; seq = w.gate.seq + 1 } → Due c.process_count next.gate (local_at next) j turn
   due_freed m hm done z = record {
     own = D.own;
     high = ⊎_elim (λ e. absurd (⊎_elim (λ h. nobody_process h (same_holder_lem ∙ hm)) mine (D.held e)))
@@ -108,7 +109,7 @@ module _ {c : Card} {w : World} {i : ℕ} (I : CardInvariant c w) (lt : i < c.pr
       zs : next.gate.seq ≡ w.gate.seq + 1
       zs = ap (λ (g : Gate). g.seq) z
 
-      mine : c.gate.holder ≡ Process j → ⊥
+      mine : c.gate.holder ≡ Some j → ⊥
       mine h =
           let e : m ≡ j = process_same (sym hm ∙ (sym same_holder_lem ∙ h)) in
           active_not_done active

@@ -4,7 +4,8 @@ use mathlib.Core.Path.{◌≡◌, refl, sym, ap, ◌∙◌}
 use mathlib.Core.Bool.{false}
 use mathlib.Core.Logic.{◌≢◌}
 use native.Mathlib.Omega.{arith}
-use Rattle.construction.specs.Types.{Holder, Nobody, Process, Gate, Label, Idle, P1, P3, P10, C2, P13, P14, P16, P21, P22, F1, F3, GateAccess, Access}
+use Rattle.std.specs.Prelude.{Option, None, Some}
+use Rattle.construction.specs.Types.{Gate, Label, Idle, P1, P3, P10, C2, P13, P14, P16, P21, P22, F1, F3, GateAccess, Access}
 use Rattle.construction.specs.Types.{Card}
 use Rattle.construction.specs.Cells.{same_holder, same_gate, swap_gate, released}
 use Rattle.construction.specs.Parts.{Local, local_at, contents_of, announcement_at, with_gate, with_local}
@@ -28,16 +29,16 @@ module _ {c : Card} {w : World} {i : ℕ} (B : Before c w i) (small : (local_at 
 
   -- lines P1, P10 and P14: by the holder that is read
   at_read :
-      (held nobody : Label) → ((m : ℕ) → c.gate.holder ≡ Process m → At held c.gate (read held)) →
-      (c.gate.holder ≡ Nobody → At nobody c.gate (read nobody)) → CourseStep c i x (Access.Gate (GateAccess.Read held nobody))
+      (held nobody : Label) → ((m : ℕ) → c.gate.holder ≡ Some m → At held c.gate (read held)) →
+      (c.gate.holder ≡ None → At nobody c.gate (read nobody)) → CourseStep c i x (Access.Gate (GateAccess.Read held nobody))
   unfolding perform access_gate
   at_read held nobody a b =
       CourseStep.continued x refl refl refl
       (put_course B c.gate c.announcements c.records (read (by_holder c.gate.holder held nobody)) x (go c.gate.holder refl))
     where
-      go : (h : Holder) → c.gate.holder ≡ h → At (by_holder h held nobody) c.gate (read (by_holder h held nobody))
-      go Nobody e = b e
-      go (Process m) e = a m e
+      go : (h : Option ℕ) → c.gate.holder ≡ h → At (by_holder h held nobody) c.gate (read (by_holder h held nobody))
+      go None e = b e
+      go (Some m) e = a m e
 
   pub at-P1 : Now c i x P1 → CourseStep c i x (Access.Gate (GateAccess.Read P3 P3))
   at-P1 q = at_read P3 P3 (λ _ _. omega (arith, q)) (λ _. omega (arith, q))
@@ -56,7 +57,7 @@ module _ {c : Card} {w : World} {i : ℕ} (B : Before c w i) (small : (local_at 
   unfolding perform access_gate
   at-F1 q =
       CourseStep.continued x refl refl refl
-      (on_test (λ l. CourseIn c i x (with_local c i (read l))) (same_holder c.gate.holder (Process i))
+      (on_test (λ l. CourseIn c i x (with_local c i (read l))) (same_holder c.gate.holder (Some i))
       (λ _. put_course B c.gate c.announcements c.records (read F3) x (omega (arith, q)))
       (λ _. put_course B c.gate c.announcements c.records (read Idle) x (omega (arith, q))))
 
@@ -77,7 +78,7 @@ module _ {c : Card} {w : World} {i : ℕ} (B : Before c w i) (small : (local_at 
       (λ e. swapped c.gate P14 (one_more small q _ 5 k.3.below (omega arith) _ _ _ _ _ _, free e)))
     where
       -- the swap was lost to another number
-      free : same_gate c.gate (local_at c i).gate ≡ false → c.gate.holder ≡ Nobody → Ahead c.process_count c.gate x
+      free : same_gate c.gate (local_at c i).gate ≡ false → c.gate.holder ≡ None → Ahead c.process_count c.gate x
       free e h =
           let ne : c.gate.seq ≢ (local_at c i).gate.seq = λ z. same_gate-false _ _ e (gate_path (h ∙ sym k.1) z) in
           omega (arith, q.low, k.3.below)

@@ -2,20 +2,22 @@
 use Prim.Native.Nat.{ℕ, suc, ◌+◌, ◌*◌, ◌≤◌, ◌<◌}
 use mathlib.Core.Path.{◌≡◌, refl, ◌∙◌}
 use mathlib.Core.Bool.{cond}
+use Rattle.std.specs.Prelude.{Option}
+use Rattle.std.specs.Option.{is_some}
 use mathlib.Core.List.{List}
 use native.Mathlib.Omega.{arith}
 use native.Mathlib.Nat.{le_trans}
 use lib.ListN.{length, get_or, set, length-take}
 use lib.Dec.{ltb}
 use Rattle.construction.specs.Types.{Announcement, Record, Program, Dictionary, Simulation, Pause, Ended, Faulted, Lacks, Simulated, Label, P16, H21, H36}
-use Rattle.construction.specs.Types.{P19, P21, Access, Control, Began, Helped, Card}
+use Rattle.construction.specs.Types.{P19, P21, Access, Control, Begun, Helped, Card}
 use Rattle.construction.specs.Cells.{open_announcement}
 use Rattle.construction.specs.Instructions.{started}
 use Rattle.construction.specs.Dictionary.{empty, noted, next_write, item_of, insert}
 use Rattle.construction.specs.Marks.{with_bit}
 use Rattle.construction.specs.Helping.{simulate}
 use Rattle.construction.specs.Parts.{Local, local_at, contents_of, announcement_at, record_at, texts_of, program_of, with_announcement, with_record, with_local}
-use Rattle.construction.specs.Machine.{go_to, holder_of, write_from, after_pause, helps, begin_help, note, writing, after, perform}
+use Rattle.construction.specs.Machine.{go_to, holder_of, write_from, after_pause, helps, begin_help, begun_from, note, writing, after, perform}
 use Rattle.construction.specs.Weight.{card_weight}
 use Rattle.construction.proofs.Basics.{on_test}
 use Rattle.construction.proofs.Simulating.Dictionaries.{insert_length}
@@ -64,7 +66,7 @@ module _ {c : Card} {w : World} {i : ℕ} (B : Before c w i) (small : (local_at 
       let l : List Announcement = set c.announcements m a in
       let z : Simulated = simulate c.variable_count (program_of (texts_of c) a.program s) a.words started empty in
       CourseStep.continued x refl refl refl
-      (on_test (λ (b : Began). CourseIn c i x (helping b)) (helps (announcement_at c m) s)
+      (on_test (λ (b : Option Begun). CourseIn c i x (helping b)) (helps (announcement_at c m) s)
       (λ _. put_course B c.gate l c.records (on (after_pause s z.dictionary z.pause) a z.simulation empty 0) x
       (resumes z.dictionary z.pause a z.simulation empty 0 q (omega arith) (omega arith) (get_or l i open_announcement)))
       (λ _. put_course B c.gate l c.records
@@ -74,10 +76,11 @@ module _ {c : Card} {w : World} {i : ℕ} (B : Before c w i) (small : (local_at 
       m : ℕ
       m = holder_of (local_at c i).gate.holder
 
-      helping : Began → Card
-      helping b =
+      helping : Option Begun → Card
+      helping began =
+          let b = begun_from (local_at c i).control (local_at c i).simulation began in
           with_local (with_announcement c m (announcement_at c m)) i
-          (on b.control (announcement_at c m) b.simulation (cond b.helps empty (local_at c i).dictionary) (cond b.helps 0 (local_at c i).mask))
+          (on b.control (announcement_at c m) b.simulation (cond (is_some began) empty (local_at c i).dictionary) (cond (is_some began) 0 (local_at c i).mask))
 
   pub at-H21 : KnownAt c w i H21 → Now c i x H21 → CourseStep c i x Access.Note
   unfolding perform note

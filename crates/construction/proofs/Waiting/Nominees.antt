@@ -2,7 +2,8 @@
 use Prim.Native.Nat.{ℕ}
 use mathlib.Core.Path.{◌≡◌, refl, sym}
 use mathlib.Core.Bool.{Bool, true, false}
-use Rattle.construction.specs.Types.{Nobody, Process, Gate, Label, P5, P13, GateAccess, Access, Card}
+use Rattle.std.specs.Prelude.{None, Some}
+use Rattle.construction.specs.Types.{Gate, Label, P5, P13, GateAccess, Access, Card}
 use Rattle.construction.specs.Cells.{same_gate, swap_gate, released}
 use Rattle.construction.specs.Parts.{local_at}
 use Rattle.construction.specs.Machine.{access_of, access_gate, perform}
@@ -41,7 +42,7 @@ at-P13 Label.F3 exit g = elim g [ ]
 at-P13 Label.P6 exit g = elim g [ ]
 
 -- a step of process i, after which m holds the gate that nobody held
-module _ (c : Card) (i m : ℕ) (hn : c.gate.holder ≡ Nobody) where
+module _ (c : Card) (i m : ℕ) (hn : c.gate.holder ≡ None) where
   pub record Nominee (l : Label) : Type 0 where
     pub place : l ≡ P13
     pub gate : (local_at c i).gate ≡ c.gate
@@ -51,7 +52,7 @@ module _ (c : Card) (i m : ℕ) (hn : c.gate.holder ≡ Nobody) where
   Won a = Gives a × ((local_at c i).gate ≡ c.gate) × ((local_at c i).control.target ≡ m)
 
   abbrev Giving : Access → Gate → Type 0
-  Giving a g = g.holder ≡ Process m → Won a
+  Giving a g = g.holder ≡ Some m → Won a
 
   never : (a : Access) → Giving a c.gate
   never a h = absurd (nobody_process hn h)
@@ -70,5 +71,5 @@ module _ (c : Card) (i m : ℕ) (hn : c.gate.holder ≡ Nobody) where
   giving Access.Note = never _
   giving Access.Write = never _
 
-  pub nominee : (l : Label) (exit : Bool) → (perform (access_of l exit) c i).card.gate.holder ≡ Process m → Nominee l
+  pub nominee : (l : Label) (exit : Bool) → (perform (access_of l exit) c i).card.gate.holder ≡ Some m → Nominee l
   nominee l exit h = let x = giving (access_of l exit) h in record { place = at-P13 l exit x.0; gate = x.1; target = x.2 }

@@ -1,6 +1,6 @@
 -- What a worked piece says: a card text, entries, and what is to be seen; and short names for entries, answers and cells.
-use Rattle.std.specs.Prelude.{ℕ, zero, suc, ◌≡◌, false, List, [], ◌∷◌, ◌++◌, take, get_or, replicate}
-use Rattle.construction.specs.Types.{Nobody, Process, Gate, Flag, Done, Words, Yield, Announcement, Record, Card, Refusal}
+use Rattle.std.specs.Prelude.{ℕ, zero, suc, ◌≡◌, false, List, [], ◌∷◌, ◌++◌, take, get_or, replicate, None, Some}
+use Rattle.construction.specs.Types.{Gate, Flag, Done, Words, Yield, Announcement, Record, Card, Refusal}
 use Rattle.construction.specs.Types.{Answer}
 use Rattle.construction.specs.Cells.{fault_yield, open_record}
 use Rattle.construction.specs.Opening.{opened}
@@ -85,10 +85,10 @@ announcement flag seq number x = record { program = 0; flag = flag; seq = seq; n
 
 -- the gate, free or held by a process, with its number
 abbrev pub free_gate : ℕ → Gate
-free_gate seq = record { holder = Nobody; seq = seq }
+free_gate seq = record { holder = None; seq = seq }
 
 abbrev pub held_gate : ℕ → ℕ → Gate
-held_gate i seq = record { holder = Process i; seq = seq }
+held_gate i seq = record { holder = Some i; seq = seq }
 
 -- an operation done under number 1, the first that its process announced
 abbrev pub done_announcement : Yield → Announcement

@@ -1,9 +1,6 @@
 -- The buffer keeps its length.
-use Rattle.std.proofs.Common.{◌≡◌, length, ◌-◌}
+use Rattle.std.proofs.Common.{◌≡◌, length}
 use Rattle.schedules.proofs.print_pieces.Given as goal
 
 abbrev pub invariant-loop-j : goal.invariant-loop-j
 invariant-loop-j g l = length l.buffer ≡ length l.initial.buffer
-
-abbrev pub decreases-loop-j : goal.decreases-loop-j
-decreases-loop-j g l = l.pieces - l.j

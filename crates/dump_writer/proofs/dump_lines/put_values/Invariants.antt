@@ -1,4 +1,4 @@
-use Rattle.std.proofs.Common.{◌-◌, ◌≤◌}
+use Rattle.std.proofs.Common.{◌-◌}
 use Rattle.dump.specs.Dump.{values_text}
 use Rattle.grammar.proofs.Puts as puts
 use Rattle.dump_writer.proofs.dump_lines.put_values.Given as goal
@@ -6,7 +6,4 @@ use Rattle.dump_writer.proofs.dump_lines.put_values.Given as goal
 abbrev pub invariant-loop-v : goal.invariant-loop-v
 invariant-loop-v l =
     puts.Rest l.initial.buffer l.at (values_text l.count 0 l.row) l.buffer l.i
-    (values_text (l.count - l.v) l.v l.row) × (l.v ≤ l.count)
-
-abbrev pub decreases-loop-v : goal.decreases-loop-v
-decreases-loop-v l = l.count - l.v
+    (values_text (l.count - l.v) l.v l.row)

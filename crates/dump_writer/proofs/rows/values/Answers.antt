@@ -7,9 +7,8 @@ loop-v-preserved c =
     let a = c.args in
     let l = c.loop-v in (
       l.invariant.0 ∙ laws.shown_turn a.gate a.announcement a.records a.count l.v l.row
-          (omega (arith, c.at_most-all.ensures, c.loop-v-test.true)) c.value_of.ensures,
+          (omega arith) c.value_of.ensures,
       simp length-set l.invariant.1,
-      omega arith,
     )
 
 pub returns : goal.returns
@@ -18,4 +17,4 @@ returns c =
     let l = c.loop-v in
     sym
     (l.invariant.0 ∙ laws.shown_end a.gate a.announcement a.records a.count l.v l.row l.invariant.1
-    (omega (arith, c.at_most-all.ensures, c.loop-v-test.false)))
+    (omega arith))

@@ -1,4 +1,4 @@
-use Rattle.std.proofs.Common.{◌-◌, ◌≤◌, ◌≡◌, replicate}
+use Rattle.std.proofs.Common.{◌-◌, ◌≡◌, replicate}
 use lib.ListN as list
 use Rattle.dump_writer.specs.Courses.{shown_from}
 use Rattle.dump_writer.proofs.rows.values.Given as goal
@@ -6,7 +6,4 @@ use Rattle.dump_writer.proofs.rows.values.Given as goal
 abbrev pub invariant-loop-v : goal.invariant-loop-v
 invariant-loop-v l =
     (shown_from l.gate l.announcement l.records l.count 0 (replicate 64 0) ≡ shown_from l.gate l.announcement
-    l.records (l.count - l.v) l.v l.row) × (list.length l.row ≡ 64) × (l.v ≤ l.all)
-
-abbrev pub decreases-loop-v : goal.decreases-loop-v
-decreases-loop-v l = l.all - l.v
+    l.records (l.count - l.v) l.v l.row) × (list.length l.row ≡ 64)

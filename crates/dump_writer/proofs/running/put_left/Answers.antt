@@ -2,13 +2,13 @@ use Rattle.std.proofs.Common.{arith}
 use Rattle.dump_writer.proofs.CourseLaws as laws
 use Rattle.dump_writer.proofs.running.put_left.Goals as goal
 
-pub loop-place-smaller : goal.loop-place-smaller
-loop-place-smaller c =
-    laws.left_less c.loop-place.invariant (omega arith) c.loop-place-test.true c.put_command-piece.ensures
+pub loop-course-smaller : goal.loop-course-smaller
+loop-course-smaller c =
+    laws.left_less c.loop-course.invariant (omega arith) c.loop-course-test.true c.put_command-piece.ensures
 
-pub loop-place-preserved : goal.loop-place-preserved
-loop-place-preserved c =
-    laws.left_turn c.loop-place.invariant (omega arith) c.loop-place-test.true c.put_command-piece.ensures
+pub loop-course-preserved : goal.loop-course-preserved
+loop-course-preserved c =
+    laws.left_turn c.loop-course.invariant (omega arith) c.loop-course-test.true c.put_command-piece.ensures
 
 pub returns : goal.returns
-returns c = laws.left_last c.loop-place.invariant (omega arith) c.loop-place-test.false c.put_above.ensures
+returns c = laws.left_last c.loop-course.invariant (omega arith) c.loop-course-test.false c.put_above.ensures

@@ -3,8 +3,8 @@ use lib.ListN as list
 use Rattle.dump_writer.proofs.CourseLaws as laws
 use Rattle.dump_writer.proofs.running.put_left.Given as goal
 
-abbrev pub invariant-loop-place : goal.invariant-loop-place
-invariant-loop-place l = laws.Left l.calls l.initial.course l.initial.buffer l.at l.course l.buffer l.i l.place
+abbrev pub invariant-loop-course : goal.invariant-loop-course
+invariant-loop-course l = laws.Left l.calls l.initial.course l.initial.buffer l.at l.course l.buffer l.i l.course.session.at
 
-abbrev pub decreases-loop-place : goal.decreases-loop-place
-decreases-loop-place l = list.length l.calls - l.place
+abbrev pub decreases-loop-course : goal.decreases-loop-course
+decreases-loop-course l = list.length l.calls - l.course.session.at

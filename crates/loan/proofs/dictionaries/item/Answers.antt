@@ -4,5 +4,4 @@ use Rattle.loan.proofs.dictionaries.item.Goals as goal
 
 pub item_or-requires : goal.item_or-requires
 item_or-requires c =
-    let a = c.args in
-    let f = spans.span_fits a.b.now a.l.now a.i (omega arith) _ c.items_of-s.ensures in (f.base, f.end, f.long)
+    let a = c.args in spans.span_fits a.b.now a.l.now a.i (omega arith) _ c.items_of.ensures

@@ -4,5 +4,4 @@ use Rattle.loan.proofs.dictionaries.next_write.Goals as goal
 
 pub next_write-requires : goal.next_write-requires
 next_write-requires c =
-    let a = c.args in
-    let f = spans.span_fits a.b.now a.l.now a.i (omega arith) _ c.items_of-s.ensures in (f.base, f.end, f.long)
+    let a = c.args in spans.span_fits a.b.now a.l.now a.i (omega arith) _ c.items_of.ensures

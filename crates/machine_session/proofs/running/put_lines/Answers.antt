@@ -20,7 +20,7 @@ loop-state-smaller c =
 pub loop-state-preserved : goal.loop-state-preserved
 loop-state-preserved c =
     laws.again c.loop-state.invariant c.loop-state-test.true c.if-buffer-length-lt-LONGEST.false c.request_at-parsed.ensures
-    c.execute-told.ensures c.put_line-length.ensures c.next_line-line.ensures
+    c.execute-told.ensures c.put_line-length.ensures c.next_line.ensures
 
 pub returns : goal.returns
 returns c = laws.ended c.loop-state.invariant c.loop-state-test.false

@@ -1,11 +1,8 @@
-use Rattle.std.proofs.Common.{◌≡◌, ◌-◌, ◌≤◌, length}
+use Rattle.std.proofs.Common.{◌≡◌, true}
 use Rattle.report.specs.Same.{all_below}
 use Rattle.text_cases.specs.Comparing.{agrees_at}
 use Rattle.text_cases.proofs.comparing.agrees.Given as goal
 
--- what was compared so far
+-- every byte so far is as it must be
 abbrev pub invariant-loop-k : goal.invariant-loop-k
-invariant-loop-k l = (l.same ≡ all_below l.k (agrees_at l.buffer l.text l.told)) × (l.k ≤ length l.buffer)
-
-abbrev pub decreases-loop-k : goal.decreases-loop-k
-decreases-loop-k l = length l.buffer - l.k
+invariant-loop-k l = true ≡ all_below l.k (agrees_at l.buffer l.text l.told)

@@ -3,4 +3,4 @@ use Rattle.text_cases.proofs.comparing.outcomes.Goals as goal
 
 pub returns : goal.returns
 unfolding outcomes_of
-returns c = rw (← c.less.ensures, ← c.outcome-more.ensures, ← c.outcome-exact.ensures, ← c.outcome-short.ensures, ← c.outcome-none.ensures)
+returns c = rw (← c.saturating_sub.ensures, ← c.outcome.ensures, ← c.outcome-2.ensures, ← c.outcome-3.ensures, ← c.outcome-4.ensures)

@@ -1,6 +1,6 @@
 use Rattle.std.proofs.Common.{refl, length-set, arith}
 use Rattle.loan.proofs.Held as laws
-use Rattle.loan.proofs.items.put_values.Goals as goal
+use Rattle.loan.proofs.items.Span.put_values.Goals as goal
 
 pub loop-k-init : goal.loop-k-init
 loop-k-init c = (laws.values_start _ _ _, refl, (λ j p. absurd (omega arith)))

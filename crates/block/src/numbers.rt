@@ -14,7 +14,7 @@ pub fn is_room(b: &[u64], i: u8, n: u8) -> bool
     SIZE <= b.len() && i < n
 }
 
-// Number i of n, from word `base` on.
+// Number i of n, from word `base` on: a part of one word. specs/Layout has definitions of their own for these (number_at, put_number).
 pub(crate) fn number(b: &[u64], base: usize, n: u8, i: u8) -> u64
     requires { base + n ≤ 1456 }
     ensures { result ≡ number_at b.now base n i }

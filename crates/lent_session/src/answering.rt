@@ -75,8 +75,11 @@ fn asks(b: &mut [u64], command: Command) -> bool
 pub(crate) fn refuses_short(short: bool, b: &mut [u64], command: Command) -> bool
     ensures { (result ≡ (asked_short short b.old command).refused) × (b.new ≡ (asked_short short b.old command).block) }
 {
-    if short && 2 < loan_words(b) {
-        return asks(b, command);
+    // Two tests, as the proof did not close over one of both.
+    if short {
+        if 2 < loan_words(b) {
+            return asks(b, command);
+        }
     }
     true
 }

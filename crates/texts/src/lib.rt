@@ -33,7 +33,7 @@ fn base_of(text: Text) -> usize
     }
 }
 
-// The instruction at a place of program k, of the texts from word `base` on.
+// The instruction at a place of program k, of the texts from word `base` on. Only two words are read: a step fetches one.
 fn fetch_at(b: &[u64], base: usize, k: u8, counter: u8) -> Instruction
     requires { base + 264 ≤ 1456 }
     ensures { result ≡ fetch (row_at b.now base 33 8 program_of no_program k) counter }
@@ -91,7 +91,7 @@ pub fn put_program(b: &mut [u64], text: Text, k: u8, value: Program)
     put_row(b, base_of(text), 8, k, value);
 }
 
-// The 33 words of a text copied to words before them.
+// The 33 words of a text copied to words before them, as they stand: read and stored, a word of no instruction would become another.
 fn copy(b: &mut [u64], start: usize, to: usize)
     requires { (start < 1000000) × (to + 33 ≤ start) × (start + 33 ≤ length b.old) }
     ensures { b.new ≡ stores b.old to (part b.old start 33) }

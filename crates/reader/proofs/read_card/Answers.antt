@@ -5,12 +5,11 @@ use Rattle.reader.proofs.read_card.Goals as goal
 
 pub returns-then-text-gt16384 : goal.returns-then-text-gt16384
 unfolding read_card
-returns-then-text-gt16384 c = rw (lt-ltb _ _ c.if-text-gt16384.true) c.refused_at.ensures
+returns-then-text-gt16384 c = rw (lt-ltb _ _ c.if-text-gt16384.true)
 
 pub returns-in-Err : goal.returns-in-Err
 unfolding read_card
-returns-in-Err c =
-    rw (le-ltb _ _ c.if-text-gt16384.false, c.refused_at-in-Err.ensures, ← c.card_line.ensures, c.in-Err.is)
+returns-in-Err c = rw (le-ltb _ _ c.if-text-gt16384.false, ← c.card_line.ensures, c.in-Err.is)
 
 pub read_body-requires : goal.read_body-requires
 read_body-requires c =

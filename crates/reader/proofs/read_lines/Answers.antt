@@ -5,8 +5,7 @@ use Rattle.reader.proofs.read_lines.Goals as goal
 
 pub returns-in-Err : goal.returns-in-Err
 unfolding ins_from
-returns-in-Err c =
-    rw (c.program_refused_at.ensures, c.loop-k.invariant.0, laws.one_less _ _ c.loop-k-test.true, ← c.ins_line.ensures, c.in-Err.is)
+returns-in-Err c = rw (c.loop-k.invariant.0, laws.one_less _ _ c.loop-k-test.true, ← c.ins_line.ensures, c.in-Err.is)
 
 pub loop-k-preserved : goal.loop-k-preserved
 unfolding ins_from

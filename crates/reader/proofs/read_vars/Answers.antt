@@ -5,8 +5,7 @@ use Rattle.reader.proofs.read_vars.Goals as goal
 
 pub returns-in-Err : goal.returns-in-Err
 unfolding vars_from
-returns-in-Err c =
-    rw (c.refused_at.ensures, c.loop-k.invariant.0, laws.one_less _ _ c.loop-k-test.true, ← c.var_line.ensures, c.in-Err.is)
+returns-in-Err c = rw (c.loop-k.invariant.0, laws.one_less _ _ c.loop-k-test.true, ← c.var_line.ensures, c.in-Err.is)
 
 pub loop-k-preserved : goal.loop-k-preserved
 unfolding vars_from

@@ -15,13 +15,12 @@ use construction::cells::{Announcement, Flag, Gate, Yield};
 pub fn announced(operation: Operation, gate: Gate) -> Announcement
     ensures { result ≡ announced operation gate }
 {
-    let words = operation.inputs;
     Announcement {
         program: operation.program,
         flag: Flag::Active,
         seq: gate.seq,
         number: 0,
-        words,
+        words: operation.inputs,
         fault: false,
     }
 }
@@ -30,14 +29,9 @@ pub fn announced(operation: Operation, gate: Gate) -> Announcement
 pub fn flagged(announcement: Announcement, flag: Flag) -> Announcement
     ensures { result ≡ flagged announcement flag }
 {
-    let words = announcement.words;
     Announcement {
-        program: announcement.program,
         flag,
-        seq: announcement.seq,
-        number: announcement.number,
-        words,
-        fault: announcement.fault,
+        ..announcement
     }
 }
 
@@ -46,13 +40,12 @@ pub fn withdrawn(last: Announcement, operation: Operation) -> Announcement
     ensures { result ≡ withdrawn last operation }
 {
     let number = 0;
-    let words = operation.inputs;
     Announcement {
         program: last.program,
         flag: Flag::Exit,
         seq: last.seq,
         number,
-        words,
+        words: operation.inputs,
         fault: false,
     }
 }
@@ -61,13 +54,12 @@ pub fn withdrawn(last: Announcement, operation: Operation) -> Announcement
 pub fn finished(last: Announcement, gate: Gate, yields: Yield) -> Announcement
     ensures { result ≡ finished last gate yields }
 {
-    let words = yields.outputs;
     Announcement {
         program: last.program,
         flag: Flag::Done,
         seq: last.seq,
         number: gate.seq,
-        words,
+        words: yields.outputs,
         fault: yields.fault,
     }
 }

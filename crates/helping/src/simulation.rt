@@ -1,5 +1,5 @@
 // A program that runs on the numbers of a dictionary, whose values it alters.
-ghost use Rattle.std.specs.Prelude.{◌≡◌, min};
+ghost use Rattle.std.specs.Prelude.{◌≡◌, min, drop};
 ghost use Rattle.construction.specs.declared.programs.Program.{Program};
 ghost use Rattle.construction.specs.Instructions.{shortened, next_instruction};
 ghost use Rattle.helping.specs.Numbers.{faulting, Turns, Runs};
@@ -112,6 +112,7 @@ pub fn simulate<T: Text>(
     numbers: &mut Numbers,
 ) -> Paused
     ensures told { Runs n (T.program text.now) inputs s numbers.old.keys (min numbers.old.end 32) numbers.old.values numbers.new.values result }
+    ensures rest { drop (min numbers.old.end 32) numbers.new.values ≡ drop (min numbers.old.end 32) numbers.old.values }
     ensures keys { numbers.new.keys ≡ numbers.old.keys }
     ensures end { numbers.new.end ≡ numbers.old.end }
 {

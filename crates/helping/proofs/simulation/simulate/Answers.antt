@@ -1,4 +1,4 @@
-use Rattle.std.proofs.Common.{◌≡◌, ◌-◌, ◌+◌, refl, sym, ◌∙◌, arith}
+use Rattle.std.proofs.Common.{◌-◌, ◌+◌, refl, sym, ◌∙◌, arith}
 use Rattle.helping.proofs.Laws as laws
 use Rattle.helping.proofs.simulation.simulate.Goals as goal
 
@@ -16,7 +16,7 @@ loop-k-preserved g c =
       end = made.end ∙ kept.end;
       long = made.told.long ∙ kept.long;
       rest = (rw kept.end at made.told.rest) ∙ kept.rest;
-      left = λ d h. laws.turn_goes h _ _ _ _ (32 - loop._k) (32 - (loop._k + 1)) _ _ kept.long (kept.left d h) (omega arith) c.fetch-instruction.ensures
+      left = λ d h. laws.turn_goes h _ _ _ _ (32 - loop._k) (32 - (loop._k + 1)) _ _ kept.long (kept.left d h) (omega arith) c.fetch-instruction.ensures.next
           (rw (kept.keys, kept.end) at made.told) _ refl;
     }
 
@@ -27,7 +27,7 @@ returns-in-Err-clause-told g c =
     let made = c.in-Err.ensures in
     record {
       long = made.told.long ∙ kept.long;
-      left = λ d h. laws.turn_stands h _ _ _ _ (32 - loop._k) (32 - (loop._k + 1)) _ _ kept.long (kept.left d h) (omega arith) c.fetch-instruction.ensures
+      left = λ d h. laws.turn_stands h _ _ _ _ (32 - loop._k) (32 - (loop._k + 1)) _ _ kept.long (kept.left d h) (omega arith) c.fetch-instruction.ensures.next
           (rw (kept.keys, kept.end) at made.told) _ refl;
     }
 

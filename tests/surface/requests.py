@@ -6,7 +6,8 @@
 
 A type holds a card if it is `Card` or if it is declared with a part that holds one. A function gives a card back if its result holds one, or if it is lent
 one to alter. A method's `self` and `Self` are the type that it is written for, and a method of a trait is public. Functions that are `pub(crate)` or not
-public, and programs (src/main.rt), are left out: nobody outside can call them. What a function's clauses say (`ensures { b.new ≡ .. }`) is not looked at.
+public, and programs (src/main.rt), are left out: nobody outside can call them. A function over every type T (`fn swap<T: Copy>`) is left out too, though a card
+may be its T: it knows no part of a card, so it makes none, and hands on one that it was given. What a function's clauses say (`ensures { b.new ≡ .. }`) is not looked at.
 """
 import pathlib
 import re

@@ -71,6 +71,7 @@ put_halves w k x = set (set (set (set w k x.w0) (k + 1) x.w1) (k + 2) x.w2) (k +
 
 -- a value of a part's words, and the words of a value
 
+-- a number of 64 bits (document 01: the numbers of an operation, the step limit) is its word
 abbrev pub number_of : List ℕ → ℕ
 number_of w = word_at w 0
 

@@ -1,5 +1,5 @@
 -- Where the command at a place ends, and the commands of a text one after the other.
-use mathlib.Core.Bool.{Bool, true, false, cond}
+use mathlib.Core.Bool.{Bool, true, cond}
 use mathlib.Core.Path.{◌≡◌, refl, sym, ◌∙◌}
 use mathlib.Core.List.{List, [], ◌∷◌}
 use Prim.Native.Nat.{ℕ, zero, suc, ◌+◌, ◌-◌, ◌<◌, ◌≤◌}
@@ -9,16 +9,16 @@ use lib.Seq.{drop-cons}
 use native.Mathlib.Omega.{arith}
 use borrow.Author.Tests.{ltb-true}
 use Rattle.std.specs.Prelude.{Option, Some, None, unwrap_or}
-use Rattle.std.specs.Option.{option_map, option_or}
+use Rattle.std.specs.Option.{option_map}
 use Rattle.grammar.specs.declared.Found.{Found}
-use Rattle.grammar.specs.Reading.{found, with_found, field, has_word}
-use Rattle.grammar.proofs.Cases.{clash, on_test}
+use Rattle.grammar.specs.Reading.{with_found, field, has_word}
+use Rattle.grammar.proofs.Cases.{on_test}
 use Rattle.grammar.proofs.Bytes.{word_within}
 use Rattle.grammar.proofs.Fields.{field_within}
 use Rattle.grammar.proofs.Items.{items_end, items_more, items_induction}
 use Rattle.commands.specs.declared.{Verb.Verb, Parsed.Parsed}
 use Rattle.commands.specs.Commands.{call_word, wish_word, step_word, look_word, trace_word, change_word, line_end, lines_end, malformed, limited, word}
-use Rattle.commands.specs.Commands.{one_line, with_number, numbered, call_at, change_at, Inside, verb_there, verb_at, parsed_at, fields_at, command, commands}
+use Rattle.commands.specs.Commands.{one_line, with_number, numbered, call_at, change_at, Inside, verb_at, parsed_at, fields_at, command, commands}
 
 -- what holds of a thing that is there
 abbrev pub OnSome : {A : Type 0} → (A → Type 0) → Option A → Type 0
@@ -132,21 +132,14 @@ fields_past t v line at h p = on_unwrap (λ m. line < m.next) (parsed_at t v at)
 pub verb_past : (t : List ℕ) (at : ℕ) → at ≤ (verb_at t at).next
 unfolding verb_at
 verb_past t at =
-    on_unwrap (λ x. at ≤ x.next) _ _
-    (or _ change_word Verb.Change
-    (or _ trace_word Verb.Trace
-    (or _ look_word Verb.Read (or _ step_word Verb.Step (or _ wish_word Verb.Exit (there call_word Verb.Call))))))
-    (omega arith)
+    or call_word _ _ (omega arith)
+    (or wish_word _ _ (omega arith)
+    (or step_word _ _ (omega arith)
+    (or look_word _ _ (omega arith)
+    (or trace_word _ _ (omega arith) (or change_word _ _ (omega arith) (omega arith))))))
   where
-    P : Option (Found Verb) → Type 0
-    P o = OnSome (λ x. at ≤ x.next) o
-
-    there : (w : List ℕ) (v : Verb) → P (verb_there t at w v)
-    there w v = on_test P (has_word t at w) (λ _. omega arith) (λ _. tt)
-
-    or : (o : Option (Found Verb)) (w : List ℕ) (v : Verb) → P o → P (option_or o (verb_there t at w v))
-    or None w v p = there w v
-    or (Some x) w v p = p
+    or : (w : List ℕ) (x y : Found Verb) → at ≤ x.next → at ≤ y.next → at ≤ (cond (has_word t at w) x y).next
+    or w x y p q = on_test (λ (z : Found Verb). at ≤ z.next) (has_word t at w) (λ _. p) (λ _. q)
 
 pub command_past : (t : List ℕ) (at : ℕ) → at < length t → at < (command t at).next
 unfolding command

@@ -2,7 +2,7 @@
 -- `look,variable`, 'with fields and line ends as in the card text'; `trace,process` (document 02, order 1); `change,sheet,number,lines` and the
 -- lines of its text (order 11).
 use Rattle.std.specs.Prelude.{ℕ, zero, suc, ◌+◌, ◌-◌, ◌≤◌, cond, List, [], ◌∷◌, length, take, drop, eqb, ltb, Option, Some, None, unwrap_or}
-use Rattle.std.specs.Option.{option_map, option_or}
+use Rattle.std.specs.Option.{option_map}
 use Rattle.grammar.specs.declared.Found.{Found}
 use Rattle.grammar.specs.Reading.{found, with_found, field, has_word}
 use Rattle.grammar.specs.Items.{items}
@@ -109,16 +109,15 @@ Inside t (Command.Change k from count start end) = (start ≤ end) × (end ≤ l
 Inside t Command.Malformed = Unit
 
 -- the verb at a place, with the comma after it, and the place past both
-abbrev pub verb_there : List ℕ → ℕ → List ℕ → Verb → Option (Found Verb)
-verb_there t at w verb = cond (has_word t at w) (Some (found verb (at + length w))) None
-
 unfoldable pub verb_at : List ℕ → ℕ → Found Verb
 verb_at t at =
-    let or = λ (o : Option (Found Verb)) (w : List ℕ) (verb : Verb). option_or o (verb_there t at w verb) in
-    unwrap_or
-    (or (or (or (or (or (verb_there t at call_word Verb.Call) wish_word Verb.Exit) step_word Verb.Step) look_word Verb.Read) trace_word Verb.Trace)
-    change_word Verb.Change)
-    (found Verb.Unknown at)
+    cond (has_word t at call_word) (found Verb.Call (at + 5))
+    (cond (has_word t at wish_word) (found Verb.Exit (at + 5))
+    (cond (has_word t at step_word) (found Verb.Step (at + 5))
+    (cond (has_word t at look_word) (found Verb.Read (at + 5))
+    (cond (has_word t at trace_word) (found Verb.Trace (at + 6))
+    (cond (has_word t at change_word) (found Verb.Change (at + 7))
+    (found Verb.Unknown at))))))
 
 -- the fields that follow a verb
 unfoldable pub parsed_at : List ℕ → Verb → ℕ → Option Parsed

@@ -1,6 +1,7 @@
 // The command at a place of a calls text: its verb, and the fields that follow, which are read from any place.
 ghost use Rattle.std.specs.Prelude.{◌≡◌, drop};
-ghost use Rattle.commands.specs.Commands.{line_end, lines_end, word, one_line, malformed, call_at, with_number, numbered, change_at, verb_there, verb_at, parsed_at, fields_at, command};
+ghost use Rattle.grammar.specs.Reading.{found};
+ghost use Rattle.commands.specs.Commands.{line_end, lines_end, word, one_line, malformed, call_at, with_number, numbered, change_at, verb_at, parsed_at, fields_at, command};
 
 use crate::{Command, Parsed, Verb};
 use construction::cells::Words;
@@ -159,35 +160,37 @@ pub fn fields_at(calls: &[u8], verb: Verb, line: usize, at: usize) -> Parsed
     }
 }
 
-// A verb, where its word stands at a place.
-fn verb_there(calls: &[u8], at: usize, word: &[u8], verb: Verb) -> Option<Found<Verb>>
-    ensures { result ≡ verb_there calls.now at word.now verb }
+// A verb that is there, and the place past it.
+fn verb_found(value: Verb, next: usize) -> Found<Verb>
+    ensures { result ≡ found value next }
 {
-    if has_word(calls, at, word) {
-        Some(Found {
-            value: verb,
-            next: at + word.len(),
-        })
-    } else {
-        None
-    }
+    Found { value, next }
 }
 
-// The verb at a place of the text, with the comma after it.
+// The verb at a place of the text, with the comma after it: no word is looked for behind one that is there.
 #[tactic(auto, unfolding(crate::specs::Commands::verb_at))]
 pub fn verb_at(calls: &[u8], at: usize) -> Found<Verb>
     ensures { result ≡ verb_at calls.now at }
 {
-    verb_there(calls, at, b"call,", Verb::Call)
-        .or(verb_there(calls, at, b"wish,", Verb::Exit))
-        .or(verb_there(calls, at, b"step,", Verb::Step))
-        .or(verb_there(calls, at, b"look,", Verb::Read))
-        .or(verb_there(calls, at, b"trace,", Verb::Trace))
-        .or(verb_there(calls, at, b"change,", Verb::Change))
-        .unwrap_or(Found {
-            value: Verb::Unknown,
-            next: at,
-        })
+    if has_word(calls, at, b"call,") {
+        return verb_found(Verb::Call, at + 5);
+    }
+    if has_word(calls, at, b"wish,") {
+        return verb_found(Verb::Exit, at + 5);
+    }
+    if has_word(calls, at, b"step,") {
+        return verb_found(Verb::Step, at + 5);
+    }
+    if has_word(calls, at, b"look,") {
+        return verb_found(Verb::Read, at + 5);
+    }
+    if has_word(calls, at, b"trace,") {
+        return verb_found(Verb::Trace, at + 6);
+    }
+    if has_word(calls, at, b"change,") {
+        return verb_found(Verb::Change, at + 7);
+    }
+    verb_found(Verb::Unknown, at)
 }
 
 // The command at a place of the text.

@@ -4,8 +4,9 @@ use mathlib.Core.Bool.{Bool, true, false, ◌&&◌, beq}
 use lib.Dec.{eqb}
 use denote.Enum.Declared.{tag_of}
 use Rattle.std.specs.Prelude.{ℕ, Option, None, Some}
-use Rattle.construction.specs.Types.{Gate, Flag, Done, Active, Exit, Words, Announcement, Record}
-use Rattle.construction.specs.Cells.{same_flag, same_bool, same_words, same_gate, same_announcement, same_record}
+use Rattle.std.specs.Option.{option_eq}
+use Rattle.construction.specs.Types.{Gate, Flag, Done, Active, Exit, Words, Yield, Announcement, Record}
+use Rattle.construction.specs.Cells.{same_holder, same_flag, same_bool, same_words, same_gate, same_announcement, same_record}
 use Rattle.construction.specs.Cells.{swap_by, swap_gate, swap_announcement, swap_record}
 use Rattle.construction.specs.Types.{Label, Idle, P1, P3, P5, P7, P10, C2, C4, P13, P14, P16, H21, H36, P19, P20, P21, P22, F1, F3, P6}
 use Rattle.construction.specs.Labels.{label_row, same_label}
@@ -14,6 +15,7 @@ use Rattle.construction.specs.contracts.accesses.LabelPartialEq.TheImpl as label
 use Rattle.construction.specs.contracts.cells.GatePartialEq.TheImpl as gate
 use Rattle.construction.specs.contracts.cells.FlagPartialEq.TheImpl as flag
 use Rattle.construction.specs.contracts.cells.WordsPartialEq.TheImpl as words
+use Rattle.construction.specs.contracts.cells.YieldPartialEq.TheImpl as yielded
 use Rattle.construction.specs.contracts.cells.AnnouncementPartialEq.TheImpl as announcement
 use Rattle.construction.specs.contracts.cells.RecordPartialEq.TheImpl as cell_record
 
@@ -64,18 +66,20 @@ pub words_equality : (a b : Words) → words.ghosts.eq a b ≡ same_words a b
 unfolding same_words
 words_equality a b = refl
 
-gate_parts :
-    (h k : Option ℕ) (s t : ℕ) →
-    gate.ghosts.eq (record { holder = h; seq = s }) (record { holder = k; seq = t })
-    ≡ same_gate (record { holder = h; seq = s }) (record { holder = k; seq = t })
-unfolding same_gate
-gate_parts None None s t = refl
-gate_parts None (Some n) s t = refl
-gate_parts (Some m) None s t = refl
-gate_parts (Some m) (Some n) s t = refl
+-- the holder of a gate, an `Option<u8>`, as the library compares one
+pub holder_equality : (a b : Option ℕ) → option_eq eqb a b ≡ same_holder a b
+holder_equality None None = refl
+holder_equality None (Some n) = refl
+holder_equality (Some m) None = refl
+holder_equality (Some m) (Some n) = refl
 
 pub gate_equality : (a b : Gate) → gate.ghosts.eq a b ≡ same_gate a b
-gate_equality a b = gate_parts a.holder b.holder a.seq b.seq
+unfolding same_gate
+gate_equality a b = rw (holder_equality a.holder b.holder)
+
+pub yield_equality : (a b : Yield) → yielded.ghosts.eq a b ≡ same_words a.outputs b.outputs && same_bool a.fault b.fault
+unfolding same_words
+yield_equality a b = rw (bool_equality a.fault b.fault)
 
 pub record_equality : (a b : Record) → cell_record.ghosts.eq a b ≡ same_record a b
 unfolding same_record

@@ -130,6 +130,7 @@ pub record CodeRow : Type 0 where
   pub format : Option Format
   pub instruction : ℕ → ℕ → ℕ → Instruction
 
+-- the format of a code: 'a, b and c' of its row
 abbrev pub kinds : OperandKind → OperandKind → OperandKind → Format
 kinds a b c = record { a = a; b = b; c = c }
 

@@ -23,6 +23,7 @@ ins_word = 105 ∷ 110 ∷ 115 ∷ 44 ∷ []
 abbrev pub card_fits : ℕ → ℕ → ℕ → ℕ → Bool
 card_fits p n s l = in_range 1 8 p && (in_range 1 64 n && (in_range 1 8 s && in_range 1 1000000000000000000 l))
 
+-- what the first line says: the fields of `card,p,n,s,limit`
 abbrev pub card_numbers : ℕ → ℕ → ℕ → ℕ → CardNumbers
 card_numbers p n s l = record { process_count = p; variable_count = n; program_count = s; limit = l }
 

@@ -81,5 +81,6 @@ RowSwap = Result Bool Refusal
 abbrev pub Verdict : Type 0
 Verdict = Result (Unit {0}) RefusedAt
 
+-- why, and 'its line, counted from 1 (0 for refusal 1)'
 abbrev pub told_at : Refusal → ℕ → RefusedAt
 told_at why line = record { refusal = why; line = line }

@@ -1,4 +1,5 @@
 // Instructions, their codes and programs.
+
 // One of the fourteen kinds of instruction, with only its own operands.
 #[derive(Clone, Copy)]
 pub enum Instruction {

@@ -11,6 +11,7 @@ found v i = record { value = v; next = i }
 abbrev pub with_found : {A B : Type 0} → Option A → (A → Option B) → Option B
 with_found o f = option_and_then f o
 
+-- Four fields ("The card text": `card,p,n,s,limit`, `ins,code,a,b,c`), as one thing that stands at a place.
 abbrev pub four_of : ℕ → ℕ → ℕ → ℕ → Four
 four_of a b c d = record { a = a; b = b; c = c; d = d }
 

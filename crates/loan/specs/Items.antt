@@ -16,6 +16,7 @@ keys_at l base n = padded n (λ k. (item_at l base k).variable)
 abbrev pub values_at : List ℕ → ℕ → ℕ → List ℕ
 values_at l base n = padded n (λ k. (item_at l base k).value)
 
+-- both, as helping takes them (document 01: the dictionary D of the helping)
 abbrev pub numbers_at : List ℕ → ℕ → ℕ → Numbers
 numbers_at l base n = record { keys = keys_at l base n; values = values_at l base n; end = n }
 

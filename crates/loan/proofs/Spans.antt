@@ -9,7 +9,7 @@ use lib.Dec.{ltb}
 use lib.ListN.{length, get_or}
 use borrow.Author.Tests.{leb-true, lt-ltb, le-ltb}
 use Rattle.construction.specs.declared.accesses.Writing.{Writing}
-use Rattle.construction.specs.Dictionary.{no_item, next_write}
+use Rattle.construction.specs.Dictionary.{no_item}
 use Rattle.construction.specs.Machine.{write_from, writing}
 use Rattle.codes.specs.Types.{Item, Control}
 use Rattle.codes.specs.Parts.{stores}
@@ -41,15 +41,6 @@ span_fits b l i p s e = rw e (go (has_items b l i) refl)
         let h = has_long b l i z in
         record { base = base_small (room_in b) i w p; end = omega arith; long = omega arith }
     go false z = record { base = omega arith; end = omega arith; long = omega arith }
-
--- the place of one item more
-pub insert_fits :
-    (b l : List ℕ) (i w n : ℕ) (t : Bool) → w ≡ room_in b → t ≡ has_items b l i → t ≡ true → i < 256 → n < w →
-    (w * i < 10000) × ((w * i + n) * 3 + 3 ≤ length l) × (n < 32)
-insert_fits b l i w n t ew et p q r =
-    let room = room_small w (number_at b 7 1 0) ew in
-    let long = rw (← ew) at (has_long b l i (sym et ∙ p)) in
-    (base_small w i room q, omega arith, omega arith)
 
 -- what the items of process i say is said by its dictionary
 module _ (b l : List ℕ) (i : ℕ) (s : Span) (e : s ≡ span_in b l i) where

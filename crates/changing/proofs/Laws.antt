@@ -1,14 +1,13 @@
 -- A change by the tests that judge it, and the card that code puts together
-use Rattle.std.specs.Prelude.{Ok, Err}
+use Rattle.std.specs.Prelude.{Result, Ok, Err}
 use Prim.Native.Nat.{ℕ, ◌%◌, ◌<◌, min}
 use mathlib.Core.Bool.{Bool, true, false, cond, not, ◌||◌, true≢false}
 use mathlib.Core.List.{List}
-use mathlib.Core.Path.{◌≡◌, refl, sym, ◌∙◌}
+use mathlib.Core.Path.{◌≡◌, refl, sym, ap, ◌∙◌}
 use native.Mathlib.Nat.{mod-eq_of_lt}
 use lib.Dec.{ltb}
 use lib.ListN.{length, get_or, set}
 use Rattle.construction.specs.declared.{programs.Program.Program, card.Card.Card, answers.Answer.Answer, answers.Answered.Answered}
-use Rattle.construction.specs.declared.{texts.ProgramReading.ProgramReading}
 use Rattle.construction.specs.declared.answers.Refusal.TheVariants.{NoProgram, NotAhead, Unsettled}
 use Rattle.construction.specs.Weight.{heaviest}
 use Rattle.construction.specs.Instructions.{no_program}
@@ -17,6 +16,9 @@ use Rattle.construction.specs.Requests.{is_program}
 use Rattle.construction.specs.Answers.{is_refused}
 use Rattle.construction.specs.Changes.{program_text, change_read, some_behind, is_unsettled, unchanged, if_read, change}
 use Rattle.construction.specs.Types.{Verdict}
+use Rattle.construction.specs.declared.texts.RefusedAt.{RefusedAt}
+use Rattle.construction.specs.Readings.{ProgramReading, program_given, verdict_of}
+use Rattle.construction.proofs.Text.Given.{given_ok, verdict_given}
 use Rattle.opening.proofs.Laws.{inside}
 use Rattle.requests.specs.Judging.{if_text_accepted, change_judged}
 use Rattle.requests.proofs.Arrays.{in_room, judged_there}
@@ -55,19 +57,25 @@ module _ (c : Card) where
 module _
     (c : Card) (k from : ℕ) (t : List ℕ)
     (w : ℕ) (weighed : w ≡ min 32 (heaviest c.programs))
-    (r : ProgramReading) (read : r ≡ program_text c.variable_count w t)
+    (q : Result Program RefusedAt) (read : q ≡ program_given (program_text c.variable_count w t))
     (behind : Bool) (compared : behind ≡ some_behind c.controls c.gates_read c.process_count (get_or c.from (k % 8) 0) 8)
-    (x : Answer) (judged : x ≡ change_judged k c.program_count r.verdict c.gate.seq from (get_or c.from (k % 8) 0) behind)
+    (x : Answer) (judged : x ≡ change_judged k c.program_count (verdict_of q) c.gate.seq from (get_or c.from (k % 8) 0) behind)
   where
+    abbrev r : ProgramReading
+    r = program_text c.variable_count w t
+
+    verdict : verdict_of q ≡ r.verdict
+    verdict = ap verdict_of read ∙ verdict_given r.verdict r.program
+
     told : x ≡ answered (is_program c k) r.verdict (ltb c.gate.seq from) (is_unsettled c k)
     told =
-        judged ∙ rw compared (judged_there c.from k c.program_count 8 0 (Answer.RefusedAt NoProgram 0)
+        judged ∙ rw (verdict, compared) (judged_there c.from k c.program_count 8 0 (Answer.RefusedAt NoProgram 0)
         (λ (last : ℕ). if_text_accepted r.verdict (cond (not (ltb c.gate.seq from)) (Answer.RefusedAt NotAhead 0)
         (cond (ltb c.gate.seq last || some_behind c.controls c.gates_read c.process_count last 8) (Answer.RefusedAt Unsettled 0) Answer.Taken))))
 
     text_read : r ≡ change_read (contents_of c) t
     unfolding change_read
-    text_read = rw (read, weighed)
+    text_read = rw weighed
 
     pub change_refused : is_refused x ≡ true → record { card = c; answer = x } ≡ change c k from t
     unfolding change
@@ -75,12 +83,13 @@ module _
         rw (← text_read) (refuses c (is_program c k) r.verdict (ltb c.gate.seq from) (is_unsettled c k) x _ told h)
 
     pub change_taken :
-        is_refused x ≡ false → (d : Card) → (k < 8 → d ≡ with_revision c k from r.program) → record { card = d; answer = x } ≡ change c k from t
+        is_refused x ≡ false → {y : Program} → q ≡ Ok y → (d : Card) → (k < 8 → d ≡ with_revision c k from y) → record { card = d; answer = x } ≡ change c k from t
     unfolding change
-    change_taken h d p =
+    change_taken h {y} e d p =
+        let same : y ≡ r.program = (given_ok r.verdict r.program (sym e ∙ read)).1 in
         rw (← text_read)
         (takes c (is_program c k) r.verdict (ltb c.gate.seq from) (is_unsettled c k) x told h d _
-        (λ (there : is_program c k ≡ true). p (in_room k c.program_count 8 there)))
+        (λ (there : is_program c k ≡ true). p (in_room k c.program_count 8 there) ∙ ap (with_revision c k from) same))
 
 -- the card that code leaves
 pub changed :

@@ -36,25 +36,27 @@ pub fn change(card: Card, program: u32, from: u64, text: &[u8]) -> Answered
     let last = c.from[at];
     let read = read_change(c.variable_count, most_weight(c.programs), text);
     let behind = some_behind(c.controls, c.gates_read, c.process_count, last);
-    if let Err(RefusedAt { refusal, line }) = judge_change(
+    match judge_change(
         program,
         c.program_count,
-        read.verdict,
+        read,
         c.gate.seq,
         from,
         last,
         behind,
     ) {
-        return Answered {
+        Ok(changed) => {
+            c.earlier[at] = c.later[at];
+            c.later[at] = changed;
+            c.from[at] = from;
+            Answered {
+                card: c,
+                answer: Answer::Taken,
+            }
+        }
+        Err(RefusedAt { refusal, line }) => Answered {
             card: c,
             answer: Answer::RefusedAt { refusal, line },
-        };
-    }
-    c.earlier[at] = c.later[at];
-    c.later[at] = read.program;
-    c.from[at] = from;
-    Answered {
-        card: c,
-        answer: Answer::Taken,
+        },
     }
 }

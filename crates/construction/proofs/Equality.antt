@@ -5,7 +5,7 @@ use lib.Dec.{eqb}
 use denote.Enum.Declared.{tag_of}
 use Rattle.std.specs.Prelude.{ℕ, Option, None, Some}
 use Rattle.construction.specs.Types.{Gate, Flag, Done, Active, Exit, Words, Announcement, Record}
-use Rattle.construction.specs.Cells.{same_holder, same_flag, same_bool, same_words, same_gate, same_announcement, same_record}
+use Rattle.construction.specs.Cells.{same_flag, same_bool, same_words, same_gate, same_announcement, same_record}
 use Rattle.construction.specs.Cells.{swap_by, swap_gate, swap_announcement, swap_record}
 use Rattle.construction.specs.Types.{Label, Idle, P1, P3, P5, P7, P10, C2, C4, P13, P14, P16, H21, H36, P19, P20, P21, P22, F1, F3, P6}
 use Rattle.construction.specs.Labels.{label_row, same_label}

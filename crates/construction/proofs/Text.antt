@@ -3,6 +3,7 @@ pub mod Lines
 pub mod Decoding
 pub mod Forms
 pub mod Reading
+pub mod Given
 pub mod Writing
 pub mod RoundTrip
 pub mod Bounds

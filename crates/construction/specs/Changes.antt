@@ -1,12 +1,13 @@
 -- A program changed while the machine runs (document 02, order 11): 'A change names a sheet and a gate number G and brings that sheet's lines as a card has them.'
 use Rattle.std.specs.Prelude.{ℕ, zero, suc, min, Bool, false, cond, not, ◌&&◌, ◌||◌, List, length, get_or, eqb, ltb, Ok, Err}
 use Rattle.construction.specs.Types.{Gate, Program, Label, Idle, P1, Control, Card, Refusal, TooLong, Malformed, NoProgram, NotAhead, Unsettled, Answer}
-use Rattle.construction.specs.Types.{Answered, Contents, Verdict, ProgramReading}
+use Rattle.construction.specs.Types.{Answered, Contents, Verdict}
 use Rattle.construction.specs.Labels.{same_label}
 use Rattle.construction.specs.Weight.{card_weight}
 use Rattle.construction.specs.Parts.{idle_control, no_gate, contents_of, with_revision}
 use Rattle.construction.specs.Requests.{is_program}
 use Rattle.construction.specs.Opening.{program_refused_at, read_program}
+use Rattle.construction.specs.Readings.{ProgramReading}
 
 -- a refusal ends the reading; else 'nothing follows': a line left over is refusal 2
 abbrev pub if_program_accepted : Verdict → ProgramReading → ProgramReading → ProgramReading

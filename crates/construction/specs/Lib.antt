@@ -1,4 +1,5 @@
 pub mod Types
+pub mod Readings
 pub mod Labels
 pub mod Cells
 pub mod Instructions

@@ -1,5 +1,5 @@
 -- One step (document 01, 'One step'; lines P1 to P24, C1 to C6, F1 to F4, H1 to H36): one shared access, then all local work up to the next.
-use Rattle.std.specs.Prelude.{ℕ, suc, ◌+◌, ◌%◌, Option, None, Some, Bool, true, false, cond, not, ◌&&◌, leb, ltb, length, get_or}
+use Rattle.std.specs.Prelude.{ℕ, suc, ◌+◌, ◌%◌, Option, None, Some, Bool, false, cond, not, ◌&&◌, leb, ltb, length, get_or}
 use Rattle.std.specs.Option.{is_some, unwrap_or}
 use Rattle.construction.specs.Types.{Gate, Flag, Done, Active, Exit, Words, Yield, Announcement, Record, Program, Item}
 use Rattle.construction.specs.Types.{Dictionary, Simulation, Pause, Ended, Faulted, Lacks, Simulated, Label, Idle, P1, P3, P5, P7, P10, C2, C4, P13, P14}

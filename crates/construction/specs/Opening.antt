@@ -1,13 +1,14 @@
 -- What a card text opens to (document 01, 'The card text' and 'Turned back'): judged by its length, then line by line.
 use Rattle.std.specs.Prelude.{ℕ, zero, suc, ◌+◌, false, cond, List, map, length, set, replicate, eqb, ltb, Ok, Err}
 use Rattle.construction.specs.Types.{Instruction, Line, Program, Card, Refusal, TooLong, Malformed, TooHeavy, CardLine, VarLine, SheetLine, InsLine}
-use Rattle.construction.specs.Types.{Contents, Verdict, ProgramReading, Reading, Opened, told_at}
+use Rattle.construction.specs.Types.{Contents, Verdict, Opened, told_at}
 use Rattle.construction.specs.Cells.{open_gate, open_announcement, open_record}
 use Rattle.construction.specs.Instructions.{no_line, no_program, started}
 use Rattle.construction.specs.Weight.{weight}
 use Rattle.construction.specs.Dictionary.{empty}
 use Rattle.construction.specs.Parts.{idle_control, no_operation, no_gate}
 use Rattle.construction.specs.Lines.{card_line, var_line, sheet_line, ins_line}
+use Rattle.construction.specs.Readings.{ProgramReading, Reading}
 
 -- the contents that the line `card,p,n,s,limit` alone gives ..
 abbrev pub begun : ℕ → ℕ → ℕ → ℕ → Contents

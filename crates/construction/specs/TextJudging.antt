@@ -1,12 +1,13 @@
 -- How a text is judged (document 01, 'Turned back'): 'by 1, then line by line', so that the first line that is refused refuses the text.
 use Rattle.std.specs.Prelude.{ℕ, suc, ◌+◌, ◌≤◌, ◌<◌, ◌≡◌, ◌≢◌, List, [], ◌∷◌, length, replicate, Ok}
 use Rattle.grammar.specs.Reading.{found}
-use Rattle.construction.specs.Types.{Instruction, ProgramReading, Reading}
+use Rattle.construction.specs.Types.{Instruction}
 use Rattle.construction.specs.Instructions.{no_line}
 use Rattle.construction.specs.Weight.{weight}
 use Rattle.construction.specs.Answers.{Fields, fields, refused_with, card_line_fields, var_line_fields, sheet_line_fields, ins_line_fields}
 use Rattle.construction.specs.Lines.{card_numbers, card_line, var_line, sheet_line, ins_line}
 use Rattle.construction.specs.Opening.{begun, so_far, program_so_far, with_start, with_line, with_program}
+use Rattle.construction.specs.Readings.{ProgramReading, Reading}
 
 -- The line that comes next: the `card` line; a `var` line, `left` of them, this one for variable k; a `sheet` line, `left` of them, this one for
 -- program k; an `ins` line, `more` of program k and then `left` programs, this one for place j. What was read before stands beside it, with the

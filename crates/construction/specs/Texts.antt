@@ -2,7 +2,7 @@
 -- operation runs the text of its gate number.
 use Rattle.std.specs.Prelude.{ℕ, suc, ◌≤◌, ◌<◌, ◌≡◌, Bool, true, false, cond, ◌&&◌, ◌⊎◌, List, [], ◌∷◌, ◌++◌, length, get_or, replicate, eqb, leb, Ok}
 use Rattle.grammar.specs.Reading.{found}
-use Rattle.construction.specs.Types.{Card, Contents, Verdict, ProgramReading}
+use Rattle.construction.specs.Types.{Card, Contents}
 use Rattle.construction.specs.Instructions.{no_line}
 use Rattle.construction.specs.Weight.{weight, card_weight}
 use Rattle.construction.specs.Lines.{sheet_line}
@@ -11,6 +11,7 @@ use Rattle.construction.specs.Requests.{is_process}
 use Rattle.construction.specs.Opening.{program_so_far, ins_from}
 use Rattle.construction.specs.Changes.{change_read, has_read}
 use Rattle.construction.specs.History.{Entry, Replacement, Invocation, Finish, operation_at, start_words, text_at, bench_run, run}
+use Rattle.construction.specs.Readings.{ProgramReading}
 
 -- 14 of a change: its `sheet` line, which says m instructions from the place i on, and its m `ins` lines are good, and the text counts more than 32 or more than
 -- 'the card's w, which stays that of the opening text'. Its line is that of the last instruction; a line left over is not looked at.

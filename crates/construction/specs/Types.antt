@@ -50,8 +50,6 @@ pub use Rattle.construction.specs.declared.cells.SwappedCell.{SwappedCell}
 pub use Rattle.construction.specs.declared.texts.CardNumbers.{CardNumbers}
 pub use Rattle.construction.specs.declared.texts.Contents.{Contents}
 pub use Rattle.construction.specs.declared.texts.RefusedAt.{RefusedAt}
-pub use Rattle.construction.specs.declared.texts.ProgramReading.{ProgramReading}
-pub use Rattle.construction.specs.declared.texts.Reading.{Reading}
 pub use Rattle.construction.specs.declared.texts.Opened.{Opened}
 
 -- an instruction that was decoded, or why there is none

@@ -30,25 +30,8 @@ pub struct RefusedAt {
     pub line: u64,
 }
 
-// A program read so far, the place of the next line and its number.
-#[derive(Clone, Copy)]
-pub struct ProgramReading {
-    pub verdict: Result<(), RefusedAt>,
-    pub program: Program,
-    pub at: usize,
-    pub line: u64,
-}
-
-// A card text read so far, the place of the next line and its number.
-#[derive(Clone, Copy)]
-pub struct Reading {
-    pub verdict: Result<(), RefusedAt>,
-    pub contents: Contents,
-    pub at: usize,
-    pub line: u64,
-}
-
 // The card of a text, empty where the text is refused.
+// Not a Result: what may not change (`opened`, which theorems cite), as the card of a refused text is the empty card and stands beside the refusal.
 #[derive(Clone, Copy)]
 pub struct Opened {
     pub card: Card,

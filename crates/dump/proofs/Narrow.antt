@@ -13,8 +13,7 @@ use Rattle.grammar.proofs.Cases.{on_test, and_true, clash}
 use Rattle.construction.specs.Types.{Decoded, CardLine}
 use Rattle.construction.specs.declared.{cells.Words.Words, programs.Instruction.Instruction, programs.Encoded.Encoded}
 use Rattle.construction.specs.declared.{programs.Line.Line, programs.Program.Program, simulations.Simulation.Simulation, card.Card.Card}
-use Rattle.construction.specs.declared.{texts.Contents.Contents, texts.ProgramReading.ProgramReading}
-use Rattle.construction.specs.declared.{texts.Reading.Reading}
+use Rattle.construction.specs.declared.{texts.Contents.Contents}
 use Rattle.construction.specs.declared.answers.Refusal.{Refusal}
 use Rattle.construction.specs.declared.answers.Refusal.TheVariants.{TooLong, Malformed}
 use Rattle.construction.specs.Cells.{FitsWords}
@@ -30,6 +29,7 @@ use Rattle.construction.specs.Changes.{change_read, if_program_accepted}
 use Rattle.construction.specs.History.{Entry, FitsEntry, FitEntries, act, Invocation, Replacement, History, Event, event_of, latest_call, text_at, finishing, with_finish, with_finishes}
 use Rattle.construction.specs.History.{with_response, with_entry, Observation, observe, observe_all, opening, run}
 use Rattle.construction.specs.Types.{Verdict}
+use Rattle.construction.specs.Readings.{ProgramReading, Reading}
 use Rattle.construction.proofs.Basics.{set_keeps, get_or_replicate_same}
 use Rattle.construction.proofs.Text.Lines.{card_read, ins_read, var_read}
 use Rattle.construction.proofs.Text.Decoding.{decoded_encodes}

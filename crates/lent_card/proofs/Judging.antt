@@ -1,4 +1,5 @@
 -- The requests on a block by what code takes out of it: a number that does not fit a byte is that of no part, and a request that is taken has small ones.
+use Rattle.std.specs.Prelude.{Result, Ok}
 use Prim.Native.Nat.{ℕ, min, ◌<◌, ◌≤◌}
 use mathlib.Core.Path.{◌≡◌, refl, sym, ◌∙◌, ap}
 use mathlib.Core.Bool.{Bool, true, false, cond, not, ◌&&◌, true≢false}
@@ -7,13 +8,15 @@ use native.Mathlib.Omega.{arith}
 use lib.Dec.{leb, ltb}
 use lib.ListN.{length}
 use borrow.Author.Tests.{ltb-true, ltb-false, lt-ltb, le-ltb}
-use Rattle.construction.specs.declared.{answers.Refusal.Refusal, answers.Answer.Answer, texts.ProgramReading.ProgramReading}
+use Rattle.construction.specs.declared.{programs.Program.Program, answers.Refusal.Refusal, answers.Answer.Answer, texts.RefusedAt.RefusedAt}
 use Rattle.construction.specs.declared.answers.Refusal.TheVariants.{NoProcess, NoProgram, Busy, NotBusy, NoPlace}
 use Rattle.construction.specs.Machine.{holder_of}
 use Rattle.construction.specs.Requests.{is_idle, shown}
 use Rattle.construction.specs.Answers.{is_refused}
 use Rattle.construction.specs.Changes.{program_text, is_behind}
 use Rattle.construction.specs.Types.{Verdict}
+use Rattle.construction.specs.Readings.{ProgramReading, program_given, verdict_of}
+use Rattle.construction.proofs.Text.Given.{given_ok, verdict_given}
 use Rattle.requests.specs.Judging.{judged, call_judged, exit_judged, change_judged}
 use Rattle.requests.proofs.Arrays.{in_room}
 use Rattle.codes.specs.Types.{Words, Gate, Announcement, Record, Control}
@@ -156,25 +159,31 @@ module _ (b : List ℕ) (i : ℕ) {x : Answer} where
 
 -- a change: what was read of its text, and the answer by that
 module _
-    (b : List ℕ) (k from : ℕ) (t : List ℕ) {n w : ℕ} {r : ProgramReading} {x : Answer}
-    (pn : n ≡ variable_count_in b) (pw : w ≡ room_in b) (pr : r ≡ program_text n w t)
-    (px : x ≡ change_judged k (program_count_in b) r.verdict (gate_in b).seq from (from_in b k) (behind_in b (from_in b k) 8))
+    (b : List ℕ) (k from : ℕ) (t : List ℕ) {n w : ℕ} {q : Result Program RefusedAt} {x : Answer}
+    (pn : n ≡ variable_count_in b) (pw : w ≡ room_in b) (pq : q ≡ program_given (program_text n w t))
+    (px : x ≡ change_judged k (program_count_in b) (verdict_of q) (gate_in b).seq from (from_in b k) (behind_in b (from_in b k) 8))
   where
-    text : r ≡ change_text b t
-    text = pr ∙ λ j. program_text (pn j) (pw j) t
+    text : program_text n w t ≡ change_text b t
+    text = λ j. program_text (pn j) (pw j) t
+
+    verdict : verdict_of q ≡ (program_text n w t).verdict
+    verdict = ap verdict_of pq ∙ verdict_given (program_text n w t).verdict (program_text n w t).program
 
     pub change_told : x ≡ change_answer b k from t
     unfolding change_answer
     change_told =
-        px ∙ ap (λ (z : ProgramReading). change_judged k (program_count_in b) z.verdict (gate_in b).seq from (from_in b k) (behind_in b (from_in b k) 8)) text
+        px ∙ ap (λ (v : Verdict). change_judged k (program_count_in b) v (gate_in b).seq from (from_in b k) (behind_in b (from_in b k) 8)) verdict
+        ∙ ap (λ (z : ProgramReading). change_judged k (program_count_in b) z.verdict (gate_in b).seq from (from_in b k) (behind_in b (from_in b k) 8)) text
 
     pub change_refused : is_refused x ≡ true → b ≡ change_block b k from t
     unfolding change_block
     change_refused h = rw (← change_told, h)
 
-    pub change_taken : is_refused x ≡ false → {m : ℕ} {e : List ℕ} → m ≡ min k 255 → e ≡ put_change b m from r.program → e ≡ change_block b k from t
+    pub change_taken :
+        is_refused x ≡ false → {y : Program} → q ≡ Ok y → {m : ℕ} {e : List ℕ} → m ≡ min k 255 → e ≡ put_change b m from y → e ≡ change_block b k from t
     unfolding change_block
-    change_taken h pm pe =
+    change_taken h {y} py {m} pm pe =
+        let same : y ≡ (program_text n w t).program = (given_ok (program_text n w t).verdict (program_text n w t).program (sym py ∙ pq)).1 in
         let p = first_passed (ltb k (program_count_in b) && ltb k 8) NoProgram _ (sym (ap is_refused px) ∙ h) in
         let program = pm ∙ small 8 k (omega arith) (in_room k (program_count_in b) 8 p) in
-        rw (← change_told, h) (pe ∙ λ j. put_change b (program j) from (text j).program)
+        rw (← change_told, h) (pe ∙ ap (put_change b m from) same ∙ λ j. put_change b (program j) from (text j).program)

@@ -2,7 +2,7 @@
 -- (order 10): the answer, and the block after it. What is judged is taken out of the block, and what a taken request changes is put back; a refused one
 -- leaves the block as it was. A block that is too short has no processes, programs and variables, so 5, 6 and 9 answer there.
 use Rattle.std.specs.Prelude.{ℕ, zero, suc, min, ◌≡◌, Bool, true, false, cond, not, ◌&&◌, ◌||◌, List, ltb}
-use Rattle.construction.specs.declared.{answers.Answer.Answer, texts.ProgramReading.ProgramReading}
+use Rattle.construction.specs.declared.{answers.Answer.Answer}
 use Rattle.construction.specs.declared.answers.Refusal.TheVariants.{NoPlace}
 use Rattle.construction.specs.Weight.{card_weight}
 use Rattle.construction.specs.Parts.{contents_of}
@@ -10,6 +10,7 @@ use Rattle.construction.specs.Machine.{holder_of}
 use Rattle.construction.specs.Requests.{shown}
 use Rattle.construction.specs.Answers.{is_refused}
 use Rattle.construction.specs.Changes.{program_text, is_behind}
+use Rattle.construction.specs.Readings.{ProgramReading}
 use Rattle.requests.specs.Judging.{call_judged, exit_judged, change_judged}
 use Rattle.codes.specs.Types.{Words, Program, P1}
 use Rattle.block.specs.Layout.{process_count_in, variable_count_in, program_count_in, room_in, gate_in, announcement_in, record_in, control_in, put_control, put_operation}

@@ -1,6 +1,7 @@
 // A program changed while the machine runs (document 02, order 11).
-ghost use Rattle.std.specs.Prelude.{◌≡◌, ◌&&◌, ltb};
+ghost use Rattle.std.specs.Prelude.{◌≡◌, ◌&&◌, ltb, IfOk};
 ghost use Rattle.construction.specs.Changes.{is_behind};
+ghost use Rattle.construction.specs.Readings.{verdict_of};
 ghost use Rattle.requests.specs.Judging.{answer_of_change, change_judged};
 ghost use Rattle.block.specs.Layout.{process_count_in, program_count_in, gate_in, control_in, last_gate_in, from_in};
 ghost use Rattle.lent_card.specs.Requests.{behind_in, change_answer, put_change, change_block};
@@ -18,6 +19,7 @@ use requests::judging::judge_change;
 use texts::{Text, keep_later, put_program};
 
 // Whether the operation of some process is behind a gate number.
+// Not `some_behind` of requests, which takes two arrays: they would be copied out of the block for a card in lent words.
 #[tactic(auto, unfolding(crate::specs::Requests::behind_in))]
 fn some_behind(b: &[u64], number: u64) -> bool
     ensures { result ≡ behind_in b.now number 8 }
@@ -31,20 +33,21 @@ fn some_behind(b: &[u64], number: u64) -> bool
     behind
 }
 
-// Whether a change is taken, by the verdict on its text.
+// Whether a change is taken, by what was read of its text: its program, then.
 fn judge_change_in(
     b: &[u64],
     program: u32,
     from: u64,
-    verdict: Result<(), RefusedAt>,
-) -> Result<(), RefusedAt>
-    ensures { answer_of_change result ≡ change_judged program (program_count_in b.now) verdict (gate_in b.now).seq from (from_in b.now program) (behind_in b.now (from_in b.now program) 8) }
+    read: Result<Program, RefusedAt>,
+) -> Result<Program, RefusedAt>
+    ensures judged { answer_of_change (verdict_of result) ≡ change_judged program (program_count_in b.now) (verdict_of read) (gate_in b.now).seq from (from_in b.now program) (behind_in b.now (from_in b.now program) 8) }
+    ensures taken { IfOk result (λ y. read ≡ Ok y) }
 {
     let last = block::texts::from(b, narrow(program));
     judge_change(
         program,
         program_count(b),
-        verdict,
+        read,
         gate(b).seq,
         from,
         last,
@@ -66,9 +69,11 @@ pub fn change(b: &mut [u64], program: u32, from: u64, text: &[u8]) -> Answer
     ensures { (result ≡ change_answer b.old program from text.now) × (b.new ≡ change_block b.old program from text.now) }
 {
     let read = read_change(variable_count(b), room(b), text);
-    if let Err(RefusedAt { refusal, line }) = judge_change_in(b, program, from, read.verdict) {
-        return Answer::RefusedAt { refusal, line };
+    match judge_change_in(b, program, from, read) {
+        Ok(changed) => {
+            put_change(b, narrow(program), from, changed);
+            Answer::Taken
+        }
+        Err(RefusedAt { refusal, line }) => Answer::RefusedAt { refusal, line },
     }
-    put_change(b, narrow(program), from, read.program);
-    Answer::Taken
 }

@@ -8,7 +8,6 @@ use lib.Dec.{eqb, ltb}
 use lib.ListN.{length, get_or, replicate, length-set}
 use borrow.Author.Tests.{eqb-true, eqb-false, not-false}
 use Rattle.construction.specs.declared.{texts.Contents.Contents, programs.Line.Line, programs.Instruction.Instruction, programs.Encoded.Encoded}
-use Rattle.construction.specs.declared.{texts.ProgramReading.ProgramReading, texts.Reading.Reading}
 use Rattle.construction.specs.declared.{programs.Format.Format}
 use Rattle.std.specs.Prelude.{Option, None, Some, Ok}
 use Rattle.construction.specs.Types.{Decoded, CardLine}
@@ -16,6 +15,7 @@ use Rattle.construction.specs.Instructions.{codes, row_of, instruction_of, range
 use Rattle.construction.specs.Lines.{card_line, var_line, sheet_line, ins_line}
 use Rattle.construction.specs.Opening.{no_contents, with_line, ins_from, read_program, with_program, programs_from, with_start, vars_from, at_end, then_programs}
 use Rattle.construction.specs.Opening.{after_card, read_card}
+use Rattle.construction.specs.Readings.{ProgramReading, Reading}
 use Rattle.construction.proofs.Basics.{on_test, clash, set_keeps, get_or_replicate_same}
 use Rattle.construction.proofs.Text.Decoding.{rows_at, decode_constant, decode_bytes}
 use Rattle.construction.proofs.Text.Lines.{card_read, var_read, sheet_read, ins_read}

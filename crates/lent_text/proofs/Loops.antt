@@ -1,16 +1,17 @@
 -- Starting values and programs put one after another, the verdict on a text and a block, and both together
 use Rattle.std.specs.Prelude.{Ok, Err}
-use Prim.Native.Nat.{ℕ, ◌+◌, ◌<◌, ◌≤◌}
+use Prim.Native.Nat.{ℕ, ◌+◌, ◌<◌}
 use mathlib.Core.Path.{◌≡◌, refl, sym, ◌∙◌, ap}
 use mathlib.Core.List.{List}
 use native.Mathlib.Numerals.{add-one}
 use lib.ListN.{length, get_or}
-use borrow.Author.Tests.{le-leb, lt-leb}
-use Rattle.construction.specs.declared.{programs.Program.Program, texts.Reading.Reading}
-use Rattle.construction.specs.declared.answers.Refusal.TheVariants.{ShortBuffer}
+use Rattle.construction.specs.declared.{programs.Program.Program, texts.Contents.Contents, texts.RefusedAt.RefusedAt}
 use Rattle.construction.specs.Instructions.{no_program}
-use Rattle.construction.specs.Opening.{read_card}
-use Rattle.construction.specs.Types.{Verdict, told_at}
+use Rattle.construction.specs.Opening.{no_contents, read_card}
+use Rattle.construction.specs.Types.{Verdict}
+use Rattle.construction.proofs.Text.RoundTrip.{read_empty}
+use Rattle.construction.specs.Readings.{contents_given}
+use Rattle.construction.proofs.Text.Given.{given_ok, given_err}
 use Rattle.opening.proofs.Laws.{inside}
 use Rattle.lent_text.specs.Opened.{put_value, put_values, put_texts, put_programs, contents_block, opened_block, judged, Opens}
 
@@ -39,14 +40,19 @@ module _ (b : List ℕ) (xs : List Program) where
   pub programs_done : (c : List ℕ) (k : ℕ) → c ≡ put_programs k b xs → k ≡ 8 → c ≡ put_programs 8 b xs
   programs_done c k e h = rw h at e
 
-module _ (b : List ℕ) (v : Verdict) (e : v ≡ Ok tt) where
-  pub judged_long : 1456 ≤ length b → (Ok tt) ≡ judged v b
-  judged_long h = sym (rw (e, le-leb 1456 (length b) h))
-
-  pub judged_short : length b < 1456 → Err (told_at ShortBuffer 0) ≡ judged v b
-  judged_short h = sym (rw (e, lt-leb 1456 (length b) h))
-
-pub opens : (t b z : List ℕ) (r : Verdict) (x : Reading) → x ≡ read_card t → r ≡ judged x.verdict b → z ≡ contents_block b x.contents → Opens t b r z
+-- ---- a text that is accepted, and one that is refused, which leaves the empty card
+pub opens :
+    (t b z : List ℕ) (r : Verdict) (x : Contents) → Ok x ≡ contents_given (read_card t) → r ≡ judged (Ok tt) b → z ≡ contents_block b x → Opens t b r z
 unfolding opened_block
 opens t b z r x e f g =
-    record { answer = f ∙ ap (λ (y : Reading). judged y.verdict b) e; words = g ∙ ap (λ (y : Reading). contents_block b y.contents) e }
+    let h = given_ok (read_card t).verdict (read_card t).contents e in
+    record { answer = f ∙ ap (λ (v : Verdict). judged v b) (sym h.0); words = g ∙ ap (λ (y : Contents). contents_block b y) h.1 }
+
+pub refuses :
+    (t b z : List ℕ) {refused : RefusedAt} (x : Contents) → Err refused ≡ contents_given (read_card t) → x ≡ no_contents → z ≡ contents_block b x →
+    Opens t b (Err refused) z
+unfolding opened_block
+refuses t b z {refused} x e p g =
+    let h = given_err (read_card t).verdict (read_card t).contents e in
+    let none : (read_card t).contents ≡ no_contents = read_empty t (λ a. let q : Err refused ≡ Ok tt = sym h ∙ a in cc) in
+    record { answer = ap (λ (v : Verdict). judged v b) (sym h); words = g ∙ ap (λ (y : Contents). contents_block b y) (p ∙ sym none) }

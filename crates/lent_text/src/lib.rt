@@ -100,11 +100,10 @@ fn put_contents(b: &mut [u64], contents: Contents)
     put_programs(b, contents.programs);
 }
 
-// The verdict on a text, then on the block.
-fn judge(verdict: Result<(), RefusedAt>, b: &[u64]) -> Result<(), RefusedAt>
-    ensures { result ≡ judged verdict b.now }
+// The verdict on a block for a text that is accepted.
+fn judge(b: &[u64]) -> Result<(), RefusedAt>
+    ensures { result ≡ judged (Ok tt) b.now }
 {
-    verdict?;
     if b.len() < SIZE {
         return Err(RefusedAt {
             refusal: Refusal::ShortBuffer,
@@ -118,10 +117,17 @@ fn judge(verdict: Result<(), RefusedAt>, b: &[u64]) -> Result<(), RefusedAt>
 pub fn open(text: &[u8], b: &mut [u64]) -> Result<(), RefusedAt>
     ensures { Opens text.now b.old result b.new }
 {
-    let read = reader::read_card(text);
-    let answer = judge(read.verdict, b);
-    put_contents(b, read.contents);
-    answer
+    match reader::read_card(text) {
+        Ok(contents) => {
+            let answer = judge(b);
+            put_contents(b, contents);
+            answer
+        }
+        Err(refused) => {
+            put_contents(b, reader::no_contents());
+            Err(refused)
+        }
+    }
 }
 
 fn starts_of(b: &[u64]) -> [u32; 64]

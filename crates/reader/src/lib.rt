@@ -4,25 +4,45 @@
 #![tactic(auto)]
 
 pub mod changes; // changes.rt: the text of a change
-mod refusals; // refusals.rt: refused readings
 
 ghost use Rattle.std.specs.Prelude.{◌≡◌, ◌≤◌, replicate};
-ghost use Rattle.construction.specs.Opening.{begun, program_so_far, so_far, ins_from, weighed, read_program, programs_from, vars_from, then_end, then_programs, read_card, opened};
+ghost use Rattle.construction.specs.Opening.{begun, no_contents, program_so_far, so_far, ins_from, read_program, programs_from, vars_from, then_end, then_programs, read_card, opened};
 ghost use Rattle.construction.specs.Instructions.{no_line};
+ghost use Rattle.construction.specs.Readings.{contents_given};
+ghost use Rattle.construction.specs.Types.{told_at};
+ghost use Rattle.reader.specs.Told.{program_told, contents_told, refusal_of};
 
-use crate::refusals::{program_refused_at, refused_at};
 use construction::answers::Refusal;
 use construction::programs::{Line, Program};
-use construction::texts::{CardNumbers, Contents, Opened, ProgramReading, Reading, RefusedAt};
+use construction::texts::{CardNumbers, Contents, Opened, RefusedAt};
 use programs::weights::weight;
 
+// What was read of a text, the place of the next line and its number.
+#[derive(Clone, Copy)]
+pub(crate) struct Read<T> {
+    pub value: T,
+    pub at: usize,
+    pub line: u64,
+}
+
+// Why and at which line a text is refused, by a line that was read. `let .. else`, which document 01 names for these lines, binds nothing of what it turns back.
+fn refused<T: Copy>(read: Result<T, Refusal>, number: u64) -> RefusedAt
+    ensures { result ≡ told_at (refusal_of read) number }
+{
+    match read {
+        Ok(_) => RefusedAt {
+            refusal: Refusal::Malformed,
+            line: number,
+        },
+        Err(refusal) => RefusedAt {
+            refusal,
+            line: number,
+        },
+    }
+}
+
 // The contents after the `card` line alone.
-pub(crate) fn begun_contents(
-    process_count: u8,
-    variable_count: u8,
-    program_count: u8,
-    limit: u64,
-) -> Contents
+fn begun_contents(process_count: u8, variable_count: u8, program_count: u8, limit: u64) -> Contents
     ensures { result ≡ begun process_count variable_count program_count limit }
 {
     Contents {
@@ -35,6 +55,13 @@ pub(crate) fn begun_contents(
     }
 }
 
+// The contents of the empty card, which a refused text opens to.
+pub fn no_contents() -> Contents
+    ensures { result ≡ no_contents }
+{
+    begun_contents(0, 0, 0, 0)
+}
+
 // The lines of a program, as many as its `sheet` line says.
 fn read_lines(
     variable_count: u8,
@@ -42,17 +69,17 @@ fn read_lines(
     length: u8,
     start: usize,
     first: u64,
-) -> ProgramReading
+) -> Result<Read<Program>, RefusedAt>
     requires { (length ≤ 32) × (first ≤ 10000) }
-    ensures { result ≡ ins_from variable_count text.now length 0 (program_so_far length (replicate 32 no_line) start first) }
+    ensures { result ≡ program_told (ins_from variable_count text.now length 0 (program_so_far length (replicate 32 no_line) start first)) }
 {
     let mut lines = [opening::no_line(); 32];
     let mut at = start;
     let mut number = first;
     for k in 0..length as usize {
-        let line = match lines::ins_line(variable_count, text, at) {
-            Ok(line) => line,
-            Err(refusal) => return program_refused_at(refusal, number),
+        let read = lines::ins_line(variable_count, text, at);
+        let Ok(line) = read else {
+            return Err(refused(read, number));
         };
         lines[k] = Line {
             instruction: line.value,
@@ -60,103 +87,96 @@ fn read_lines(
         at = line.next;
         number += 1;
     }
-    let program = Program { length, lines };
-    ProgramReading {
-        verdict: Ok(()),
-        program,
+    Ok(Read {
+        value: Program { length, lines },
         at,
         line: number,
-    }
+    })
 }
 
-// A program that counts more than `most`, which is 32 in a card, is refused at its last line.
-fn weigh(most: u8, read: ProgramReading, last: u64) -> ProgramReading
-    ensures { result ≡ weighed most last read }
-{
-    let verdict = read.verdict;
-    let Ok(()) = verdict else {
-        return read;
-    };
-    let program = read.program;
-    if most < weight(program) {
-        return program_refused_at(Refusal::TooHeavy, last);
-    }
-    read
-}
-
-// One program: its `sheet` line and its lines.
+// One program: its `sheet` line and its lines. One that counts more than `most`, which is 32 in a card, is refused at its last line.
 pub(crate) fn read_program(
     variable_count: u8,
     most: u8,
     text: &[u8],
     at: usize,
     number: u64,
-) -> ProgramReading
+) -> Result<Read<Program>, RefusedAt>
     requires { number ≤ 9000 }
-    ensures { result ≡ read_program variable_count most text.now at number }
+    ensures { result ≡ program_told (read_program variable_count most text.now at number) }
 {
-    let line = match lines::sheet_line(text, at) {
-        Ok(line) => line,
-        Err(refusal) => return program_refused_at(refusal, number),
+    let read = lines::sheet_line(text, at);
+    let Ok(line) = read else {
+        return Err(refused(read, number));
     };
-    let read = read_lines(variable_count, text, line.value, line.next, number + 1);
-    weigh(most, read, number + line.value as u64)
+    let read = read_lines(variable_count, text, line.value, line.next, number + 1)?;
+    if most < weight(read.value) {
+        return Err(RefusedAt {
+            refusal: Refusal::TooHeavy,
+            line: number + line.value as u64,
+        });
+    }
+    Ok(read)
 }
 
 // The programs, as many as the `card` line says.
-fn read_programs(text: &[u8], count: u8, contents: Contents, start: usize, first: u64) -> Reading
+fn read_programs(
+    text: &[u8],
+    count: u8,
+    contents: Contents,
+    start: usize,
+    first: u64,
+) -> Result<Read<Contents>, RefusedAt>
     requires { (count ≤ 8) × (first ≤ 1000) }
-    ensures { result ≡ programs_from text.now count 0 (so_far contents start first) }
+    ensures { result ≡ contents_told (programs_from text.now count 0 (so_far contents start first)) }
 {
     let mut programs = contents.programs;
     let mut at = start;
     let mut number = first;
     for k in 0..count as usize {
-        let read = read_program(contents.variable_count, 32, text, at, number);
-        let verdict = read.verdict;
-        if let Err(RefusedAt { refusal, line }) = verdict {
-            return refused_at(refusal, line);
-        }
-        programs[k] = read.program;
+        let read = read_program(contents.variable_count, 32, text, at, number)?;
+        programs[k] = read.value;
         at = read.at;
         number = read.line;
     }
-    let contents = Contents {
-        programs,
-        ..contents
-    };
-    Reading {
-        verdict: Ok(()),
-        contents,
+    Ok(Read {
+        value: Contents {
+            programs,
+            ..contents
+        },
         at,
         line: number,
-    }
+    })
 }
 
 // The `var` lines, as many as the `card` line says.
-fn read_vars(text: &[u8], count: u8, contents: Contents, start: usize, first: u64) -> Reading
+fn read_vars(
+    text: &[u8],
+    count: u8,
+    contents: Contents,
+    start: usize,
+    first: u64,
+) -> Result<Read<Contents>, RefusedAt>
     requires { (count ≤ 64) × (first ≤ 100) }
-    ensures { result ≡ vars_from text.now count 0 (so_far contents start first) }
+    ensures { result ≡ contents_told (vars_from text.now count 0 (so_far contents start first)) }
 {
     let mut starts = contents.starts;
     let mut at = start;
     let mut number = first;
     for k in 0..count as usize {
-        let line = match lines::var_line(text, at) {
-            Ok(line) => line,
-            Err(refusal) => return refused_at(refusal, number),
+        let read = lines::var_line(text, at);
+        let Ok(line) = read else {
+            return Err(refused(read, number));
         };
         starts[k] = line.value;
         at = line.next;
         number += 1;
     }
-    let contents = Contents { starts, ..contents };
-    Reading {
-        verdict: Ok(()),
-        contents,
+    Ok(Read {
+        value: Contents { starts, ..contents },
         at,
         line: number,
-    }
+    })
 }
 
 // What follows the `card` line: the `var` lines, the programs, and nothing more.
@@ -166,38 +186,35 @@ fn read_body(
     program_count: u8,
     contents: Contents,
     at: usize,
-) -> Reading
+) -> Result<Contents, RefusedAt>
     requires { (variable_count ≤ 64) × (program_count ≤ 8) }
-    ensures { result ≡ then_end text.now (then_programs text.now program_count (vars_from text.now variable_count 0 (so_far contents at 2))) }
+    ensures { result ≡ contents_given (then_end text.now (then_programs text.now program_count (vars_from text.now variable_count 0 (so_far contents at 2)))) }
 {
-    let vars = read_vars(text, variable_count, contents, at, 2);
-    let verdict = vars.verdict;
-    let Ok(()) = verdict else {
-        return vars;
-    };
-    let started = vars.contents;
-    let all = read_programs(text, program_count, started, vars.at, vars.line);
-    let verdict = all.verdict;
-    let Ok(()) = verdict else {
-        return all;
-    };
+    let vars = read_vars(text, variable_count, contents, at, 2)?;
+    let all = read_programs(text, program_count, vars.value, vars.at, vars.line)?;
     if all.at == text.len() {
-        all
+        Ok(all.value)
     } else {
-        refused_at(Refusal::Malformed, all.line)
+        Err(RefusedAt {
+            refusal: Refusal::Malformed,
+            line: all.line,
+        })
     }
 }
 
-// The contents of a text with its verdict; a refused text has those of the empty card.
-pub fn read_card(text: &[u8]) -> Reading
-    ensures { result ≡ read_card text.now }
+// The contents of a text.
+pub fn read_card(text: &[u8]) -> Result<Contents, RefusedAt>
+    ensures { result ≡ contents_given (read_card text.now) }
 {
     if 16384 < text.len() {
-        return refused_at(Refusal::TooLong, 0);
+        return Err(RefusedAt {
+            refusal: Refusal::TooLong,
+            line: 0,
+        });
     }
-    let line = match lines::card_line(text, 0) {
-        Ok(line) => line,
-        Err(refusal) => return refused_at(refusal, 1),
+    let read = lines::card_line(text, 0);
+    let Ok(line) = read else {
+        return Err(refused(read, 1));
     };
     let CardNumbers {
         process_count,
@@ -213,9 +230,14 @@ pub fn read_card(text: &[u8]) -> Reading
 pub fn open(text: &[u8]) -> Opened
     ensures { result ≡ opened text.now }
 {
-    let read = read_card(text);
-    let contents = read.contents;
-    let verdict = read.verdict;
-    let card = opening::fresh(contents);
-    Opened { card, verdict }
+    match read_card(text) {
+        Ok(contents) => Opened {
+            card: opening::fresh(contents),
+            verdict: Ok(()),
+        },
+        Err(refused) => Opened {
+            card: opening::fresh(no_contents()),
+            verdict: Err(refused),
+        },
+    }
 }

@@ -5,7 +5,7 @@ use mathlib.Core.List.{List}
 use mathlib.Core.Path.{◌≡◌, refl, sym, ◌∙◌}
 use native.Mathlib.Nat.{mod-eq_of_lt}
 use lib.Dec.{ltb}
-use lib.ListN.{length, get_or, set, length-map, get_or-eq_default}
+use lib.ListN.{length, get_or, set, get_or-eq_default}
 use lib.Seq.{set_out}
 use borrow.Author.Tests.{ltb-true, ltb-false}
 use mir.Val.{Val}

@@ -1,12 +1,14 @@
 // Whether a request is taken, by numbers and the place of its process (document 01, 'Turned back': refusals 5 to 8 and 10; document 02, order 11: 15
 // and 16), and the answer to a step that was.
-ghost use Rattle.std.specs.Prelude.{◌≡◌, ◌&&◌, ltb};
+ghost use Rattle.std.specs.Prelude.{◌≡◌, ◌&&◌, ltb, IfOk};
+ghost use Rattle.construction.specs.Readings.{verdict_of};
 ghost use Rattle.construction.specs.Requests.{step_answer};
 ghost use Rattle.requests.specs.Judging.{answer_of_judged, answer_of_change, call_judged, exit_judged, step_judged, change_judged};
 
 use construction::accesses::{Control, Label};
 use construction::answers::{Answer, Refusal};
 use construction::cells::Announcement;
+use construction::programs::Program;
 use construction::texts::RefusedAt;
 use machine::announcement::returned;
 use machine::places::is_idle;
@@ -70,18 +72,19 @@ pub fn judge_step(
     Ok(())
 }
 
-// A change of a program: refusal 6, then that of its text, 15 and 16, each with its line, or taken. `verdict` is that on the text, `number` the gate's, `last`
-// the number from which the program's last change holds, and `behind` tells whether an operation under way last read a gate number below that.
+// A change of a program: refusal 6, then that of its text, 15 and 16, each with its line, or the program of the text where it is taken. `number` is the gate's, `last` the
+// number from which the program's last change holds, and `behind` tells whether an operation under way last read a gate number below that.
 pub fn judge_change(
     program: u32,
     program_count: u8,
-    verdict: Result<(), RefusedAt>,
+    read: Result<Program, RefusedAt>,
     number: u64,
     from: u64,
     last: u64,
     behind: bool,
-) -> Result<(), RefusedAt>
-    ensures { answer_of_change result ≡ change_judged program program_count verdict number from last behind }
+) -> Result<Program, RefusedAt>
+    ensures judged { answer_of_change (verdict_of result) ≡ change_judged program program_count (verdict_of read) number from last behind }
+    ensures taken { IfOk result (λ y. read ≡ Ok y) }
 {
     if !is_below(program, program_count, 8) {
         return Err(RefusedAt {
@@ -89,9 +92,7 @@ pub fn judge_change(
             line: 0,
         });
     }
-    if let Err(refused) = verdict {
-        return Err(refused);
-    }
+    let changed = read?;
     if from <= number {
         return Err(RefusedAt {
             refusal: Refusal::NotAhead,
@@ -104,7 +105,7 @@ pub fn judge_change(
             line: 0,
         });
     }
-    Ok(())
+    Ok(changed)
 }
 
 // 'Returning is local work of the last access': the answer to a step that was taken, by the control after it, the announcement last read and

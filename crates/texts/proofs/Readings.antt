@@ -10,13 +10,14 @@ use lib.Dec.{ltb, eqb}
 use lib.ListN.{length, length-set}
 use borrow.Author.Tests.{ltb-true, not-false}
 use Rattle.construction.specs.declared.{programs.Format.Format, programs.Encoded.Encoded, programs.Instruction.Instruction}
-use Rattle.construction.specs.declared.{programs.Line.Line, texts.ProgramReading.ProgramReading}
+use Rattle.construction.specs.declared.{programs.Line.Line}
 use Rattle.construction.specs.declared.answers.Refusal.TheVariants.{Malformed}
 use Rattle.construction.specs.Instructions.{no_line, codes, row_of, instruction_of, ranged, unused_zero, each_operand, decode_as, decode}
 use Rattle.construction.specs.Lines.{sheet_line, ins_line}
 use Rattle.construction.specs.Opening.{program_refused_at, with_line, ins_from, read_program}
 use Rattle.construction.specs.Changes.{if_program_accepted, program_text}
 use Rattle.construction.specs.Types.{Verdict, Decoded}
+use Rattle.construction.specs.Readings.{ProgramReading}
 use Rattle.construction.proofs.Basics.{on_test, and_true, clash, set_keeps}
 use Rattle.construction.proofs.Text.Lines.{range_true, sheet_read, ins_read}
 use Rattle.construction.proofs.Text.Reading.{after_length, on_ins, on_sheet, on_weighed}

@@ -10,7 +10,7 @@ use lib.ListN.{length, get_or}
 use lib.Seq.{get_or-set_same, get_or-set_other, set-get_or}
 use borrow.Author.Tests.{lt-ltb, not-true, ltb-true}
 use Rattle.construction.specs.Types.{Gate, Flag, Done, Active, Exit, Words, Announcement, Label, P1, P3, P5, Control, Card, Refusal, Answer, Answered}
-use Rattle.construction.specs.Types.{Contents, Program, Verdict}
+use Rattle.construction.specs.Types.{Contents, Program}
 use Rattle.construction.specs.Cells.{is_done, open_announcement}
 use Rattle.construction.specs.Parts.{idle_control, contents_of, local_at, with_local, Local, with_revision}
 use Rattle.construction.specs.Machine.{advance}

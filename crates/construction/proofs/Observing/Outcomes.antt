@@ -3,7 +3,7 @@ use Rattle.std.specs.Prelude.{Ok}
 use Prim.Native.Nat.{ℕ, ◌<◌}
 use mathlib.Core.Path.{◌≡◌}
 use mathlib.Core.Bool.{true, false}
-use Rattle.construction.specs.Types.{Words, Card, Refusal, Answer, Answered, Verdict}
+use Rattle.construction.specs.Types.{Words, Card, Refusal, Answer, Answered}
 use Rattle.construction.specs.Machine.{advance}
 use Rattle.construction.specs.Requests.{is_busy, refused, answer_of, value_of, invoked, exiting, is_program}
 use Rattle.construction.specs.Tracing.{trace}

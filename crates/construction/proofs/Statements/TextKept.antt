@@ -3,7 +3,7 @@ use Rattle.std.specs.Prelude.{Ok}
 use Prim.Native.Nat.{ℕ}
 use mathlib.Core.Path.{◌≡◌, refl, sym, ap, ◌∙◌}
 use mathlib.Core.List.{List}
-use Rattle.construction.specs.Types.{Card, Contents, Verdict}
+use Rattle.construction.specs.Types.{Card, Contents}
 use Rattle.construction.specs.Parts.{contents_of}
 use Rattle.construction.specs.Opening.{fresh, opened}
 use Rattle.construction.specs.Writing.{text_of}

@@ -9,7 +9,7 @@ use lib.ListN.{length, get_or}
 use lib.Dec.{eqb, ltb}
 use borrow.Author.Tests.{lt-ltb, le-ltb, ltb-true, ltb-false, eq-eqb, ne_eqb}
 use Rattle.grammar.specs.Reading.{found, has_word}
-use Rattle.construction.specs.Types.{Instruction, Refusal, Malformed, CardLine, VarLine, SheetLine, InsLine, Verdict, ProgramReading, Reading}
+use Rattle.construction.specs.Types.{Instruction, Refusal, Malformed, CardLine, VarLine, SheetLine, InsLine, Verdict}
 use Rattle.construction.specs.Weight.{weight}
 use Rattle.construction.specs.Answers.{number_of, Fields, refused_with, verdict_fields, card_line_fields, var_line_fields, sheet_line_fields, decoded_fields}
 use Rattle.construction.specs.Answers.{ins_line_fields}
@@ -20,6 +20,7 @@ use Rattle.construction.specs.Opening.{after_card, read_card, opened}
 use Rattle.construction.specs.Changes.{if_program_accepted, program_then_end, program_text}
 use Rattle.construction.specs.TextJudging.{NextLine, GoodUntil, refused_in, Judged, GoodLines, ChangeJudged}
 use Rattle.construction.specs.Types.{told_at}
+use Rattle.construction.specs.Readings.{ProgramReading, Reading}
 use Rattle.construction.proofs.Basics.{on_test, true_false}
 use Rattle.construction.proofs.Text.Reading.{after_fields, after_length}
 use Rattle.construction.proofs.Observing.Histories.{on_equal}

@@ -6,7 +6,7 @@ use mathlib.Core.List.{List}
 use native.Mathlib.Omega.{arith}
 use lib.ListN.{length, get_or, length-set}
 use lib.Dec.{ltb, eqb}
-use Rattle.construction.specs.Types.{Program, Refusal, TooLong, Malformed, CardLine, Contents, Verdict, ProgramReading, Reading}
+use Rattle.construction.specs.Types.{Program, Refusal, TooLong, Malformed, CardLine, Contents, Verdict}
 use Rattle.construction.specs.Instructions.{no_program}
 use Rattle.construction.specs.Weight.{weight, card_weight}
 use Rattle.construction.specs.Lines.{card_line, var_line, sheet_line, ins_line}
@@ -19,6 +19,7 @@ use Rattle.construction.proofs.Text.Reading.{after_fields, after_length, on_ins,
 use mathlib.Core.Bool.{cond}
 use native.Mathlib.Nat.{min-le_left, min-le_right}
 use Rattle.construction.specs.Changes.{if_program_accepted, change_read}
+use Rattle.construction.specs.Readings.{ProgramReading, Reading}
 
 -- the bounds of a card's contents
 pub record Bounded (x : Contents) : Type 0 where

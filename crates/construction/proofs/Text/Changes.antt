@@ -16,7 +16,7 @@ use Rattle.grammar.specs.declared.{Found.Found, Four.Four}
 use Rattle.grammar.specs.Reading.{found, field, four, has_word}
 use Rattle.construction.specs.Types.{Instruction, Encoded, Format, Decoded, Refusal, TooLong, Malformed, OutOfRange, UnknownCode}
 use Rattle.construction.specs.Types.{NoProcess, NoProgram, Busy, NotBusy, NoPlace, LimitReached, ShortBuffer, OperandOutOfRange, UnusedOperand, TooHeavy}
-use Rattle.construction.specs.Types.{NotAhead, Unsettled, SheetLine, InsLine, Contents, Verdict, ProgramReading, TooLarge, BadTerms, NoAllowance}
+use Rattle.construction.specs.Types.{NotAhead, Unsettled, SheetLine, InsLine, Contents, Verdict, TooLarge, BadTerms, NoAllowance}
 use Rattle.construction.specs.Instructions.{in_range, row_of, ranged, unused_zero, each_operand, decode_as, decode, encoded}
 use Rattle.construction.specs.Weight.{weight, card_weight}
 use Rattle.construction.specs.Lines.{sheet_word, ins_word, judge_sheet, sheet_line, ins_of, judge_ins, ins_line}
@@ -24,6 +24,7 @@ use Rattle.construction.specs.Opening.{program_refused_at, with_line, next_ins, 
 use Rattle.construction.specs.Changes.{if_program_accepted, program_then_end, change_read}
 use Rattle.construction.specs.Texts.{instructions_read, Overweight}
 use Rattle.construction.specs.Types.{told_at}
+use Rattle.construction.specs.Readings.{ProgramReading}
 use Rattle.construction.proofs.Basics.{on_test}
 use Rattle.construction.proofs.Text.Reading.{after_length}
 

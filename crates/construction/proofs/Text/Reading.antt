@@ -7,13 +7,14 @@ use Prim.Native.Nat.{ℕ, suc, ◌+◌, ◌≤◌}
 use lib.ListN.{replicate}
 use borrow.Author.Tests.{ltb-false}
 use Rattle.grammar.specs.Reading.{found}
-use Rattle.construction.specs.Types.{Instruction, Refusal, TooHeavy, CardLine, VarLine, SheetLine, InsLine, Verdict, ProgramReading, Reading}
+use Rattle.construction.specs.Types.{Instruction, Refusal, TooHeavy, CardLine, VarLine, SheetLine, InsLine, Verdict}
 use Rattle.construction.specs.Instructions.{no_line}
 use Rattle.construction.specs.Weight.{weight}
 use Rattle.construction.specs.Opening.{refused_at, program_refused_at, with_line, next_ins, ins_from, judge_weight, weighed, program_after, with_program}
 use Rattle.construction.specs.Opening.{next_program, with_start, next_var, vars_from, begun, program_so_far, so_far, if_accepted, then_end, then_programs}
 use Rattle.construction.specs.Opening.{after_card}
 use Rattle.construction.specs.Types.{told_at}
+use Rattle.construction.specs.Readings.{ProgramReading, Reading}
 use Rattle.construction.proofs.Basics.{on_test, clash}
 use Rattle.construction.specs.Lines.{card_numbers}
 

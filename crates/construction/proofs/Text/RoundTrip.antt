@@ -14,18 +14,19 @@ use Rattle.grammar.specs.Reading.{found}
 use Rattle.construction.proofs.Basics.{on_test, clash}
 use Rattle.grammar.proofs.Bytes.{word_text_lem}
 use Rattle.grammar.proofs.RoundTrip.{Small, field_text_lem, four_text_lem}
-use Rattle.construction.specs.Types.{Instruction, Encoded, Line, Contents, Verdict, ProgramReading, Reading}
+use Rattle.construction.specs.Types.{Instruction, Encoded, Line, Contents, Verdict}
 use Rattle.construction.specs.Instructions.{no_line, no_program}
 use Rattle.construction.specs.Lines.{card_numbers, card_word, var_word, sheet_word, ins_word, card_line, var_line, sheet_line, ins_line, card_text, var_text, sheet_text}
 use Rattle.construction.specs.Lines.{encoded_text, ins_text}
 use Rattle.construction.specs.Opening.{no_contents, fresh, with_line, ins_from, read_program, with_program, programs_from, with_start, vars_from, at_end, then_end}
 use Rattle.construction.specs.Opening.{then_programs, read_card, opened}
 use Rattle.construction.specs.Writing.{vars_text, lines_text, program_text, programs_text, text_of}
+use Rattle.construction.specs.Readings.{ProgramReading, Reading}
 use Rattle.construction.proofs.Text.Lines.{card_read, var_read, sheet_read, ins_read}
 use Rattle.construction.proofs.Text.Decoding.{decoded_encodes}
 use Rattle.construction.proofs.Text.Reading.{after_fields, after_length, on_ins, on_sheet, on_weighed, on_program, on_var, on_accepted, on_card_lem}
 
-abbrev Accepted : Verdict → Type 0
+abbrev pub Accepted : Verdict → Type 0
 Accepted v = v ≡ Ok tt
 
 -- ---- what a line that was read looks like
@@ -257,7 +258,7 @@ injective t u p q e = sym (given_back_lem t p) ∙ ap text_of e ∙ given_back_l
 
 -- ---- a refused text opens to the empty card, which writes as no bytes
 -- a reading that is refused has no contents
-abbrev Empty : Reading → Type 0
+abbrev pub Empty : Reading → Type 0
 Empty r = (Accepted r.verdict → ⊥) → r.contents ≡ no_contents
 
 vars_empty : (t : List ℕ) (m k : ℕ) (r : Reading) → Accepted r.verdict → Empty (vars_from t m k r)
@@ -277,7 +278,7 @@ programs_empty t (suc m) k r e =
 end_empty : (t : List ℕ) (r : Reading) → Accepted r.verdict → Empty (at_end t r)
 end_empty t r e = on_test Empty (eqb r.at (length t)) (λ h n. absurd (n e)) (λ h n. refl)
 
-read_empty : (t : List ℕ) → Empty (read_card t)
+pub read_empty : (t : List ℕ) → Empty (read_card t)
 unfolding read_card
 read_empty t =
     on_test Empty (ltb 16384 (length t)) (λ h n. refl)

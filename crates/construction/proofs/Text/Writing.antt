@@ -9,7 +9,7 @@ use native.Mathlib.Numerals.{add-one}
 use borrow.Author.Tests.{eq-eqb, ne_eqb, le-leb, lt-leb}
 use Rattle.grammar.specs.Writing.{Put, field_text, four_text, largest}
 use Rattle.grammar.proofs.Puts.{Room, Rest, rest_all, rest_step, rest_last, rest_none, put_both, put_front, put_fits}
-use Rattle.construction.specs.Types.{Instruction, Encoded, Line, Program, Card, ShortBuffer, Written}
+use Rattle.construction.specs.Types.{Instruction, Encoded, Line, Program, Card, ShortBuffer}
 use Rattle.construction.specs.Instructions.{encode, no_line, no_program}
 use Rattle.construction.specs.Lines.{card_word, var_word, sheet_word, ins_word, card_text, var_text, sheet_text, encoded_text, ins_text}
 use Rattle.construction.specs.Writing.{vars_text, lines_text, program_text, programs_text, text_of, written, written_into}

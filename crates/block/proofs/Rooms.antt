@@ -1,12 +1,14 @@
 -- Whether a part is there, and what is then taken out and put back: one law for each of both cases
-use Prim.Native.Nat.{ℕ, ◌+◌, ◌*◌, ◌<◌, ◌≤◌}
+use Prim.Native.Nat.{ℕ, ◌+◌, ◌*◌, ◌<◌, ◌≤◌, min}
 use mathlib.Core.Path.{◌≡◌, refl, sym, ◌∙◌, ap}
+use mathlib.Core.Logic.{◌⊎◌, inl, inr}
 use mathlib.Core.Bool.{Bool, true, false, cond, ◌&&◌}
 use mathlib.Core.List.{List}
 use native.Mathlib.Omega.{arith}
+use native.Mathlib.Nat.{mul_comm}
 use lib.Dec.{leb, ltb}
 use lib.ListN.{length, set}
-use borrow.Author.Tests.{leb-true, ltb-true, le-leb, lt-ltb}
+use borrow.Author.Tests.{leb-true, ltb-true, ltb-false, le-leb, lt-ltb}
 use Rattle.codes.specs.Parts.{word_at, part, stores}
 use Rattle.codes.specs.Codes.{number_of, number_words}
 use Rattle.codes.proofs.Blocks as blocks
@@ -31,15 +33,25 @@ module _ (b : List ℕ) (i n : ℕ) {t : Bool} (e : t ≡ is_room b i n) where
   pub inside : t ≡ true → (1456 ≤ length b) × (i < n)
   inside p = room_here b i n (sym e ∙ p)
 
-  -- so part i ends within the words of all n
-  pub ends : (base size : ℕ) → base + size * n ≤ 1456 → t ≡ true → base + size * i + size ≤ 1456
-  ends base size h p = omega (arith, h, blocks.inside base size n i (inside p).1)
+  -- the place of part i, as far as a number of a machine goes: past it is past the end
+  module _ (base size step at : ℕ) (long : length b ≤ 18446744073709551615) (s : step ≡ min (i * size) 18446744073709551615)
+      (a : at ≡ min (base + step) 18446744073709551615) where
+    place_or_past : (at ≡ base + size * i) ⊎ ((length b ≤ base + size * i) × (length b ≤ at))
+    place_or_past = go (ltb (base + size * i) 18446744073709551615) refl
+      where
+        go : (z : Bool) → ltb (base + size * i) 18446744073709551615 ≡ z → (at ≡ base + size * i) ⊎ ((length b ≤ base + size * i) × (length b ≤ at))
+        go true p = inl (let q = ltb-true (base + size * i) 18446744073709551615 p in omega (arith, q, s, a, mul_comm i size))
+        go false p = inr (let q = ltb-false (base + size * i) 18446744073709551615 p in (omega (arith, q, long), omega (arith, q, s, a, long, mul_comm i size)))
+
+    pub read_in : {A : Type 0} (decode : List ℕ → A) (none x : A) → t ≡ true → x ≡ decode (part b at size) → x ≡ row_at b base size n decode none i
+    unfolding row_at
+    read_in decode none x p h = rw (sym e ∙ p) (h ∙ ap decode (blocks.part_at b (base + size * i) at place_or_past size))
+
+    pub stored_in : (words c : List ℕ) → t ≡ true → c ≡ stores b at words → c ≡ put_row b base size n i words
+    unfolding put_row
+    stored_in words c p h = rw (sym e ∙ p) (h ∙ blocks.stores_at b (base + size * i) at place_or_past words)
 
   module _ {A : Type 0} (base size : ℕ) (decode : List ℕ → A) (none x : A) where
-    pub row_in : t ≡ true → x ≡ decode (part b (base + size * i) size) → x ≡ row_at b base size n decode none i
-    unfolding row_at
-    row_in p h = rw (sym e ∙ p) h
-
     pub row_none : t ≡ false → x ≡ none → x ≡ row_at b base size n decode none i
     unfolding row_at
     row_none p h = rw (sym e ∙ p) h

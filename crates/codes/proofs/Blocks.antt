@@ -1,12 +1,12 @@
 -- Parts of a block: what was stored is read again, and what lies apart is kept. One law each, over the place, the size and the decoding.
 use Prim.Native.Nat.{ℕ, zero, suc, ◌+◌, ◌*◌, ◌<◌, ◌≤◌}
-use mathlib.Core.Path.{◌≡◌, refl, ◌∙◌, ap}
+use mathlib.Core.Path.{◌≡◌, refl, sym, ◌∙◌, ap}
 use mathlib.Core.Logic.{◌≢◌, ◌⊎◌, inl, inr, ⊎_elim}
 use mathlib.Core.List.{List, [], ◌∷◌}
 use native.Mathlib.Omega.{arith}
 use native.Mathlib.Nat.{mul-le-mul_left, mul-suc}
 use lib.ListN.{length, get_or, set, length-set, get_or-eq_default}
-use lib.Seq.{get_or-set_same, get_or-set_other}
+use lib.Seq.{get_or-set_same, get_or-set_other, set_out}
 use lib.Dec.{ltb}
 use borrow.Author.Tests.{ltb-true, ltb-false}
 use native.Mathlib.Numerals.{lt_of_le_of_ne}
@@ -49,6 +49,32 @@ back b at k (x ∷ l) h =
 
 pub part_back : (b : List ℕ) (at : ℕ) (l : List ℕ) → at + length l ≤ length b → part (stores b at l) at (length l) ≡ l
 part_back b at l h = back b at 0 l (omega arith)
+
+-- past the end every part is the same one, of zeros, and nothing is stored
+part_from-past : (b : List ℕ) (at q k n : ℕ) → length b ≤ at → length b ≤ q → part_from b q k n ≡ part_from b at k n
+part_from-past b at q k zero h p = refl
+part_from-past b at q k (suc n) h p =
+    let e = place_is at k in
+    let f = place_is q k in
+    let here : word_at b (place q k) ≡ word_at b (place at k) =
+    get_or-eq_default b 0 {n = place q k} (omega arith) ∙ sym (get_or-eq_default b 0 {n = place at k} (omega arith)) in
+    let rest = part_from-past b at q (suc k) n h p in
+    λ j. here j ∷ rest j
+
+stores_from-past : (b : List ℕ) (at k : ℕ) (l : List ℕ) → length b ≤ at → stores_from b at k l ≡ b
+stores_from-past b at k [] h = refl
+stores_from-past b at k (x ∷ l) h =
+    let e = place_is at k in
+    ap (λ (c : List ℕ). stores_from c at (suc k) l) (set_out b (place at k) x (omega arith)) ∙ stores_from-past b at (suc k) l h
+
+-- so a place may be any one past the end where it is past the end
+module _ (b : List ℕ) (at q : ℕ) (h : (q ≡ at) ⊎ ((length b ≤ at) × (length b ≤ q))) where
+  pub part_at : (n : ℕ) → part b q n ≡ part b at n
+  part_at n = ⊎_elim (λ (e : q ≡ at). ap (λ (p : ℕ). part b p n) e) (λ (p : (length b ≤ at) × (length b ≤ q)). part_from-past b at q 0 n p.0 p.1) h
+
+  pub stores_at : (l : List ℕ) → stores b q l ≡ stores b at l
+  stores_at l = ⊎_elim (λ (e : q ≡ at). ap (λ (p : ℕ). stores b p l) e)
+      (λ (p : (length b ≤ at) × (length b ≤ q)). stores_from-past b q 0 l p.1 ∙ sym (stores_from-past b at 0 l p.0)) h
 
 -- two blocks that agree on the words of a part have the same part
 part_from-same : (b c : List ℕ) (at k n : ℕ) → ((q : ℕ) → at + k ≤ q → q < at + k + n → word_at c q ≡ word_at b q) → part_from c at k n ≡ part_from b at k n

@@ -1,8 +1,8 @@
 // The values that stand in words, each with its fields as specs/Codes lays them out.
-ghost use Rattle.std.specs.Prelude.{◌≡◌, ◌+◌, ◌<◌, ◌≤◌, length, refl};
+ghost use Rattle.std.specs.Prelude.{◌≡◌, ◌+◌, refl};
 ghost use Rattle.codes.specs.Codes.{halves, put_halves, number_of, number_words, gate_of, gate_words, control_of, control_words, announcement_of, announcement_words, record_of, record_words, operation_of, operation_words, simulation_of, simulation_words, item_of, item_words, program_of, program_words, program_long};
 
-use crate::parts::Part;
+use crate::parts::{Part, first, put_first, put_word, word};
 use crate::{
     bit, byte, flag_from, flag_word, half, holder_from, holder_word, instruction_from,
     instruction_word, odd, pair, place_from, place_word, upper,
@@ -13,27 +13,27 @@ use construction::cells::{Announcement, Gate, Record, Words, Yield};
 use construction::programs::{Instruction, Line, Program};
 use construction::simulations::{Item, Simulation};
 
-// Four numbers of 32 bits each.
-fn words_at(b: &[u64], at: usize) -> Words
-    requires { (at < 2000000) × (at + 4 ≤ length b.now) }
-    ensures { result ≡ halves b.now at }
+// Four numbers of 32 bits each, from word k of a part on.
+fn words_at(b: &[u64], at: usize, k: u8) -> Words
+    ensures { result ≡ halves b.now (at + k) }
 {
+    let k = k as usize;
     Words {
-        w0: half(b[at]),
-        w1: half(b[at + 1]),
-        w2: half(b[at + 2]),
-        w3: half(b[at + 3]),
+        w0: half(word(b, at, k)),
+        w1: half(word(b, at, k + 1)),
+        w2: half(word(b, at, k + 2)),
+        w3: half(word(b, at, k + 3)),
     }
 }
 
-fn put_words(b: &mut [u64], at: usize, words: Words)
-    requires { (at < 2000000) × (at + 4 ≤ length b.old) }
-    ensures { b.new ≡ put_halves b.old at words }
+fn put_words(b: &mut [u64], at: usize, k: u8, words: Words)
+    ensures { b.new ≡ put_halves b.old (at + k) words }
 {
-    b[at] = words.w0 as u64;
-    b[at + 1] = words.w1 as u64;
-    b[at + 2] = words.w2 as u64;
-    b[at + 3] = words.w3 as u64;
+    let k = k as usize;
+    put_word(b, at, k, words.w0 as u64);
+    put_word(b, at, k + 1, words.w1 as u64);
+    put_word(b, at, k + 2, words.w2 as u64);
+    put_word(b, at, k + 3, words.w3 as u64);
 }
 
 impl Part for u64 {
@@ -48,11 +48,11 @@ impl Part for u64 {
     ghost long = { λ x. refl };
 
     fn read(b: &[u64], at: usize) -> u64 {
-        b[at]
+        first(b, at)
     }
 
     fn store(self, b: &mut [u64], at: usize) {
-        b[at] = self;
+        put_first(b, at, self);
     }
 }
 
@@ -69,14 +69,14 @@ impl Part for Gate {
 
     fn read(b: &[u64], at: usize) -> Gate {
         Gate {
-            holder: holder_from(b[at]),
-            seq: b[at + 1],
+            holder: holder_from(first(b, at)),
+            seq: word(b, at, 1),
         }
     }
 
     fn store(self, b: &mut [u64], at: usize) {
-        b[at] = holder_word(self.holder);
-        b[at + 1] = self.seq;
+        put_first(b, at, holder_word(self.holder));
+        put_word(b, at, 1, self.seq);
     }
 }
 
@@ -93,14 +93,14 @@ impl Part for Control {
 
     fn read(b: &[u64], at: usize) -> Control {
         Control {
-            place: place_from(b[at]),
-            target: byte(b[at + 1]),
+            place: place_from(first(b, at)),
+            target: byte(word(b, at, 1)),
         }
     }
 
     fn store(self, b: &mut [u64], at: usize) {
-        b[at] = place_word(self.place);
-        b[at + 1] = self.target as u64;
+        put_first(b, at, place_word(self.place));
+        put_word(b, at, 1, self.target as u64);
     }
 }
 
@@ -117,22 +117,22 @@ impl Part for Announcement {
 
     fn read(b: &[u64], at: usize) -> Announcement {
         Announcement {
-            program: byte(b[at]),
-            flag: flag_from(b[at + 1]),
-            seq: b[at + 2],
-            number: b[at + 3],
-            words: words_at(b, at + 4),
-            fault: odd(b[at + 8]),
+            program: byte(first(b, at)),
+            flag: flag_from(word(b, at, 1)),
+            seq: word(b, at, 2),
+            number: word(b, at, 3),
+            words: words_at(b, at, 4),
+            fault: odd(word(b, at, 8)),
         }
     }
 
     fn store(self, b: &mut [u64], at: usize) {
-        b[at] = self.program as u64;
-        b[at + 1] = flag_word(self.flag);
-        b[at + 2] = self.seq;
-        b[at + 3] = self.number;
-        put_words(b, at + 4, self.words);
-        b[at + 8] = bit(self.fault);
+        put_first(b, at, self.program as u64);
+        put_word(b, at, 1, flag_word(self.flag));
+        put_word(b, at, 2, self.seq);
+        put_word(b, at, 3, self.number);
+        put_words(b, at, 4, self.words);
+        put_word(b, at, 8, bit(self.fault));
     }
 }
 
@@ -149,18 +149,18 @@ impl Part for Record {
 
     fn read(b: &[u64], at: usize) -> Record {
         Record {
-            val0: half(b[at]),
-            val1: half(b[at + 1]),
-            toggle: odd(b[at + 2]),
-            seq: b[at + 3],
+            val0: half(first(b, at)),
+            val1: half(word(b, at, 1)),
+            toggle: odd(word(b, at, 2)),
+            seq: word(b, at, 3),
         }
     }
 
     fn store(self, b: &mut [u64], at: usize) {
-        b[at] = self.val0 as u64;
-        b[at + 1] = self.val1 as u64;
-        b[at + 2] = bit(self.toggle);
-        b[at + 3] = self.seq;
+        put_first(b, at, self.val0 as u64);
+        put_word(b, at, 1, self.val1 as u64);
+        put_word(b, at, 2, bit(self.toggle));
+        put_word(b, at, 3, self.seq);
     }
 }
 
@@ -177,14 +177,14 @@ impl Part for Operation {
 
     fn read(b: &[u64], at: usize) -> Operation {
         Operation {
-            program: byte(b[at]),
-            inputs: words_at(b, at + 1),
+            program: byte(first(b, at)),
+            inputs: words_at(b, at, 1),
         }
     }
 
     fn store(self, b: &mut [u64], at: usize) {
-        b[at] = self.program as u64;
-        put_words(b, at + 1, self.inputs);
+        put_first(b, at, self.program as u64);
+        put_words(b, at, 1, self.inputs);
     }
 }
 
@@ -201,20 +201,20 @@ impl Part for Simulation {
 
     fn read(b: &[u64], at: usize) -> Simulation {
         Simulation {
-            counter: byte(b[at]),
-            registers: words_at(b, at + 1),
+            counter: byte(first(b, at)),
+            registers: words_at(b, at, 1),
             yields: Yield {
-                outputs: words_at(b, at + 5),
-                fault: odd(b[at + 9]),
+                outputs: words_at(b, at, 5),
+                fault: odd(word(b, at, 9)),
             },
         }
     }
 
     fn store(self, b: &mut [u64], at: usize) {
-        b[at] = self.counter as u64;
-        put_words(b, at + 1, self.registers);
-        put_words(b, at + 5, self.yields.outputs);
-        b[at + 9] = bit(self.yields.fault);
+        put_first(b, at, self.counter as u64);
+        put_words(b, at, 1, self.registers);
+        put_words(b, at, 5, self.yields.outputs);
+        put_word(b, at, 9, bit(self.yields.fault));
     }
 }
 
@@ -230,8 +230,8 @@ impl Part for Item {
     ghost long = { λ x. refl };
 
     fn read(b: &[u64], at: usize) -> Item {
-        let cells = b[at + 1];
-        let own = b[at + 2];
+        let cells = word(b, at, 1);
+        let own = word(b, at, 2);
         Item {
             variable: byte(upper(own)),
             value: half(own),
@@ -239,16 +239,21 @@ impl Part for Item {
                 val0: half(cells),
                 val1: half(upper(cells)),
                 toggle: odd(upper(own) / 256),
-                seq: b[at],
+                seq: first(b, at),
             },
         }
     }
 
     fn store(self, b: &mut [u64], at: usize) {
         let mark = bit(self.cell.toggle) as u32;
-        b[at] = self.cell.seq;
-        b[at + 1] = pair(self.cell.val0, self.cell.val1);
-        b[at + 2] = pair(self.value, self.variable as u32 + mark * 256);
+        put_first(b, at, self.cell.seq);
+        put_word(b, at, 1, pair(self.cell.val0, self.cell.val1));
+        put_word(
+            b,
+            at,
+            2,
+            pair(self.value, self.variable as u32 + mark * 256),
+        );
     }
 }
 
@@ -269,19 +274,19 @@ impl Part for Program {
         }; 32];
         for k in 0..32 {
             lines[k] = Line {
-                instruction: instruction_from(b[at + (k + 1)]),
+                instruction: instruction_from(word(b, at, k + 1)),
             };
         }
         Program {
-            length: byte(b[at]),
+            length: byte(first(b, at)),
             lines,
         }
     }
 
     fn store(self, b: &mut [u64], at: usize) {
-        b[at] = self.length as u64;
+        put_first(b, at, self.length as u64);
         for k in 0..32 {
-            b[at + (k + 1)] = instruction_word(self.lines[k].instruction);
+            put_word(b, at, k + 1, instruction_word(self.lines[k].instruction));
         }
     }
 }

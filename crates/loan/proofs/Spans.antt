@@ -42,15 +42,6 @@ span_fits b l i p s e = rw e (go (has_items b l i) refl)
         record { base = base_small (room_in b) i w p; end = omega arith; long = omega arith }
     go false z = record { base = omega arith; end = omega arith; long = omega arith }
 
--- the place of one item more
-pub insert_fits :
-    (b l : List ℕ) (i w n : ℕ) (t : Bool) → w ≡ room_in b → t ≡ has_items b l i → t ≡ true → i < 256 → n < w →
-    (w * i < 10000) × ((w * i + n) * 3 + 3 ≤ length l) × (n < 32)
-insert_fits b l i w n t ew et p q r =
-    let room = room_small w (number_at b 7 1 0) ew in
-    let long = rw (← ew) at (has_long b l i (sym et ∙ p)) in
-    (base_small w i room q, omega arith, omega arith)
-
 -- what the items of process i say is said by its dictionary
 module _ (b l : List ℕ) (i : ℕ) (s : Span) (e : s ≡ span_in b l i) where
   pub item_of : (k : ℕ) (r : Item) → r ≡ get_or (dictionary_at l s.base s.end).items k no_item → r ≡ get_or (held_dictionary b l i).items k no_item

@@ -1,15 +1,5 @@
-use Rattle.std.proofs.Common.{arith}
 use Rattle.loan.proofs.Spans as spans
 use Rattle.loan.proofs.dictionaries.insert.Goals as goal
-
--- the place of one item more lies in the loan
-pub store-requires : goal.store-requires
-store-requires c =
-    let a = c.args in
-    let h =
-    spans.insert_fits a.b.now a.l.now a.i _ _ _ c.room-w.ensures c.has_items.ensures c.if-has_items.true
-    (omega arith) c.if-end-w.true in
-    (omega (arith, h.0, h.2), h.1)
 
 pub returns-then-end-w : goal.returns-then-end-w
 returns-then-end-w c =

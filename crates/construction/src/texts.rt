@@ -31,7 +31,7 @@ pub struct RefusedAt {
 }
 
 // The card of a text, empty where the text is refused.
-// Not a Result: what may not change (`opened`, which theorems cite), as the card of a refused text is the empty card and stands beside the refusal.
+// Not a Result: what may not change (`opened`, of which theorems as `refused_empty` speak): the card of a refused text is the empty card and stands beside the refusal.
 #[derive(Clone, Copy)]
 pub struct Opened {
     pub card: Card,

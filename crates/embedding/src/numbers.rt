@@ -17,6 +17,7 @@ use lent_steps::tracing::Told;
 use lent_sweep::Counts;
 
 // The number of a refusal in 32 bits.
+// Refusals, answers and cells as numbers at fixed places here and below: the C interface.
 pub(crate) fn status(refusal: Refusal) -> u32
     ensures { result ≡ number_of refusal }
 {

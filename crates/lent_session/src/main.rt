@@ -30,6 +30,7 @@ struct Begun {
 }
 
 // The number of an argument, 0 where it is none.
+// No Option of it: what may not change (the program goes on with 0 where an argument is none).
 fn number_of(rt: &impl Env, place: usize) -> u64 {
     let mut text = host::buffer();
     argument(rt, place, &mut text);

@@ -27,6 +27,7 @@ struct Played {
 }
 
 // The place of the next such byte, or the end of the text.
+// The end in place of a None: its callers go on from there either way, so an Option is no plainer.
 fn find(text: &[u8], byte: u8, start: usize) -> usize
     requires { start ≤ length text.now }
     ensures { Finds text.now byte start result }

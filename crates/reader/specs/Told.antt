@@ -1,4 +1,4 @@
--- What code gives of a reading under way: what was read, the place of the next line and its number, or why and at which line the text is refused
+-- What code gives of a reading: what was read, the place of the next line and its number, or why and at which line the text is refused
 use Rattle.std.specs.Prelude.{Result}
 use Rattle.construction.specs.declared.{programs.Program.Program, texts.Contents.Contents, texts.RefusedAt.RefusedAt}
 use Rattle.construction.specs.Readings.{ProgramReading, Reading, given}

@@ -160,6 +160,7 @@ fn opened_quota(there: bool, q: Quota) -> Quota
 }
 
 // The quotas at opening.
+// Each quota by its own number: `map` has no index, so it is no plainer.
 fn opened_quotas(count: u64, quotas: [Quota; 4]) -> [Quota; 4]
     ensures { result ≡ opened count quotas }
 {
@@ -175,6 +176,7 @@ fn opened_quotas(count: u64, quotas: [Quota; 4]) -> [Quota; 4]
 fn are_ordered(quotas: [Quota; 4]) -> bool
     ensures { result ≡ are_ordered quotas }
 {
+    // `iter().all`: tried, and the proof did not close.
     for q in quotas {
         if q.ceiling < q.share {
             return false;

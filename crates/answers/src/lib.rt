@@ -17,6 +17,7 @@ use construction::texts::RefusedAt;
 use grammar::writing::{put_decimal, put_word};
 
 // The number of a refusal.
+// A function in place of `From`: the type stands in construction, which has no function, and u64 in std. So the new form is no plainer.
 pub fn number_of(refusal: Refusal) -> u64
     ensures { result ≡ number_of refusal }
 {

@@ -8,6 +8,7 @@ use crate::parts::{put_row, row_at};
 use codes::byte;
 use construction::cells::{Announcement, Gate, Record};
 
+// Each getter and setter has a name of its own, one line over a generic one: what may not change (public functions, each with its definition of specs/Layout).
 // How many processes the card has.
 pub fn process_count(b: &[u64]) -> u8
     ensures { result ≡ process_count_in b.now }

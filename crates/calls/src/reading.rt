@@ -73,6 +73,7 @@ pub fn read_calls(text: &[u8], count: u8) -> Result<[u32; 40], WrongLine>
                 words,
             });
         };
+        // Not straight into `words`, which is lent here: tried, and the proof did not close.
         let more = put_request(words, i, request);
         words = more;
         at = parsed.next;

@@ -2,6 +2,7 @@
 ghost use Rattle.std.specs.Prelude.{◌≡◌, ℕ, ◌+◌, ◌<◌, ◌≤◌, List, length};
 ghost use Rattle.codes.specs.Parts.{part, stores};
 
+// That a stored value is read back is no law here: it holds only of values that fit their words, which proofs/Values says of each type: no plainer.
 pub trait Part: Copy {
     // How many words it has.
     const SIZE: usize;

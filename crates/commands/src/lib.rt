@@ -10,6 +10,7 @@ pub mod printing; // printing.rt: the printed lines
 use construction::cells::Words;
 
 // The verb that a line begins with.
+// Unknown is a verb, and no None: what may not change (`verb_at` of specs/Commands gives the place after it too, as for every verb).
 #[derive(Clone, Copy)]
 pub enum Verb {
     Call,
@@ -22,6 +23,7 @@ pub enum Verb {
 }
 
 // A command, with its own fields only.
+// Malformed is a command, and no Err: what may not change (a session answers it as the others, with a printed line: `executed`, `head_fields` of the specs take it among them).
 #[derive(Clone, Copy)]
 pub enum Command {
     Call {

@@ -30,6 +30,7 @@ pub enum Label {
 
 // A row of the table of labels: the letter of its procedure and the number of its line, as the paper writes them; whether the variables noted are told there; and
 // the word that stands for it in a block (document 02, order 10).
+// Idle has 0 for letter and number, and no Option: what may not change (`label_row` of specs/Labels and the theorems of a report's text speak of `letter ≡ 0`).
 #[derive(Clone, Copy)]
 pub struct LabelRow {
     pub letter: u8,
@@ -68,6 +69,7 @@ pub enum AnnouncementAccess {
 
 // The shared access of a step: none, one of the gate or of an announcement, the read of an announcement that helping begins with (P16),
 // the read of a record that is noted (H21), or the swap of a record (H36).
+// Not an Option of the other kinds: what may not change (`Access.None` stands in the theorems of Statements, as OneAccess, side by side with the five).
 #[derive(Clone, Copy)]
 pub enum Access {
     None,
@@ -79,6 +81,7 @@ pub enum Access {
 }
 
 // A shared cell, or none: the gate, the announcement of a process, the record of a variable.
+// Not an Option of the three: what may not change (`Cell.None` stands in the theorems of Statements/OneAccess, side by side with them).
 #[derive(Clone, Copy)]
 pub enum Cell {
     None,
@@ -88,6 +91,7 @@ pub enum Cell {
 }
 
 // Whether a step swapped a cell, and whether the swap won.
+// Not an `Option<bool>`: what may not change (`Swap.None` in the theorems of Statements/Paths), and no plainer, as true would have to be read as won.
 #[derive(Clone, Copy)]
 pub enum Swap {
     None,

@@ -30,6 +30,7 @@ pub enum Refusal {
 
 // The answer to a call, an exit request, a step, a read or a change. Done covers document 02's `fault` (order 6): what it yields tells which. A change is
 // refused with a line of its text (order 11).
+// Not a Result: what may not change (document 01 lists these answers, and `act`, `answer_fields` and the theorems speak of them); judging in crate requests gives one.
 #[derive(Clone, Copy)]
 pub enum Answer {
     Taken,
@@ -51,6 +52,7 @@ pub enum Answer {
 }
 
 // The card after an entry, with the answer.
+// A struct of its own and no generic pair with `Traced`: what may not change (`step`, `trace` and `untold` of specs, and the theorems on them, name the fields).
 #[derive(Clone, Copy)]
 pub struct Answered {
     pub card: Card,

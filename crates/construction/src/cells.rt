@@ -25,6 +25,7 @@ pub struct Words {
 }
 
 // What an operation yields: four outputs, and whether it ended as a fault (document 02, order 6).
+// Not an Option of the outputs: what may not change (`yield_of` of specs/Cells takes words and mark of an announcement as they stand, in a block too).
 #[derive(Clone, Copy, PartialEq, Eq)]
 pub struct Yield {
     pub outputs: Words,
@@ -32,6 +33,7 @@ pub struct Yield {
 }
 
 // The announcement of a process. Its words are the inputs, and the outputs once it is done; it is marked if it was done as a fault. Its number is the gate number under which it was done, 0 while it is active or exit and at opening.
+// The number 0 is no None: what may not change (`open_announcement` of specs/Cells, and the word of a block for it, document 02, order 10).
 #[derive(Clone, Copy, PartialEq, Eq)]
 pub struct Announcement {
     pub program: u8,
@@ -52,6 +54,7 @@ pub struct Record {
 }
 
 // A cell after a swap, and whether the swap won.
+// Not a Result: what may not change (`swap_by` of specs/Cells gives the cell of a swap that lost too, and its users go on with it either way).
 #[derive(Clone, Copy)]
 pub struct SwappedCell<T> {
     pub cell: T,

@@ -69,6 +69,7 @@ pub fn altered(seq: u64, item: Item) -> bool
 }
 
 // Line H31: the place of the first item to be written, from a place on.
+// The number of items where none is to be written, and no None: what may not change (`next_write` of construction/specs/Dictionary, of which theorems speak).
 pub fn next_write(seq: u64, dictionary: Dictionary, from: u8) -> u8
     ensures { result ≡ next_write seq dictionary from }
 {

@@ -14,6 +14,7 @@ pub struct Found<T> {
 }
 
 // The last four numbers of a line.
+// A struct and no array: `judge_card` and `judge_ins` of construction name each number, and over a list they would have to judge lists of other lengths: no plainer.
 #[derive(Clone, Copy)]
 pub struct Four {
     pub a: u64,

@@ -75,6 +75,7 @@ pub fn begin_help(n: u8, program: Program, cell: Announcement, number: u64) -> O
 
 // Lines H21 to H25: a record that was read is noted in the dictionary and in the set of the variables noted, and the program goes on. Its values
 // are taken out of the dictionary and put back.
+// Its parts are arguments of their own: what may not change (`note` of construction/specs/Machine, of which the theorems speak, takes them one by one).
 pub fn note(
     n: u8,
     program: Program,

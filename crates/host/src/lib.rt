@@ -30,6 +30,7 @@ fn read_full(reader: &mut impl Read, buffer: &mut [u8]) -> usize
     ensures { IsPrefixLen result buffer.new }
 {
     let mut done = 0;
+    // How far it came is told by each read, so no range gives it.
     while done < buffer.len() {
         match reader.read(&mut buffer[done..]) {
             Ok(0) | Err(_) => break,

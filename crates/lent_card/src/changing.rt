@@ -20,6 +20,7 @@ use requests::judging::judge_change;
 use texts::{Text, keep_later, put_program};
 
 // Whether the operation of some process is behind a gate number.
+// Not `some_behind` of requests, which takes two arrays: they would be copied out of the block for a card in lent words.
 #[tactic(auto, unfolding(crate::specs::Requests::behind_in))]
 fn some_behind(b: &[u64], number: u64) -> bool
     ensures { result ≡ behind_in b.now number 8 }

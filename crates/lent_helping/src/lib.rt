@@ -2,6 +2,7 @@
 // and the loan, has the functions on small values that the by-value card uses do the work, and puts back what changed. It rests on the crates
 // construction (types and definitions), block (the parts of a block), loan (dictionaries and the simulation on them), lent_machine (the other accesses),
 // machine, helping and dictionary (small values).
+// Block, loan and process stay three arguments (b, l, i) for the reason that crate loan has.
 #![tactic(auto)]
 
 pub mod access; // access.rt: any access of a step

@@ -14,6 +14,7 @@ use loan::dictionaries::item;
 use reports::{cell_of, label_of, no_report, report_with};
 
 // The answer to a step, and what is told of it.
+// Not `Traced` of construction, which has a card by value: no heap, the card stands in the block.
 #[derive(Clone, Copy)]
 pub struct Told {
     pub answer: Answer,

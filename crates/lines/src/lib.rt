@@ -41,6 +41,7 @@ fn format_of(code: u64) -> Option<Format>
         None, registers, constant, load, store, registers, registers, registers, registers, skip,
         skip, registers, stop, register, register,
     ];
+    // A test in place of `get`, which would need `copied` and the same None: no plainer.
     if code < 15 {
         formats[code as usize]
     } else {
@@ -104,6 +105,7 @@ fn instruction_of(code: u64, a: u8, b: u8, c: u8) -> Instruction
         Instruction::Allocate { register: a },
         Instruction::Free { register: a },
     ];
+    // As in `format_of`: `get` would need `copied` and the same default.
     if code < 15 {
         instructions[code as usize]
     } else {

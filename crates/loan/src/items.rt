@@ -67,6 +67,7 @@ impl Span {
     }
 
     // Line H31: the place of the first item to be written, from a place on.
+    // The end where none is to be written, and no None: what may not change (`next_write` of construction/specs/Dictionary).
     pub(crate) fn next_write(self, l: &[u64], seq: u64, from: u8) -> u8
         requires { Fits l.now self }
         ensures { result ≡ next_write seq (dictionary_at l.now self.base self.end) from }

@@ -78,6 +78,7 @@ fn read_quotas(text: &[u8], start: usize, count: u8) -> Result<[Quota; 4], u64>
         let Some(Found { value, next }) = line_at(text, at, b"machine,") else {
             return Err(k as u64 + 2);
         };
+        // Not straight into `quotas`, which is lent here: tried, and the proof did not close.
         let more = with_quota(quotas, k, quota_of(value.a, value.b));
         quotas = more;
         at = next;

@@ -56,6 +56,7 @@ fn open_records(starts: [u32; 64]) -> [Record; 64]
     ensures { result ≡ map open_record starts }
 {
     let mut records = [open_record(0); 64];
+    // `starts.map(open_record)`: tried, and the proof did not close by itself; the loop needs no answer.
     for k in 0..64usize {
         records[k] = open_record(starts[k]);
     }

@@ -8,7 +8,8 @@ pub mod changes; // changes.rt: the text of a change
 ghost use Rattle.std.specs.Prelude.{◌≡◌, ◌≤◌, replicate};
 ghost use Rattle.construction.specs.Opening.{begun, no_contents, program_so_far, so_far, ins_from, read_program, programs_from, vars_from, then_end, then_programs, read_card, opened};
 ghost use Rattle.construction.specs.Instructions.{no_line};
-ghost use Rattle.reader.specs.Told.{program_told, contents_told};
+ghost use Rattle.construction.specs.Types.{told_at};
+ghost use Rattle.reader.specs.Told.{program_told, contents_told, refusal_of};
 
 use construction::answers::Refusal;
 use construction::programs::{Line, Program};
@@ -21,6 +22,22 @@ pub struct Read<T> {
     pub value: T,
     pub at: usize,
     pub line: u64,
+}
+
+// Why and at which line a text is refused, by a line that was read. `let .. else`, which document 01 names for these lines, binds nothing of what it turns back.
+fn refused<T: Copy>(read: Result<T, Refusal>, number: u64) -> RefusedAt
+    ensures { result ≡ told_at (refusal_of read) number }
+{
+    match read {
+        Ok(_) => RefusedAt {
+            refusal: Refusal::Malformed,
+            line: number,
+        },
+        Err(refusal) => RefusedAt {
+            refusal,
+            line: number,
+        },
+    }
 }
 
 // The contents after the `card` line alone.
@@ -59,14 +76,9 @@ fn read_lines(
     let mut at = start;
     let mut number = first;
     for k in 0..length as usize {
-        let line = match lines::ins_line(variable_count, text, at) {
-            Ok(line) => line,
-            Err(refusal) => {
-                return Err(RefusedAt {
-                    refusal,
-                    line: number,
-                });
-            }
+        let read = lines::ins_line(variable_count, text, at);
+        let Ok(line) = read else {
+            return Err(refused(read, number));
         };
         lines[k] = Line {
             instruction: line.value,
@@ -92,14 +104,9 @@ pub(crate) fn read_program(
     requires { number ≤ 9000 }
     ensures { result ≡ program_told (read_program variable_count most text.now at number) }
 {
-    let line = match lines::sheet_line(text, at) {
-        Ok(line) => line,
-        Err(refusal) => {
-            return Err(RefusedAt {
-                refusal,
-                line: number,
-            });
-        }
+    let read = lines::sheet_line(text, at);
+    let Ok(line) = read else {
+        return Err(refused(read, number));
     };
     let read = read_lines(variable_count, text, line.value, line.next, number + 1)?;
     if most < weight(read.value) {
@@ -156,14 +163,9 @@ fn read_vars(
     let mut at = start;
     let mut number = first;
     for k in 0..count as usize {
-        let line = match lines::var_line(text, at) {
-            Ok(line) => line,
-            Err(refusal) => {
-                return Err(RefusedAt {
-                    refusal,
-                    line: number,
-                });
-            }
+        let read = lines::var_line(text, at);
+        let Ok(line) = read else {
+            return Err(refused(read, number));
         };
         starts[k] = line.value;
         at = line.next;
@@ -209,9 +211,9 @@ pub fn read_card(text: &[u8]) -> Result<Read<Contents>, RefusedAt>
             line: 0,
         });
     }
-    let line = match lines::card_line(text, 0) {
-        Ok(line) => line,
-        Err(refusal) => return Err(RefusedAt { refusal, line: 1 }),
+    let read = lines::card_line(text, 0);
+    let Ok(line) = read else {
+        return Err(refused(read, 1));
     };
     let CardNumbers {
         process_count,

@@ -21,6 +21,7 @@ pub fn is_behind(place: Label, gate: Gate, number: u64) -> bool
 }
 
 // Whether the operation of some process is behind a number.
+// That of lent_card reads a block, by a definition of its own (`behind_in`), without the two arrays: no heap, nothing copied out.
 #[tactic(auto, unfolding(construction::specs::Changes::some_behind))]
 pub fn some_behind(
     controls: [Control; 8],

@@ -99,6 +99,7 @@ pub fn put_lines(state: State, calls: &[u8], buffer: &mut [u8]) -> Printed
 {
     let mut state = state;
     let mut length: usize = 0;
+    // The next place is known when a command is read, so no range gives it.
     while state.at < calls.len() {
         let parsed = command_at(calls, state.at);
         let command = parsed.command;

@@ -11,6 +11,7 @@ use construction::answers::{Answer, Refusal, Report};
 use lent_steps::stepping::verdict;
 
 // The answer to a step, and the allowance after it.
+// Not a Result: what may not change (`step_judged` of specs/Judging, and `Performs`, name the allowance after a refusal too).
 #[derive(Clone, Copy)]
 pub struct Stepped {
     pub allowance: Allowance,

@@ -17,7 +17,9 @@ use Rattle.construction.specs.Answers.{is_refused}
 use Rattle.construction.specs.Changes.{program_text, change_read, some_behind, is_unsettled, unchanged, if_read, change}
 use Rattle.construction.specs.Types.{Verdict}
 use Rattle.construction.specs.declared.texts.RefusedAt.{RefusedAt}
-use Rattle.construction.specs.Readings.{ProgramReading, program_given, verdict_of}
+use Rattle.construction.specs.Readings.{ProgramReading, verdict_of}
+use Rattle.reader.specs.declared.Read.{Read}
+use Rattle.reader.specs.Told.{program_told}
 use Rattle.construction.proofs.Text.Given.{given_ok, verdict_given}
 use Rattle.opening.proofs.Laws.{inside}
 use Rattle.requests.specs.Judging.{if_text_accepted, change_judged}
@@ -57,7 +59,7 @@ module _ (c : Card) where
 module _
     (c : Card) (k from : ℕ) (t : List ℕ)
     (w : ℕ) (weighed : w ≡ min 32 (heaviest c.programs))
-    (q : Result Program RefusedAt) (read : q ≡ program_given (program_text c.variable_count w t))
+    (q : Result (Read Program) RefusedAt) (read : q ≡ program_told (program_text c.variable_count w t))
     (behind : Bool) (compared : behind ≡ some_behind c.controls c.gates_read c.process_count (get_or c.from (k % 8) 0) 8)
     (x : Answer) (judged : x ≡ change_judged k c.program_count (verdict_of q) c.gate.seq from (get_or c.from (k % 8) 0) behind)
   where
@@ -65,7 +67,7 @@ module _
     r = program_text c.variable_count w t
 
     verdict : verdict_of q ≡ r.verdict
-    verdict = ap verdict_of read ∙ verdict_given r.verdict r.program
+    verdict = ap verdict_of read ∙ verdict_given r.verdict _
 
     told : x ≡ answered (is_program c k) r.verdict (ltb c.gate.seq from) (is_unsettled c k)
     told =
@@ -83,10 +85,10 @@ module _
         rw (← text_read) (refuses c (is_program c k) r.verdict (ltb c.gate.seq from) (is_unsettled c k) x _ told h)
 
     pub change_taken :
-        is_refused x ≡ false → {y : Program} → q ≡ Ok y → (d : Card) → (k < 8 → d ≡ with_revision c k from y) → record { card = d; answer = x } ≡ change c k from t
+        is_refused x ≡ false → {y : Read Program} → q ≡ Ok y → (d : Card) → (k < 8 → d ≡ with_revision c k from y.value) → record { card = d; answer = x } ≡ change c k from t
     unfolding change
     change_taken h {y} e d p =
-        let same : y ≡ r.program = (given_ok r.verdict r.program (sym e ∙ read)).1 in
+        let same : y.value ≡ r.program = ap (λ (z : Read Program). z.value) (given_ok r.verdict _ (sym e ∙ read)).1 in
         rw (← text_read)
         (takes c (is_program c k) r.verdict (ltb c.gate.seq from) (is_unsettled c k) x told h d _
         (λ (there : is_program c k ≡ true). p (in_room k c.program_count 8 there) ∙ ap (with_revision c k from) same))

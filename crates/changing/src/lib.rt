@@ -47,7 +47,7 @@ pub fn change(card: Card, program: u32, from: u64, text: &[u8]) -> Answered
     ) {
         Ok(changed) => {
             c.earlier[at] = c.later[at];
-            c.later[at] = changed;
+            c.later[at] = changed.value;
             c.from[at] = from;
             Answered {
                 card: c,

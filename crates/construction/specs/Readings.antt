@@ -22,12 +22,6 @@ abbrev pub given : {T : Type 0} → Verdict → T → Result T RefusedAt
 given (Ok _) x = Ok x
 given (Err e) x = Err e
 
-abbrev pub contents_given : Reading → Result Contents RefusedAt
-contents_given r = given r.verdict r.contents
-
-abbrev pub program_given : ProgramReading → Result Program RefusedAt
-program_given r = given r.verdict r.program
-
 abbrev pub verdict_of : {T : Type 0} → Result T RefusedAt → Verdict
 verdict_of (Ok _) = Ok tt
 verdict_of (Err e) = Err e

@@ -15,7 +15,9 @@ use Rattle.construction.specs.Requests.{is_idle, shown}
 use Rattle.construction.specs.Answers.{is_refused}
 use Rattle.construction.specs.Changes.{program_text, is_behind}
 use Rattle.construction.specs.Types.{Verdict}
-use Rattle.construction.specs.Readings.{ProgramReading, program_given, verdict_of}
+use Rattle.construction.specs.Readings.{ProgramReading, verdict_of}
+use Rattle.reader.specs.declared.Read.{Read}
+use Rattle.reader.specs.Told.{program_told}
 use Rattle.construction.proofs.Text.Given.{given_ok, verdict_given}
 use Rattle.requests.specs.Judging.{judged, call_judged, exit_judged, change_judged}
 use Rattle.requests.proofs.Arrays.{in_room}
@@ -159,15 +161,15 @@ module _ (b : List ℕ) (i : ℕ) {x : Answer} where
 
 -- a change: what was read of its text, and the answer by that
 module _
-    (b : List ℕ) (k from : ℕ) (t : List ℕ) {n w : ℕ} {q : Result Program RefusedAt} {x : Answer}
-    (pn : n ≡ variable_count_in b) (pw : w ≡ room_in b) (pq : q ≡ program_given (program_text n w t))
+    (b : List ℕ) (k from : ℕ) (t : List ℕ) {n w : ℕ} {q : Result (Read Program) RefusedAt} {x : Answer}
+    (pn : n ≡ variable_count_in b) (pw : w ≡ room_in b) (pq : q ≡ program_told (program_text n w t))
     (px : x ≡ change_judged k (program_count_in b) (verdict_of q) (gate_in b).seq from (from_in b k) (behind_in b (from_in b k) 8))
   where
     text : program_text n w t ≡ change_text b t
     text = λ j. program_text (pn j) (pw j) t
 
     verdict : verdict_of q ≡ (program_text n w t).verdict
-    verdict = ap verdict_of pq ∙ verdict_given (program_text n w t).verdict (program_text n w t).program
+    verdict = ap verdict_of pq ∙ verdict_given (program_text n w t).verdict _
 
     pub change_told : x ≡ change_answer b k from t
     unfolding change_answer
@@ -180,10 +182,10 @@ module _
     change_refused h = rw (← change_told, h)
 
     pub change_taken :
-        is_refused x ≡ false → {y : Program} → q ≡ Ok y → {m : ℕ} {e : List ℕ} → m ≡ min k 255 → e ≡ put_change b m from y → e ≡ change_block b k from t
+        is_refused x ≡ false → {y : Read Program} → q ≡ Ok y → {m : ℕ} {e : List ℕ} → m ≡ min k 255 → e ≡ put_change b m from y.value → e ≡ change_block b k from t
     unfolding change_block
     change_taken h {y} py {m} pm pe =
-        let same : y ≡ (program_text n w t).program = (given_ok (program_text n w t).verdict (program_text n w t).program (sym py ∙ pq)).1 in
+        let same : y.value ≡ (program_text n w t).program = ap (λ (z : Read Program). z.value) (given_ok (program_text n w t).verdict _ (sym py ∙ pq)).1 in
         let p = first_passed (ltb k (program_count_in b) && ltb k 8) NoProgram _ (sym (ap is_refused px) ∙ h) in
         let program = pm ∙ small 8 k (omega arith) (in_room k (program_count_in b) 8 p) in
         rw (← change_told, h) (pe ∙ ap (put_change b m from) same ∙ λ j. put_change b (program j) from (text j).program)

@@ -13,6 +13,7 @@ use block::texts::put_from;
 use construction::answers::Answer;
 use construction::programs::Program;
 use construction::texts::RefusedAt;
+use reader::Read;
 use reader::changes::read_change;
 use requests::behind::is_behind;
 use requests::judging::judge_change;
@@ -33,13 +34,13 @@ fn some_behind(b: &[u64], number: u64) -> bool
     behind
 }
 
-// Whether a change is taken, by what was read of its text: its program, then.
+// Whether a change is taken, by what was read of its text: that, then.
 fn judge_change_in(
     b: &[u64],
     program: u32,
     from: u64,
-    read: Result<Program, RefusedAt>,
-) -> Result<Program, RefusedAt>
+    read: Result<Read<Program>, RefusedAt>,
+) -> Result<Read<Program>, RefusedAt>
     ensures judged { answer_of_change (verdict_of result) ≡ change_judged program (program_count_in b.now) (verdict_of read) (gate_in b.now).seq from (from_in b.now program) (behind_in b.now (from_in b.now program) 8) }
     ensures taken { IfOk result (λ y. read ≡ Ok y) }
 {
@@ -71,7 +72,7 @@ pub fn change(b: &mut [u64], program: u32, from: u64, text: &[u8]) -> Answer
     let read = read_change(variable_count(b), room(b), text);
     match judge_change_in(b, program, from, read) {
         Ok(changed) => {
-            put_change(b, narrow(program), from, changed);
+            put_change(b, narrow(program), from, changed.value);
             Answer::Taken
         }
         Err(RefusedAt { refusal, line }) => Answer::RefusedAt { refusal, line },

@@ -10,7 +10,8 @@ use Rattle.construction.specs.Instructions.{no_program}
 use Rattle.construction.specs.Opening.{no_contents, read_card}
 use Rattle.construction.specs.Types.{Verdict}
 use Rattle.construction.proofs.Text.RoundTrip.{read_empty}
-use Rattle.construction.specs.Readings.{contents_given}
+use Rattle.reader.specs.declared.Read.{Read}
+use Rattle.reader.specs.Told.{contents_told}
 use Rattle.construction.proofs.Text.Given.{given_ok, given_err}
 use Rattle.opening.proofs.Laws.{inside}
 use Rattle.lent_text.specs.Opened.{put_value, put_values, put_texts, put_programs, contents_block, opened_block, judged, Opens}
@@ -42,17 +43,17 @@ module _ (b : List ℕ) (xs : List Program) where
 
 -- ---- a text that is accepted, and one that is refused, which leaves the empty card
 pub opens :
-    (t b z : List ℕ) (r : Verdict) (x : Contents) → Ok x ≡ contents_given (read_card t) → r ≡ judged (Ok tt) b → z ≡ contents_block b x → Opens t b r z
+    (t b z : List ℕ) (r : Verdict) (x : Read Contents) → Ok x ≡ contents_told (read_card t) → r ≡ judged (Ok tt) b → z ≡ contents_block b x.value → Opens t b r z
 unfolding opened_block
 opens t b z r x e f g =
-    let h = given_ok (read_card t).verdict (read_card t).contents e in
-    record { answer = f ∙ ap (λ (v : Verdict). judged v b) (sym h.0); words = g ∙ ap (λ (y : Contents). contents_block b y) h.1 }
+    let h = given_ok (read_card t).verdict _ e in
+    record { answer = f ∙ ap (λ (v : Verdict). judged v b) (sym h.0); words = g ∙ ap (λ (y : Read Contents). contents_block b y.value) h.1 }
 
 pub refuses :
-    (t b z : List ℕ) {refused : RefusedAt} (x : Contents) → Err refused ≡ contents_given (read_card t) → x ≡ no_contents → z ≡ contents_block b x →
+    (t b z : List ℕ) {refused : RefusedAt} (x : Contents) → Err refused ≡ contents_told (read_card t) → x ≡ no_contents → z ≡ contents_block b x →
     Opens t b (Err refused) z
 unfolding opened_block
 refuses t b z {refused} x e p g =
-    let h = given_err (read_card t).verdict (read_card t).contents e in
+    let h = given_err (read_card t).verdict _ e in
     let none : (read_card t).contents ≡ no_contents = read_empty t (λ a. let q : Err refused ≡ Ok tt = sym h ∙ a in cc) in
     record { answer = ap (λ (v : Verdict). judged v b) (sym h); words = g ∙ ap (λ (y : Contents). contents_block b y) (p ∙ sym none) }

@@ -118,9 +118,9 @@ pub fn open(text: &[u8], b: &mut [u64]) -> Result<(), RefusedAt>
     ensures { Opens text.now b.old result b.new }
 {
     match reader::read_card(text) {
-        Ok(contents) => {
+        Ok(read) => {
             let answer = judge(b);
-            put_contents(b, contents);
+            put_contents(b, read.value);
             answer
         }
         Err(refused) => {

@@ -14,7 +14,7 @@ use Rattle.construction.specs.declared.{programs.Program.Program, texts.Contents
 use Rattle.construction.specs.declared.answers.Refusal.TheVariants.{Malformed, TooHeavy}
 use Rattle.construction.specs.Types.{Verdict, told_at}
 use Rattle.construction.specs.declared.{texts.RefusedAt.RefusedAt}
-use Rattle.construction.specs.Readings.{ProgramReading, Reading, program_given, contents_given}
+use Rattle.construction.specs.Readings.{ProgramReading, Reading}
 use Rattle.construction.specs.Weight.{weight}
 use Rattle.construction.specs.Lines.{var_line, sheet_line, ins_line}
 use Rattle.construction.specs.Opening.{so_far, program_refused_at, weighed, with_line, ins_from, read_program, programs_from, with_start, vars_from, if_accepted}
@@ -91,7 +91,7 @@ module _ (t : List ℕ) (s : ℕ) (a : Reading) where
   abbrev whole : Reading
   whole = then_end t (then_programs t s a)
 
-  pub vars_refused : {w : RefusedAt} → Err w ≡ contents_told a → Err w ≡ contents_given whole
+  pub vars_refused : {w : RefusedAt} → Err w ≡ contents_told a → Err w ≡ contents_told whole
   vars_refused {w} q =
       let g = given_err a.verdict _ q in
       let stop : whole ≡ a = ap (λ (v : Verdict). then_end t (if_accepted v a (λ x. programs_from t s 0 x))) g ∙ ap (λ (v : Verdict). if_accepted v a (λ x. at_end t x)) g in
@@ -104,7 +104,7 @@ module _ (t : List ℕ) (s : ℕ) (a : Reading) where
     goes : whole ≡ then_end t programs
     goes = ap (λ (r : Reading). then_end t (then_programs t s r)) (contents_read a q)
 
-    pub programs_refused : {w : RefusedAt} → Err w ≡ contents_told programs → Err w ≡ contents_given whole
+    pub programs_refused : {w : RefusedAt} → Err w ≡ contents_told programs → Err w ≡ contents_told whole
     programs_refused r =
         let g = given_err programs.verdict _ r in
         let stop : then_end t programs ≡ programs = ap (λ (v : Verdict). if_accepted v programs (λ z. at_end t z)) g in
@@ -114,10 +114,10 @@ module _ (t : List ℕ) (s : ℕ) (a : Reading) where
       ends : whole ≡ at_end t (so_far y.value y.at y.line)
       ends = goes ∙ ap (λ (z : Reading). then_end t z) (contents_read programs r)
 
-      pub body_whole : y.at ≡ length t → Ok y.value ≡ contents_given whole
+      pub body_whole : y.at ≡ length t → Ok y ≡ contents_told whole
       body_whole h = rw (ends, eq-eqb y.at (length t) h)
 
-      pub body_left : (y.at ≡ length t → ⊥) → Err (told_at Malformed y.line) ≡ contents_given whole
+      pub body_left : (y.at ≡ length t → ⊥) → Err (told_at Malformed y.line) ≡ contents_told whole
       body_left h = rw (ends, ne_eqb y.at (length t) h)
 
 -- ---- the text of a change: one program, and nothing after it
@@ -128,7 +128,7 @@ module _ (n most : ℕ) (t : List ℕ) (short : length t ≤ 16384) where
   begins : program_text n most t ≡ program_then_end t program
   begins = rw (le-ltb 16384 (length t) short)
 
-  pub change_refused : {w : RefusedAt} → Err w ≡ program_told program → Err w ≡ program_given (program_text n most t)
+  pub change_refused : {w : RefusedAt} → Err w ≡ program_told program → Err w ≡ program_told (program_text n most t)
   change_refused q =
       let g = given_err program.verdict _ q in
       let stop : program_then_end t program ≡ program =
@@ -139,8 +139,8 @@ module _ (n most : ℕ) (t : List ℕ) (short : length t ≤ 16384) where
     finishes : program_text n most t ≡ program_then_end t (record { verdict = Ok tt; program = x.value; at = x.at; line = x.line })
     finishes = begins ∙ ap (λ (r : ProgramReading). program_then_end t r) (program_read program q)
 
-    pub change_whole : x.at ≡ length t → Ok x.value ≡ program_given (program_text n most t)
+    pub change_whole : x.at ≡ length t → Ok x ≡ program_told (program_text n most t)
     change_whole h = rw (finishes, eq-eqb x.at (length t) h)
 
-    pub change_left : (x.at ≡ length t → ⊥) → Err (told_at Malformed x.line) ≡ program_given (program_text n most t)
+    pub change_left : (x.at ≡ length t → ⊥) → Err (told_at Malformed x.line) ≡ program_told (program_text n most t)
     change_left h = rw (finishes, ne_eqb x.at (length t) h)

@@ -1,4 +1,4 @@
--- What code gives of a reading under way: what was read, the place of the next line and its number, or why and at which line the text is refused
+-- What code gives of a reading: what was read, the place of the next line and its number, or why and at which line the text is refused
 use Rattle.std.specs.Prelude.{Result, Ok, Err}
 use Rattle.construction.specs.declared.answers.Refusal.{Refusal}
 use Rattle.construction.specs.declared.answers.Refusal.TheVariants.{Malformed}

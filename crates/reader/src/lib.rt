@@ -8,7 +8,6 @@ pub mod changes; // changes.rt: the text of a change
 ghost use Rattle.std.specs.Prelude.{◌≡◌, ◌≤◌, replicate};
 ghost use Rattle.construction.specs.Opening.{begun, no_contents, program_so_far, so_far, ins_from, read_program, programs_from, vars_from, then_end, then_programs, read_card, opened};
 ghost use Rattle.construction.specs.Instructions.{no_line};
-ghost use Rattle.construction.specs.Readings.{contents_given};
 ghost use Rattle.construction.specs.Types.{told_at};
 ghost use Rattle.reader.specs.Told.{program_told, contents_told, refusal_of};
 
@@ -19,7 +18,7 @@ use programs::weights::weight;
 
 // What was read of a text, the place of the next line and its number.
 #[derive(Clone, Copy)]
-pub(crate) struct Read<T> {
+pub struct Read<T> {
     pub value: T,
     pub at: usize,
     pub line: u64,
@@ -186,14 +185,14 @@ fn read_body(
     program_count: u8,
     contents: Contents,
     at: usize,
-) -> Result<Contents, RefusedAt>
+) -> Result<Read<Contents>, RefusedAt>
     requires { (variable_count ≤ 64) × (program_count ≤ 8) }
-    ensures { result ≡ contents_given (then_end text.now (then_programs text.now program_count (vars_from text.now variable_count 0 (so_far contents at 2)))) }
+    ensures { result ≡ contents_told (then_end text.now (then_programs text.now program_count (vars_from text.now variable_count 0 (so_far contents at 2)))) }
 {
     let vars = read_vars(text, variable_count, contents, at, 2)?;
     let all = read_programs(text, program_count, vars.value, vars.at, vars.line)?;
     if all.at == text.len() {
-        Ok(all.value)
+        Ok(all)
     } else {
         Err(RefusedAt {
             refusal: Refusal::Malformed,
@@ -203,8 +202,8 @@ fn read_body(
 }
 
 // The contents of a text.
-pub fn read_card(text: &[u8]) -> Result<Contents, RefusedAt>
-    ensures { result ≡ contents_given (read_card text.now) }
+pub fn read_card(text: &[u8]) -> Result<Read<Contents>, RefusedAt>
+    ensures { result ≡ contents_told (read_card text.now) }
 {
     if 16384 < text.len() {
         return Err(RefusedAt {
@@ -231,8 +230,8 @@ pub fn open(text: &[u8]) -> Opened
     ensures { result ≡ opened text.now }
 {
     match read_card(text) {
-        Ok(contents) => Opened {
-            card: opening::fresh(contents),
+        Ok(read) => Opened {
+            card: opening::fresh(read.value),
             verdict: Ok(()),
         },
         Err(refused) => Opened {

@@ -8,7 +8,6 @@ ghost use Rattle.requests.specs.Judging.{answer_of_judged, answer_of_change, cal
 use construction::accesses::{Control, Label};
 use construction::answers::{Answer, Refusal};
 use construction::cells::Announcement;
-use construction::programs::Program;
 use construction::texts::RefusedAt;
 use machine::announcement::returned;
 use machine::places::is_idle;
@@ -72,17 +71,17 @@ pub fn judge_step(
     Ok(())
 }
 
-// A change of a program: refusal 6, then that of its text, 15 and 16, each with its line, or the program of the text where it is taken. `number` is the gate's, `last` the
+// A change of a program: refusal 6, then that of its text, 15 and 16, each with its line, or what was read of the text where it is taken. `number` is the gate's, `last` the
 // number from which the program's last change holds, and `behind` tells whether an operation under way last read a gate number below that.
-pub fn judge_change(
+pub fn judge_change<T: Copy>(
     program: u32,
     program_count: u8,
-    read: Result<Program, RefusedAt>,
+    read: Result<T, RefusedAt>,
     number: u64,
     from: u64,
     last: u64,
     behind: bool,
-) -> Result<Program, RefusedAt>
+) -> Result<T, RefusedAt>
     ensures judged { answer_of_change (verdict_of result) ≡ change_judged program program_count (verdict_of read) number from last behind }
     ensures taken { IfOk result (λ y. read ≡ Ok y) }
 {

@@ -8,7 +8,7 @@ pub returns-in-Ok : goal.returns-in-Ok
 unfolding opened
 returns-in-Ok c =
     let g = given.given_ok _ _ c.in-Ok.ensures in
-    rw c.fresh.ensures (λ i. record { card = fresh (g.1 i); verdict = sym g.0 i })
+    rw c.fresh.ensures (λ i. record { card = fresh (g.1 i).value; verdict = sym g.0 i })
 
 pub returns-in-Err : goal.returns-in-Err
 unfolding opened

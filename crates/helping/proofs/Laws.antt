@@ -7,21 +7,20 @@ use mathlib.Core.Path.{◌≡◌, refl, sym, ◌∙◌, ap}
 use native.Mathlib.Omega.{arith}
 use native.Mathlib.Numerals.{add-one}
 use lib.Dec.{eqb, leb, ltb}
-use lib.ListN.{length, get_or, set, take, drop, length-take, length-set, length-map, drop_of_length-le}
+use lib.ListN.{length, get_or, set, take, drop, length-take, length-set, length-map}
 use lib.Seq.{set-get_or, get_or-take, map-set_same, length-take-le, take-set-lt}
 use Rattle.std.specs.List.{position_or_len}
-use Rattle.std.specs.Prelude.{Option, Some, None, Result, Ok, Err}
+use Rattle.std.specs.Prelude.{Some, None, Result, Ok, Err}
 use Rattle.std.proofs.lemmas.List.Quantifiers.{position-Some}
 use Rattle.std.proofs.lemmas.List.Recursion.{is_position_or_len}
 use Rattle.std.proofs.lemmas.List.Sums.{position_or_len_is}
 use Rattle.std.proofs.lemmas.Result.{err_from_is_err_and}
 use Rattle.std.specs.Result.{IsErrAnd}
-use borrow.Author.Tests.{eq-eqb, ne_eqb, lt-ltb, le-ltb, eqb-true, ltb-false, leb-true, leb-false, not-true}
+use borrow.Author.Tests.{lt-ltb, le-ltb, eqb-true, ltb-false, leb-true, leb-false, not-true}
 use Rattle.construction.specs.declared.{cells.Words.Words, programs.Instruction.Instruction, programs.Program.Program, programs.Effect.Effect}
 use Rattle.construction.specs.declared.{simulations.Item.Item, simulations.Dictionary.Dictionary, simulations.Simulation.Simulation}
 use Rattle.construction.specs.declared.{simulations.Simulated.Simulated}
-use Rattle.construction.specs.declared.simulations.Pause.TheVariants.{Ended, Faulted, Lacks}
-use Rattle.construction.specs.Instructions.{is_cell, effect_of, next_instruction, with_register, with_output, skipped, faulted}
+use Rattle.construction.specs.Instructions.{is_cell, effect_of, next_instruction, with_register, with_output, skipped}
 use Rattle.programs.specs.Cells.{is_astray}
 use Rattle.construction.specs.Effects.{Executed, touched, allocated, execute, on_executed}
 use Rattle.construction.proofs.Basics.{and_true, true_or_false}

@@ -2,7 +2,7 @@
 use Rattle.std.specs.Prelude.{ℕ, List, [], ◌∷◌, map, ◌≡◌, eqb, length, take, drop, replicate, Option, Result, Ok, Err}
 use Rattle.std.specs.List.{position}
 use Rattle.construction.specs.declared.{cells.Words.Words, programs.Instruction.Instruction, programs.Program.Program, programs.Effect.Effect}
-use Rattle.construction.specs.declared.{simulations.Item.Item, simulations.Dictionary.Dictionary, simulations.Simulation.Simulation, simulations.Pause.Pause}
+use Rattle.construction.specs.declared.{simulations.Item.Item, simulations.Dictionary.Dictionary, simulations.Simulation.Simulation}
 use Rattle.construction.specs.declared.{simulations.Simulated.Simulated}
 use Rattle.construction.specs.declared.simulations.Pause.TheVariants.{Ended, Faulted, Lacks}
 use Rattle.construction.specs.Instructions.{effect_of, faulted}

@@ -53,9 +53,12 @@ impl Numbers {
     pub(crate) fn place(&self, variable: u8, simulation: Simulation) -> Result<usize, Paused>
         ensures { MatchResult result (λ k. (place_of (take (min self.now.end 32) self.now.keys) variable ≡ Some k) × (k < 32)) (λ e. (place_of (take (min self.now.end 32) self.now.keys) variable ≡ None) × (e ≡ lacking variable simulation)) }
     {
-        self.find(variable).ok_or(Paused {
-            pause: Pause::Lacks(variable),
-            simulation,
-        })
+        match self.find(variable) {
+            Some(place) => Ok(place),
+            None => Err(Paused {
+                pause: Pause::Lacks(variable),
+                simulation,
+            }),
+        }
     }
 }

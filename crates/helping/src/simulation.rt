@@ -1,7 +1,7 @@
 // A program that runs on the numbers of a dictionary, whose values it alters.
-ghost use Rattle.std.specs.Prelude.{◌≡◌, min};
+ghost use Rattle.std.specs.Prelude.{◌≡◌, suc, ◌-◌, min, drop};
 ghost use Rattle.construction.specs.declared.programs.Program.{Program};
-ghost use Rattle.construction.specs.Instructions.{shortened, next_instruction};
+ghost use Rattle.construction.specs.Instructions.{fetch, shortened, next_instruction};
 ghost use Rattle.helping.specs.Numbers.{faulting, Turns, Runs};
 
 use crate::numbers::Numbers;
@@ -21,9 +21,11 @@ pub trait Text {
     // the program that it is
     ghost program: { Self → Program };
 
-    // Line H7: the instruction at a counter, and how many stand behind it.
+    // Line H7: the instruction at a counter, and how many stand behind it. So shortened it is the one that runs.
     fn fetch(&self, counter: u8) -> (Instruction, u8)
-        ensures { shortened result.1 result.0 ≡ next_instruction (program self.now) counter };
+        ensures instruction { result.0 ≡ fetch (program self.now) counter }
+        ensures behind { result.1 ≡ (program self.now).length - suc counter }
+        ensures next { shortened result.1 result.0 ≡ next_instruction (program self.now) counter };
 }
 
 impl Text for Program {
@@ -112,6 +114,7 @@ pub fn simulate<T: Text>(
     numbers: &mut Numbers,
 ) -> Paused
     ensures told { Runs n (T.program text.now) inputs s numbers.old.keys (min numbers.old.end 32) numbers.old.values numbers.new.values result }
+    ensures rest { drop (min numbers.old.end 32) numbers.new.values ≡ drop (min numbers.old.end 32) numbers.old.values }
     ensures keys { numbers.new.keys ≡ numbers.old.keys }
     ensures end { numbers.new.end ≡ numbers.old.end }
 {

@@ -19,24 +19,12 @@ struct Returned {
     answer: Result<bool, Refusal>,
 }
 
-fn row_and_answer(row: [Record; 4], answer: Result<bool, Refusal>) -> Returned
-    ensures { (result.row ≡ row) × (result.answer ≡ answer) }
-{
-    Returned { row, answer }
-}
-
 // The row is lent for one swap.
 fn swap_in_four(mut row: [Record; 4], place: usize, expected: Record, new: Record) -> Returned
     ensures { (result.row ≡ row_after row place expected new) × (result.answer ≡ row_answer row place expected new) }
 {
     let answer = lent::swap_in_row(&mut row, place, expected, new);
-    row_and_answer(row, answer)
-}
-
-fn gate_and_outcome(cell: Gate, won: bool) -> SwappedCell<Gate>
-    ensures { (result.cell ≡ cell) × (result.won ≡ won) }
-{
-    SwappedCell { cell, won }
+    Returned { row, answer }
 }
 
 // The gate is lent for one swap.
@@ -44,7 +32,7 @@ fn swap_gate(mut gate: Gate, expected: Gate, new: Gate) -> SwappedCell<Gate>
     ensures { (result.cell ≡ (swap_gate gate expected new).cell) × (result.won ≡ (swap_gate gate expected new).won) }
 {
     let won = lent::swap_lent_gate(&mut gate, expected, new);
-    gate_and_outcome(gate, won)
+    SwappedCell { cell: gate, won }
 }
 
 fn record(val0: u32, val1: u32, toggle: bool, seq: u64) -> Record
@@ -133,22 +121,18 @@ fn row_case(
     wanted: [Record; 4],
 ) {
     let after = swap_in_four(first_row(), place, expected, new);
-    let answer = after.answer;
-    let row = after.row;
     show(rt, label);
-    write_answer(rt, answer);
-    write_verdict(rt, same_row(row, wanted));
+    write_answer(rt, after.answer);
+    write_verdict(rt, same_row(after.row, wanted));
 }
 
 // A swap that is to win: only the named record changes.
 fn won_row(rt: &impl Print, label: &[u8], place: usize) {
     if place < 4 {
         let row = first_row();
-        let new = new_record();
         let mut wanted = row;
-        wanted[place] = new;
-        let expected = row[place];
-        row_case(rt, label, place, expected, new, wanted);
+        wanted[place] = new_record();
+        row_case(rt, label, place, row[place], new_record(), wanted);
     }
 }
 
@@ -156,16 +140,14 @@ fn won_row(rt: &impl Print, label: &[u8], place: usize) {
 fn changed_row(rt: &impl Print, label: &[u8], place: usize) {
     if place < 4 {
         let row = first_row();
-        let expected = row[place];
-        row_case(rt, label, place, expected, new_record(), row);
+        row_case(rt, label, place, row[place], new_record(), row);
     }
 }
 
 // A swap that expects the first record and is to change nothing.
 fn kept_row(rt: &impl Print, label: &[u8], place: usize) {
     let row = first_row();
-    let expected = row[0];
-    row_case(rt, label, place, expected, new_record(), row);
+    row_case(rt, label, place, row[0], new_record(), row);
 }
 
 fn gate_case(rt: &impl Print, label: &[u8], expected: Gate, wanted: Gate) {

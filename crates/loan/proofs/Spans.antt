@@ -9,7 +9,7 @@ use lib.Dec.{ltb}
 use lib.ListN.{length, get_or}
 use borrow.Author.Tests.{leb-true, lt-ltb, le-ltb}
 use Rattle.construction.specs.declared.accesses.Writing.{Writing}
-use Rattle.construction.specs.Dictionary.{no_item, next_write}
+use Rattle.construction.specs.Dictionary.{no_item}
 use Rattle.construction.specs.Machine.{write_from, writing}
 use Rattle.codes.specs.Types.{Item, Control}
 use Rattle.codes.specs.Parts.{stores}

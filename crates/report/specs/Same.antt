@@ -1,6 +1,6 @@
 -- Cards compared: true where every field and every element of every array is the same ('the card as it was').
 use Rattle.std.specs.Prelude.{ℕ, zero, suc, Bool, true, false, ◌&&◌, List, [], eqb, get_or}
-use Rattle.construction.specs.declared.{cells.Yield.Yield, cells.Record.Record, programs.Instruction.Instruction, programs.Program.Program}
+use Rattle.construction.specs.declared.{cells.Announcement.Announcement, cells.Yield.Yield, cells.Record.Record, programs.Instruction.Instruction, programs.Line.Line, programs.Program.Program}
 use Rattle.construction.specs.declared.{simulations.Item.Item, simulations.Dictionary.Dictionary, simulations.Simulation.Simulation, accesses.Control.Control}
 use Rattle.construction.specs.declared.{card.Operation.Operation, card.Card.Card}
 use Rattle.construction.specs.Cells.{same_bool, same_words, same_gate, same_announcement, same_record, open_announcement, open_record}
@@ -8,7 +8,6 @@ use Rattle.construction.specs.Instructions.{no_line, started}
 use Rattle.construction.specs.Dictionary.{no_item}
 use Rattle.construction.specs.Parts.{idle_control, no_operation, no_gate}
 use Rattle.codes.specs.Codes.{instruction_word, place_word}
-use Rattle.report.specs.declared.same.{Texts.Texts, Work.Work, Reads.Reads}
 
 -- a test holds of every number below n
 unfoldable pub all_below : ℕ → (ℕ → Bool) → Bool
@@ -19,32 +18,23 @@ all_below (suc n) test = all_below n test && test n
 abbrev pub same_instruction : Instruction → Instruction → Bool
 same_instruction a b = eqb (instruction_word a) (instruction_word b)
 
-abbrev pub same_line_at : Program → Program → ℕ → Bool
-same_line_at a b k = same_instruction (get_or a.lines k no_line).instruction (get_or b.lines k no_line).instruction
+abbrev pub same_line : Line → Line → Bool
+same_line a b = same_instruction a.instruction b.instruction
 
 unfoldable pub same_program : Program → Program → Bool
-same_program a b = eqb a.length b.length && all_below 32 (same_line_at a b)
-
-abbrev pub same_start_at : List ℕ → List ℕ → ℕ → Bool
-same_start_at a b v = eqb (get_or a v 0) (get_or b v 0)
+same_program a b = eqb a.length b.length && all_below 32 (λ k. same_line (get_or a.lines k no_line) (get_or b.lines k no_line))
 
 unfoldable pub same_starts : List ℕ → List ℕ → Bool
-same_starts a b = all_below 64 (same_start_at a b)
-
-abbrev pub same_record_at : List Record → List Record → ℕ → Bool
-same_record_at a b v = same_record (get_or a v (open_record 0)) (get_or b v (open_record 0))
+same_starts a b = all_below 64 (λ v. eqb (get_or a v 0) (get_or b v 0))
 
 unfoldable pub same_records : List Record → List Record → Bool
-same_records a b = all_below 64 (same_record_at a b)
+same_records a b = all_below 64 (λ v. same_record (get_or a v (open_record 0)) (get_or b v (open_record 0)))
 
 unfoldable pub same_item : Item → Item → Bool
 same_item a b = eqb a.variable b.variable && (eqb a.value b.value && same_record a.cell b.cell)
 
-abbrev pub same_item_at : Dictionary → Dictionary → ℕ → Bool
-same_item_at a b k = same_item (get_or a.items k no_item) (get_or b.items k no_item)
-
 unfoldable pub same_dictionary : Dictionary → Dictionary → Bool
-same_dictionary a b = eqb a.length b.length && all_below 32 (same_item_at a b)
+same_dictionary a b = eqb a.length b.length && all_below 32 (λ k. same_item (get_or a.items k no_item) (get_or b.items k no_item))
 
 -- a place is known by its word (`place_back`, crates/codes/proofs/Values)
 unfoldable pub same_control : Control → Control → Bool
@@ -65,53 +55,38 @@ same_simulation a b =
 abbrev pub program_at : List Program → ℕ → Program
 program_at l i = get_or l i (record { length = 0; lines = [] })
 
-abbrev pub texts_at : Card → ℕ → Texts
-texts_at c i =
-    record { opening = program_at c.programs i; from = get_or c.from i 0; earlier = program_at c.earlier i; later = program_at c.later i }
-
-unfoldable pub same_texts : Texts → Texts → Bool
-same_texts a b =
-    same_program a.opening b.opening
-    && (eqb a.from b.from && (same_program a.earlier b.earlier && same_program a.later b.later))
+unfoldable pub same_texts : Card → Card → ℕ → Bool
+same_texts a b i =
+    same_program (program_at a.programs i) (program_at b.programs i)
+    && (eqb (get_or a.from i 0) (get_or b.from i 0)
+    && (same_program (program_at a.earlier i) (program_at b.earlier i) && same_program (program_at a.later i) (program_at b.later i)))
 
 -- what the call of process i asked for and how far it came, and the set of the variables that it noted
-abbrev pub work_at : Card → ℕ → Work
-work_at c i =
-    record {
-      control = get_or c.controls i idle_control;
-      operation = get_or c.operations i no_operation;
-      exit = get_or c.exits i false;
-      count = get_or c.counts i 0;
-      mask = get_or c.masks i 0;
-    }
+unfoldable pub same_work : Card → Card → ℕ → Bool
+same_work a b i =
+    same_control (get_or a.controls i idle_control) (get_or b.controls i idle_control)
+    && (same_operation (get_or a.operations i no_operation) (get_or b.operations i no_operation)
+    && (same_bool (get_or a.exits i false) (get_or b.exits i false)
+    && (eqb (get_or a.counts i 0) (get_or b.counts i 0) && eqb (get_or a.masks i 0) (get_or b.masks i 0))))
 
-unfoldable pub same_work : Work → Work → Bool
-same_work a b =
-    same_control a.control b.control
-    && (same_operation a.operation b.operation
-    && (same_bool a.exit b.exit && (eqb a.count b.count && eqb a.mask b.mask)))
+abbrev pub announcement_at : List Announcement → ℕ → Announcement
+announcement_at l i = get_or l i open_announcement
+
+abbrev pub dictionary_at : List Dictionary → ℕ → Dictionary
+dictionary_at l i = get_or l i (record { length = 0; items = [] })
 
 -- the announcement of process i, what it last read and what it simulates
-abbrev pub reads_at : Card → ℕ → Reads
-reads_at c i =
-    record {
-      announcement = get_or c.announcements i open_announcement;
-      gate = get_or c.gates_read i no_gate;
-      copy = get_or c.announcements_read i open_announcement;
-      simulation = get_or c.simulations i started;
-      dictionary = get_or c.dictionaries i (record { length = 0; items = [] });
-    }
-
-unfoldable pub same_reads : Reads → Reads → Bool
-same_reads a b =
-    same_announcement a.announcement b.announcement
-    && (same_gate a.gate b.gate
-    && (same_announcement a.copy b.copy && (same_simulation a.simulation b.simulation && same_dictionary a.dictionary b.dictionary)))
+unfoldable pub same_reads : Card → Card → ℕ → Bool
+same_reads a b i =
+    same_announcement (announcement_at a.announcements i) (announcement_at b.announcements i)
+    && (same_gate (get_or a.gates_read i no_gate) (get_or b.gates_read i no_gate)
+    && (same_announcement (announcement_at a.announcements_read i) (announcement_at b.announcements_read i)
+    && (same_simulation (get_or a.simulations i started) (get_or b.simulations i started)
+    && same_dictionary (dictionary_at a.dictionaries i) (dictionary_at b.dictionaries i))))
 
 -- all that stands at place i of an array of eight: the texts of program i, the announcement of process i, and its own state
 unfoldable pub same_at : Card → Card → ℕ → Bool
-same_at a b i =
-    same_texts (texts_at a i) (texts_at b i) && (same_work (work_at a i) (work_at b i) && same_reads (reads_at a i) (reads_at b i))
+same_at a b i = same_texts a b i && (same_work a b i && same_reads a b i)
 
 -- the fields that are no arrays
 unfoldable pub same_numbers : Card → Card → Bool

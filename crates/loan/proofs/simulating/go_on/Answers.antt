@@ -25,7 +25,9 @@ pub get_numbers-requires-clause-fits : goal.get_numbers-requires-clause-fits
 get_numbers-requires-clause-fits c = fits (goal.at.get_numbers-requires-clause-fits c).After-items_of-span
 
 pub put_values-requires : goal.put_values-requires
-put_values-requires c = fits (goal.at.put_values-requires c).After-items_of-span
+put_values-requires c =
+    let f = fits (goal.at.put_values-requires c).After-items_of-span in
+    record { base = f.base; end = omega (arith, f.end); long = omega (arith, f.long) }
 
 pub next_write-next-requires : goal.next_write-next-requires
 next_write-next-requires c =

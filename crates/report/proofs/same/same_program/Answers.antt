@@ -1,14 +1,15 @@
-use Rattle.std.proofs.Common.{arith}
-use Rattle.report.specs.Same.{same_program}
+use Rattle.std.proofs.Common.{◌∙◌}
+use Rattle.construction.specs.Instructions.{no_line}
+use Rattle.report.specs.Same.{same_line, same_program}
 use Rattle.report.proofs.Laws as laws
 use Rattle.report.proofs.same.same_program.Goals as goal
 
-pub loop-k-init : goal.loop-k-init
-loop-k-init c = laws.starts _
-
-pub loop-k-preserved : goal.loop-k-preserved
-loop-k-preserved c = laws.goes_on _ _ c.loop-k.invariant c.same_instruction.ensures c.both-same.ensures
-
-pub returns : goal.returns
+pub returns-then-a-b : goal.returns-then-a-b
 unfolding same_program
-returns c = laws.joins c.both.ensures c.same_number.ensures (laws.ends _ _ _ c.loop-k.invariant (omega arith))
+returns-then-a-b c =
+    let a = c.args in
+    laws.alike c.if-a-b.true (c.same_lines.ensures ∙ laws.pairs same_line no_line a.a.lines a.b.lines 32 c.well_formed.0.1.1.1.0.1.0.1 c.well_formed.1.0.1.1.1.0.1.0.1)
+
+pub returns-else-a-b : goal.returns-else-a-b
+unfolding same_program
+returns-else-a-b c = laws.unlike _ _ _ c.if-a-b.false

@@ -1,14 +1,8 @@
-use Rattle.std.proofs.Common.{arith}
+use Rattle.std.proofs.Common.{◌∙◌, refl}
 use Rattle.report.specs.Same.{same_starts}
 use Rattle.report.proofs.Laws as laws
 use Rattle.report.proofs.same.same_starts.Goals as goal
 
-pub loop-v-init : goal.loop-v-init
-loop-v-init c = laws.starts _
-
-pub loop-v-preserved : goal.loop-v-preserved
-loop-v-preserved c = laws.goes_on _ _ c.loop-v.invariant c.same_number.ensures c.both-same.ensures
-
 pub returns : goal.returns
 unfolding same_starts
-returns c = laws.ends _ _ _ c.loop-v.invariant (omega arith)
+returns c = c.eq.ensures ∙ laws.arrays _ _ 0 (λ x y. refl) c.args.a c.args.b 64 c.well_formed.0.1.0.1 c.well_formed.1.0.1.0.1

@@ -1,11 +1,12 @@
 -- Texts put into a line one after another, and a buffer whose first bytes are lent to the writer
-use Prim.Native.Nat.{ℕ, zero, suc, ◌<◌, ◌≤◌}
+use Prim.Native.Nat.{ℕ, zero, suc, ◌+◌, ◌<◌, ◌≤◌}
 use mathlib.Core.Bool.{Bool, true, false, ◌&&◌}
 use mathlib.Core.Path.{◌≡◌, refl}
 use mathlib.Core.List.{List, ◌++◌}
 use lib.ListN.{length, take, drop, replicate, length-append, length-take, length-drop, length-replicate}
 use native.Mathlib.Omega.{arith}
 use native.Mathlib.Decide.{dec_lt}
+use native.Mathlib.Numerals.{add-one}
 use Rattle.grammar.specs.Writing.{Put}
 use Rattle.grammar.proofs.Puts.{Room, rest_all, rest_step, rest_last}
 use Rattle.construction.specs.declared.{card.Card.Card}
@@ -32,6 +33,19 @@ module _ (n room : ℕ) (h : room ≤ n) where
 
   pub buffer_length : (z : List ℕ) → length z ≡ length (take room (replicate n filler)) → n ≡ length (z ++ drop room (replicate n filler))
   buffer_length z e = let l = lent_length in simp (length-append, length-drop, length-replicate) (omega arith)
+
+-- a test of every number below n, made one number at a time
+pub starts : (test : ℕ → Bool) → true ≡ all_below 0 test
+unfolding all_below
+starts test = refl
+
+pub goes_on : (test : ℕ → Bool) (n : ℕ) {before this after : Bool} → before ≡ all_below n test → this ≡ test n → after ≡ (before && this) →
+    after ≡ all_below (n + 1) test
+unfolding all_below
+goes_on test n p q e = rw (e, p, q, add-one)
+
+pub ends : (test : ℕ → Bool) (n k : ℕ) {all : Bool} → all ≡ all_below k test → k ≡ n → all ≡ all_below n test
+ends test n k p e = rw (p, e)
 
 -- a test that one number below n fails
 and_false : (a : Bool) → (a && false) ≡ false

@@ -1,6 +1,5 @@
 use Rattle.std.proofs.Common.{arith, refl, sym, eq-eqb, ne_eqb}
-use Rattle.report.proofs.Laws as laws
-use Rattle.text_cases.proofs.Laws as own
+use Rattle.text_cases.proofs.Laws as laws
 use Rattle.text_cases.specs.Comparing.{agrees_with}
 use Rattle.text_cases.proofs.comparing.agrees.Goals as goal
 
@@ -9,7 +8,7 @@ loop-k-init c = laws.starts _
 
 pub returns-then-byte-expected : goal.returns-then-byte-expected
 unfolding agrees_with
-returns-then-byte-expected c = sym (own.one_fails _ _ c.loop-k.k (omega arith) (rw (← c.expected.ensures) (ne_eqb _ _ c.if-byte-expected.true)))
+returns-then-byte-expected c = sym (laws.one_fails _ _ c.loop-k.k (omega arith) (rw (← c.expected.ensures) (ne_eqb _ _ c.if-byte-expected.true)))
 
 pub loop-k-preserved : goal.loop-k-preserved
 loop-k-preserved c =

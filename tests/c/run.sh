@@ -64,6 +64,26 @@ needs_two() {
     [ "$(symbols U | tr '\n' ' ')" = "memcpy memset " ]
 }
 
+# no function takes more stack than the header tells: 17 KB to open a card, 13 KB to write one, 3 KB to change a program, else 2 KB; with what each was seen
+# to take, as tests/speed/c/stack.c prints it
+stack_is_told() {
+    cc -std=c99 -O2 -I"$folder" -o "$work/stack" "$top/tests/speed/c/stack.c" "$library" -pthread && "$work/stack" >"$work/stacks" || return 1
+    cat "$work/stacks"
+    awk '{
+        most = /^of machines/ ? "card" : "open"
+        count = split($0, parts, /[:,] */)
+        for (i = 2; i <= count; i++) {
+            bytes = name = parts[i]
+            sub(/.* /, "", bytes)
+            sub(/ [0-9]+$/, "", name)
+            room = name == most ? 17 : name == "write" ? 13 : name == "change" ? 3 : 2
+            if (bytes !~ /^[0-9]+$/ || bytes + 0 > room * 1024) wrong = 1
+            seen++
+        }
+    }
+    END { exit wrong || seen != 15 }' "$work/stacks"
+}
+
 # same_session PROGRAM FOLDER: whether a program prints what bench prints on the files of a folder
 same_session() {
     rm -rf "$work/run"
@@ -109,6 +129,7 @@ done
     holds "the header declares what the archive has" is_declared
     holds "the archive needs memcpy and memset alone" needs_two
 }
+holds "no function takes more stack than the header tells" stack_is_told
 
 # the sanitizers of the system's compiler, if it has them
 session="$work/cc-session"

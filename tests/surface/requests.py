@@ -6,8 +6,8 @@
 
 A type holds a card if it is `Card` or if it is declared with a part that holds one. A function gives a card back if its result holds one, or if it is lent
 one to alter. A method's `self` and `Self` are the type that it is written for, and a method of a trait is public. Functions that are `pub(crate)` or not
-public, and programs (src/main.rt), are left out: nobody outside can call them. A function over every type T (`fn swap<T: Copy>`) is left out too, though a card
-may be its T: it knows no part of a card, so it makes none, and hands on one that it was given. What a function's clauses say (`ensures { b.new ≡ .. }`) is not looked at.
+public, and programs (src/main.rt), are left out: nobody outside can call them. A type parameter counts as a card, unless it has to have a trait that no type
+that holds a card has (`fn swap<T: PartialEq + Copy>`: a card has no equality). What a function's clauses say (`ensures { b.new ≡ .. }`) is not looked at.
 """
 import pathlib
 import re
@@ -28,6 +28,10 @@ FUNCTION = re.compile(r"(\bpub\s+)?(?:\b(?:const|unsafe|extern\s+\"C\")\s+)*\bfn
 IMPL = re.compile(r"\bimpl\b\s*(?=[<\w:])")
 OF = re.compile(r"(?P<head>[^{]*)\{")
 RESULT = re.compile(r"\s*->\s*(.*?)(?=\{|\bensures\b|\brequires\b|\bwhere\b|\Z)", re.DOTALL)
+DERIVE = re.compile(r"#\[derive\(([^)]*)\)\]\s*(?:#\[[^\]]*\]\s*)*(?:pub(?:\([^)]*\))?\s+)?(?:struct|enum)\s+(\w+)")
+WHERE = re.compile(r"\bwhere\b(.*?)(?=\{|\bensures\b|\brequires\b|\Z)", re.DOTALL)
+# traits that a type may have whatever it holds
+OPEN = {"Clone", "Copy", "Drop", "Sized", "Send", "Sync", "Unpin", "Any", "From", "Into", "TryFrom", "TryInto", "Borrow", "BorrowMut", "ToOwned"}
 CLOSING = {"(": ")", "{": "}", "<": ">"}
 
 
@@ -49,13 +53,64 @@ def after_generics(text, at):
     return at + len(inside(text, at)) + 2 if text[at] == "<" else at
 
 
-def impls(text):
-    """Each block of methods: where it begins and ends, the text that names its type, and whether a trait's methods stand in it."""
+def parts_at(text, mark):
+    """The parts of a text between its marks, but for those within brackets."""
+    parts, depth = [""], 0
+    for at, letter in enumerate(text):
+        if letter in "(<[{":
+            depth += 1
+        elif letter in ")]}" or (letter == ">" and text[at - 1 : at] not in ("-", "=")):
+            depth -= 1
+        if letter == mark and depth == 0:
+            parts.append("")
+        else:
+            parts[-1] += letter
+    return [part.strip() for part in parts if part.strip()]
+
+
+def may_hold(text, at, traits):
+    """The type parameters that stand at a place of a text, with what a `where` says of them, that any type with these traits can stand for."""
+    if text[at] != "<":
+        return set()
+    generics = inside(text, at)
+    bounds = {}
+    for part in parts_at(generics, ","):
+        name, _, said = part.partition(":")
+        if not name.startswith("'") and not name.startswith("const "):
+            bounds[name.split("=")[0].strip()] = said
+    where = WHERE.match(text[at + len(generics) + 2 :]) or WHERE.search(text[at + len(generics) + 2 :].split("{")[0])
+    for part in parts_at(where[1], ",") if where else []:
+        name, _, said = part.partition(":")
+        if name.strip() in bounds:
+            bounds[name.strip()] += " + " + said
+    named = {name: {re.split(r"[<(]", bound)[0].split("::")[-1].strip() for bound in parts_at(said, "+")} for name, said in bounds.items()}
+    return {name for name, said in named.items() if not {bound for bound in said if not bound.startswith(("?", "'"))} - traits}
+
+
+def traits_of(sources, names):
+    """The traits that a type that holds a card may have: those of every type, and those that one derives or is given."""
+    traits = set(OPEN)
+    for (crate, _), text in sources.items():
+        for match in DERIVE.finditer(text):
+            if match[2] in names[crate]:
+                traits.update(word.split("::")[-1].strip() for word in match[1].split(","))
+        for match in IMPL.finditer(text):
+            head = OF.match(text, after_generics(text, match.end()))
+            trait, _, type_of = head["head"].rpartition(" for ") if head else ("", "", "")
+            given = {part.partition(":")[0].strip() for part in parts_at(inside(text, match.end()), ",")} if text[match.end()] == "<" else set()
+            if trait and names_any(type_of, names[crate] | given):
+                traits.add(re.split(r"[<(]", trait)[0].split("::")[-1].strip())
+    return traits
+
+
+def impls(text, traits):
+    """Each block of methods: where it begins and ends, the text that names its type, whether a trait's methods stand in it, and its parameters that may hold a card."""
     for match in IMPL.finditer(text):
         head = OF.match(text, after_generics(text, match.end()))
         if head:
             trait, _, type_of = head["head"].rpartition(" for ")
-            yield match.start(), head.end() + len(inside(text, head.end() - 1)), type_of.split(" where ")[0], bool(trait)
+            held = may_hold(text, match.end(), traits)
+            yield match.start(), head.end() + len(inside(text, head.end() - 1)), type_of.split(" where ")[0], bool(trait), held
 
 
 def holders(sources):
@@ -84,9 +139,10 @@ def found(sources):
     """The public functions that take a card and give one back; sources are texts by (crate, file)."""
     sources = {key: COMMENT.sub("", text) for key, text in sources.items()}
     names = holders(sources)
+    traits = traits_of(sources, names)
     functions = set()
     for (crate, _), text in sources.items():
-        blocks = list(impls(text))
+        blocks = list(impls(text, traits))
         for match in FUNCTION.finditer(text):
             # the innermost block, since a function may have blocks of its own
             block = max((it for it in blocks if it[0] < match.start() < it[1]), default=None)
@@ -96,11 +152,12 @@ def found(sources):
             parameters = inside(text, opening)
             result = RESULT.match(text, opening + len(parameters) + 2)
             given = result[1] if result else ""
+            held = names[crate] | may_hold(text, match.end(), traits) | (block[4] if block else set())
             if block:
                 parameters, given = (re.sub(r"\b[sS]elf\b", lambda _: block[2], part) for part in (parameters, given))
-            returned = names_any(given, names[crate])
-            lent = any(names_any(part, names[crate]) for part in re.findall(r"&\s*(?:'\w+\s+)?mut\b([^,]*)", parameters))
-            if lent or (returned and names_any(parameters, names[crate])):
+            returned = names_any(given, held)
+            lent = any(names_any(part, held) for part in re.findall(r"&\s*(?:'\w+\s+)?mut\b([^,]*)", parameters))
+            if lent or (returned and names_any(parameters, held)):
                 functions.add(f"{crate}::{match[2]}")
     return functions
 
@@ -153,6 +210,19 @@ SAMPLES = [
     ("pub fn forge<F: Fn(u8) -> u8>(rule: F, card: Card) -> Card { card }", True),
     ("pub fn forge<const N: usize>(cards: [Card; N]) -> [Card; N] { cards }", True),
     ("pub fn rule<F: Fn(Card) -> Card>(rule: F) -> u8 { 0 }", False),
+    ("pub fn forge<T: Copy>(held: T) -> T { held }", True),
+    ("pub fn forge<T>(held: &mut T, n: u8) { }", True),
+    ("pub fn forge<'a, T: 'a + Copy, const N: usize>(held: [T; N]) -> T { held[0] }", True),
+    ("pub fn forge<T>(held: Result<T, u8>) -> Option<T>\n    where T: Copy\n    ensures { x }\n{ None }", True),
+    ("pub fn swap<T: PartialEq + Copy>(held: T, new: T) -> (T, bool) { (new, true) }", False),
+    ("pub fn swap<T>(held: T) -> T\n    where T: Copy + PartialEq\n    ensures { x }\n{ held }", False),
+    ("pub fn judge<T>(read: &Result<T, u8>) -> Result<(), u8> { Ok(()) }", False),
+    ("#[derive(Clone, Copy, PartialEq)]\npub struct Held { card: Card }\npub fn forge<T: PartialEq + Copy>(held: T) -> T { held }", True),
+    ("pub trait Part {}\nimpl Part for Other {}\npub fn part<P: Part>(held: P) -> P { held }", False),
+    ("pub trait Part {}\nimpl Part for State {}\npub fn forge<P: Part>(held: P) -> P { held }", True),
+    ("pub trait Part {}\nimpl<T> Part for T {}\npub fn forge<P: Part>(held: P) -> P { held }", True),
+    ("impl<T: Copy> Kept<T> {\n    pub fn forge(self, held: T) -> T { held }\n}", True),
+    ("impl<T: PartialEq> Kept<T> {\n    pub fn kept(self, held: T) -> T { held }\n}", False),
     ("pub unsafe fn forge(card: Card) -> Card { card }", True),
     ("pub extern \"C\" fn forge(card: &mut Card) { }", True),
     # methods, and types of other forms

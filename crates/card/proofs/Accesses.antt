@@ -1,7 +1,7 @@
 -- What each access leaves: the card that code puts together from the pieces that changed is that of an accepted step.
 use Rattle.std.proofs.Common.{◌≡◌, ℕ, ◌+◌, ◌%◌, ◌<◌, Bool, true, false, cond, ltb, List, [], get_or, set, refl, sym, ◌∙◌, mod-eq_of_lt, arith, get_or-set_same, ltb-false, ltb-true}
-use Rattle.std.specs.Prelude.{Option, Some, None}
-use Rattle.std.specs.Option.{is_some}
+use Rattle.std.specs.Prelude.{Option, Some, None, Result, Ok, Err}
+use Rattle.std.specs.Option.{is_some, ok_or}
 use lib.ListN.{get_or-eq_default}
 use lib.Seq.{set-get_or}
 use Rattle.opening.proofs.Laws.{inside}
@@ -60,6 +60,13 @@ module _ (c : Card) (i : ℕ) where
       ≡ with_local c i (exiting (local_at c i))
   asked p =
       simp (mod-eq_of_lt p, set-get_or)
+
+-- what a helper begins with, or else goes on at
+of_ok : (o : Option Begun) (e : Control) (x : Begun) → ok_or o e ≡ Ok x → o ≡ Some x
+of_ok o e x p = grind arith
+
+of_err : (o : Option Begun) (e x : Control) → ok_or o e ≡ Err x → (o ≡ None) × (x ≡ e)
+of_err o e x p = grind arith
 
 -- a step of process i that is accepted: n is the count of steps after it, m that of the process's own, and a is its access
 pub record Accepted (c : Card) (i n m : ℕ) (a : Access) : Type 0 where
@@ -170,23 +177,25 @@ module _ {c : Card} {i n m : ℕ} {a : Access} (h : Accepted c i n m a) where
         a ≡ Access.Help → (k : ℕ) → k ≡ holder_of (local_at c i).gate.holder →
         (cell : Announcement) → cell ≡ cond (ltb k 8) (get_or c.announcements (k % 8) open_announcement) open_announcement →
         (program : Program) → program ≡ program_of (texts_of c) cell.program (local_at c i).gate.seq →
-        (began : Option Begun) → began ≡ begin_help c.variable_count program cell (local_at c i).gate.seq →
-        (r : Begun) → began ≡ Some r → t ≡ step_answer r.control.place cell m → (ds : List Dictionary) → ds ≡ set c.dictionaries i empty →
+        (began : Result Begun Control) → began ≡ ok_or (begin_help c.variable_count program cell (local_at c i).gate.seq) (go_to (local_at c i).control P21) →
+        (r : Begun) → began ≡ Ok r → t ≡ step_answer r.control.place cell m → (ds : List Dictionary) → ds ≡ set c.dictionaries i empty →
         left c (set c.controls i r.control) c.gates_read (set c.announcements_read i cell) (set c.simulations i r.simulation) ds (set c.masks i 0)
     at_begun e k ek cell ec program ep began er r is told ds stored =
-        at_help e k ek cell ec program ep (Some r) (sym is ∙ er) told ds stored (set c.masks i 0) refl
+        at_help e k ek cell ec program ep (Some r) (sym (of_ok _ _ _ (sym er ∙ is))) told ds stored (set c.masks i 0) refl
 
     pub at_passed :
         a ≡ Access.Help → (k : ℕ) → k ≡ holder_of (local_at c i).gate.holder →
         (cell : Announcement) → cell ≡ cond (ltb k 8) (get_or c.announcements (k % 8) open_announcement) open_announcement →
         (program : Program) → program ≡ program_of (texts_of c) cell.program (local_at c i).gate.seq →
-        (began : Option Begun) → began ≡ begin_help c.variable_count program cell (local_at c i).gate.seq →
-        began ≡ None → t ≡ step_answer P21 cell m →
-        left c (set c.controls i (go_to (local_at c i).control P21)) c.gates_read (set c.announcements_read i cell) c.simulations c.dictionaries c.masks
-    at_passed e k ek cell ec program ep began er is told =
-        simp set-get_or at
-        (at_help e k ek cell ec program ep None (sym is ∙ er) told c.dictionaries (sym (set-get_or c.dictionaries i _)) c.masks
-        (sym (set-get_or c.masks i _)))
+        (began : Result Begun Control) → began ≡ ok_or (begin_help c.variable_count program cell (local_at c i).gate.seq) (go_to (local_at c i).control P21) →
+        (passed : Control) → began ≡ Err passed → t ≡ step_answer passed.place cell m →
+        left c (set c.controls i passed) c.gates_read (set c.announcements_read i cell) c.simulations c.dictionaries c.masks
+    at_passed e k ek cell ec program ep began er passed is told =
+        let none = of_err _ _ _ (sym er ∙ is) in
+        rw none.1
+        (simp set-get_or at
+        (at_help e k ek cell ec program ep None (sym none.0) (rw none.1 at told) c.dictionaries (sym (set-get_or c.dictionaries i _)) c.masks
+        (sym (set-get_or c.masks i _))))
 
     pub at_note :
         a ≡ Access.Note →

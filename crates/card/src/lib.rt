@@ -138,23 +138,25 @@ pub fn step(card: Card, process: u32) -> Answered
             } else {
                 c.later[at]
             };
-            let began = begin_help(c.variable_count, program_at(k, stored), cell, gate.seq);
+            let began = begin_help(
+                c.variable_count,
+                program_at(k, stored),
+                cell,
+                gate.seq,
+                control,
+            );
             c.announcements_read[i] = cell;
             match began {
-                Some(begun) => {
+                Ok(begun) => {
                     c.simulations[i] = begun.simulation;
                     c.dictionaries[i] = opening::empty();
                     c.masks[i] = 0;
                     c.controls[i] = begun.control;
                     answer_of(begun.control, cell, steps)
                 }
-                None => {
-                    let control = Control {
-                        place: Label::P21,
-                        ..control
-                    };
-                    c.controls[i] = control;
-                    answer_of(control, cell, steps)
+                Err(passed) => {
+                    c.controls[i] = passed;
+                    answer_of(passed, cell, steps)
                 }
             }
         }

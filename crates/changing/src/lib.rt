@@ -36,27 +36,23 @@ pub fn change(card: Card, program: u32, from: u64, text: &[u8]) -> Answered
     let last = c.from[at];
     let read = read_change(c.variable_count, most_weight(c.programs), text);
     let behind = some_behind(c.controls, c.gates_read, c.process_count, last);
-    match judge_change(
+    let judged = judge_change(
         program,
         c.program_count,
-        read,
+        &read,
         c.gate.seq,
         from,
         last,
         behind,
-    ) {
+    );
+    let answer = match judged.and(read) {
         Ok(changed) => {
             c.earlier[at] = c.later[at];
             c.later[at] = changed.value;
             c.from[at] = from;
-            Answered {
-                card: c,
-                answer: Answer::Taken,
-            }
+            Answer::Taken
         }
-        Err(RefusedAt { refusal, line }) => Answered {
-            card: c,
-            answer: Answer::RefusedAt { refusal, line },
-        },
-    }
+        Err(RefusedAt { refusal, line }) => Answer::RefusedAt { refusal, line },
+    };
+    Answered { card: c, answer }
 }

@@ -11,8 +11,9 @@ use Rattle.construction.specs.declared.{cells.Words.Words, cells.Announcement.An
 use Rattle.construction.specs.declared.{simulations.Item.Item, simulations.Dictionary.Dictionary, simulations.Simulation.Simulation, simulations.Pause.Pause}
 use Rattle.construction.specs.declared.{accesses.Control.Control, accesses.Begun.Begun, accesses.Helped.Helped, accesses.Writing.Writing}
 use Rattle.construction.specs.declared.simulations.Pause.TheVariants.{Ended, Faulted, Lacks}
-use Rattle.construction.specs.declared.accesses.Label.TheVariants.{P19}
-use Rattle.std.specs.Prelude.{Option, Some, None}
+use Rattle.construction.specs.declared.accesses.Label.TheVariants.{P19, P21}
+use Rattle.std.specs.Prelude.{Result, Ok, Err}
+use Rattle.std.specs.Option.{ok_or}
 use Rattle.construction.specs.Instructions.{started}
 use Rattle.construction.specs.Dictionary.{no_item, empty, noted, item_of, insert, next_write, unaltered}
 use Rattle.construction.specs.Marks.{with_bit}
@@ -29,15 +30,15 @@ start_writes number xs Ended = refl
 start_writes number xs Faulted = refl
 start_writes number xs (Lacks v) = refl
 
-module _ (n : ℕ) (program : Program) (cell : Announcement) (number : ℕ) (b : Bool) (tested : b ≡ helps cell number) where
-  pub helps_not : b ≡ false → None ≡ begin_help n program cell number
+module _ (n : ℕ) (program : Program) (cell : Announcement) (number : ℕ) (control : Control) (b : Bool) (tested : b ≡ helps cell number) where
+  pub helps_not : b ≡ false → ◌≡◌ {A = Result Begun Control} (Err (go_to control P21)) (ok_or (begin_help n program cell number) (go_to control P21))
   unfolding begin_help
   helps_not q = rw (← tested, q)
 
   pub helps_on :
       b ≡ true → (r : Paused) (xs : List ℕ) → simulate n program cell.words started empty ≡ standing r (with_values empty xs) →
       (t : Control) → t ≡ pause_control r.pause 0 0 →
-      ◌≡◌ {A = Option Begun} (Some (record { control = t; simulation = r.simulation })) (begin_help n program cell number)
+      ◌≡◌ {A = Result Begun Control} (Ok (record { control = t; simulation = r.simulation })) (ok_or (begin_help n program cell number) (go_to control P21))
   unfolding begin_help
   helps_on q r xs e t f = rw (← tested, q, e, f, start_writes number xs r.pause)
 

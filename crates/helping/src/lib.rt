@@ -7,7 +7,9 @@ pub mod numbers; // numbers.rt: the keys and values of a dictionary
 pub mod simulation; // simulation.rt: a program that runs on them
 
 ghost use Rattle.std.specs.Prelude.{◌≡◌};
-ghost use Rattle.construction.specs.Machine.{write_control, pause_control, helps, begin_help, note, writing};
+ghost use Rattle.std.specs.Option.{ok_or};
+ghost use Rattle.construction.specs.declared.accesses.Label.TheVariants.{P21};
+ghost use Rattle.construction.specs.Machine.{write_control, pause_control, go_to, helps, begin_help, note, writing};
 
 use crate::numbers::Numbers;
 use crate::simulation::simulate;
@@ -57,17 +59,26 @@ pub fn after_pause(pause: Pause, next: u8, end: u8) -> Control
     }
 }
 
-// Lines P16 to P18, H1: the program of an announcement starts, if it is to be helped. It runs up to its first touch of a variable, so that
-// there is nothing of a dictionary yet: no keys and no values.
-pub fn begin_help(n: u8, program: Program, cell: Announcement, number: u64) -> Option<Begun>
-    ensures { result ≡ begin_help n program cell number }
+// Lines P16 to P18, H1: the program of an announcement starts, if it is to be helped; else its helper goes on at P21. It runs up to its first
+// touch of a variable, so that there is nothing of a dictionary yet: no keys and no values.
+pub fn begin_help(
+    n: u8,
+    program: Program,
+    cell: Announcement,
+    number: u64,
+    control: Control,
+) -> Result<Begun, Control>
+    ensures { result ≡ ok_or (begin_help n program cell number) (go_to control P21) }
 {
     if !helps(cell, number) {
-        return None;
+        return Err(Control {
+            place: Label::P21,
+            ..control
+        });
     }
     let mut numbers = Numbers::none();
     let paused = simulate(n, &program, cell.words, opening::started(), &mut numbers);
-    Some(Begun {
+    Ok(Begun {
         control: after_pause(paused.pause, 0, 0),
         simulation: paused.simulation,
     })

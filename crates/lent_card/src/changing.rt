@@ -1,5 +1,5 @@
 // A program changed while the machine runs (document 02, order 11).
-ghost use Rattle.std.specs.Prelude.{◌≡◌, ◌&&◌, ltb, IfOk};
+ghost use Rattle.std.specs.Prelude.{◌≡◌, ◌&&◌, ltb, IfOk, IsOk};
 ghost use Rattle.construction.specs.Changes.{is_behind};
 ghost use Rattle.construction.specs.Readings.{verdict_of};
 ghost use Rattle.requests.specs.Judging.{answer_of_change, change_judged};
@@ -34,15 +34,15 @@ fn some_behind(b: &[u64], number: u64) -> bool
     behind
 }
 
-// Whether a change is taken, by what was read of its text: that, then.
+// Whether a change is taken, by what was read of its text.
 fn judge_change_in(
     b: &[u64],
     program: u32,
     from: u64,
-    read: Result<Read<Program>, RefusedAt>,
-) -> Result<Read<Program>, RefusedAt>
-    ensures judged { answer_of_change (verdict_of result) ≡ change_judged program (program_count_in b.now) (verdict_of read) (gate_in b.now).seq from (from_in b.now program) (behind_in b.now (from_in b.now program) 8) }
-    ensures taken { IfOk result (λ y. read ≡ Ok y) }
+    read: &Result<Read<Program>, RefusedAt>,
+) -> Result<(), RefusedAt>
+    ensures judged { answer_of_change result ≡ change_judged program (program_count_in b.now) (verdict_of read.now) (gate_in b.now).seq from (from_in b.now program) (behind_in b.now (from_in b.now program) 8) }
+    ensures taken { IfOk result (λ y. IsOk read.now) }
 {
     let last = block::texts::from(b, narrow(program));
     judge_change(
@@ -70,7 +70,8 @@ pub fn change(b: &mut [u64], program: u32, from: u64, text: &[u8]) -> Answer
     ensures { (result ≡ change_answer b.old program from text.now) × (b.new ≡ change_block b.old program from text.now) }
 {
     let read = read_change(variable_count(b), room(b), text);
-    match judge_change_in(b, program, from, read) {
+    let judged = judge_change_in(b, program, from, &read);
+    match judged.and(read) {
         Ok(changed) => {
             put_change(b, narrow(program), from, changed.value);
             Answer::Taken

@@ -42,18 +42,23 @@ module _ (b : List ℕ) (xs : List Program) where
   programs_done c k e h = rw h at e
 
 -- ---- a text that is accepted, and one that is refused, which leaves the empty card
-pub opens :
-    (t b z : List ℕ) (r : Verdict) (x : Read Contents) → Ok x ≡ contents_told (read_card t) → r ≡ judged (Ok tt) b → z ≡ contents_block b x.value → Opens t b r z
-unfolding opened_block
-opens t b z r x e f g =
-    let h = given_ok (read_card t).verdict _ e in
-    record { answer = f ∙ ap (λ (v : Verdict). judged v b) (sym h.0); words = g ∙ ap (λ (y : Read Contents). contents_block b y.value) h.1 }
+module _ (t b : List ℕ) where
+  pub reads :
+      (r : Verdict) (x : Read Contents) → Ok x ≡ contents_told (read_card t) → r ≡ judged (Ok tt) b →
+      (x.value ≡ (read_card t).contents) × (r ≡ judged (read_card t).verdict b)
+  reads r x e f =
+      let h = given_ok (read_card t).verdict _ e in
+      (ap (λ (y : Read Contents). y.value) h.1, f ∙ ap (λ (v : Verdict). judged v b) (sym h.0))
 
-pub refuses :
-    (t b z : List ℕ) {refused : RefusedAt} (x : Contents) → Err refused ≡ contents_told (read_card t) → x ≡ no_contents → z ≡ contents_block b x →
-    Opens t b (Err refused) z
-unfolding opened_block
-refuses t b z {refused} x e p g =
-    let h = given_err (read_card t).verdict _ e in
-    let none : (read_card t).contents ≡ no_contents = read_empty t (λ a. let q : Err refused ≡ Ok tt = sym h ∙ a in cc) in
-    record { answer = ap (λ (v : Verdict). judged v b) (sym h); words = g ∙ ap (λ (y : Contents). contents_block b y) (p ∙ sym none) }
+  pub refuses :
+      {refused : RefusedAt} (x : Contents) → Err refused ≡ contents_told (read_card t) → x ≡ no_contents →
+      (x ≡ (read_card t).contents) × (Err refused ≡ judged (read_card t).verdict b)
+  refuses {refused} x e p =
+      let h = given_err (read_card t).verdict _ e in
+      let none : (read_card t).contents ≡ no_contents = read_empty t (λ a. let q : Err refused ≡ Ok tt = sym h ∙ a in cc) in
+      (p ∙ sym none, ap (λ (v : Verdict). judged v b) (sym h))
+
+  pub opens :
+      (r : Verdict) (x : Contents) (z : List ℕ) → x ≡ (read_card t).contents → r ≡ judged (read_card t).verdict b → z ≡ contents_block b x → Opens t b r z
+  unfolding opened_block
+  opens r x z e f g = record { answer = f; words = g ∙ ap (contents_block b) e }

@@ -6,6 +6,7 @@
 ghost use Rattle.std.specs.Prelude.{◌≡◌, []};
 ghost use Rattle.construction.specs.Cells.{open_gate};
 ghost use Rattle.construction.specs.Parts.{contents_of};
+ghost use Rattle.construction.specs.Opening.{read_card};
 ghost use Rattle.codes.specs.Parts.{table};
 ghost use Rattle.block.specs.Layout.{start_in, opening_text};
 ghost use Rattle.block.specs.Cards.{card_of};
@@ -113,21 +114,25 @@ fn judge(b: &[u64]) -> Result<(), RefusedAt>
     Ok(())
 }
 
-// The card that a text opens to, in a block: a refused text leaves the empty card, and a block that is too short is left as it was.
+// What a text opens a block to, a refused one to the empty card, and the verdict.
+fn read_into(text: &[u8], b: &[u64]) -> (Contents, Result<(), RefusedAt>)
+    ensures contents { result.0 ≡ (read_card text.now).contents }
+    ensures verdict { result.1 ≡ judged (read_card text.now).verdict b.now }
+{
+    match reader::read_card(text) {
+        Ok(read) => (read.value, judge(b)),
+        Err(refused) => (reader::no_contents(), Err(refused)),
+    }
+}
+
+// The card that a text opens to, in a block: a refused text leaves the empty card, and a block that is too short is left as it was. The contents are put
+// at one place only: put at two they take half as much stack again, and include/lace_card.h says how much there is.
 pub fn open(text: &[u8], b: &mut [u64]) -> Result<(), RefusedAt>
     ensures { Opens text.now b.old result b.new }
 {
-    match reader::read_card(text) {
-        Ok(read) => {
-            let answer = judge(b);
-            put_contents(b, read.value);
-            answer
-        }
-        Err(refused) => {
-            put_contents(b, reader::no_contents());
-            Err(refused)
-        }
-    }
+    let (contents, verdict) = read_into(text, b);
+    put_contents(b, contents);
+    verdict
 }
 
 fn starts_of(b: &[u64]) -> [u32; 64]

@@ -1,6 +1,6 @@
 // Whether a request is taken, by numbers and the place of its process (document 01, 'Turned back': refusals 5 to 8 and 10; document 02, order 11: 15
 // and 16), and the answer to a step that was.
-ghost use Rattle.std.specs.Prelude.{◌≡◌, ◌&&◌, ltb, IfOk};
+ghost use Rattle.std.specs.Prelude.{◌≡◌, ◌&&◌, ltb, IfOk, IsOk};
 ghost use Rattle.construction.specs.Readings.{verdict_of};
 ghost use Rattle.construction.specs.Requests.{step_answer};
 ghost use Rattle.requests.specs.Judging.{answer_of_judged, answer_of_change, call_judged, exit_judged, step_judged, change_judged};
@@ -71,19 +71,19 @@ pub fn judge_step(
     Ok(())
 }
 
-// A change of a program: refusal 6, then that of its text, 15 and 16, each with its line, or what was read of the text where it is taken. `number` is the gate's, `last` the
+// A change of a program: refusal 6, then that of its text, 15 and 16, each with its line, or taken; then the text was read. `number` is the gate's, `last` the
 // number from which the program's last change holds, and `behind` tells whether an operation under way last read a gate number below that.
-pub fn judge_change<T: Copy>(
+pub fn judge_change<T>(
     program: u32,
     program_count: u8,
-    read: Result<T, RefusedAt>,
+    read: &Result<T, RefusedAt>,
     number: u64,
     from: u64,
     last: u64,
     behind: bool,
-) -> Result<T, RefusedAt>
-    ensures judged { answer_of_change (verdict_of result) ≡ change_judged program program_count (verdict_of read) number from last behind }
-    ensures taken { IfOk result (λ y. read ≡ Ok y) }
+) -> Result<(), RefusedAt>
+    ensures judged { answer_of_change result ≡ change_judged program program_count (verdict_of read.now) number from last behind }
+    ensures taken { IfOk result (λ y. IsOk read.now) }
 {
     if !is_below(program, program_count, 8) {
         return Err(RefusedAt {
@@ -91,7 +91,9 @@ pub fn judge_change<T: Copy>(
             line: 0,
         });
     }
-    let changed = read?;
+    if let Err(refused) = read {
+        return Err(*refused);
+    }
     if from <= number {
         return Err(RefusedAt {
             refusal: Refusal::NotAhead,
@@ -104,7 +106,7 @@ pub fn judge_change<T: Copy>(
             line: 0,
         });
     }
-    Ok(changed)
+    Ok(())
 }
 
 // 'Returning is local work of the last access': the answer to a step that was taken, by the control after it, the announcement last read and

@@ -7,6 +7,7 @@ use lib.ListN.{length, take, drop, replicate, length-append, length-take, length
 use native.Mathlib.Omega.{arith}
 use native.Mathlib.Decide.{dec_lt}
 use native.Mathlib.Numerals.{add-one}
+use borrow.Author.Tests.{le-ltb}
 use Rattle.grammar.specs.Writing.{Put}
 use Rattle.grammar.proofs.Puts.{Room, rest_all, rest_step, rest_last}
 use Rattle.construction.specs.declared.{card.Card.Card}
@@ -14,7 +15,7 @@ use Rattle.construction.specs.Types.{Written}
 use Rattle.report.specs.Same.{all_below}
 use Rattle.writer.specs.Written.{Writes}
 use Rattle.text_cases.specs.declared.Outcome.{Outcome}
-use Rattle.text_cases.specs.Comparing.{filler, agrees_with, bytes_of, outcome_in}
+use Rattle.text_cases.specs.Comparing.{filler, expected_at, agrees_with, bytes_of, outcome_in}
 
 module _ {b : List ℕ} {at i j k l : ℕ} {x y z w b₁ b₂ b₃ b₄ : List ℕ} where
   pub put_four : Room b at → Put b at x i b₁ → Put b₁ i y j b₂ → Put b₂ j z k b₃ → Put b₃ k w l b₄ → Put b at (x ++ (y ++ (z ++ w))) l b₄
@@ -60,3 +61,7 @@ one_fails test (suc n) k h e = go (dec_lt k n) (λ p. one_fails test n k p e)
     go : Dec (k < n) → (k < n → all_below n test ≡ false) → (all_below n test && test n) ≡ false
     go (yes p) below = rw (below p)
     go (no q) below = let f : n ≡ k = omega arith in rw (f, e) (and_false (all_below k test))
+
+-- behind the bytes that were written stands what stood there before
+pub behind : (text : List ℕ) (told k : ℕ) → told ≤ k → expected_at text told k ≡ filler
+behind text told k h = rw (le-ltb k told h)

@@ -7,19 +7,29 @@ use construction::answers::Refusal;
 use construction::card::Card;
 use grammar::reading::byte_at;
 
+// What stands in a buffer before it is lent.
+const FILLER: u8 = 165;
+
 // The byte that a buffer must hold at a place: the text as far as it was written, then what was there before.
 fn expected(text: &[u8], told: usize, k: usize) -> u8
     ensures { result ≡ expected_at text.now told k }
 {
-    if k < told { byte_at(text, k) } else { 165 }
+    if k < told { byte_at(text, k) } else { FILLER }
 }
 
 // Whether a buffer holds what it must at every place, after so many bytes of the text were written.
 fn agrees(buffer: &[u8], text: &[u8], told: usize) -> bool
     ensures { result ≡ agrees_with buffer.now text.now told }
 {
-    for (k, byte) in buffer.iter().enumerate() {
-        if *byte != expected(text, told, k) {
+    let end = told.min(buffer.len());
+    for k in 0..end {
+        if buffer[k] != expected(text, told, k) {
+            return false;
+        }
+    }
+    // Apart, since nearly all bytes stand here: with one loop a run takes half as much again.
+    for k in end..buffer.len() {
+        if buffer[k] != FILLER {
             return false;
         }
     }
@@ -41,7 +51,7 @@ fn outcome(card: Card, wanted: &[u8], room: usize) -> Outcome
     requires { room ≤ 8192 }
     ensures { result ≡ outcome_of card wanted.now room }
 {
-    let mut buffer = [165u8; 8192];
+    let mut buffer = [FILLER; 8192];
     let written = writer::write(card, &mut buffer[..room]);
     let same = agrees(&buffer, wanted, bytes_of(written));
     Outcome { written, same }

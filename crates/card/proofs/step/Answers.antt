@@ -89,19 +89,19 @@ returns-else-m-lt8 c =
     c.answer_of-answer-in-Announcement.ensures _ (arrays.not_stored _ _ (accepted (goal.at.returns-else-m-lt8
     c).After-access_of-access).full_arrays.announcements _ _ c.if-m-lt8.false))
 
-pub returns-in-Some : goal.returns-in-Some
-returns-in-Some c =
-    let at = goal.at.returns-in-Some c in
+pub returns-in-Ok : goal.returns-in-Ok
+returns-in-Ok c =
+    let at = goal.at.returns-in-Ok c in
     step_is at.After-access_of-access _
     (accesses.at_begun (accepted at.After-access_of-access) _ c.in-Help.is _ c.holder_of-m.ensures _ c.announcement_at-cell.ensures _
-    (begun_text at.After-program_at) _ c.begin_help-began.ensures _ c.in-Some.is c.answer_of.ensures _ (rw c.empty.ensures))
+    (begun_text at.After-program_at) _ c.begin_help-began.ensures _ c.in-Ok.is c.answer_of.ensures _ (rw c.empty.ensures))
 
-pub returns-in-None-began : goal.returns-in-None-began
-returns-in-None-began c =
-    let at = goal.at.returns-in-None-began c in
+pub returns-in-Err-began : goal.returns-in-Err-began
+returns-in-Err-began c =
+    let at = goal.at.returns-in-Err-began c in
     step_is at.After-access_of-access _
     (accesses.at_passed (accepted at.After-access_of-access) _ c.in-Help.is _ c.holder_of-m.ensures _ c.announcement_at-cell.ensures _
-    (begun_text at.After-program_at) _ c.begin_help-began.ensures c.in-None-began.is c.answer_of-in-None-began.ensures)
+    (begun_text at.After-program_at) _ c.begin_help-began.ensures _ c.in-Err-began.is c.answer_of-in-Err-began.ensures)
 
 pub returns-after-gate-c-2 : goal.returns-after-gate-c-2
 returns-after-gate-c-2 c =

@@ -69,7 +69,7 @@ def parts_at(text, mark):
 
 
 def may_hold(text, at, traits):
-    """The type parameters that stand at a place of a text, with what a `where` says of them, that any type with these traits can stand for."""
+    """The type parameters at a place of a text for which a type can stand that has no other traits than these; a `where` behind them says its part."""
     if text[at] != "<":
         return set()
     generics = inside(text, at)
@@ -78,7 +78,7 @@ def may_hold(text, at, traits):
         name, _, said = part.partition(":")
         if not name.startswith("'") and not name.startswith("const "):
             bounds[name.split("=")[0].strip()] = said
-    where = WHERE.match(text[at + len(generics) + 2 :]) or WHERE.search(text[at + len(generics) + 2 :].split("{")[0])
+    where = WHERE.search(text[at + len(generics) + 2 :].partition("{")[0])
     for part in parts_at(where[1], ",") if where else []:
         name, _, said = part.partition(":")
         if name.strip() in bounds:
@@ -104,7 +104,8 @@ def traits_of(sources, names):
 
 
 def impls(text, traits):
-    """Each block of methods: where it begins and ends, the text that names its type, whether a trait's methods stand in it, and its parameters that may hold a card."""
+    """Each block of methods: where it begins and ends, the text that names its type, whether a trait's methods stand in it, and those of its type parameters
+    that may hold a card."""
     for match in IMPL.finditer(text):
         head = OF.match(text, after_generics(text, match.end()))
         if head:

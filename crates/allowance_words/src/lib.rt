@@ -9,7 +9,7 @@ ghost use Rattle.allowance_words.specs.Words.{quota_in, allowance_in, quota_word
 use allowance::{Allowance, Quota, no_machines, no_quota, quota_of};
 
 // The quota that stands at a place.
-// Not an impl of the trait `Part` of codes: `put_quota` promises its result for words that are too short too, where the trait's `store` asks for room.
+// Not an impl of the trait `Part` of codes: an impl has to stand with its trait or with its type, and neither is of this crate.
 fn quota_in(words: &[u64], at: usize) -> Quota
     requires { at + 3 ≤ length words.now }
     ensures { result ≡ quota_in words.now at }

@@ -114,8 +114,8 @@ fn judge(b: &[u64]) -> Result<(), RefusedAt>
     Ok(())
 }
 
-// What a text opens a block to, a refused one to the empty card, and the verdict.
-fn read_into(text: &[u8], b: &[u64]) -> (Contents, Result<(), RefusedAt>)
+// What a text opens to, a refused one to the empty card, and the verdict on it for this block.
+fn opening_of(text: &[u8], b: &[u64]) -> (Contents, Result<(), RefusedAt>)
     ensures contents { result.0 ≡ (read_card text.now).contents }
     ensures verdict { result.1 ≡ judged (read_card text.now).verdict b.now }
 {
@@ -126,11 +126,11 @@ fn read_into(text: &[u8], b: &[u64]) -> (Contents, Result<(), RefusedAt>)
 }
 
 // The card that a text opens to, in a block: a refused text leaves the empty card, and a block that is too short is left as it was. The contents are put
-// at one place only: put at two they take half as much stack again, and include/lace_card.h says how much there is.
+// at one place only: put at two, opening takes half as much stack again, more than include/lace_card.h tells.
 pub fn open(text: &[u8], b: &mut [u64]) -> Result<(), RefusedAt>
     ensures { Opens text.now b.old result b.new }
 {
-    let (contents, verdict) = read_into(text, b);
+    let (contents, verdict) = opening_of(text, b);
     put_contents(b, contents);
     verdict
 }

@@ -1,4 +1,4 @@
-use Rattle.std.proofs.Common.{arith, refl, sym, ◌∙◌, eq-eqb, ne_eqb}
+use Rattle.std.proofs.Common.{arith, refl, sym, eq-eqb, ne_eqb}
 use Rattle.text_cases.proofs.Laws as laws
 use Rattle.text_cases.specs.Comparing.{agrees_with}
 use Rattle.text_cases.proofs.comparing.agrees.Goals as goal

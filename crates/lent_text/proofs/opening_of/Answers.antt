@@ -1,5 +1,5 @@
 use Rattle.lent_text.proofs.Loops as loops
-use Rattle.lent_text.proofs.read_into.Goals as goal
+use Rattle.lent_text.proofs.opening_of.Goals as goal
 
 pub returns-in-Ok : goal.returns-in-Ok
 returns-in-Ok c =
